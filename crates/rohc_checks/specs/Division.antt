@@ -1,0 +1,59 @@
+-- A check by polynomial division over whole lists of bits (RFC 3095, section 5.9).
+use Rattle.std.specs.Prelude.{◌==◌, ℕ, zero, suc, ◌+◌, ◌-◌, ◌*◌, ◌/◌, ◌%◌, Bool, true, false, if◌then◌else◌, List, [], ◌∷◌, ◌++◌, length, map, drop, replicate}
+use Rattle.std.specs.List.{flat_map, range_with_len}
+use Rattle.std.proofs.Math.Bool.{xor}
+
+-- the k low bits of a number, least significant first
+unfoldable pub bits : ℕ → ℕ → List Bool
+bits zero n = []
+bits (suc k) n = (n % 2 == 1) ∷ bits k (n / 2)
+
+-- the number that bits spell, least significant first
+unfoldable pub number : List Bool → ℕ
+number [] = 0
+number (b ∷ bs) = (if b then 1 else 0) + 2 * number bs
+
+-- the bits of a text
+abbrev pub message : List ℕ → List Bool
+message octets = flat_map (bits 8) octets
+
+-- a polynomial by its coefficients, highest power first: 1 + x + x^3
+unfoldable pub poly3 : List Bool
+poly3 = true ∷ false ∷ true ∷ true ∷ []
+
+-- 1 + x + x^2 + x^3 + x^6 + x^7
+unfoldable pub poly7 : List Bool
+poly7 = true ∷ true ∷ false ∷ false ∷ true ∷ true ∷ true ∷ true ∷ []
+
+-- 1 + x + x^2 + x^8
+unfoldable pub poly8 : List Bool
+poly8 = true ∷ false ∷ false ∷ false ∷ false ∷ false ∷ true ∷ true ∷ true ∷ []
+
+-- the highest power
+abbrev pub degree : List Bool → ℕ
+degree poly = length poly - 1
+
+-- xs added without carry to the first places of ys
+unfoldable pub add_front : List Bool → List Bool → List Bool
+add_front [] ys = ys
+add_front (x ∷ xs) [] = []
+add_front (x ∷ xs) (y ∷ ys) = xor x y ∷ add_front xs ys
+
+-- the first k places are dropped in turn, and where one was 1, the lower coefficients are added to the places after it
+unfoldable pub divided : List Bool → ℕ → List Bool → List Bool
+divided lower zero places = places
+divided lower (suc k) [] = []
+divided lower (suc k) (false ∷ places) = divided lower k places
+divided lower (suc k) (true ∷ places) = divided lower k (add_front lower places)
+
+-- what is left once there are no more places than the degree
+unfoldable pub remainder : List Bool → List Bool → List Bool
+remainder poly places = divided (drop 1 poly) (length places - degree poly) places
+
+-- the check: the message with as many zeros as the degree, its first places changed by the register
+unfoldable pub check : List Bool → ℕ → List ℕ → ℕ
+check poly reg octets = number (remainder poly (add_front (bits (degree poly) reg) (message octets ++ replicate (degree poly) false)))
+
+-- the 256 numbers that a table-driven check looks up, one for each octet
+unfoldable pub table_of : List Bool → List ℕ
+table_of poly = map (λ octet. number (remainder poly (bits 8 octet ++ replicate (degree poly) false))) (range_with_len 0 256)

@@ -1,0 +1,9 @@
+use Rattle.std.proofs.Common.{rules, refl, nat_eq}
+use Rattle.rohc_concentrator.proofs.OrderLemmas.{settings_after}
+use Rattle.rohc_concentrator.proofs.concentrator.Concentrator.reset.Goals as goal
+
+pub returns-clause-settings : goal.returns-clause-settings
+returns-clause-settings c = record {
+  each = search rules;
+  in_order = settings_after (nat_eq c.args.link) c.args.self.now.links.entries _ c.in_ok-records.records.now _ (c.get_mut.follows.holds _).0 (search rules) refl;
+}

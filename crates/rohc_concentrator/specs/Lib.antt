@@ -1,0 +1,4 @@
+pub mod Setting
+pub mod Tables
+pub mod Report
+pub mod Setup

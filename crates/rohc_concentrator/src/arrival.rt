@@ -1,0 +1,80 @@
+//! One event of the concentrator.
+
+use crate::answer::{Answer, NoLink};
+use crate::concentrator::Concentrator;
+use crate::link::arrive_at;
+use crate::records::LinkRecords;
+use indexmap::IndexMap;
+use rohc_context::Refusal;
+use rohc_frame::cut;
+
+impl Concentrator {
+    ghost use Rattle.std.specs.Prelude.{◌≡◌, [], ◌≢◌, ◌↔◌, ℕ, None, IsErr, is_some, nat_eq};
+    ghost use Rattle.rohc_concentrator.specs.Tables.{setting_at, record_at, identifiers_at, KeepsSettings, KeepsOthers, KeepsOrder};
+    ghost use Rattle.rohc_concentrator.specs.Report.{report_of, IsAnswered, borne};
+
+    /// One packet of a link, with the moment of its arrival in milliseconds.
+    ///
+    /// The answer borrows its payload and relayed feedback from `octets`. A packet without a reading, or of a
+    /// link that isn't there, changes nothing. Memory is asked for only at an accepted IR for an identifier
+    /// without a record; where it is refused, the outcome is `NoMemory` and nothing changes.
+    pub fn arrive<'a>(&mut self, link: u16, moment: u64, octets: &'a [u8]) -> Answer<'a>
+        ensures answer { IsAnswered (setting_at self.old link) (record_at self.old link) moment octets.entry.now
+            (report_of result) (record_at self.new link) }
+        ensures settings { KeepsSettings self.old self.new }
+        ensures others { KeepsOthers self.old self.new link (borne (setting_at self.old link) octets.entry.now) }
+        ensures order { KeepsOrder self.old self.new link (borne (setting_at self.old link) octets.entry.now) }
+    {
+        let Some(records) = self.links.get_mut(&link) else {
+            return Answer::Refused(Refusal::NoLink);
+        };
+        let settings = &records.setting.settings;
+        let framed = match cut(settings.size, settings.max_cid, octets) {
+            Ok(framed) => framed,
+            Err(refusal) => return Answer::Refused(Refusal::from(refusal)),
+        };
+        let relayed = framed.feedback();
+        let Some(forward) = framed.forward else {
+            return Answer::OnlyFront { relayed };
+        };
+        let reply = arrive_at(records, moment, &forward);
+        Answer::Arrived {
+            cid: forward.cid,
+            reply,
+            relayed,
+        }
+    }
+
+    /// Forgets every record of a link, and no other.
+    pub fn reset(&mut self, link: u16) -> Result<(), NoLink>
+        ensures absent { IsErr result ↔ (setting_at self.old link ≡ None) }
+        ensures forgotten { (cid : ℕ) → record_at self.new link cid ≡ None }
+        ensures settings { KeepsSettings self.old self.new }
+        ensures others { (l cid : ℕ) → l ≢ link → record_at self.new l cid ≡ record_at self.old l cid }
+        ensures emptied { identifiers_at self.new link ≡ [] }
+        ensures order { (l : ℕ) → l ≢ link → identifiers_at self.new l ≡ identifiers_at self.old l }
+    {
+        let records = self.links.get_mut(&link).ok_or(NoLink)?;
+        records.contexts.clear();
+        Ok(())
+    }
+
+    /// Whether a record stands for the identifier, one that counts as none included.
+    pub fn has_context(&self, link: u16, cid: u16) -> bool
+        ensures { result ≡ is_some (record_at self.now link cid) }
+    {
+        match self.links.get(&link) {
+            Some(records) => records.contexts.contains_key(&cid),
+            None => false,
+        }
+    }
+
+    /// The links in the order of their settings, each with its setting and its records.
+    ///
+    /// A link's records stand in the order of their first IR; a replaced one keeps its place.
+    pub fn tables(&self) -> &IndexMap<u16, LinkRecords>
+        ensures { result.now ≡ self.now.links }
+    {
+        &self.links
+    }
+}

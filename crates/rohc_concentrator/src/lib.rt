@@ -1,0 +1,18 @@
+//! All contexts of all links: a packet is cut, its identifier names one context, and that context alone
+//! takes one step.
+#![tactic(auto)]
+
+pub mod answer;
+pub mod arrival;
+pub mod concentrator;
+pub mod laws;
+mod link;
+pub mod records;
+pub mod setting;
+pub mod setup;
+
+pub use answer::{Answer, NoLink};
+pub use concentrator::Concentrator;
+pub use records::LinkRecords;
+pub use setting::{CidRange, LinkSetting};
+pub use setup::SetupFault;

@@ -1,0 +1,41 @@
+//! One arrival on one link.
+
+ghost use Rattle.std.specs.Prelude.{◌≡◌, ◌≢◌, ◌≤◌, ℕ};
+ghost use Rattle.indexmap.specs.IndexMap.{keys};
+ghost use Rattle.rohc_frame.specs.Reading.{header_of};
+ghost use Rattle.rohc_context.specs.Response.{response_of};
+ghost use Rattle.rohc_concentrator.specs.Setting.{settings_in};
+ghost use Rattle.rohc_concentrator.specs.Tables.{record_among, KeepsPlace};
+ghost use Rattle.rohc_concentrator.specs.Report.{OwnStep};
+
+use crate::records::LinkRecords;
+use rohc_context::{Context, Refusal, Reply};
+use rohc_frame::Forward;
+
+/// An arrival of an identifier: its record takes one step, or a first IR makes it.
+pub(crate) fn arrive_at<'a>(
+    records: &mut LinkRecords,
+    moment: u64,
+    forward: &Forward<'a>,
+) -> Reply<'a>
+    requires sized { forward.now.size ≡ records.old.setting.settings.size }
+    requires within { forward.now.cid ≤ records.old.setting.settings.max_cid }
+    ensures own { OwnStep (settings_in records.old.setting forward.now.cid) moment (header_of forward.now)
+        (record_among records.old forward.now.cid) (response_of result) (record_among records.new forward.now.cid) }
+    ensures others { (cid : ℕ) → cid ≢ forward.now.cid → record_among records.new cid ≡ record_among records.old cid }
+    ensures setting { records.new.setting ≡ records.old.setting }
+    ensures order { KeepsPlace (keys records.old.contexts) (keys records.new.contexts) forward.now.cid (record_among records.old forward.now.cid) }
+{
+    let settings = records.setting.settings_of(forward.cid);
+    if let Some(context) = records.contexts.get_mut(&forward.cid) {
+        return context.arrive(&settings, moment, forward);
+    }
+    let (context, reply) = match Context::first(&settings, moment, forward) {
+        Ok(made) => made,
+        Err(refusal) => return Reply::refused(refusal),
+    };
+    match records.contexts.insert(forward.cid, context) {
+        Ok(_) => reply,
+        Err(_) => Reply::refused(Refusal::NoMemory),
+    }
+}

@@ -1,0 +1,17 @@
+//! The records of one link.
+
+ghost use Rattle.rohc_concentrator.specs.Setting.{IsGoodSetting};
+
+use crate::setting::LinkSetting;
+use indexmap::IndexMap;
+use rohc_context::Context;
+
+/// A link's setting, and a record for each identifier that has one.
+#[derive(Debug, Drop)]
+pub struct LinkRecords {
+    /// What is set for the link.
+    pub setting: LinkSetting,
+    /// The records in the order of their first IR.
+    pub contexts: IndexMap<u16, Context>,
+    ghost good: { IsGoodSetting setting },
+}

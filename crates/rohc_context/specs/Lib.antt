@@ -1,0 +1,9 @@
+pub mod Refusal
+pub mod Settings
+pub mod Record
+pub mod Response
+pub mod PlainIr
+pub mod Step
+pub mod Good
+pub mod Laws
+pub mod Framing

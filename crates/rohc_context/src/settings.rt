@@ -1,0 +1,92 @@
+//! What a link's operator sets.
+
+use rohc_frame::CidKind;
+
+/// The mode of operation (RFC 3095 4.4): whether feedback is sent.
+#[derive(Clone, Copy, Debug, Default, PartialEq, Eq)]
+pub enum Mode {
+    /// Unidirectional: no feedback is sent.
+    #[default]
+    U,
+    /// Bidirectional optimistic.
+    O,
+}
+
+/// What holds for the contexts of a link.
+#[derive(Clone, Copy, Debug, PartialEq, Eq)]
+pub struct Settings {
+    /// How identifiers are spelled.
+    pub size: CidKind,
+    /// The greatest identifier: at most 15 for small ones, 16,383 for large ones.
+    pub max_cid: u16,
+    /// Whether feedback is sent.
+    pub mode: Mode,
+    /// How many failures among the last `n1` outcomes lead from Full to Static Context: 1 to `n1`.
+    pub k1: u8,
+    /// At most 64.
+    pub n1: u8,
+    /// How many failures among the last `n2` outcomes lead from Static to No Context: 1 to `n2`.
+    pub k2: u8,
+    /// At most 64.
+    pub n2: u8,
+    /// The time between two packets of a sender in milliseconds, 1 to 60,000.
+    pub packet_ms: u32,
+    /// The least time between two STATIC-NACKs in milliseconds, at most 3,600,000.
+    pub static_nack_ms: u32,
+    /// After how many milliseconds without an accepted arrival a record counts as none, at most
+    /// 86,400,000; 0 means never.
+    pub idle_ms: u32,
+}
+
+impl Settings {
+    ghost use Rattle.std.specs.Prelude.{◌↔◌, IsTrue};
+    ghost use Rattle.rohc_context.specs.Settings.{AreGood};
+
+    /// Whether every setting is within its limits.
+    pub fn is_good(&self) -> bool
+        ensures { IsTrue result ↔ AreGood self.now }
+    {
+        let greatest = match self.size {
+            CidKind::Small => 15,
+            CidKind::Large => 16_383,
+        };
+        self.max_cid <= greatest
+            && (1..=self.n1).contains(&self.k1)
+            && self.n1 <= 64
+            && (1..=self.n2).contains(&self.k2)
+            && self.n2 <= 64
+            && (1..=60_000).contains(&self.packet_ms)
+            && self.static_nack_ms <= 3_600_000
+            && self.idle_ms <= 86_400_000
+    }
+}
+
+#[cfg(test)]
+mod tests {
+    use super::*;
+
+    #[test]
+    fn limits(rt: HostRuntime) {
+        let settings = Settings {
+            size: CidKind::Small,
+            max_cid: 15,
+            mode: Mode::O,
+            k1: 2,
+            n1: 3,
+            k2: 2,
+            n2: 3,
+            packet_ms: 20,
+            static_nack_ms: 1000,
+            idle_ms: 0,
+        };
+        assert!(rt; settings.is_good());
+        assert!(rt; !Settings { k1: 4, ..settings }.is_good());
+        assert!(rt;
+            !Settings {
+                max_cid: 16,
+                ..settings
+            }
+            .is_good()
+        );
+    }
+}

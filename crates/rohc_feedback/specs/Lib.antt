@@ -1,0 +1,2 @@
+pub mod Element
+pub use Rattle.rohc_frame.specs.Header

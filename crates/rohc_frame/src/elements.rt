@@ -1,0 +1,57 @@
+//! A packet cut into its parts: feedback elements, and a header or none.
+
+ghost use Rattle.std.specs.Iterator.{YieldsFirstRef, item_count};
+
+use crate::header::Forward;
+
+/// The data of a packet's feedback elements, in order. There are none yet.
+#[derive(Clone, Copy, Debug)]
+pub struct Elements<'a> {
+    octets: &'a [u8],
+}
+
+impl<'a> Elements<'a> {
+    ghost use Rattle.std.specs.Prelude.{◌≡◌, []};
+    ghost use Rattle.rohc_frame.specs.Reading.{elements_of};
+
+    /// No elements.
+    pub(crate) fn none() -> Self
+        ensures { elements_of result ≡ [] }
+    {
+        Elements { octets: &[] }
+    }
+}
+
+impl<'a> Iterator for Elements<'a> {
+    type Item = &'a [u8];
+
+    ghost use Rattle.rohc_frame.specs.Reading.{elements_of};
+
+    ghost next_gives = { YieldsFirstRef elements_of };
+
+    ghost remaining = { item_count elements_of };
+
+    fn next(&mut self) -> Option<&'a [u8]> {
+        None
+    }
+}
+
+/// A packet in its parts.
+#[derive(Clone, Copy, Debug)]
+pub struct Framed<'a> {
+    /// The header; none where padding and feedback are all.
+    pub forward: Option<Forward<'a>>,
+    pub(crate) elements: Elements<'a>,
+}
+
+impl<'a> Framed<'a> {
+    ghost use Rattle.std.specs.Prelude.{◌≡◌};
+    ghost use Rattle.rohc_frame.specs.Reading.{elements_of, reading_of};
+
+    /// The data of the packet's feedback elements, in order.
+    pub fn feedback(&self) -> Elements<'a>
+        ensures { elements_of result ≡ (reading_of self.now).elements }
+    {
+        self.elements
+    }
+}

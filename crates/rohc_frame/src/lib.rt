@@ -1,0 +1,12 @@
+//! Framing: what a link's packet is made of (RFC 3095 5.2, RFC 5795 5).
+#![tactic(auto)]
+
+pub mod cutting;
+pub mod elements;
+pub mod header;
+pub mod refusal;
+
+pub use cutting::cut;
+pub use elements::{Elements, Framed};
+pub use header::{CidKind, Forward, HeadKind};
+pub use refusal::FrameRefusal;
