@@ -1,15 +1,15 @@
 -- Checks by polynomial division: fed bit by bit, in two parts, and by a table, for any polynomial.
-use Rattle.std.proofs.Common.{◌≡◌, ◌==◌, ℕ, zero, suc, ◌+◌, ◌-◌, ◌*◌, ◌/◌, ◌%◌, ◌^◌, ◌<◌, ◌≤◌, Bool, true, false, cond, if◌then◌else◌, List, [], ◌∷◌, ◌++◌, length, drop, replicate, get_or, refl, sym, ap, ◌∙◌, arith, bit_xor, zero-add, add-one, drop-cons, subst}
+use Rattle.std.proofs.Common.{◌≡◌, ◌==◌, ℕ, zero, suc, ◌+◌, ◌-◌, ◌*◌, ◌/◌, ◌%◌, ◌^◌, ◌<◌, ◌≤◌, Bool, true, false, cond, if◌then◌else◌, List, [], ◌∷◌, ◌++◌, length, drop, replicate, get_or, refl, sym, ap, ◌∙◌, arith, bit_and, bit_xor, zero-add, add-one, drop-cons, subst}
 use Rattle.std.proofs.Math.Bool.{xor}
 use Rattle.std.proofs.lemmas.List.{length-append, length-drop, length-replicate, append-nil}
 use Rattle.std.proofs.lemmas.List.Concat.{flat_map-append}
 use Rattle.std.proofs.lemmas.List.FromFn.{get_or-map-range_with_len}
-use Rattle.std.proofs.lemmas.Nat.{xor_lt, xor_mod, xor_shr, mod-pow-add}
+use Rattle.std.proofs.lemmas.Nat.{and_mask, xor_lt, xor_mod, xor_shr, mod-pow-add}
 use Rattle.std.proofs.Math.Nat.{mod-eq_of_lt, pow-suc, suc-add}
 use Rattle.std.proofs.Math.Pow.{pow_mono}
 use Rattle.std.proofs.lemmas.Bool.{eq-eqb, ne_eqb}
 use Rattle.std.proofs.lemmas.Bool.Decides.{nat_tests}
-use Rattle.rohc_checks.specs.Division.{bits, number, message, degree, add_front, divided, remainder, check, table_of}
+use Rattle.rohc_checks.specs.Division.{bits, number, message, degree, add_front, divided, remainder, check, poly8, table_of}
 
 -- ---- addition without carry
 
@@ -211,9 +211,17 @@ check-lt poly reg octets =
     let e : length left ≡ degree poly = length-all_fed (drop 1 poly) (bits (degree poly) reg) (message octets) ∙ length-bits (degree poly) reg in
     rw check-all_fed (subst (λ k. number left < 2 ^ k) e (number-lt left))
 
+pub check8-lt : (reg : ℕ) (octets : List ℕ) → check poly8 reg octets < 256
+unfolding poly8
+check8-lt reg octets = check-lt poly8 reg octets
+
 -- only the low bits of the register count
 pub check-mod : (poly : List Bool) (reg : ℕ) (octets : List ℕ) → check poly (reg % 2 ^ degree poly) octets ≡ check poly reg octets
 check-mod poly reg octets = rw (check-all_fed poly reg octets, check-all_fed poly (reg % 2 ^ degree poly) octets, bits-mod (degree poly) reg)
+
+-- so a mask of them may stand for it
+pub check-and : (poly : List Bool) (reg : ℕ) (octets : List ℕ) → check poly (bit_and reg (2 ^ degree poly - 1)) octets ≡ check poly reg octets
+check-and poly reg octets = rw (and_mask reg (degree poly)) (check-mod poly reg octets)
 
 -- a text in two parts: the check of the first is the register of the second
 pub check-append : (poly : List Bool) (reg : ℕ) (a b : List ℕ) → check poly (check poly reg a) b ≡ check poly reg (a ++ b)

@@ -1,2 +1,3 @@
 pub mod Division
 mod Computed
+mod Totals

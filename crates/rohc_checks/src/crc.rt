@@ -1,11 +1,30 @@
 //! Checks by polynomial division, one look-up in a table for each octet (RFC 3095, section 5.9).
+//! The least significant bit of an octet, and of a register, stands for the highest power. A check
+//! is the register that the octets leave; nothing is inverted at the end.
 
 ghost use Rattle.std.specs.Prelude.{◌≡◌, ◌^◌, ◌<◌, ◌≤◌, List, Bool};
-ghost use Rattle.rohc_checks.specs.Division.{check, degree, poly8, table_of};
+ghost use Rattle.rohc_checks.specs.Division.{check, degree, poly3, poly7, poly8, table_of};
 
-use crate::tables::CRC8;
+use crate::tables::{CRC3, CRC7, CRC8};
 
-/// The 8-bit check of `octets`, begun from the register `reg`.
+/// The 3-bit check of `octets` by 1 + x + x^3, begun from the low 3 bits of the register `reg`
+/// (RFC 3095, section 5.9.2).
+pub fn crc3(reg: u8, octets: &[u8]) -> u8
+    ensures { result ≡ check poly3 reg octets.now }
+{
+    register_after(&CRC3, reg & 0x07, octets)
+}
+
+/// The 7-bit check of `octets` by 1 + x + x^2 + x^3 + x^6 + x^7, begun from the low 7 bits of the
+/// register `reg` (RFC 3095, section 5.9.2).
+pub fn crc7(reg: u8, octets: &[u8]) -> u8
+    ensures { result ≡ check poly7 reg octets.now }
+{
+    register_after(&CRC7, reg & 0x7f, octets)
+}
+
+/// The 8-bit check of `octets` by 1 + x + x^2 + x^8, begun from the register `reg` (RFC 3095,
+/// section 5.9.1).
 pub fn crc8(reg: u8, octets: &[u8]) -> u8
     ensures { result ≡ check poly8 reg octets.now }
 {

@@ -1,8 +1,14 @@
-//! The checks of robust header compression and the sum of Internet headers.
+//! The checks of robust header compression, and the sum of Internet headers. Nothing allocates, and
+//! nothing fails.
 #![tactic(auto)]
 
 mod crc;
 pub mod laws;
+mod sum;
 mod tables;
 
-pub use crc::crc8;
+pub use crc::{crc3, crc7, crc8};
+pub use sum::internet_sum;
+
+#[cfg(test)]
+mod tests;

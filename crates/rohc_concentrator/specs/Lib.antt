@@ -2,3 +2,4 @@ pub mod Setting
 pub mod Tables
 pub mod Report
 pub mod Setup
+pub mod Events

@@ -1,0 +1,29 @@
+//! The sum of Internet headers (RFC 791, section 3.1; RFC 1071, section 1).
+
+ghost use Rattle.std.specs.Prelude.{◌≡◌, ℕ, ◌<◌, ◌≤◌, [], ◌∷◌, List, length};
+ghost use Rattle.rohc_checks.specs.Sum.{header_sum, words};
+
+/// The complement of the one's complement sum of the 16-bit words of `octets`, whose odd last octet
+/// stands before a zero octet (RFC 791, section 3.1).
+pub fn internet_sum(octets: &[u8]) -> u16
+    ensures { result ≡ header_sum (words octets.now) }
+{
+    let mut total = 0;
+    let mut left = octets;
+    while let [high, low, after @ ..] = left {
+        total = with_carry(total, u16::from_be_bytes([*high, *low]));
+        left = after;
+    }
+    match left {
+        [last, ..] => !with_carry(total, u16::from_be_bytes([*last, 0])),
+        [] => !total,
+    }
+}
+
+// The one's complement sum of two words: it stands for both among any others.
+fn with_carry(total: u16, word: u16) -> u16
+    ensures { (others : List ℕ) → header_sum (result ∷ others) ≡ header_sum (total ∷ word ∷ others) }
+{
+    let (sum, carry) = total.overflowing_add(word);
+    if carry { sum + 1 } else { sum }
+}

@@ -1,0 +1,168 @@
+use crate::{crc3, crc7, crc8, internet_sum};
+use std::alloc::{AllocError, Global};
+use std::collections::VecDeque;
+use std::test::Fail;
+
+const DIGITS: &[u8] = b"123456789";
+
+// The check values of the nine digits, begun from all ones.
+#[test]
+fn check_values(rt: HostRuntime) {
+    assert_eq!(rt; crc3(0x07, DIGITS), 0x06);
+    assert_eq!(rt; crc7(0x7f, DIGITS), 0x53);
+    assert_eq!(rt; crc8(0xff, DIGITS), 0xd0);
+}
+
+// Register, octets, check.
+#[test]
+fn three_bits(rt: HostRuntime) -> Result<(), Fail> {
+    let cases: [(u8, &[u8], u8); 7] = [
+        (0x07, &[], 0x07),
+        (0x07, &[0x00], 0x05),
+        (0x07, &[0xff], 0x03),
+        (0x04, &[0x0c, 0x3c], 0x06),
+        (
+            0x05,
+            &[0xeb, 0x7f, 0xd4, 0xfa, 0x26, 0x6e, 0x04, 0x66, 0xdb, 0x1e],
+            0x03,
+        ),
+        (0x02, &[0x27, 0x4e, 0xa7], 0x03),
+        (0x00, &[0xa5, 0x25, 0x75, 0x1d, 0xb5, 0x99, 0x32], 0x04),
+    ];
+    for (reg, octets, check) in cases {
+        assert_eq!(rt; crc3(reg, octets), check);
+        assert_eq!(rt;
+            by_division(rt.alloc(), &[false, true, true], reg, octets)?,
+            check
+        );
+    }
+    Ok(())
+}
+
+// Register, octets, check.
+#[test]
+fn seven_bits(rt: HostRuntime) -> Result<(), Fail> {
+    let cases: [(u8, &[u8], u8); 7] = [
+        (0x7f, &[], 0x7f),
+        (0x7f, &[0x00], 0x46),
+        (0x7f, &[0xff], 0x79),
+        (0x22, &[0x8c], 0x6e),
+        (
+            0x51,
+            &[0xff, 0xf4, 0xb0, 0x84, 0x1f, 0xa9, 0xca, 0x0b, 0x7d, 0x48],
+            0x0e,
+        ),
+        (0x3b, &[0x7f, 0x52, 0x89, 0x96], 0x0c),
+        (
+            0x6d,
+            &[0x8f, 0x3b, 0xf7, 0x40, 0x6c, 0x40, 0xfc, 0x82, 0xd2],
+            0x41,
+        ),
+    ];
+    for (reg, octets, check) in cases {
+        assert_eq!(rt; crc7(reg, octets), check);
+        assert_eq!(rt;
+            by_division(
+                rt.alloc(),
+                &[true, false, false, true, true, true, true],
+                reg,
+                octets
+            )?,
+            check
+        );
+    }
+    Ok(())
+}
+
+// Register, octets, check.
+#[test]
+fn eight_bits(rt: HostRuntime) -> Result<(), Fail> {
+    let cases: [(u8, &[u8], u8); 7] = [
+        (0xff, &[], 0xff),
+        (0xff, &[0x00], 0xcf),
+        (0xff, &[0xff], 0x00),
+        (0xd2, &[0x49, 0x36], 0x20),
+        (
+            0xde,
+            &[0x92, 0x29, 0x42, 0x34, 0xcc, 0x15, 0x1a, 0x2e, 0xfc],
+            0xc8,
+        ),
+        (0x23, &[0x9b, 0x01, 0x60, 0x68], 0x71),
+        (
+            0xd4,
+            &[
+                0x14, 0x82, 0x1d, 0x81, 0xb0, 0x7a, 0xfb, 0xd2, 0x8b, 0xfa, 0xbf,
+            ],
+            0xaf,
+        ),
+    ];
+    for (reg, octets, check) in cases {
+        assert_eq!(rt; crc8(reg, octets), check);
+        assert_eq!(rt;
+            by_division(
+                rt.alloc(),
+                &[false, false, false, false, false, true, true, true],
+                reg,
+                octets
+            )?,
+            check
+        );
+    }
+    Ok(())
+}
+
+// The check as it is defined: the whole message with a zero for each lower coefficient, divided
+// place by place.
+fn by_division(alloc: Global, lower: &[bool], reg: u8, octets: &[u8]) -> Result<u8, AllocError> {
+    let mut places = VecDeque::new(alloc);
+    for octet in octets {
+        for k in 0..8u8 {
+            places.push_back((octet >> k) & 1 == 1)?;
+        }
+    }
+    for _ in lower {
+        places.push_back(false)?;
+    }
+    let mut register = reg;
+    for (place, _) in places.iter_mut().zip(lower) {
+        *place = *place != (register & 1 == 1);
+        register >>= 1;
+    }
+    for _ in octets {
+        for _ in 0..8u8 {
+            if places.pop_front() == Some(true) {
+                for (place, coefficient) in places.iter_mut().zip(lower) {
+                    *place = *place != *coefficient;
+                }
+            }
+        }
+    }
+    let mut check = 0;
+    for place in places.iter().rev() {
+        check = (check << 1) | u8::from(*place);
+    }
+    Ok(check)
+}
+
+// Octets, header sum.
+#[test]
+fn header_sums(rt: HostRuntime) {
+    let cases: [(&[u8], u16); 10] = [
+        (&[], 0xffff),
+        (&[0x00, 0x00], 0xffff),
+        (&[0xff, 0xff], 0x0000),
+        (&[0x01], 0xfeff),
+        (&[0xff], 0x00ff),
+        (&[0xff, 0xff, 0x00, 0x00], 0x0000),
+        (&[0xff, 0xfe, 0x00, 0x01], 0x0000),
+        (
+            &[0x7a, 0xca, 0xe8, 0x80, 0x98, 0x48, 0x20, 0xc7, 0x54, 0x9f],
+            0x8f05,
+        ),
+        (&[0x43, 0xc4, 0xec, 0xd8, 0x88, 0xad, 0x4c], 0xfab4),
+        (&[0xfc, 0x18], 0x03e7),
+    ];
+    for (octets, sum) in cases {
+        assert_eq!(rt; internet_sum(octets), sum);
+    }
+}

@@ -1,0 +1,57 @@
+-- Lemmas on what a fault leaves.
+use Rattle.std.proofs.Common.{◌≡◌, ℕ, List, [], ◌++◌, Option, None, Some, IfSome, Bool, ◌⊎◌, inl, inr, append_assoc, append-nil, refl, sym, ◌∙◌, ap, subst}
+use Rattle.std.specs.List.{flat_map}
+use Rattle.std.specs.Io.KnownBytes.{Consumes, Keeps, IsAtEnd}
+use Rattle.std.proofs.KnownBytes.{Appends-kept, Consumes-whole}
+use Rattle.rohc_concentrator.specs.declared.concentrator.Concentrator.{Concentrator}
+use Rattle.rohc_replay.specs.declared.counts.Counts.{Counts}
+use Rattle.rohc_replay.specs.Script.{lines_of}
+use Rattle.rohc_replay.specs.AnswerLines.{text_of}
+use Rattle.rohc_replay.specs.Run.{ReadFails, WriteFails, FlushFails, Stops}
+use Rattle.rohc_replay.specs.Stream.{Stands, Ends, StopsWithin}
+use Rattle.rohc_replay.proofs.SplitLemmas.{lines_of-front}
+
+-- a read fails where a replay stands
+pub fails_reading : (first : Concentrator) (held a b : Option (List ℕ)) (seen kept : List ℕ) (long : Bool) (now : Concentrator) (holding : Option (List ℕ)) (counts : Counts) →
+    Consumes a b seen → Stands first held seen kept long now holding counts → ReadFails first a b held holding counts.taken now
+fails_reading first held a b seen kept long now holding counts consumed s = record {
+  seen = seen;
+  consumed = consumed;
+  finished = s.finished;
+  rest = s.rest;
+  splits = s.splits;
+  lines = s.lines;
+  are_lines = s.are_lines;
+  answers = s.answers;
+  run = s.run;
+  taken = s.taken;
+}
+
+-- a write fails at a line that ended
+pub fails_writing : (first : Concentrator) (held a b : Option (List ℕ)) (seen : List ℕ) (now : Concentrator) (holding : Option (List ℕ)) (counts : Counts) →
+    Consumes a b seen → StopsWithin first held seen now holding counts →
+    IfSome a (λ text. WriteFails first text held holding counts.taken now ⊎ FlushFails first text held holding counts.taken now)
+fails_writing first held None b seen now holding counts consumed stops = tt
+fails_writing first held (Some text) None seen now holding counts consumed stops = absurd consumed
+fails_writing first held (Some text) (Some left) seen now holding counts consumed stops = inl (record {
+  texts = stops.3.0;
+  others = lines_of (stops.1 ++ left);
+  first_lines = ap lines_of (consumed ∙ ap (λ t. t ++ left) stops.2 ∙ append_assoc stops.0 stops.1 left) ∙ lines_of-front stops.0 (stops.1 ++ left) stops.3.0 stops.3.1;
+  stops = stops.3.2;
+})
+
+-- a write fails at the last line
+pub fails_at_end : (first : Concentrator) (held a b : Option (List ℕ)) (seen : List ℕ) (now : Concentrator) (holding : Option (List ℕ)) (counts : Counts) →
+    Consumes a b seen → IsAtEnd b → Stops first (lines_of seen) held holding counts.taken now →
+    IfSome a (λ text. WriteFails first text held holding counts.taken now ⊎ FlushFails first text held holding counts.taken now)
+fails_at_end first held a b seen now holding counts consumed end stops =
+    Consumes-whole a b seen (λ text. WriteFails first text held holding counts.taken now ⊎ FlushFails first text held holding counts.taken now) consumed end
+    (inl (record { texts = lines_of seen; others = []; first_lines = sym (append-nil (lines_of seen)); stops = stops }))
+
+-- the flush fails
+pub fails_flushing : (first : Concentrator) (held a b : Option (List ℕ)) (seen : List ℕ) (now : Concentrator) (holding flushed : Option (List ℕ)) (counts : Counts) →
+    Consumes a b seen → IsAtEnd b → Ends first held seen now holding counts → Keeps holding flushed →
+    IfSome a (λ text. WriteFails first text held flushed counts.taken now ⊎ FlushFails first text held flushed counts.taken now)
+fails_flushing first held a b seen now holding flushed counts consumed end e kept =
+    Consumes-whole a b seen (λ text. WriteFails first text held flushed counts.taken now ⊎ FlushFails first text held flushed counts.taken now) consumed end
+    (inr (record { lines = e.lines; script = e.are_lines; answers = e.answers; run = e.run; taken = (Appends-kept held holding flushed (flat_map text_of e.answers) e.taken.0 kept, e.taken.1) }))

@@ -1,0 +1,15 @@
+pub mod DigitLemmas
+pub mod FaultLemmas
+pub mod LineLemmas
+pub mod LinksEntries
+pub mod LinksFields
+pub mod LinksRanges
+pub mod NumberLemmas
+pub mod NumeralLemmas
+pub mod OfferLemmas
+pub mod RangeLemmas
+pub mod SpellingLemmas
+pub mod SplitLemmas
+pub mod StreamLemmas
+pub mod TurnLemmas
+pub mod WaitingLemmas

@@ -1,0 +1,81 @@
+-- What a writer took of one text, and then of the next.
+use Rattle.std.proofs.Common.{ℕ, ◌+◌, ◌-◌, ◌<◌, ◌^◌, List, [], ◌++◌, length, take, drop, Option, Some, None, Result, Ok, Err, append_assoc, append-nil, sym, ◌∙◌, ap, arith, length-append, length-drop}
+use Rattle.std.proofs.lemmas.List.{take-append-drop, take_rest}
+use Rattle.std.proofs.Math.Seq.{take-add}
+use Rattle.std.specs.Prelude.{IsErr}
+use Rattle.std.specs.Io.KnownBytes.{Appends}
+use Rattle.rohc_replay.specs.Offers.{TakesAll, TakesPart, Offers}
+use Rattle.rohc_replay.specs.declared.output.Stopped.{Stopped}
+
+-- nothing was taken
+pub appends_none : (held : Option (List ℕ)) → Appends held held []
+appends_none None = tt
+appends_none (Some xs) = sym (append-nil xs)
+
+-- a text was taken, and then another
+pub appends_more : (held mid holding : Option (List ℕ)) (a b : List ℕ) → Appends held mid a → Appends mid holding b → Appends held holding (a ++ b)
+appends_more None mid holding a b ha hb = tt
+appends_more (Some xs) (Some ys) (Some zs) a b ha hb = hb ∙ ap (λ (l : List ℕ). l ++ b) ha ∙ append_assoc xs a b
+appends_more (Some xs) (Some ys) None a b ha hb = hb
+appends_more (Some xs) None holding a b ha hb = absurd ha
+
+-- a front of a text was taken, and then a front of what was left
+pub appends_front : (held mid holding : Option (List ℕ)) (text : List ℕ) (at count : ℕ) → Appends held mid (take at text)
+    → Appends mid holding (take count (take (length text - at) (drop at text))) → Appends held holding (take (at + count) text)
+appends_front held mid holding text at count ha hb =
+    rw take-add (appends_more held mid holding (take at text) (take count (drop at text)) ha (rw take_rest at hb))
+
+-- nothing was taken, and the count stays
+pub takes_none : (held : Option (List ℕ)) (before : ℕ) → before < 2 ^ 64 → TakesAll held held before before []
+takes_none held before small = (appends_none held, omega arith)
+
+-- all of a text was taken, and then all of another
+pub takes_more : (held mid holding : Option (List ℕ)) (before between after : ℕ) (a b : List ℕ)
+    → TakesAll held mid before between a → TakesAll mid holding between after b → TakesAll held holding before after (a ++ b)
+takes_more held mid holding before between after a b ha hb =
+    (appends_more held mid holding a b ha.0 hb.0, omega (arith, ha.1, hb.1, length-append a b))
+
+-- a part of a text was taken, so a part of a longer one
+pub part_longer : (held holding : Option (List ℕ)) (before after : ℕ) (a b : List ℕ)
+    → TakesPart held holding before after a → TakesPart held holding before after (a ++ b)
+part_longer held holding before after a b h = record {
+  part = h.part;
+  rest = h.rest ++ b;
+  parts = ap (λ (l : List ℕ). l ++ b) h.parts ∙ append_assoc h.part h.rest b;
+  some_left = omega (arith, h.some_left, length-append h.rest b);
+  taken = h.taken;
+}
+
+-- all of a text was taken, and then a part of another
+pub part_more : (held mid holding : Option (List ℕ)) (before between after : ℕ) (a b : List ℕ)
+    → TakesAll held mid before between a → TakesPart mid holding between after b → TakesPart held holding before after (a ++ b)
+part_more held mid holding before between after a b ha hb = record {
+  part = a ++ hb.part;
+  rest = hb.rest;
+  parts = ap (λ (l : List ℕ). a ++ l) hb.parts ∙ sym (append_assoc a hb.part hb.rest);
+  some_left = hb.some_left;
+  taken = takes_more held mid holding before between after a hb.part ha hb.taken;
+}
+
+-- Where all of a text was taken and then another is offered, the two are offered as one.
+pub offers_more : (held mid holding : Option (List ℕ)) (before between after : ℕ) (a b : List ℕ) (r : Result Unit Stopped)
+    → TakesAll held mid before between a → Offers mid holding between after b r → Offers held holding before after (a ++ b) r
+offers_more held mid holding before between after a b (Ok done) ha hb = takes_more held mid holding before between after a b ha hb
+offers_more held mid holding before between after a b (Err stopped) ha hb = part_more held mid holding before between after a b ha hb
+
+-- a part was taken, and the answer says so
+pub offers_stopped : (held holding : Option (List ℕ)) (before after : ℕ) (text : List ℕ) (r : Result Unit Stopped)
+    → IsErr r → TakesPart held holding before after text → Offers held holding before after text r
+offers_stopped held holding before after text (Ok done) err h = cc err
+offers_stopped held holding before after text (Err stopped) err h = h
+
+-- a text of which less than all was taken
+pub part_of : (held holding : Option (List ℕ)) (before after count : ℕ) (text : List ℕ) → count < length text
+    → TakesAll held holding before after (take count text) → TakesPart held holding before after text
+part_of held holding before after count text less h = record {
+  part = take count text;
+  rest = drop count text;
+  parts = sym (take-append-drop count text);
+  some_left = omega (arith, length-drop count text);
+  taken = h;
+}

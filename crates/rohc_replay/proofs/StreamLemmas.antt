@@ -1,0 +1,356 @@
+-- Lemmas on where a replay stands.
+use Rattle.std.proofs.Common.{◌≡◌, ◌≢◌, ℕ, ◌+◌, ◌<◌, ◌≤◌, List, [], ◌∷◌, ◌++◌, length, length-append, Bool, true, false, cond, not, min, slice_range, get_or, drop, ◌⊎◌, inl, inr, Option, Result, Ok, Err, IfOk, IfErr, IfSome, count_by, append_assoc, append-nil, arith, refl, sym, ◌∙◌, ap, subst}
+use Rattle.std.specs.List.{flat_map}
+use Rattle.std.specs.Io.KnownBytes.{Appends, Keeps, Consumes, IsAtEnd}
+use Rattle.std.proofs.KnownBytes.{Appends-nil, Appends-trans, Appends-kept, Consumes-trans, Consumes-whole}
+use Rattle.std.proofs.lemmas.Grind.{flat_map-append}
+use Rattle.std.proofs.lemmas.List.Sums.{sum_by-append}
+use Rattle.rohc_concentrator.specs.declared.concentrator.Concentrator.{Concentrator}
+use Rattle.rohc_replay.specs.declared.counts.Counts.{Counts}
+use Rattle.rohc_replay.specs.declared.output.Stopped.{Stopped}
+use Rattle.rohc_replay.specs.declared.tally.Tally.{Tally}
+use Rattle.rohc_replay.specs.Script.{Line, Good, Bad, Long, IsLine, AreLines, longest_line, lines_of}
+use Rattle.rohc_replay.specs.AnswerLines.{text_of, long_line}
+use Rattle.rohc_replay.specs.Offers.{TakesAll, TakesPart, counted}
+use Rattle.rohc_replay.specs.Run.{Turns, Runs, IsTally, Replays, Stops, is_good_line}
+use Rattle.rohc_replay.specs.Turn.{with_line, TakesTurn, TakesLongTurn}
+use Rattle.rohc_replay.specs.Stream.{Stands, Ends, IsKept, StopsAt}
+use Rattle.rohc_replay.specs.Lines.{Splits, has_newline}
+use Rattle.rohc_replay.proofs.RangeLemmas.{range-append, range-one, range-none, range-end}
+use Rattle.rohc_replay.proofs.SplitLemmas.{Splits-more, Splits-newline, AreLines-push, lines_of-splits, last_line}
+
+-- a run goes on by one line
+pub Runs-push : (old mid new : Concentrator) (lines : List Line) (answers : List (List (List ℕ))) (line : Line) (more : List (List ℕ)) →
+    Runs old lines answers mid → Turns mid line more new → Runs old (lines ++ line ∷ []) (answers ++ more ∷ []) new
+Runs-push old mid new [] [] line more run turn = (new, subst (λ k. Turns k line more new) run turn, refl)
+Runs-push old mid new (l ∷ ls) (a ∷ rest) line more run turn = (run.0, run.1, Runs-push run.0 mid new ls rest line more run.2 turn)
+Runs-push old mid new [] (a ∷ rest) line more run turn = absurd run
+Runs-push old mid new (l ∷ ls) [] line more run turn = absurd run
+
+-- counting goes on
+pub counted-counted : (a b c : ℕ) → counted (counted a b) c ≡ counted a (b + c)
+counted-counted a b c = omega arith
+
+-- what is taken of two texts in turn is taken of both
+pub TakesAll-more : (a b c : Option (List ℕ)) (m n o : ℕ) (xs ys : List ℕ) → TakesAll a b m n xs → TakesAll b c n o ys → TakesAll a c m o (xs ++ ys)
+TakesAll-more a b c m n o xs ys p q = (Appends-trans a b c xs ys p.0 q.0, (let h = length-append xs ys in q.1 ∙ ap (λ k. counted k (length ys)) p.1 ∙ counted-counted m (length xs) (length ys) ∙ ap (counted m) (sym h)))
+
+texts-push : (answers : List (List (List ℕ))) (more : List (List ℕ)) → flat_map text_of (answers ++ more ∷ []) ≡ flat_map text_of answers ++ text_of more
+texts-push answers more = flat_map-append text_of answers (more ∷ []) ∙ ap (λ t. flat_map text_of answers ++ t) (append-nil (text_of more))
+
+count_by-push : (p : Line → Bool) (lines : List Line) (line : Line) → count_by p (lines ++ line ∷ []) ≡ count_by p lines + count_by p (line ∷ [])
+count_by-push p lines line = sum_by-append (λ (l : Line). cond (p l) 1 0) lines (line ∷ [])
+
+-- one line more is counted
+pub IsTally-push : (lines : List Line) (line : Line) (t u : Tally) → IsTally lines t → u ≡ with_line t line → IsTally (lines ++ line ∷ []) u
+IsTally-push lines (Good e) t u is eq =
+    let good = count_by-push is_good_line lines (Good e) in
+    let bad = count_by-push (λ (l : Line). not (is_good_line l)) lines (Good e) in
+    let events = ap (λ (v : Tally). v.events) eq in
+    let others = ap (λ (v : Tally). v.bad) eq in
+    record { events = omega (arith, is.events); bad = omega (arith, is.bad) }
+IsTally-push lines Bad t u is eq =
+    let good = count_by-push is_good_line lines Bad in
+    let bad = count_by-push (λ (l : Line). not (is_good_line l)) lines Bad in
+    let events = ap (λ (v : Tally). v.events) eq in
+    let others = ap (λ (v : Tally). v.bad) eq in
+    record { events = omega (arith, is.events); bad = omega (arith, is.bad) }
+IsTally-push lines Long t u is eq =
+    let good = count_by-push is_good_line lines Long in
+    let bad = count_by-push (λ (l : Line). not (is_good_line l)) lines Long in
+    let events = ap (λ (v : Tally). v.events) eq in
+    let others = ap (λ (v : Tally). v.bad) eq in
+    record { events = omega (arith, is.events); bad = omega (arith, is.bad) }
+
+-- octets without a newline are kept
+pub Stands-more : (first : Concentrator) (held : Option (List ℕ)) (seen kept more : List ℕ) (long : Bool) (now : Concentrator) (holding : Option (List ℕ)) (counts : Counts) →
+    Stands first held seen kept long now holding counts → has_newline more ≡ false → Stands first held (seen ++ more) (kept ++ more) long now holding counts
+Stands-more first held seen kept more long now holding counts s none = record {
+  finished = s.finished;
+  rest = s.rest ++ more;
+  splits = Splits-more seen s.finished s.rest more s.splits none;
+  is_kept = IsKept-more long kept s.rest more s.is_kept;
+  lines = s.lines;
+  are_lines = s.are_lines;
+  answers = s.answers;
+  run = s.run;
+  taken = s.taken;
+  tally = s.tally;
+}
+  where
+    IsKept-more : (l : Bool) (k r m : List ℕ) → IsKept l k r → IsKept l (k ++ m) (r ++ m)
+    IsKept-more false k r m e = ap (λ t. t ++ m) e
+    IsKept-more true k r m e = omega (arith, length-append r m)
+
+-- a rest that is long already is a long line, and a kept one is the line that it spells
+IsLine-kept : (long : Bool) (kept rest : List ℕ) (line : Line) → IsKept long kept rest → (long ≡ false → IsLine kept line) → (long ≡ true → line ≡ Long) → IsLine rest line
+IsLine-kept false kept rest line is_kept short is_long = subst (λ t. IsLine t line) is_kept (short refl)
+IsLine-kept true kept rest line is_kept short is_long = rw (is_long refl) is_kept
+
+-- a newline ends the kept line, which is run
+pub Stands-newline : (first : Concentrator) (held : Option (List ℕ)) (seen kept : List ℕ) (long : Bool) (now : Concentrator) (holding : Option (List ℕ)) (counts : Counts)
+    (line : Line) (more : List (List ℕ)) (new : Concentrator) (after : Option (List ℕ)) (counts_after : Counts) →
+    Stands first held seen kept long now holding counts → (long ≡ false → IsLine kept line) → (long ≡ true → line ≡ Long) →
+    Turns now line more new → counts_after.tally ≡ with_line counts.tally line → TakesAll holding after counts.taken counts_after.taken (text_of more) →
+    Stands first held (seen ++ 10 ∷ []) [] false new after counts_after
+Stands-newline first held seen kept long now holding counts line more new after counts_after s short is_long turns tally taken = record {
+  finished = s.finished ++ s.rest ∷ [];
+  rest = [];
+  splits = Splits-newline seen s.finished s.rest s.splits;
+  is_kept = refl;
+  lines = s.lines ++ line ∷ [];
+  are_lines = AreLines-push s.finished s.lines s.rest line s.are_lines (IsLine-kept long kept s.rest line s.is_kept short is_long);
+  answers = s.answers ++ more ∷ [];
+  run = Runs-push first now new s.lines s.answers line more s.run turns;
+  taken = subst (TakesAll held after 0 counts_after.taken) (sym (texts-push s.answers more)) (TakesAll-more held holding after 0 counts.taken counts_after.taken (flat_map text_of s.answers) (text_of more) s.taken taken);
+  tally = IsTally-push s.lines line counts.tally counts_after.tally s.tally tally;
+}
+
+-- what isn't empty is a line
+some_rest : (l : Bool) (k r : List ℕ) → IsKept l k r → (l ≡ false → 0 < length k) → 0 < length r
+some_rest false k r e h = subst (λ t. 0 < length t) e (h refl)
+some_rest true k r e h = omega (arith, e)
+
+last_line-some : (r : List ℕ) → 0 < length r → last_line r ≡ r ∷ []
+last_line-some [] h = absurd (omega arith)
+last_line-some (x ∷ xs) h = refl
+
+-- a last line that isn't empty is run
+pub Ends-line : (first : Concentrator) (held : Option (List ℕ)) (seen kept : List ℕ) (long : Bool) (now : Concentrator) (holding : Option (List ℕ)) (counts : Counts)
+    (line : Line) (more : List (List ℕ)) (new : Concentrator) (after : Option (List ℕ)) (counts_after : Counts) →
+    Stands first held seen kept long now holding counts → (long ≡ false → IsLine kept line) → (long ≡ true → line ≡ Long) → (long ≡ false → 0 < length kept) →
+    Turns now line more new → counts_after.tally ≡ with_line counts.tally line → TakesAll holding after counts.taken counts_after.taken (text_of more) →
+    Ends first held seen new after counts_after
+Ends-line first held seen kept long now holding counts line more new after counts_after s short is_long some turns tally taken = record {
+  lines = s.lines ++ line ∷ [];
+  are_lines = subst (λ ls. AreLines ls (s.lines ++ line ∷ [])) (sym (lines_of-splits seen s.finished s.rest s.splits ∙ ap (λ ls. s.finished ++ ls) (last_line-some s.rest (some_rest long kept s.rest s.is_kept some))))
+      (AreLines-push s.finished s.lines s.rest line s.are_lines (IsLine-kept long kept s.rest line s.is_kept short is_long));
+  answers = s.answers ++ more ∷ [];
+  run = Runs-push first now new s.lines s.answers line more s.run turns;
+  taken = subst (TakesAll held after 0 counts_after.taken) (sym (texts-push s.answers more)) (TakesAll-more held holding after 0 counts.taken counts_after.taken (flat_map text_of s.answers) (text_of more) s.taken taken);
+  tally = IsTally-push s.lines line counts.tally counts_after.tally s.tally tally;
+}
+
+-- nothing is kept of an empty last line
+pub Ends-empty : (first : Concentrator) (held : Option (List ℕ)) (seen : List ℕ) (now : Concentrator) (holding : Option (List ℕ)) (counts : Counts) →
+    Stands first held seen [] false now holding counts → Ends first held seen now holding counts
+Ends-empty first held seen now holding counts s = record {
+  lines = s.lines;
+  are_lines = subst (λ ls. AreLines ls s.lines) (sym (lines_of-splits seen s.finished s.rest s.splits ∙ ap (λ r. s.finished ++ last_line r) (sym s.is_kept) ∙ append-nil s.finished)) s.are_lines;
+  answers = s.answers;
+  run = s.run;
+  taken = s.taken;
+  tally = s.tally;
+}
+
+-- before anything is read
+pub Stands-first : (first : Concentrator) (held : Option (List ℕ)) (counts : Counts) → counts.taken ≡ 0 → counts.tally ≡ record { events = 0; bad = 0 } → Stands first held [] [] false first held counts
+Stands-first first held counts none nothing = record {
+  finished = [];
+  rest = [];
+  splits = record { whole = refl; each = tt; unfinished = refl };
+  is_kept = refl;
+  lines = [];
+  are_lines = tt;
+  answers = [];
+  run = refl;
+  taken = (Appends-nil held, none);
+  tally = rw nothing (record { events = refl; bad = refl });
+}
+
+-- The same, from what a turn says of its result.
+
+pub newline_after_turn : (now new : Concentrator) (holding after : Option (List ℕ)) (counts counts_after : Counts) (kept : List ℕ) (result : Result Unit Stopped) →
+    TakesTurn now new holding after counts counts_after kept result →
+    IfOk result (λ _. (first : Concentrator) (held : Option (List ℕ)) (seen : List ℕ) → Stands first held seen kept false now holding counts → Stands first held (seen ++ 10 ∷ []) [] false new after counts_after)
+newline_after_turn now new holding after counts counts_after kept (Ok done) t = λ first held seen s.
+    Stands-newline first held seen kept false now holding counts t.line t.answers new after counts_after s (λ _. t.is_line) (λ e. cc) t.turns t.tally t.offers
+newline_after_turn now new holding after counts counts_after kept (Err stopped) t = tt
+
+pub newline_after_long : (now : Concentrator) (holding after : Option (List ℕ)) (counts counts_after : Counts) (kept : List ℕ) (result : Result Unit Stopped) →
+    TakesLongTurn holding after counts counts_after result →
+    IfOk result (λ _. (first : Concentrator) (held : Option (List ℕ)) (seen : List ℕ) → Stands first held seen kept true now holding counts → Stands first held (seen ++ 10 ∷ []) [] false now after counts_after)
+newline_after_long now holding after counts counts_after kept (Ok done) t = λ first held seen s.
+    Stands-newline first held seen kept true now holding counts Long (long_line ∷ []) now after counts_after s (λ e. cc) (λ _. refl) (refl, refl) t.tally t.offers
+newline_after_long now holding after counts counts_after kept (Err stopped) t = tt
+
+pub end_after_turn : (now new : Concentrator) (holding after : Option (List ℕ)) (counts counts_after : Counts) (kept : List ℕ) (result : Result Unit Stopped) → 0 < length kept →
+    TakesTurn now new holding after counts counts_after kept result →
+    IfOk result (λ _. (first : Concentrator) (held : Option (List ℕ)) (seen : List ℕ) → Stands first held seen kept false now holding counts → Ends first held seen new after counts_after)
+end_after_turn now new holding after counts counts_after kept (Ok done) some t = λ first held seen s.
+    Ends-line first held seen kept false now holding counts t.line t.answers new after counts_after s (λ _. t.is_line) (λ e. cc) (λ _. some) t.turns t.tally t.offers
+end_after_turn now new holding after counts counts_after kept (Err stopped) some t = tt
+
+pub end_after_long : (now : Concentrator) (holding after : Option (List ℕ)) (counts counts_after : Counts) (kept : List ℕ) (result : Result Unit Stopped) →
+    TakesLongTurn holding after counts counts_after result →
+    IfOk result (λ _. (first : Concentrator) (held : Option (List ℕ)) (seen : List ℕ) → Stands first held seen kept true now holding counts → Ends first held seen now after counts_after)
+end_after_long now holding after counts counts_after kept (Ok done) t = λ first held seen s.
+    Ends-line first held seen kept true now holding counts Long (long_line ∷ []) now after counts_after s (λ e. cc) (λ _. refl) (λ e. cc) (refl, refl) t.tally t.offers
+end_after_long now holding after counts counts_after kept (Err stopped) t = tt
+
+-- Two parts of one piece: what was run up to `from` of the octets, and the octets from there to `to`.
+
+pub Stands-along : (first : Concentrator) (held : Option (List ℕ)) (seen octets : List ℕ) (searched start from to : ℕ) (long : Bool) (now : Concentrator) (holding : Option (List ℕ)) (counts : Counts) →
+    start ≤ from → searched ≤ from → from ≤ to → has_newline (slice_range octets from to) ≡ false →
+    Stands first held (seen ++ slice_range octets searched from) (slice_range octets start from) long now holding counts →
+    Stands first held (seen ++ slice_range octets searched to) (slice_range octets start to) long now holding counts
+Stands-along first held seen octets searched start from to long now holding counts begun later ahead none s =
+    let all : (seen ++ slice_range octets searched from) ++ slice_range octets from to ≡ seen ++ slice_range octets searched to = append_assoc seen (slice_range octets searched from) (slice_range octets from to) ∙ ap (λ t. seen ++ t) (range-append octets searched from to later ahead) in
+    let line : slice_range octets start from ++ slice_range octets from to ≡ slice_range octets start to = range-append octets start from to begun ahead in
+    subst (λ t. Stands first held t (slice_range octets start to) long now holding counts) all
+    (subst (λ k. Stands first held ((seen ++ slice_range octets searched from) ++ slice_range octets from to) k long now holding counts) line
+    (Stands-more first held (seen ++ slice_range octets searched from) (slice_range octets start from) (slice_range octets from to) long now holding counts s none))
+
+-- a newline at a place was seen, and a new line begins behind it
+pub Stands-behind : (first : Concentrator) (held : Option (List ℕ)) (seen octets : List ℕ) (searched stop : ℕ) (now : Concentrator) (holding : Option (List ℕ)) (counts : Counts) →
+    searched ≤ stop → stop < length octets → get_or octets stop 0 ≡ 10 →
+    Stands first held ((seen ++ slice_range octets searched stop) ++ 10 ∷ []) [] false now holding counts →
+    Stands first held (seen ++ slice_range octets searched (stop + 1)) (slice_range octets (stop + 1) (stop + 1)) false now holding counts
+Stands-behind first held seen octets searched stop now holding counts later within newline s =
+    let one : slice_range octets stop (stop + 1) ≡ 10 ∷ [] = range-one octets stop within ∙ ap (λ o. o ∷ []) newline in
+    let all : (seen ++ slice_range octets searched stop) ++ 10 ∷ [] ≡ seen ++ slice_range octets searched (stop + 1) =
+    append_assoc seen (slice_range octets searched stop) (10 ∷ []) ∙ ap (λ t. seen ++ t) (ap (λ t. slice_range octets searched stop ++ t) (sym one) ∙ range-append octets searched stop (stop + 1) later (omega arith)) in
+    subst (λ t. Stands first held t (slice_range octets (stop + 1) (stop + 1)) false now holding counts) all
+    (subst (λ k. Stands first held ((seen ++ slice_range octets searched stop) ++ 10 ∷ []) k false now holding counts) (sym (range-none octets (stop + 1))) s)
+
+-- At the end of a piece a kept line is judged: it is long where it was, or where it is over the greatest length. Nothing need be
+-- kept of a long line.
+
+kept_judged : (long judged : Bool) (kept any rest : List ℕ) → ((judged ≡ true) × (longest_line < length kept)) ⊎ (judged ≡ long) → judged ≡ true → IsKept long kept rest → longest_line < length rest
+kept_judged false judged kept any rest (inl over) is_long k = subst (λ t. longest_line < length t) k over.1
+kept_judged false judged kept any rest (inr same) is_long k = absurd (let never : true ≡ false = sym is_long ∙ same in cc)
+kept_judged true judged kept any rest how is_long k = k
+
+pub Stands-long : (first : Concentrator) (held : Option (List ℕ)) (seen kept any : List ℕ) (long judged : Bool) (now : Concentrator) (holding : Option (List ℕ)) (counts : Counts) →
+    ((judged ≡ true) × (longest_line < length kept)) ⊎ (judged ≡ long) → judged ≡ true → Stands first held seen kept long now holding counts → Stands first held seen any judged now holding counts
+Stands-long first held seen kept any long judged now holding counts how is_long s = rw is_long (record {
+  finished = s.finished;
+  rest = s.rest;
+  splits = s.splits;
+  is_kept = kept_judged long judged kept any s.rest how is_long s.is_kept;
+  lines = s.lines;
+  are_lines = s.are_lines;
+  answers = s.answers;
+  run = s.run;
+  taken = s.taken;
+  tally = s.tally;
+})
+
+pub Stands-short : (first : Concentrator) (held : Option (List ℕ)) (seen kept : List ℕ) (long judged : Bool) (now : Concentrator) (holding : Option (List ℕ)) (counts : Counts) →
+    ((judged ≡ true) × (longest_line < length kept)) ⊎ (judged ≡ long) → judged ≡ false → Stands first held seen kept long now holding counts → Stands first held seen kept judged now holding counts
+Stands-short first held seen kept long judged now holding counts (inl over) not_long s = absurd (let is_long : true ≡ false = sym over.0 ∙ not_long in cc)
+Stands-short first held seen kept long judged now holding counts (inr same) not_long s = subst (λ l. Stands first held seen kept l now holding counts) (sym same) s
+
+-- at the end of the octets all of them were seen
+pub Stands-end : (first : Concentrator) (held : Option (List ℕ)) (seen octets : List ℕ) (searched start : ℕ) (long : Bool) (now : Concentrator) (holding : Option (List ℕ)) (counts : Counts) →
+    Stands first held (seen ++ slice_range octets searched (length octets)) (slice_range octets start (length octets)) long now holding counts →
+    Stands first held (seen ++ drop searched octets) (drop start octets) long now holding counts
+Stands-end first held seen octets searched start long now holding counts s =
+    subst (λ t. Stands first held (seen ++ t) (drop start octets) long now holding counts) (range-end octets searched)
+    (subst (λ k. Stands first held (seen ++ slice_range octets searched (length octets)) k long now holding counts) (range-end octets start) s)
+
+-- what is kept may be spelled otherwise
+pub Stands-same : (first : Concentrator) (held : Option (List ℕ)) (seen new_seen kept new_kept : List ℕ) (long : Bool) (now : Concentrator) (holding : Option (List ℕ)) (counts : Counts) →
+    seen ≡ new_seen → kept ≡ new_kept → Stands first held seen kept long now holding counts → Stands first held new_seen new_kept long now holding counts
+Stands-same first held seen new_seen kept new_kept long now holding counts same_seen same_kept s =
+    subst (λ t. Stands first held t new_kept long now holding counts) same_seen (subst (λ k. Stands first held seen k long now holding counts) same_kept s)
+
+-- a whole text was replayed, and the flush kept what was written
+pub Replays-end : (first : Concentrator) (held : Option (List ℕ)) (seen : List ℕ) (now : Concentrator) (holding flushed : Option (List ℕ)) (counts : Counts) →
+    Ends first held seen now holding counts → Keeps holding flushed → Replays first seen held flushed counts.tally now
+Replays-end first held seen now holding flushed counts e kept = record {
+  lines = e.lines;
+  answers = e.answers;
+  script = e.are_lines;
+  run = e.run;
+  written = Appends-kept held holding flushed (flat_map text_of e.answers) e.taken.0 kept;
+  tally = e.tally;
+}
+
+-- a read that gave nothing consumed nothing
+pub Consumes-nothing : (a b c : Option (List ℕ)) (seen read : List ℕ) → Consumes a b seen → Consumes b c read → read ≡ [] → Consumes a c seen
+Consumes-nothing a b c seen read before last nothing = subst (Consumes a c) (ap (λ t. seen ++ t) nothing ∙ append-nil seen) (Consumes-trans a b c seen read before last)
+
+-- the last read gave nothing, so the whole text was seen
+pub Replays-whole : (first : Concentrator) (held : Option (List ℕ)) (a b c : Option (List ℕ)) (seen read : List ℕ) (now : Concentrator) (holding flushed : Option (List ℕ)) (counts : Counts) →
+    Consumes a b seen → Consumes b c read → read ≡ [] → IsAtEnd c → Ends first held seen now holding counts → Keeps holding flushed →
+    IfSome a (λ input. Replays first input held flushed counts.tally now)
+Replays-whole first held a b c seen read now holding flushed counts before last nothing end e kept =
+    Consumes-whole a c seen (λ input. Replays first input held flushed counts.tally now)
+    (Consumes-nothing a b c seen read before last nothing) end
+    (Replays-end first held seen now holding flushed counts e kept)
+
+-- Where the writer stops.
+
+-- the kept line is the last of these lines, and its answers are taken in part
+Stops-line : (first : Concentrator) (held : Option (List ℕ)) (seen kept : List ℕ) (long : Bool) (now : Concentrator) (holding : Option (List ℕ)) (counts : Counts)
+    (line : Line) (more : List (List ℕ)) (new : Concentrator) (after : Option (List ℕ)) (taken_after : ℕ)
+    (s : Stands first held seen kept long now holding counts) → (long ≡ false → IsLine kept line) → (long ≡ true → line ≡ Long) →
+    Turns now line more new → TakesPart holding after counts.taken taken_after (text_of more) →
+    Stops first (s.finished ++ s.rest ∷ []) held after taken_after new
+Stops-line first held seen kept long now holding counts line more new after taken_after s short is_long turns part = record {
+  earlier = s.lines;
+  last = line;
+  are_lines = AreLines-push s.finished s.lines s.rest line s.are_lines (IsLine-kept long kept s.rest line s.is_kept short is_long);
+  answers = s.answers;
+  last_answers = more;
+  run = Runs-push first now new s.lines s.answers line more s.run turns;
+  part = part.part;
+  rest = part.rest;
+  parts = part.parts;
+  some_left = part.some_left;
+  taken = TakesAll-more held holding after 0 counts.taken taken_after (flat_map text_of s.answers) part.part s.taken part.taken;
+}
+
+pub stop_after_turn : (now new : Concentrator) (holding after : Option (List ℕ)) (counts counts_after : Counts) (kept : List ℕ) (result : Result Unit Stopped) →
+    TakesTurn now new holding after counts counts_after kept result →
+    IfErr result (λ _. (first : Concentrator) (held : Option (List ℕ)) (seen : List ℕ) → Stands first held seen kept false now holding counts → StopsAt first held (seen ++ 10 ∷ []) new after counts_after)
+stop_after_turn now new holding after counts counts_after kept (Ok done) t = tt
+stop_after_turn now new holding after counts counts_after kept (Err stopped) t = λ first held seen s. (
+  s.finished ++ s.rest ∷ [],
+  Splits-newline seen s.finished s.rest s.splits,
+  Stops-line first held seen kept false now holding counts t.line t.answers new after counts_after.taken s (λ _. t.is_line) (λ e. cc) t.turns t.offers,
+)
+
+pub stop_after_long : (now : Concentrator) (holding after : Option (List ℕ)) (counts counts_after : Counts) (kept : List ℕ) (result : Result Unit Stopped) →
+    TakesLongTurn holding after counts counts_after result →
+    IfErr result (λ _. (first : Concentrator) (held : Option (List ℕ)) (seen : List ℕ) → Stands first held seen kept true now holding counts → StopsAt first held (seen ++ 10 ∷ []) now after counts_after)
+stop_after_long now holding after counts counts_after kept (Ok done) t = tt
+stop_after_long now holding after counts counts_after kept (Err stopped) t = λ first held seen s. (
+  s.finished ++ s.rest ∷ [],
+  Splits-newline seen s.finished s.rest s.splits,
+  Stops-line first held seen kept true now holding counts Long (long_line ∷ []) now after counts_after.taken s (λ e. cc) (λ _. refl) (refl, refl) t.offers,
+)
+
+-- a rest that isn't empty is the last line of the text
+last_of_lines : (first : Concentrator) (held : Option (List ℕ)) (seen kept : List ℕ) (long : Bool) (now : Concentrator) (holding : Option (List ℕ)) (counts : Counts)
+    (s : Stands first held seen kept long now holding counts) → (long ≡ false → 0 < length kept) → s.finished ++ s.rest ∷ [] ≡ lines_of seen
+last_of_lines first held seen kept long now holding counts s some = sym (lines_of-splits seen s.finished s.rest s.splits ∙ ap (λ ls. s.finished ++ ls) (last_line-some s.rest (some_rest long kept s.rest s.is_kept some)))
+
+pub last_after_turn : (now new : Concentrator) (holding after : Option (List ℕ)) (counts counts_after : Counts) (kept : List ℕ) (result : Result Unit Stopped) → 0 < length kept →
+    TakesTurn now new holding after counts counts_after kept result →
+    IfErr result (λ _. (first : Concentrator) (held : Option (List ℕ)) (seen : List ℕ) → Stands first held seen kept false now holding counts → Stops first (lines_of seen) held after counts_after.taken new)
+last_after_turn now new holding after counts counts_after kept (Ok done) some t = tt
+last_after_turn now new holding after counts counts_after kept (Err stopped) some t = λ first held seen s.
+    subst (λ ls. Stops first ls held after counts_after.taken new) (last_of_lines first held seen kept false now holding counts s (λ _. some))
+    (Stops-line first held seen kept false now holding counts t.line t.answers new after counts_after.taken s (λ _. t.is_line) (λ e. cc) t.turns t.offers)
+
+pub last_after_long : (now : Concentrator) (holding after : Option (List ℕ)) (counts counts_after : Counts) (kept : List ℕ) (result : Result Unit Stopped) →
+    TakesLongTurn holding after counts counts_after result →
+    IfErr result (λ _. (first : Concentrator) (held : Option (List ℕ)) (seen : List ℕ) → Stands first held seen kept true now holding counts → Stops first (lines_of seen) held after counts_after.taken now)
+last_after_long now holding after counts counts_after kept (Ok done) t = tt
+last_after_long now holding after counts counts_after kept (Err stopped) t = λ first held seen s.
+    subst (λ ls. Stops first ls held after counts_after.taken now) (last_of_lines first held seen kept true now holding counts s (λ e. cc))
+    (Stops-line first held seen kept true now holding counts Long (long_line ∷ []) now after counts_after.taken s (λ e. cc) (λ _. refl) (refl, refl) t.offers)
+
+-- what was seen, up to a newline at a place and behind it
+pub seen_parts : (seen octets : List ℕ) (searched stop : ℕ) → searched ≤ stop → stop < length octets → get_or octets stop 0 ≡ 10 →
+    seen ++ drop searched octets ≡ ((seen ++ slice_range octets searched stop) ++ 10 ∷ []) ++ drop (stop + 1) octets
+seen_parts seen octets searched stop later within newline =
+    let one : slice_range octets stop (stop + 1) ≡ 10 ∷ [] = range-one octets stop within ∙ ap (λ o. o ∷ []) newline in
+    let front : slice_range octets searched stop ++ 10 ∷ [] ≡ slice_range octets searched (stop + 1) = ap (λ t. slice_range octets searched stop ++ t) (sym one) ∙ range-append octets searched stop (stop + 1) later (omega arith) in
+    let all : drop searched octets ≡ slice_range octets searched (stop + 1) ++ drop (stop + 1) octets =
+    sym (range-end octets searched) ∙ sym (range-append octets searched (stop + 1) (length octets) (omega arith) (omega arith)) ∙ ap (λ t. slice_range octets searched (stop + 1) ++ t) (range-end octets (stop + 1)) in
+    ap (λ t. seen ++ t) all
+    ∙ sym (append_assoc seen (slice_range octets searched (stop + 1)) (drop (stop + 1) octets))
+    ∙ ap (λ t. t ++ drop (stop + 1) octets) (ap (λ t. seen ++ t) (sym front) ∙ sym (append_assoc seen (slice_range octets searched stop) (10 ∷ [])))

@@ -1,0 +1,13 @@
+use Rattle.std.proofs.Common.{◌≡◌, ◌≢◌, ℕ, ◌+◌, ◌<◌, ◌^◌, List, [], ◌∷◌, Option, Some, None, arith, refl, sym}
+use Rattle.rohc_concentrator.specs.declared.setting.LinkSetting.{LinkSetting}
+use Rattle.rohc_replay.specs.AnswerLines.{reset_lines}
+use Rattle.rohc_replay.specs.Offers.{counted}
+
+-- a reset of a link that is there answers nothing
+pub reset_silent : (link : ℕ) (o : Option LinkSetting) → o ≢ None → [] ≡ reset_lines link o
+reset_silent link (Some s) there = refl
+reset_silent link None there = absurd (there refl)
+
+-- nothing more leaves a count as it was
+pub counted_none : (n : ℕ) → n < 2 ^ 64 → n ≡ counted n 0
+counted_none n fits = omega arith

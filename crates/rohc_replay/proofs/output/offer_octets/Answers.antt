@@ -1,0 +1,14 @@
+use Rattle.std.proofs.Common.{◌+◌, ◌<◌, length, arith}
+use Rattle.rohc_replay.proofs.WaitingLemmas.{hex_text_behind}
+use Rattle.rohc_replay.proofs.output.offer_octets.Goals as goal
+use Rattle.rohc_replay.proofs.output.offer_octets.Goals.{else-is_empty-via-then-is_empty+else-is_empty-2, else-is_empty-via-else-is_empty}
+
+pub returns : goal.returns
+returns g c =
+    let head = c.args.head.now in
+    let rest = c.args.rest.now in
+    let some : 0 < length head + length rest = elim c.else-is_empty.branch [
+      | else-is_empty-via-then-is_empty+else-is_empty-2 w ↦ grind arith
+      | else-is_empty-via-else-is_empty w ↦ grind arith
+    ] in
+    rw (hex_text_behind c.args.line.now.items head rest some) (rw c.put_hex.ensures.text at c.offer_digits.ensures)

@@ -1,0 +1,13 @@
+use Rattle.std.proofs.Common.{◌≡◌, ℕ, ◌≤◌, List, take, length}
+use Rattle.std.specs.Io.KnownBytes.{Consumes}
+use Rattle.rohc_replay.specs.Script.{longest_line}
+use Rattle.rohc_replay.specs.Stream.{Stands}
+use Rattle.rohc_replay.proofs.run.run_script.Given as goal
+
+-- octets were read, and the replay stands behind them; the buffer has what is kept of the unfinished line
+abbrev pub invariant-loop : goal.invariant-loop
+invariant-loop g l = record {
+  kept : l.filled ≤ longest_line;
+  read : (seen : List ℕ) × Consumes (g.R.Read.remaining l.fn.reader) (g.R.Read.remaining l.reader) seen
+      × Stands l.fn.concentrator (g.W.Write.contents l.fn.writer) seen (take l.filled l.line) l.long l.concentrator (g.W.Write.contents l.writer) l.counts;
+}

@@ -1,0 +1,18 @@
+use Rattle.std.proofs.Common.{◌≡◌, ℕ, ◌-◌, ◌≤◌, List, ◌++◌, length, take, drop, Option, slice_range}
+use Rattle.rohc_concentrator.specs.declared.concentrator.Concentrator.{Concentrator}
+use Rattle.rohc_replay.specs.Stream.{Stands}
+use Rattle.rohc_replay.proofs.stream.run_lines.Given as goal
+
+-- the lines that ended before `from` were run, and the current one begins at `start`
+abbrev pub invariant-loop-ahead : goal.invariant-loop-ahead
+invariant-loop-ahead g l = record {
+  begun : l.start ≤ l.from;
+  later : l.searched ≤ l.from;
+  within : l.from ≤ length l.octets;
+  stands : (first : Concentrator) (held : Option (List ℕ)) (seen : List ℕ) →
+      Stands first held seen (take l.searched l.octets) l.fn.long l.fn.concentrator (g.W.Write.contents l.fn.writer) l.fn.counts →
+      Stands first held (seen ++ slice_range l.octets l.searched l.from) (slice_range l.octets l.start l.from) l.long l.concentrator (g.W.Write.contents l.writer) l.counts;
+}
+
+abbrev pub decreases-loop-ahead : goal.decreases-loop-ahead
+decreases-loop-ahead g l = length l.octets - l.from

@@ -1,0 +1,68 @@
+-- The lines that answer an event, without their newlines.
+use Rattle.std.specs.Prelude.{ℕ, List, [], ◌∷◌, ◌++◌, map, Option, Some, None, codes}
+use Rattle.std.specs.List.{flat_map}
+use Rattle.std.specs.Fmt.{decimal}
+use Rattle.rohc_context.specs.Refusal.{name_of}
+use Rattle.rohc_context.specs.declared.refusal.Refusal.{Refusal}
+use Rattle.rohc_context.specs.declared.refusal.Refusal.TheVariants.{NoLink}
+use Rattle.rohc_context.specs.declared.reply.Outcome.{Outcome}
+use Rattle.rohc_context.specs.declared.reply.Outcome.TheVariants as outcomes
+use Rattle.rohc_context.specs.Response.{Response, Packet}
+use Rattle.rohc_concentrator.specs.declared.setting.LinkSetting.{LinkSetting}
+use Rattle.rohc_concentrator.specs.Report.{Report, Arrived, OnlyFront, Refused}
+use Rattle.rohc_replay.specs.Script.{hex_text}
+
+-- a link and an identifier in front of an answer
+abbrev pub pair_text : ℕ → ℕ → List ℕ
+pair_text link cid = decimal link ++ codes " " ++ decimal cid ++ codes " "
+
+-- feedback that the packet carried for this side
+abbrev pub relay_line : ℕ → List ℕ → List ℕ
+relay_line link feedback = decimal link ++ codes " - relay " ++ hex_text feedback
+
+-- what bears no identifier
+abbrev pub link_refusal : ℕ → Refusal → List ℕ
+link_refusal link refusal = decimal link ++ codes " - refused " ++ name_of refusal
+
+abbrev pub packet_lines : ℕ → ℕ → Option Packet → List (List ℕ)
+packet_lines link cid None = []
+packet_lines link cid (Some p) = (pair_text link cid ++ codes "ip " ++ hex_text (p.head ++ p.payload)) ∷ []
+
+abbrev pub stored_lines : ℕ → ℕ → Outcome → List (List ℕ)
+stored_lines link cid outcomes.Stored = (pair_text link cid ++ codes "stored") ∷ []
+stored_lines link cid outcomes.Delivered = []
+stored_lines link cid (outcomes.Refused refusal) = []
+
+abbrev pub feedback_lines : ℕ → ℕ → Option (List ℕ) → List (List ℕ)
+feedback_lines link cid None = []
+feedback_lines link cid (Some element) = (pair_text link cid ++ codes "feedback " ++ hex_text element) ∷ []
+
+abbrev pub refused_lines : ℕ → ℕ → Outcome → List (List ℕ)
+refused_lines link cid (outcomes.Refused refusal) = (pair_text link cid ++ codes "refused " ++ name_of refusal) ∷ []
+refused_lines link cid outcomes.Delivered = []
+refused_lines link cid outcomes.Stored = []
+
+-- the reply of a context: the packet, `stored`, the feedback and the refusal, each where there is one
+abbrev pub response_lines : ℕ → ℕ → Response → List (List ℕ)
+response_lines link cid r = packet_lines link cid r.packet ++ stored_lines link cid r.outcome ++ feedback_lines link cid r.feedback ++ refused_lines link cid r.outcome
+
+-- the answer to an arrival: what is relayed, and then the reply
+abbrev pub report_lines : ℕ → Report → List (List ℕ)
+report_lines link (Arrived cid response relayed) = map (relay_line link) relayed ++ response_lines link cid response
+report_lines link (OnlyFront relayed) = map (relay_line link) relayed
+report_lines link (Refused refusal) = link_refusal link refusal ∷ []
+
+-- a reset answers nothing where the link is there
+abbrev pub reset_lines : ℕ → Option LinkSetting → List (List ℕ)
+reset_lines link (Some s) = []
+reset_lines link None = link_refusal link NoLink ∷ []
+
+abbrev pub bad_line : List ℕ
+bad_line = codes "- - refused BadLine"
+
+abbrev pub long_line : List ℕ
+long_line = codes "- - refused LongLine"
+
+-- lines as a text
+abbrev pub text_of : List (List ℕ) → List ℕ
+text_of lines = flat_map (λ line. line ++ 10 ∷ []) lines

@@ -1,0 +1,15 @@
+pub mod AnswerLines
+pub mod Digits
+pub mod Lines
+pub mod Links
+pub mod LinksEntry
+pub mod LinksFields
+pub mod LinksKeys
+pub mod LinksRanges
+pub mod Numeral
+pub mod Offers
+pub mod Run
+pub mod Script
+pub mod Stream
+pub mod Turn
+pub mod Words

@@ -1,0 +1,59 @@
+-- What a links file says.
+use Rattle.std.specs.Prelude.{ℕ, ◌+◌, ◌==◌, List, [], ◌∷◌, codes, pos, Option, Some, None, if◌then◌else◌, Result, Ok, Err}
+use Rattle.std.specs.Option.{ok_or, option_map_or}
+use Rattle.rohc_concentrator.specs.declared.setting.LinkSetting.{LinkSetting}
+use Rattle.toml.specs.Data.{Data, integer, array, Members, as_table, get_member}
+use Rattle.toml.specs.Parse.{parse_document}
+use Rattle.rohc_replay.specs.declared.links.Ports.{Ports}
+use Rattle.rohc_replay.specs.declared.links.Version.{Version}
+use Rattle.rohc_replay.specs.declared.links.Version.TheVariants.{One, Two}
+use Rattle.rohc_replay.specs.declared.links.fault.Key.TheVariants as key
+use Rattle.rohc_replay.specs.declared.links.fault.LinksFault.{LinksFault}
+use Rattle.rohc_replay.specs.declared.links.fault.LinksFault.TheVariants.{NotToml, BadVersion, UnknownKey, BadKey}
+use Rattle.rohc_replay.specs.LinksKeys.{name_of}
+use Rattle.rohc_replay.specs.LinksFields.{found, has_only}
+use Rattle.rohc_replay.specs.LinksRanges.{each}
+use Rattle.rohc_replay.specs.LinksEntry.{◌>>=◌, numbered}
+
+-- a setting and its ports per entry, in order
+pub record Lists : Type 0 where
+  pub settings : List LinkSetting
+  pub ports : List Ports
+
+-- what an entry sets, before what others set
+abbrev pub with_first : LinkSetting × Ports → Lists → Lists
+with_first first others = record { settings = first.0 ∷ others.settings; ports = first.1 ∷ others.ports }
+
+-- a whole number that names a version
+abbrev pub version : Data → Option Version
+version (integer (pos n)) = if n == 1 then Some One else if n == 2 then Some Two else None
+version _ = None
+
+-- the tables of an array that holds nothing else
+abbrev pub tables : Data → Option (List Members)
+tables (array ds) = each as_table ds
+tables _ = None
+
+-- the tables under `link`, of which a file without this key has none
+abbrev pub entries : Members → Option (List Members)
+entries ms = option_map_or tables (get_member (name_of key.Link) ms) (Some [])
+
+-- what the entries from this number on set, else the first fault
+abbrev pub read_from : ℕ → Version → List Members → Result Lists LinksFault
+read_from n version [] = Ok (record { settings = []; ports = [] })
+read_from n version (ms ∷ rest) = do
+  first ← numbered version n ms
+  others ← read_from (n + 1) version rest
+  Ok (with_first first others)
+
+-- what the table of a file says, else its first fault
+unfoldable pub read_table : Members → Result Lists LinksFault
+read_table ms = do
+  version ← ok_or (found version (codes "version") ms) BadVersion
+  known ← if has_only (codes "version" ∷ codes "link" ∷ []) ms then Ok ms else Err (UnknownKey 0)
+  tables ← ok_or (entries known) (BadKey 0 key.Link)
+  read_from 1 version tables
+
+-- what the text of a file says, else its first fault
+abbrev pub read_text : List ℕ → Result Lists LinksFault
+read_text text = ok_or (parse_document text) NotToml >>= read_table

@@ -1,0 +1,30 @@
+-- One line's turn, with what the writer took of its answers.
+use Rattle.std.specs.Prelude.{◌≡◌, ℕ, ◌∷◌, [], List, Option, Result, Bool}
+use Rattle.rohc_concentrator.specs.declared.concentrator.Concentrator.{Concentrator}
+use Rattle.rohc_replay.specs.declared.output.Stopped.{Stopped}
+use Rattle.rohc_replay.specs.declared.tally.Tally.{Tally}
+use Rattle.rohc_replay.specs.declared.counts.Counts.{Counts}
+use Rattle.rohc_replay.specs.Script.{Line, Good, Bad, Long, IsLine}
+use Rattle.rohc_replay.specs.AnswerLines.{text_of, long_line}
+use Rattle.rohc_replay.specs.Offers.{Offers, counted}
+use Rattle.rohc_replay.specs.Run.{Turns}
+
+-- the tally with one line more
+abbrev pub with_line : Tally → Line → Tally
+with_line t (Good e) = record t { events = counted t.events 1 }
+with_line t Bad = record t { bad = counted t.bad 1 }
+with_line t Long = record t { bad = counted t.bad 1 }
+
+-- a line is run, and its answers are offered: all are taken, or a part of them
+pub record TakesTurn (old new : Concentrator) (held holding : Option (List ℕ)) (before after : Counts) (octets : List ℕ) (result : Result Unit Stopped) : Type 0 where
+  pub line : Line
+  pub answers : List (List ℕ)
+  pub is_line : IsLine octets line
+  pub turns : Turns old line answers new
+  pub tally : after.tally ≡ with_line before.tally line
+  pub offers : Offers held holding before.taken after.taken (text_of answers) result
+
+-- a long line is answered, and nothing is run
+pub record TakesLongTurn (held holding : Option (List ℕ)) (before after : Counts) (result : Result Unit Stopped) : Type 0 where
+  pub tally : after.tally ≡ with_line before.tally Long
+  pub offers : Offers held holding before.taken after.taken (text_of (long_line ∷ [])) result

@@ -1,0 +1,14 @@
+use Rattle.std.specs.Prelude.{ℕ, List, take}
+use Rattle.rohc_replay.specs.declared.words.Words.{Words}
+use Rattle.rohc_replay.specs.declared.words.Words.TheVariants as words
+use Rattle.rohc_replay.specs.Script.{Event, Arrive, Reset}
+
+-- the event that a line says, with the octets that were put aside
+abbrev pub event_in : Words → List ℕ → Event
+event_in (words.Arrive link moment size) packet = Arrive link moment (take size packet)
+event_in (words.Reset link) packet = Reset link
+
+-- how many octets were put aside
+abbrev pub size_in : Words → ℕ
+size_in (words.Arrive link moment size) = size
+size_in (words.Reset link) = 0

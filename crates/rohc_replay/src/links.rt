@@ -1,0 +1,35 @@
+//! The links file: a TOML text with the settings and the ports of each link.
+
+mod entry;
+mod fault;
+mod fields;
+mod file;
+mod lists;
+mod ranges;
+
+pub use fault::{Key, LinksFault};
+pub use file::read_links;
+pub use lists::Links;
+
+/// The UDP ports of a link on 127.0.0.1.
+#[derive(Clone, Copy, Debug, PartialEq, Eq)]
+pub struct Ports {
+    /// Gets the decompressed packets.
+    pub deliver: u16,
+    /// Gets the feedback elements to be sent to the peer.
+    pub feedback: u16,
+    /// Gets the feedback elements that came from the peer.
+    pub relay: u16,
+}
+
+/// The version of a links file.
+#[derive(Clone, Copy, Debug, PartialEq, Eq)]
+pub(crate) enum Version {
+    /// Thirteen keys in each entry.
+    One,
+    /// Two more: `idle_ms` and `range`.
+    Two,
+}
+
+#[cfg(test)]
+mod tests;

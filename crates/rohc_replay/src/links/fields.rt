@@ -1,0 +1,129 @@
+//! What the tables of a links file hold at their keys.
+
+ghost use Rattle.std.specs.Prelude.{◌≡◌, Option, map, option_map};
+ghost use Rattle.toml.specs.Data.{Data, get_member};
+ghost use Rattle.toml.specs.View.{view, table_view};
+ghost use Rattle.rohc_replay.specs.LinksFields.{whole, size, mode, found, wanted, allowed, is_among, has_only};
+
+use super::Key;
+use rohc_context::Mode;
+use rohc_frame::CidKind;
+use toml::{Table, Value};
+
+/// A type that a key can ask for.
+pub(super) trait Field: Sized {
+    ghost field_of: { Data → Option Self };
+
+    /// The value as this type, if it is of it and fits.
+    fn read(value: &Value) -> Option<Self>
+        ensures { result ≡ field_of (view value.now) };
+}
+
+impl Field for u8 {
+    ghost field_of = { whole 0 255 };
+
+    fn read(value: &Value) -> Option<u8> {
+        u8::try_from(value.as_integer()?).ok()
+    }
+}
+
+impl Field for u16 {
+    ghost field_of = { whole 0 65535 };
+
+    fn read(value: &Value) -> Option<u16> {
+        u16::try_from(value.as_integer()?).ok()
+    }
+}
+
+impl Field for u32 {
+    ghost field_of = { whole 0 4294967295 };
+
+    fn read(value: &Value) -> Option<u32> {
+        u32::try_from(value.as_integer()?).ok()
+    }
+}
+
+impl Field for CidKind {
+    ghost field_of = { size };
+
+    fn read(value: &Value) -> Option<CidKind> {
+        match value.as_str()? {
+            "small" => Some(CidKind::Small),
+            "large" => Some(CidKind::Large),
+            _ => None,
+        }
+    }
+}
+
+impl Field for Mode {
+    ghost field_of = { mode };
+
+    fn read(value: &Value) -> Option<Mode> {
+        match value.as_str()? {
+            "U" => Some(Mode::U),
+            "O" => Some(Mode::O),
+            _ => None,
+        }
+    }
+}
+
+/// What the table holds at the key.
+pub(super) fn value_at<'a>(table: &'a Table, name: &str) -> Option<&'a Value>
+    ensures { option_map (λ v. view v.now) result ≡ get_member name.now (table_view table.now) }
+{
+    table.get(name)
+}
+
+/// What the table holds at the key, if it is of the type.
+pub(super) fn found<T: Field>(table: &Table, name: &str) -> Option<T>
+    ensures { result ≡ found T.field_of name.now (table_view table.now) }
+{
+    match value_at(table, name) {
+        Some(value) => T::read(value),
+        None => None,
+    }
+}
+
+/// What the table holds at the key, or that this key is missing or wrong.
+pub(super) fn required<T: Field>(table: &Table, key: Key) -> Result<T, Key>
+    ensures { result ≡ wanted T.field_of key (table_view table.now) }
+{
+    found(table, key.name()).ok_or(key)
+}
+
+/// What the table holds at the key, if it has the key, or that this key is wrong.
+pub(super) fn optional<T: Field>(table: &Table, key: Key) -> Result<Option<T>, Key>
+    ensures { result ≡ allowed T.field_of key (table_view table.now) }
+{
+    match value_at(table, key.name()) {
+        Some(value) => match T::read(value) {
+            Some(read) => Ok(Some(read)),
+            None => Err(key),
+        },
+        None => Ok(None),
+    }
+}
+
+/// Whether all keys of the table are among these.
+pub(super) fn has_only(table: &Table, names: &[&str]) -> bool
+    ensures { result ≡ has_only (map (λ s. s.now) names.now) (table_view table.now) }
+{
+    for (name, _) in table {
+        if !is_among(name.as_str(), names) {
+            return false;
+        }
+    }
+    true
+}
+
+/// Whether the name is one of these.
+fn is_among(name: &str, names: &[&str]) -> bool
+    ensures { result ≡ is_among (map (λ s. s.now) names.now) name.now }
+{
+    for known in names {
+        if *known == name {
+            return true;
+        }
+    }
+    false
+}

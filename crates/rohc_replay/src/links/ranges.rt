@@ -1,0 +1,51 @@
+//! The ranges of identifiers that have a mode of their own.
+
+ghost use Rattle.std.specs.Prelude.{◌≡◌, ◌≤◌, length, option_map};
+ghost use Rattle.toml.specs.View.{items_view};
+ghost use Rattle.rohc_replay.specs.LinksRanges.{each, range, ranges};
+
+use super::fields::{Field, found, has_only};
+use arrayvec::ArrayVec;
+use rohc_concentrator::CidRange;
+use toml::Value;
+
+impl Field for CidRange {
+    ghost field_of = { range };
+
+    fn read(value: &Value) -> Option<CidRange> {
+        let table = value.as_table()?;
+        if !has_only(table, &["first", "last", "mode"]) {
+            return None;
+        }
+        Some(CidRange {
+            first: found(table, "first")?,
+            last: found(table, "last")?,
+            mode: found(table, "mode")?,
+        })
+    }
+}
+
+impl Field for ArrayVec<CidRange, 8> {
+    ghost field_of = { ranges };
+
+    #[tactic(auto, using(crate::proofs::LinksRanges::ranges_too_many))]
+    fn read(value: &Value) -> Option<ArrayVec<CidRange, 8>> {
+        let values = value.as_array()?;
+        if values.len() > 8 {
+            return None;
+        }
+        each_range(values.as_slice())
+    }
+}
+
+/// The ranges that the values are, if each is one.
+fn each_range(values: &[Value]) -> Option<ArrayVec<CidRange, 8>>
+    requires { length values.now ≤ 8 }
+    ensures { option_map (λ ranges. ranges.items) result ≡ each range (items_view values.now) }
+{
+    let mut ranges = ArrayVec::new();
+    for value in values {
+        ranges.push(CidRange::read(value)?);
+    }
+    Some(ranges)
+}

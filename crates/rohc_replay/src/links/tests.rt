@@ -1,0 +1,248 @@
+use super::{Key, LinksFault, Ports, read_links};
+use rohc_concentrator::CidRange;
+use rohc_context::{Mode, Settings};
+use rohc_frame::CidKind;
+use std::alloc::{AllocError, Global};
+use std::fmt::InlineText;
+use std::test::Fail;
+
+const FIRST: &str = "version = 1
+[[link]]
+number = 1
+cid = \"small\"
+max_cid = 15
+mode = \"O\"
+k1 = 2
+n1 = 3
+k2 = 2
+n2 = 3
+packet_ms = 20
+static_nack_ms = 1000
+deliver_port = 6001
+feedback_port = 6002
+relay_port = 6003
+";
+
+const SECOND: &str = "version = 2
+[[link]]
+number = 4
+cid = \"large\"
+max_cid = 15
+mode = \"O\"
+k1 = 2
+n1 = 3
+k2 = 2
+n2 = 3
+packet_ms = 20
+static_nack_ms = 1000
+deliver_port = 6001
+feedback_port = 6002
+relay_port = 6003
+idle_ms = 5000
+range = [{ first = 4, last = 7, mode = \"U\" }]
+";
+
+/// The ports of both texts.
+const PORTS: Ports = Ports {
+    deliver: 6001,
+    feedback: 6002,
+    relay: 6003,
+};
+
+/// The keys of an entry, from the third line of a text on.
+const KEYS: [Key; 15] = [
+    Key::Number,
+    Key::Cid,
+    Key::MaxCid,
+    Key::Mode,
+    Key::K1,
+    Key::N1,
+    Key::K2,
+    Key::N2,
+    Key::PacketMs,
+    Key::StaticNackMs,
+    Key::DeliverPort,
+    Key::FeedbackPort,
+    Key::RelayPort,
+    Key::IdleMs,
+    Key::Range,
+];
+
+/// The text with another line in the place of one, counted from 0.
+fn with_line(alloc: Global, text: &str, place: usize, other: &str) -> Result<String, AllocError> {
+    let mut changed = String::new(alloc);
+    for (at, line) in text.lines().enumerate() {
+        changed.push_str(if at == place { other } else { line })?;
+        changed.push_str("\n")?;
+    }
+    Ok(changed)
+}
+
+#[test]
+fn reads_both_versions(rt: HostRuntime) -> Result<(), Fail> {
+    let settings = Settings {
+        size: CidKind::Small,
+        max_cid: 15,
+        mode: Mode::O,
+        k1: 2,
+        n1: 3,
+        k2: 2,
+        n2: 3,
+        packet_ms: 20,
+        static_nack_ms: 1000,
+        idle_ms: 0,
+    };
+    let wide = Settings {
+        size: CidKind::Large,
+        idle_ms: 5000,
+        ..settings
+    };
+    let range = CidRange {
+        first: 4,
+        last: 7,
+        mode: Mode::U,
+    };
+    for (text, link, settings, ranges) in [
+        (FIRST, 1, settings, [].as_slice()),
+        (SECOND, 4, wide, [range].as_slice()),
+    ] {
+        let links = read_links(rt.alloc(), text)?;
+        assert_eq!(rt; links.ports(), [PORTS].as_slice());
+        assert_eq!(rt; links.settings().len(), 1);
+        for setting in links.settings() {
+            assert_eq!(rt; (setting.link, setting.settings), (link, settings));
+            assert_eq!(rt; setting.ranges.as_slice(), ranges);
+        }
+    }
+    Ok(())
+}
+
+#[test]
+fn tells_the_first_fault(rt: HostRuntime) -> Result<(), Fail> {
+    let no_link = LinksFault::BadKey {
+        entry: 0,
+        key: Key::Link,
+    };
+    let faults = [
+        ("x", "NotToml", LinksFault::NotToml),
+        ("other = 1", "BadVersion", LinksFault::BadVersion),
+        ("version = 3", "BadVersion", LinksFault::BadVersion),
+        ("version = \"1\"", "BadVersion", LinksFault::BadVersion),
+        (
+            "version = 1\nother = 1\nlink = 1",
+            "UnknownKey",
+            LinksFault::UnknownKey { entry: 0 },
+        ),
+        ("version = 1\nlink = [1, {}]", "BadKey", no_link),
+    ];
+    for (text, name, fault) in faults {
+        let found = read_links(rt.alloc(), text).err().ok_or("no fault")?;
+        assert_eq!(rt; found, fault, "at {text}");
+        assert_eq!(rt; InlineText::<16>::of(found).as_str(), name);
+    }
+    assert_eq!(rt;
+        InlineText::<16>::of(LinksFault::NoMemory).as_str(),
+        "NoMemory"
+    );
+    for text in ["version = 1", "version = 2\nlink = []"] {
+        assert!(rt; read_links(rt.alloc(), text)?.settings().is_empty());
+    }
+    Ok(())
+}
+
+/// The fault of a key in the first entry.
+fn bad(key: Key) -> LinksFault {
+    LinksFault::BadKey { entry: 1, key }
+}
+
+#[test]
+fn wants_each_key(rt: HostRuntime) -> Result<(), Fail> {
+    let alloc = rt.alloc();
+    for (at, key) in KEYS.iter().enumerate() {
+        let place = at + 2;
+        let line = SECOND.lines().nth(place).ok_or("no line")?;
+        let (name, _) = line.split_once(" = ").ok_or("no key")?;
+        let mut truth = String::from_str(alloc, name)?;
+        truth.push_str(" = true")?;
+        let wrong = with_line(alloc, SECOND, place, truth.as_str())?;
+        assert_eq!(rt;
+            read_links(alloc, wrong.as_str()).err(),
+            Some(bad(*key)),
+            "at {name}"
+        );
+        if *key != Key::Range {
+            let missing = with_line(alloc, SECOND, place, "")?;
+            assert_eq!(rt;
+                read_links(alloc, missing.as_str()).err(),
+                Some(bad(*key)),
+                "at {name}"
+            );
+        }
+    }
+    Ok(())
+}
+
+#[test]
+fn refuses_wrong_lines(rt: HostRuntime) -> Result<(), Fail> {
+    let alloc = rt.alloc();
+    let lines = [
+        (FIRST, 2, "other = 1", LinksFault::UnknownKey { entry: 1 }),
+        (
+            FIRST,
+            14,
+            "relay_port = 6003\nidle_ms = 0",
+            LinksFault::UnknownKey { entry: 1 },
+        ),
+        (
+            FIRST,
+            14,
+            "relay_port = 6003\n[[link]]\nother = 1",
+            LinksFault::UnknownKey { entry: 2 },
+        ),
+        (FIRST, 2, "number = 65536", bad(Key::Number)),
+        (FIRST, 2, "number = 1.0", bad(Key::Number)),
+        (FIRST, 2, "number = \"1\"", bad(Key::Number)),
+        (FIRST, 3, "cid = \"Small\"", bad(Key::Cid)),
+        (FIRST, 5, "mode = \"R\"", bad(Key::Mode)),
+        (FIRST, 6, "k1 = 256", bad(Key::K1)),
+        (FIRST, 10, "packet_ms = 4294967296", bad(Key::PacketMs)),
+        (FIRST, 12, "deliver_port = 0", bad(Key::DeliverPort)),
+        (FIRST, 14, "relay_port = 65536", bad(Key::RelayPort)),
+        (
+            SECOND,
+            16,
+            "range = [{ first = 4, last = 7 }]",
+            bad(Key::Range),
+        ),
+        (
+            SECOND,
+            16,
+            "range = [{ first = 4, last = 7, mode = \"U\", cid = 5 }]",
+            bad(Key::Range),
+        ),
+    ];
+    for (text, place, line, fault) in lines {
+        let text = with_line(alloc, text, place, line)?;
+        assert_eq!(rt;
+            read_links(alloc, text.as_str()).err(),
+            Some(fault),
+            "at {line}"
+        );
+    }
+    Ok(())
+}
+
+#[test]
+fn takes_eight_ranges(rt: HostRuntime) -> Result<(), Fail> {
+    let alloc = rt.alloc();
+    for (count, fault) in [(8u8, None), (9, Some(bad(Key::Range)))] {
+        let mut line = String::from_str(alloc, "range = [")?;
+        for _ in 0..count {
+            line.push_str("{ first = 4, last = 7, mode = \"U\" },")?;
+        }
+        line.push_str("]")?;
+        let text = with_line(alloc, SECOND, 16, line.as_str())?;
+        assert_eq!(rt; read_links(alloc, text.as_str()).err(), fault, "of {count}");
+    }
+    Ok(())
+}

@@ -1,0 +1,253 @@
+//! Answers, as lines offered to a writer.
+
+ghost use Rattle.std.specs.Prelude.{[], ◌∷◌, ◌++◌, ◌+◌, ◌<◌, ◌≤◌, ◌≡◌, length, take, map};
+ghost use Rattle.std.specs.Io.KnownBytes.{Appends};
+ghost use Rattle.arrayvec.specs.ArrayVec.{array_vec_len};
+ghost use Rattle.hex.specs.Hex.{encode_lower};
+ghost use Rattle.rohc_frame.specs.Reading.{elements_of};
+ghost use Rattle.rohc_context.specs.Response.{response_of};
+ghost use Rattle.rohc_concentrator.specs.Report.{report_of};
+ghost use Rattle.rohc_replay.specs.Script.{hex_text};
+ghost use Rattle.rohc_replay.specs.AnswerLines.{relay_line, packet_lines, stored_lines, feedback_lines, refused_lines, response_lines, report_lines, link_refusal, text_of};
+ghost use Rattle.rohc_replay.specs.Offers.{Offers};
+
+use crate::line_text::{LineText, put, put_hex, put_number, put_octets, put_pair};
+use rohc_concentrator::Answer;
+use rohc_context::{Outcome, Refusal, Reply};
+use rohc_frame::Elements;
+use std::io::Write;
+
+/// The writer failed, or took no octets.
+#[derive(Clone, Copy, Debug, PartialEq, Eq)]
+pub(crate) struct Stopped;
+
+/// Offers a whole line to the writer, by single writes whose taken octets are counted.
+pub(crate) fn offer<W: Write>(writer: &mut W, taken: &mut u64, line: &[u8]) -> Result<(), Stopped>
+    ensures { Offers (W.contents writer.old) (W.contents writer.new) taken.old taken.new line.now result }
+{
+    let count = give(writer, line);
+    *taken = taken.saturating_add(count as u64);
+    if count == line.len() {
+        Ok(())
+    } else {
+        Err(Stopped)
+    }
+}
+
+/// Gives a text to the writer by single writes, until one fails or takes no octets. It answers how many
+/// octets were taken.
+fn give<W: Write>(writer: &mut W, text: &[u8]) -> usize
+    ensures within { result ≤ length text.now }
+    ensures taken { Appends (W.contents writer.old) (W.contents writer.new) (take result text.now) }
+{
+    let mut at = 0;
+    while at < text.len() {
+        match writer.write(&text[at..]) {
+            Ok(0) | Err(_) => return at,
+            Ok(count) => at += count,
+        }
+    }
+    at
+}
+
+/// Offers a line that ends with octets: what was put into it, `head` and `rest` as hex text, and a newline.
+/// What doesn't fit into the buffer is offered in parts.
+fn offer_octets<W: Write>(
+    writer: &mut W,
+    taken: &mut u64,
+    line: &mut LineText,
+    head: &[u8],
+    rest: &[u8],
+) -> Result<(), Stopped>
+    requires few { length head.now ≤ 64 }
+    requires room { array_vec_len line.old + 129 ≤ 1024 }
+    ensures { Offers (W.contents writer.old) (W.contents writer.new) taken.old taken.new
+        (line.old.items ++ hex_text (head.now ++ rest.now) ++ 10 ∷ []) result }
+{
+    if head.is_empty() && rest.is_empty() {
+        put(line, b"-\n");
+        return offer(writer, taken, line.as_slice());
+    }
+    put_hex(line, head);
+    offer_digits(writer, taken, line, rest)
+}
+
+/// Offers what was put into a line, octets as lower case pairs of digits, and a newline.
+fn offer_digits<W: Write>(
+    writer: &mut W,
+    taken: &mut u64,
+    line: &mut LineText,
+    octets: &[u8],
+) -> Result<(), Stopped>
+    requires { array_vec_len line.old < 1024 }
+    ensures { Offers (W.contents writer.old) (W.contents writer.new) taken.old taken.new
+        (line.old.items ++ encode_lower octets.now ++ 10 ∷ []) result }
+{
+    for part in octets.chunks(64) {
+        if line.remaining_capacity() <= 2 * part.len() {
+            offer(writer, taken, line.as_slice())?;
+            line.clear();
+        }
+        put_hex(line, part);
+    }
+    line.push(b'\n');
+    offer(writer, taken, line.as_slice())
+}
+
+/// Offers the line of feedback that the packet carried for this side.
+fn offer_relay<W: Write>(
+    writer: &mut W,
+    taken: &mut u64,
+    line: &mut LineText,
+    link: u16,
+    feedback: &[u8],
+) -> Result<(), Stopped>
+    ensures { Offers (W.contents writer.old) (W.contents writer.new) taken.old taken.new
+        (relay_line link feedback.now ++ 10 ∷ []) result }
+{
+    line.clear();
+    put_number(line, link);
+    put(line, b" - relay ");
+    offer_octets(writer, taken, line, &[], feedback)
+}
+
+/// Offers the line of each feedback element.
+fn offer_relays<W: Write>(
+    writer: &mut W,
+    taken: &mut u64,
+    line: &mut LineText,
+    link: u16,
+    relayed: Elements<'_>,
+) -> Result<(), Stopped>
+    ensures { Offers (W.contents writer.old) (W.contents writer.new) taken.old taken.new
+        (text_of (map (relay_line link) (elements_of relayed.entry))) result }
+{
+    let _taken = *taken;
+    for feedback in relayed {
+        offer_relay(writer, taken, line, link, feedback)?;
+    }
+    Ok(())
+}
+
+/// Offers the line of a reply's packet, where there is one.
+fn offer_packet<W: Write>(
+    writer: &mut W,
+    taken: &mut u64,
+    line: &mut LineText,
+    link: u16,
+    cid: u16,
+    reply: &Reply<'_>,
+) -> Result<(), Stopped>
+    ensures { Offers (W.contents writer.old) (W.contents writer.new) taken.old taken.new
+        (text_of (packet_lines link cid (response_of reply.now).packet)) result }
+{
+    let _taken = *taken;
+    let Some(packet) = &reply.packet else {
+        return Ok(());
+    };
+    line.clear();
+    put_pair(line, link, cid);
+    put(line, b"ip ");
+    offer_octets(writer, taken, line, packet.head.as_slice(), packet.payload)
+}
+
+/// Puts the line `stored` behind the text, where that is the outcome.
+fn put_stored(line: &mut LineText, link: u16, cid: u16, outcome: Outcome)
+    requires { array_vec_len line.old + 19 ≤ 1024 }
+    ensures text { line.new.items ≡ line.old.items ++ text_of (stored_lines link cid outcome) }
+    ensures len { array_vec_len line.new ≤ array_vec_len line.old + 19 }
+{
+    if outcome == Outcome::Stored {
+        put_pair(line, link, cid);
+        put(line, b"stored\n");
+    }
+}
+
+/// Puts the line of a reply's feedback behind the text, where there is some.
+fn put_feedback(line: &mut LineText, link: u16, cid: u16, reply: &Reply<'_>)
+    requires { array_vec_len line.old + 39 ≤ 1024 }
+    ensures text { line.new.items ≡ line.old.items ++ text_of (feedback_lines link cid (response_of reply.now).feedback) }
+    ensures len { array_vec_len line.new ≤ array_vec_len line.old + 39 }
+{
+    if let Some(element) = &reply.feedback {
+        put_pair(line, link, cid);
+        put(line, b"feedback ");
+        put_octets(line, element.as_slice());
+        line.push(b'\n');
+    }
+}
+
+/// Puts the line of a refusal behind the text, where that is the outcome.
+fn put_refused(line: &mut LineText, link: u16, cid: u16, outcome: Outcome)
+    requires { array_vec_len line.old + 37 ≤ 1024 }
+    ensures text { line.new.items ≡ line.old.items ++ text_of (refused_lines link cid outcome) }
+    ensures len { array_vec_len line.new ≤ array_vec_len line.old + 37 }
+{
+    if let Outcome::Refused(refusal) = outcome {
+        put_pair(line, link, cid);
+        put(line, b"refused ");
+        put(line, refusal.name().as_bytes());
+        line.push(b'\n');
+    }
+}
+
+/// Offers the lines of a reply: the packet, `stored`, the feedback and the refusal, each where there is one.
+fn offer_reply<W: Write>(
+    writer: &mut W,
+    taken: &mut u64,
+    line: &mut LineText,
+    link: u16,
+    cid: u16,
+    reply: &Reply<'_>,
+) -> Result<(), Stopped>
+    ensures { Offers (W.contents writer.old) (W.contents writer.new) taken.old taken.new
+        (text_of (response_lines link cid (response_of reply.now))) result }
+{
+    offer_packet(writer, taken, line, link, cid, reply)?;
+    line.clear();
+    put_stored(line, link, cid, reply.outcome);
+    put_feedback(line, link, cid, reply);
+    put_refused(line, link, cid, reply.outcome);
+    offer(writer, taken, line.as_slice())
+}
+
+/// Offers the lines of an answer: what is relayed, and then the reply.
+pub(crate) fn offer_answer<W: Write>(
+    writer: &mut W,
+    taken: &mut u64,
+    link: u16,
+    answer: &Answer<'_>,
+) -> Result<(), Stopped>
+    ensures { Offers (W.contents writer.old) (W.contents writer.new) taken.old taken.new (text_of (report_lines link (report_of answer.now))) result }
+{
+    let mut line = LineText::new();
+    match answer {
+        Answer::Arrived {
+            cid,
+            reply,
+            relayed,
+        } => {
+            offer_relays(writer, taken, &mut line, link, *relayed)?;
+            offer_reply(writer, taken, &mut line, link, *cid, reply)
+        }
+        Answer::OnlyFront { relayed } => offer_relays(writer, taken, &mut line, link, *relayed),
+        Answer::Refused(refusal) => offer_refusal(writer, taken, link, *refusal),
+    }
+}
+
+/// Offers the line of a refusal that bears no identifier.
+pub(crate) fn offer_refusal<W: Write>(
+    writer: &mut W,
+    taken: &mut u64,
+    link: u16,
+    refusal: Refusal,
+) -> Result<(), Stopped>
+    ensures { Offers (W.contents writer.old) (W.contents writer.new) taken.old taken.new (text_of (link_refusal link refusal ∷ [])) result }
+{
+    let mut line = LineText::new();
+    put_number(&mut line, link);
+    put(&mut line, b" - refused ");
+    put(&mut line, refusal.name().as_bytes());
+    line.push(b'\n');
+    offer(writer, taken, line.as_slice())
+}

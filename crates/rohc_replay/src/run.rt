@@ -1,0 +1,133 @@
+//! A script, run line by line as it comes.
+
+ghost use Rattle.std.specs.Prelude.{◌≡◌, ◌≢◌, ◌+◌, ◌<◌, ◌≤◌, length, take, IfOk, IfErr, IfSome, OnErr};
+ghost use Rattle.std.specs.List.{slice_range};
+ghost use Rattle.std.specs.Io.KnownBytes.{Consumes, IsAtEnd, Keeps};
+ghost use Rattle.rohc_replay.specs.Script.{longest_line};
+ghost use Rattle.rohc_replay.specs.Run.{Replays, Fails};
+
+use crate::counts::Counts;
+use crate::fault::RunFault;
+use crate::stream::{LONGEST_LINE, end_script, run_lines};
+use crate::tally::Tally;
+use rohc_concentrator::Concentrator;
+use std::alloc::{AllocError, Global};
+use std::io;
+use std::io::{Read, Write};
+
+/// The greatest packet of a script.
+const LONGEST_PACKET: usize = 65_535;
+
+/// The read call that is a fault whatever it gives.
+const LAST_READ: u64 = 1 << 40;
+
+/// Runs a script from the reader, and writes its answers to the writer.
+///
+/// The lines are run as they end, and the answers of each are offered to the writer before the next. The two
+/// buffers, one for a line and one for a packet, are asked for before the first read; after that only an
+/// accepted first IR asks for memory. One flush follows the last line. Any error of a read or a write, a write
+/// that takes no octets, and the 2^40th read call are faults.
+pub fn replay<R: Read, W: Write>(
+    alloc: Global,
+    concentrator: &mut Concentrator,
+    reader: &mut R,
+    writer: &mut W,
+) -> Result<Tally, RunFault>
+    ensures whole { IfOk result (λ tally. IfSome (R.remaining reader.old) (λ input.
+        Replays concentrator.old input (W.contents writer.old) (W.contents writer.new) tally concentrator.new)) }
+    ensures fault { IfErr result (λ e. Fails R.remaining W.contents concentrator.old reader.old writer.old e concentrator.new reader.new writer.new) }
+{
+    let (Ok(mut line), Ok(mut packet)) = (
+        zeros(alloc, LONGEST_LINE + 1),
+        zeros(alloc, LONGEST_PACKET),
+    ) else {
+        return Err(RunFault::NoMemory);
+    };
+    run_script(
+        concentrator,
+        reader,
+        writer,
+        line.as_mut_slice(),
+        packet.as_mut_slice(),
+    )
+}
+
+/// A buffer of so many octets.
+fn zeros(alloc: Global, len: usize) -> Result<Vec<u8>, AllocError>
+    ensures { IfOk result (λ v. length v.items ≡ len) }
+{
+    vec![in alloc; 0u8; len]
+}
+
+/// Runs a script in these two buffers.
+fn run_script<R: Read, W: Write>(
+    concentrator: &mut Concentrator,
+    reader: &mut R,
+    writer: &mut W,
+    line: &mut [u8],
+    packet: &mut [u8],
+) -> Result<Tally, RunFault>
+    requires line_room { length line.old ≡ longest_line + 1 }
+    requires packet_room { length packet.old ≡ 65535 }
+    ensures whole { IfOk result (λ tally. IfSome (R.remaining reader.old) (λ input.
+        Replays concentrator.old input (W.contents writer.old) (W.contents writer.new) tally concentrator.new)) }
+    ensures rich { IfErr result (λ e. e ≢ RunFault.NoMemory) }
+    ensures fault { IfErr result (λ e. Fails R.remaining W.contents concentrator.old reader.old writer.old e concentrator.new reader.new writer.new) }
+{
+    let mut counts = Counts::new();
+    let mut long = false;
+    let mut filled = 0;
+    for _ in 1..LAST_READ {
+        let Ok(end) = read_behind(reader, line, filled) else {
+            return Err(counts.read_fault());
+        };
+        if end == filled {
+            let last = &line[..filled];
+            let Ok(()) = end_script(concentrator, packet, writer, &mut counts, long, last) else {
+                return Err(counts.write_fault());
+            };
+            let Ok(()) = writer.flush() else {
+                return Err(counts.write_fault());
+            };
+            return Ok(counts.tally);
+        }
+        let seen = &line[..end];
+        let Ok(used) = run_lines(
+            concentrator,
+            packet,
+            writer,
+            &mut counts,
+            &mut long,
+            seen,
+            filled,
+        ) else {
+            return Err(counts.write_fault());
+        };
+        filled = keep_behind(line, used, end);
+    }
+    Err(counts.read_fault())
+}
+
+/// Reads behind the octets that are kept, and answers where what was read ends.
+fn read_behind<R: Read>(reader: &mut R, line: &mut [u8], filled: usize) -> io::Result<usize>
+    requires { filled < length line.old }
+    ensures behind { IfOk result (λ end. (filled ≤ end) × (end ≤ length line.new)) }
+    ensures kept { take filled line.new ≡ take filled line.old }
+    ensures read { IfOk result (λ end. Consumes (R.remaining reader.old) (R.remaining reader.new) (slice_range line.new filled end)) }
+    ensures at_end { IfOk result (λ end. end ≡ filled → IsAtEnd (R.remaining reader.new)) }
+    ensures fault { OnErr result (Keeps (R.remaining reader.old) (R.remaining reader.new)) }
+{
+    let given = reader.read(&mut line[filled..])?;
+    Ok(filled + given)
+}
+
+/// Moves the octets from `used` to `end` to the front, and answers how many they are.
+fn keep_behind(line: &mut [u8], used: usize, end: usize) -> usize
+    requires ordered { used ≤ end }
+    requires within { end ≤ length line.old }
+    ensures count { result + used ≡ end }
+    ensures kept { take result line.new ≡ slice_range line.old used end }
+{
+    line.copy_within(used..end, 0);
+    end - used
+}

@@ -1,0 +1,120 @@
+//! One line of a script.
+
+ghost use Rattle.std.specs.Prelude.{◌≡◌, ◌≢◌, ℕ, List, [], ◌∷◌, ◌++◌, ◌<◌, ◌≤◌, ◌^◌, length, take, codes, All, IfSome, IfNone};
+ghost use Rattle.std.specs.Fmt.{decimal};
+ghost use Rattle.std.specs.Option.{SomeIff};
+ghost use Rattle.hex.specs.Hex.{encode_lower};
+ghost use Rattle.rohc_replay.specs.Numeral.{IsNumberAt};
+ghost use Rattle.rohc_replay.specs.Script.{Event, IsEvent, spelling, hex_text};
+ghost use Rattle.rohc_replay.specs.Words.{event_in, size_in};
+
+use crate::hex_octets::decode;
+use crate::numeral::read_number;
+
+/// What a good line says; a packet's octets are put aside.
+#[derive(Clone, Copy, Debug, PartialEq, Eq)]
+pub(crate) enum Words {
+    /// A packet of so many octets arrives on a link at a moment.
+    Arrive { link: u16, moment: u64, size: usize },
+    /// A link is reset.
+    Reset { link: u16 },
+}
+
+/// Reads a line, and puts the octets of its packet at the front of `packet`.
+///
+/// It is `None` exactly for a line that spells no event.
+pub(crate) fn read_words(line: &[u8], packet: &mut [u8]) -> Option<Words>
+    requires { length packet.old ≡ 65535 }
+    ensures spelled { IfSome result (λ words. line.now ≡ spelling (event_in words packet.new)) }
+    ensures good { IfSome result (λ words. IsEvent (event_in words packet.new)) }
+    ensures fits { IfSome result (λ words. size_in words ≤ 65535) }
+    ensures bad { IfNone result ((e : Event) → IsEvent e → line.now ≢ spelling e) }
+{
+    match line.strip_prefix(b"arrive ") {
+        Some(text) => read_arrival(text, packet),
+        None => {
+            let link = read_link(line.strip_prefix(b"reset ")?)?;
+            Some(Words::Reset { link })
+        }
+    }
+}
+
+/// Reads what stands behind `arrive `: a link, a moment and the octets of a packet.
+fn read_arrival(text: &[u8], packet: &mut [u8]) -> Option<Words>
+    requires { length packet.old ≡ 65535 }
+    ensures spelled { IfSome result (λ words. codes "arrive " ++ text.now ≡ spelling (event_in words packet.new)) }
+    ensures good { IfSome result (λ words. IsEvent (event_in words packet.new)) }
+    ensures fits { IfSome result (λ words. size_in words ≤ 65535) }
+    ensures bad { IfNone result ((e : Event) → IsEvent e → codes "arrive " ++ text.now ≢ spelling e) }
+{
+    let (link, text) = read_field(text)?;
+    let link = link_number(link)?;
+    let (moment, text) = read_field(text)?;
+    let size = read_octets(text, packet)?;
+    Some(Words::Arrive { link, moment, size })
+}
+
+/// Reads what stands behind `reset `: a link.
+fn read_link(text: &[u8]) -> Option<u16>
+    ensures read { IfSome result (λ link. text.now ≡ decimal link) }
+    ensures none { IfNone result ((link : ℕ) → link < 2 ^ 16 → text.now ≢ decimal link) }
+{
+    let (link, rest) = read_number(text)?;
+    if rest.is_empty() {
+        link_number(link)
+    } else {
+        None
+    }
+}
+
+/// A number as that of a link, if it is a `u16`.
+fn link_number(number: u64) -> Option<u16>
+    ensures { SomeIff result (number < 2 ^ 16) number }
+{
+    u16::try_from(number).ok()
+}
+
+/// Reads a number and the space behind it, and lends what comes next.
+fn read_field(text: &[u8]) -> Option<(u64, &[u8])>
+    ensures read { IfSome result (λ r. IsNumberAt text.entry.now r.0 (32 ∷ r.1.now)) }
+    ensures none { IfNone result ((number : ℕ) (rest : List ℕ) → ¬ IsNumberAt text.entry.now number (32 ∷ rest)) }
+{
+    let (number, rest) = read_number(text)?;
+    let (space, rest) = rest.split_first()?;
+    if *space == b' ' {
+        Some((number, rest))
+    } else {
+        None
+    }
+}
+
+/// Reads octets as lower case pairs of digits, or `-` for none, into the front of `packet`, and answers how
+/// many they are. It is `None` where the text is of another form, or `packet` has no room.
+fn read_octets(text: &[u8], packet: &mut [u8]) -> Option<usize>
+    ensures fits { IfSome result (λ size. size ≤ length packet.old) }
+    ensures spelled { IfSome result (λ size. text.now ≡ hex_text (take size packet.new)) }
+    ensures none { IfNone result ((octets : List ℕ) → length octets ≤ length packet.old → All (λ octet. octet < 256) octets → text.now ≢ hex_text octets) }
+{
+    match text {
+        [b'-'] => Some(0),
+        _ => read_pairs(text, packet),
+    }
+}
+
+/// Reads one or more octets as lower case pairs of digits into the front of `packet`, and answers how many
+/// they are.
+fn read_pairs(text: &[u8], packet: &mut [u8]) -> Option<usize>
+    ensures fits { IfSome result (λ size. (0 < size) × (size ≤ length packet.old)) }
+    ensures spelled { IfSome result (λ size. text.now ≡ encode_lower (take size packet.new)) }
+    ensures none { IfNone result ((octets : List ℕ) → 0 < length octets → length octets ≤ length packet.old → All (λ octet. octet < 256) octets → text.now ≢ encode_lower octets) }
+{
+    let size = text.len() / 2;
+    if size == 0 || text.len() % 2 == 1 || packet.len() < size {
+        return None;
+    }
+    if decode(text, &mut packet[..size]) {
+        Some(size)
+    } else {
+        None
+    }
+}

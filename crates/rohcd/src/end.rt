@@ -1,0 +1,54 @@
+//! How a run of the program ends.
+
+use std::fmt;
+
+/// How a run of the program ends.
+#[derive(Clone, Copy, Debug, PartialEq, Eq)]
+pub enum End {
+    /// All was done.
+    Done,
+    /// The words are no command, or ask for help.
+    CommandLine,
+    /// The links file can't be read, or has the fault of this name.
+    LinksFile(&'static str),
+    /// A read failed.
+    Read,
+    /// A write failed.
+    Write,
+    /// There was no memory.
+    Memory,
+}
+
+impl End {
+    ghost use Rattle.std.specs.Prelude.{◌≡◌};
+    ghost use Rattle.rohcd.specs.End.{status_of};
+
+    /// The status that the program ends with.
+    pub fn status(&self) -> u8
+        ensures { result ≡ status_of self.now }
+    {
+        match self {
+            End::Done => 0,
+            End::CommandLine => 2,
+            End::LinksFile(_) => 3,
+            End::Read | End::Write => 4,
+            End::Memory => 5,
+        }
+    }
+}
+
+impl fmt::Display for End {
+    fn fmt<W: fmt::Write>(&self, f: &mut fmt::Formatter<W>) -> fmt::Result {
+        match self {
+            End::Done => Ok(()),
+            End::CommandLine => f.write_str("rohcd: command line"),
+            End::LinksFile(name) => {
+                f.write_str("rohcd: links file: ")?;
+                f.write_str(name)
+            }
+            End::Read => f.write_str("rohcd: read"),
+            End::Write => f.write_str("rohcd: write"),
+            End::Memory => f.write_str("rohcd: memory"),
+        }
+    }
+}

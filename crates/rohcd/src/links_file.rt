@@ -1,0 +1,66 @@
+//! The links file, from the path to the concentrator.
+
+use crate::end::End;
+use rohc_concentrator::{Concentrator, SetupFault};
+use rohc_replay::{LinksFault, read_links};
+use std::io::Read;
+use std::rt::Files;
+use std::{fs, io};
+
+/// The greatest links file, in octets.
+const LONGEST_FILE: u64 = 1_048_576;
+
+/// The text of the file, which is read to its limit and no further.
+fn links_text<R: Files + AllocGlobal>(rt: &R, path: &str) -> Result<String, End> {
+    let file = fs::open(rt, path).map_err(|e| unreadable(&e))?;
+    let mut octets = Vec::new(rt.alloc());
+    let mut limited = file.take(LONGEST_FILE + 1);
+    limited
+        .read_to_end(&mut octets)
+        .map_err(|e| unreadable(&e))?;
+    if octets.len() as u64 > LONGEST_FILE {
+        return Err(End::LinksFile("Unreadable"));
+    }
+    String::from_utf8(octets).map_err(|_| End::LinksFile("Unreadable"))
+}
+
+/// Why a file can't be read.
+fn unreadable(e: &io::Error) -> End {
+    if e.kind() == io::ErrorKind::OutOfMemory {
+        End::Memory
+    } else {
+        End::LinksFile("Unreadable")
+    }
+}
+
+/// The concentrator of the links in the file.
+pub(crate) fn concentrator_of<R: Files + AllocGlobal>(
+    rt: &R,
+    path: &str,
+) -> Result<Concentrator, End> {
+    let text = links_text(rt, path)?;
+    let links = read_links(rt.alloc(), text.as_str()).map_err(|fault| links_end(&fault))?;
+    Concentrator::new(rt.alloc(), links.settings()).map_err(|fault| setup_end(&fault))
+}
+
+/// The end that a fault of the links file leads to.
+fn links_end(fault: &LinksFault) -> End {
+    match fault {
+        LinksFault::NotToml => End::LinksFile("NotToml"),
+        LinksFault::BadVersion => End::LinksFile("BadVersion"),
+        LinksFault::UnknownKey { .. } => End::LinksFile("UnknownKey"),
+        LinksFault::BadKey { .. } => End::LinksFile("BadKey"),
+        LinksFault::NoMemory => End::Memory,
+    }
+}
+
+/// The end that a fault of the settings leads to.
+fn setup_end(fault: &SetupFault) -> End {
+    match fault {
+        SetupFault::NoLinks => End::LinksFile("NoLinks"),
+        SetupFault::TooManyLinks => End::LinksFile("TooManyLinks"),
+        SetupFault::BadSetting { .. } => End::LinksFile("BadSetting"),
+        SetupFault::DuplicateLink { .. } => End::LinksFile("DuplicateLink"),
+        SetupFault::NoMemory => End::Memory,
+    }
+}

@@ -1,0 +1,33 @@
+//! rohcd: a ROHC decompressor at the end of many links.
+#![tactic(auto)]
+
+mod command;
+mod end;
+mod links_file;
+mod program;
+
+use end::End;
+use program::run;
+use std::process::ExitCode;
+use std::rt::Env;
+use std::{env, io};
+
+/// The words behind the program's name.
+fn words<R: Env + AllocGlobal>(rt: &R) -> io::Result<Vec<String>> {
+    let mut words = Vec::new(rt.alloc());
+    for word in env::args(rt)?.skip(1) {
+        words.push(word)?;
+    }
+    Ok(words)
+}
+
+fn main(rt: HostRuntime) -> ExitCode {
+    let end = match words(&rt) {
+        Ok(words) => run(&rt, words.as_slice()),
+        Err(_) => End::Memory,
+    };
+    if end != End::Done {
+        let _ = eprintln!(rt; "{end}");
+    }
+    ExitCode::from(end.status())
+}
