@@ -3,3 +3,4 @@ pub mod Tables
 pub mod Report
 pub mod Setup
 pub mod Events
+pub mod LoneRun

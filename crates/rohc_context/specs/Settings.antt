@@ -1,12 +1,6 @@
-use Rattle.std.specs.Prelude.{ℕ, ◌≤◌}
-use Rattle.rohc_frame.specs.declared.header.CidKind.{CidKind}
-use Rattle.rohc_frame.specs.declared.header.CidKind.TheVariants.{Small, Large}
+use Rattle.std.specs.Prelude.{◌≤◌}
+use Rattle.rohc_frame.specs.Header.{greatest_cid}
 use Rattle.rohc_context.specs.declared.settings.Settings.{Settings}
-
--- the greatest identifier that a link may have (RFC 3095 5.1.3)
-abbrev pub greatest_cid : CidKind → ℕ
-greatest_cid Small = 15
-greatest_cid Large = 16383
 
 -- the settings are within their limits
 pub record AreGood (s : Settings) : Type 0 where

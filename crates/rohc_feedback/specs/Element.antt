@@ -1,4 +1,4 @@
-use Rattle.std.specs.Prelude.{ℕ, ◌+◌, List, [], ◌∷◌, ◌++◌, Option, Some, None, length, ◌==◌, if◌then◌else◌}
+use Rattle.std.specs.Prelude.{ℕ, ◌+◌, ◌/◌, ◌%◌, List, [], ◌∷◌, ◌++◌, Option, Some, None, length, ◌==◌, nat_lt, if◌then◌else◌}
 use Rattle.arrayvec.specs.ArrayVec.{ArrayVec}
 use Rattle.rohc_frame.specs.declared.header.CidKind.{CidKind}
 use Rattle.rohc_frame.specs.declared.header.CidKind.TheVariants.{Small, Large}
@@ -7,10 +7,11 @@ use Rattle.rohc_frame.specs.declared.header.CidKind.TheVariants.{Small, Large}
 abbrev pub element_octets : List ℕ → List ℕ
 element_octets feedback = (240 + length feedback) ∷ feedback
 
--- the identifier's octets in front of feedback: none for 0 of a small link, else the Add-CID octet (RFC 5795 5.3.1.1)
+-- The identifier's octets in front of feedback (RFC 5795 5.3.1.1): on a small link none for 0, else the
+-- Add-CID octet; on a large one the shortest spelling, one octet below 128 and two from there on.
 abbrev pub identifier_octets : CidKind → ℕ → List ℕ
 identifier_octets Small cid = if cid == 0 then [] else (224 + cid) ∷ []
-identifier_octets Large cid = cid ∷ []
+identifier_octets Large cid = if nat_lt cid 128 then cid ∷ [] else (128 + cid / 256) ∷ (cid % 256) ∷ []
 
 -- FEEDBACK-1 with octet 00 (RFC 3095 5.7.6)
 unfoldable pub plain_ack_octets : CidKind → ℕ → List ℕ

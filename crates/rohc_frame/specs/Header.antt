@@ -1,4 +1,4 @@
-use Rattle.std.specs.Prelude.{ℕ, List, [], ◌∷◌, Bool, true, false, Option, Some, None, ◌==◌, ◌&&◌, nat_lt, if◌then◌else◌}
+use Rattle.std.specs.Prelude.{ℕ, ◌+◌, ◌*◌, ◌/◌, ◌%◌, List, [], ◌∷◌, ◌++◌, Bool, false, ◌==◌, ◌&&◌, nat_lt, nat_le, if◌then◌else◌}
 use Rattle.rohc_frame.specs.declared.header.CidKind.{CidKind}
 use Rattle.rohc_frame.specs.declared.header.CidKind.TheVariants.{Small, Large}
 use Rattle.rohc_frame.specs.declared.header.HeadKind.{HeadKind}
@@ -13,23 +13,40 @@ pub record Header : Type 0 where
   pub cid_octets : List ℕ
   pub rest : List ℕ
 
+-- the greatest identifier that a link can spell (RFC 3095 5.1.3)
+abbrev pub greatest_cid : CidKind → ℕ
+greatest_cid Small = 15
+greatest_cid Large = 16383
+
+-- the number is from low to high
+abbrev pub is_within : ℕ → ℕ → ℕ → Bool
+is_within low high n = nat_le low n && nat_le n high
+
 -- the first octet of a header says this kind (RFC 5795 5.2): FC or FD, F8, below E0
 abbrev pub is_kind : HeadKind → ℕ → Bool
 is_kind (Ir dynamic) first = first == (if dynamic then 253 else 252)
 is_kind IrDyn first = first == 248
 is_kind Other first = nat_lt first 224
 
+-- These octets say this identifier (RFC 5795 5.1.3). On a small link they are none for 0, else one Add-CID
+-- octet; on a large link a self-describing value of one or two octets.
+abbrev pub is_identifier : CidKind → ℕ → List ℕ → Bool
+is_identifier Small cid [] = cid == 0
+is_identifier Small cid (a ∷ []) = is_within 225 239 a && (a == 224 + cid)
+is_identifier Small cid (a ∷ b ∷ octets) = false
+is_identifier Large cid [] = false
+is_identifier Large cid (a ∷ []) = (a / 128 == 0) && (cid == a)
+is_identifier Large cid (a ∷ b ∷ []) = (a / 64 == 2) && (cid == a % 64 * 256 + b)
+is_identifier Large cid (a ∷ b ∷ c ∷ octets) = false
+
 -- these identifier octets and this first octet make a header with this identifier and of this kind
 abbrev pub is_header : CidKind → ℕ → HeadKind → ℕ → List ℕ → Bool
-is_header Small cid kind first [] = (cid == 0) && is_kind kind first
-is_header Small cid kind first (o ∷ os) = false
-is_header Large cid kind first os = false
+is_header size cid kind first octets = is_identifier size cid octets && is_kind kind first
 
--- the kind of header that an octet begins
-abbrev pub kind_of : ℕ → Option HeadKind
-kind_of first =
-    if nat_lt first 224 then Some Other
-    else if first == 248 then Some IrDyn
-    else if first == 252 then Some (Ir false)
-    else if first == 253 then Some (Ir true)
-    else None
+-- A header's octets: an Add-CID octet stands before its first octet, a large identifier behind it.
+abbrev pub placed : CidKind → List ℕ → ℕ → List ℕ → List ℕ
+placed Small cid_octets first rest = cid_octets ++ first ∷ rest
+placed Large cid_octets first rest = first ∷ cid_octets ++ rest
+
+abbrev pub header_octets : Header → List ℕ
+header_octets h = placed h.size h.cid_octets h.first h.rest

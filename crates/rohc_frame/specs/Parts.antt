@@ -1,31 +1,84 @@
-use Rattle.std.specs.Prelude.{ℕ, List, [], ◌∷◌, Option, Some, None, Result, Ok, Err, nat_lt, if◌then◌else◌}
+use Rattle.std.specs.Prelude.{ℕ, ◌+◌, ◌-◌, ◌*◌, ◌%◌, List, [], ◌∷◌, take, drop, true, false, Option, Some, None, Result, Ok, Err, ◌==◌, nat_lt, if◌then◌else◌}
 use Rattle.rohc_frame.specs.declared.header.CidKind.{CidKind}
 use Rattle.rohc_frame.specs.declared.header.CidKind.TheVariants.{Small, Large}
 use Rattle.rohc_frame.specs.declared.header.HeadKind.{HeadKind}
+use Rattle.rohc_frame.specs.declared.header.HeadKind.TheVariants.{Ir, IrDyn, Other}
 use Rattle.rohc_frame.specs.declared.refusal.FrameRefusal.{FrameRefusal}
-use Rattle.rohc_frame.specs.declared.refusal.FrameRefusal.TheVariants.{Empty, ReservedType, Segment}
-use Rattle.rohc_frame.specs.Header.{kind_of}
+use Rattle.rohc_frame.specs.declared.refusal.FrameRefusal.TheVariants.{Empty, FeedbackShort, AfterAddCid, Segment, ReservedType, AddCidOnLarge, LargeCid, CidRange, NoHeader}
+use Rattle.rohc_frame.specs.Header.{Header, is_within}
+use Rattle.rohc_frame.specs.Items.{elements_in, after_items}
 use Rattle.rohc_frame.specs.Reading.{Reading}
 
--- why a packet without a reading is refused, by the octets at its front
-abbrev pub refusal_of : CidKind → List ℕ → FrameRefusal
-refusal_of size [] = Empty
-refusal_of Large (first ∷ rest) = ReservedType
-refusal_of Small (first ∷ rest) = if nat_lt first 254 then ReservedType else Segment
+-- the kind of header that an octet begins, or its refusal
+abbrev pub kind_of : ℕ → Result HeadKind FrameRefusal
+kind_of first =
+    if nat_lt first 224 then Ok Other
+    else if nat_lt first 240 then Err AddCidOnLarge
+    else if nat_lt first 248 then Err FeedbackShort
+    else if first == 248 then Ok IrDyn
+    else if nat_lt first 252 then Err ReservedType
+    else if first == 252 then Ok (Ir false)
+    else if first == 253 then Ok (Ir true)
+    else Err Segment
 
--- a header alone with identifier 0
-abbrev pub alone : ℕ → List ℕ → HeadKind → Reading
-alone first rest kind = record {
-  elements = [];
-  header = Some (record { cid = 0; size = Small; kind = kind; first = first; cid_octets = []; rest = rest });
-}
+-- a header of a small link, where its first octet begins one
+abbrev pub small_header : ℕ → List ℕ → ℕ → List ℕ → Result HeadKind FrameRefusal → Result (Option Header) FrameRefusal
+small_header cid cid_octets first rest (Err refusal) = Err refusal
+small_header cid cid_octets first rest (Ok kind) =
+    Ok (Some (record { cid = cid; size = Small; kind = kind; first = first; cid_octets = cid_octets; rest = rest }))
 
-abbrev pub small_parts : ℕ → List ℕ → Option HeadKind → Result Reading FrameRefusal
-small_parts first rest (Some kind) = Ok (alone first rest kind)
-small_parts first rest None = Err (refusal_of Small (first ∷ rest))
+-- what stands behind an Add-CID octet
+abbrev pub behind_add_cid : ℕ → List ℕ → Result (Option Header) FrameRefusal
+behind_add_cid add_cid [] = Err NoHeader
+behind_add_cid add_cid (first ∷ rest) =
+    if is_within 224 239 first then Err ReservedType
+    else if is_within 240 247 first then Err AfterAddCid
+    else small_header (add_cid - 224) (add_cid ∷ []) first rest (kind_of first)
+
+-- what stands after the items on a small link
+abbrev pub small_parts : ℕ → List ℕ → Result (Option Header) FrameRefusal
+small_parts max_cid [] = Ok None
+small_parts max_cid (first ∷ rest) =
+    if is_within 225 239 first
+    then (if nat_lt max_cid (first - 224) then Err CidRange else behind_add_cid first rest)
+    else small_header 0 [] first rest (kind_of first)
+
+abbrev pub two_octets : ℕ → List ℕ → Result (ℕ × ℕ) FrameRefusal
+two_octets a [] = Err NoHeader
+two_octets a (b ∷ octets) = Ok (a % 64 * 256 + b, 2)
+
+-- a large identifier, and how many octets spell it
+abbrev pub large_cid : List ℕ → Result (ℕ × ℕ) FrameRefusal
+large_cid [] = Err NoHeader
+large_cid (a ∷ octets) = if nat_lt a 128 then Ok (a, 1) else if nat_lt a 192 then two_octets a octets else Err LargeCid
+
+-- a header of a large link, where it may bear the identifier
+abbrev pub large_header : ℕ → HeadKind → ℕ → List ℕ → Result (ℕ × ℕ) FrameRefusal → Result (Option Header) FrameRefusal
+large_header max_cid kind first octets (Err refusal) = Err refusal
+large_header max_cid kind first octets (Ok (cid, count)) =
+    if nat_lt max_cid cid then Err CidRange
+    else Ok (Some (record { cid = cid; size = Large; kind = kind; first = first; cid_octets = take count octets; rest = drop count octets }))
+
+abbrev pub behind_kind : ℕ → ℕ → List ℕ → Result HeadKind FrameRefusal → Result (Option Header) FrameRefusal
+behind_kind max_cid first octets (Err refusal) = Err refusal
+behind_kind max_cid first octets (Ok kind) = large_header max_cid kind first octets (large_cid octets)
+
+-- what stands after the items on a large link
+abbrev pub large_parts : ℕ → List ℕ → Result (Option Header) FrameRefusal
+large_parts max_cid [] = Ok None
+large_parts max_cid (first ∷ octets) = behind_kind max_cid first octets (kind_of first)
+
+-- the header after the items, if there is one, or why what stands there is none
+unfoldable pub header_parts : CidKind → ℕ → List ℕ → Result (Option Header) FrameRefusal
+header_parts Small max_cid octets = small_parts max_cid octets
+header_parts Large max_cid octets = large_parts max_cid octets
+
+abbrev pub with_elements : List (List ℕ) → Result (Option Header) FrameRefusal → Result Reading FrameRefusal
+with_elements elements (Err refusal) = Err refusal
+with_elements elements (Ok header) = Ok (record { elements = elements; header = header })
 
 -- the one reading of a packet, or the one refusal
 unfoldable pub parts_of : CidKind → ℕ → List ℕ → Result Reading FrameRefusal
 parts_of size max_cid [] = Err Empty
-parts_of Large max_cid (first ∷ rest) = Err ReservedType
-parts_of Small max_cid (first ∷ rest) = small_parts first rest (kind_of first)
+parts_of size max_cid (octet ∷ octets) =
+    with_elements (elements_in (octet ∷ octets)) (header_parts size max_cid (after_items (octet ∷ octets)))

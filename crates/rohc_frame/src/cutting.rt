@@ -1,72 +1,160 @@
 //! The one reading of a packet, or the one refusal.
 
-ghost use Rattle.std.specs.Prelude.{◌≡◌, [], ◌∷◌, IsOk, IfOk, IfErr, IfSome, Ok, Err, ◌≤◌};
-ghost use Rattle.rohc_frame.specs.Header.{kind_of};
-ghost use Rattle.rohc_frame.specs.Reading.{Reading, reading_of, IsReading};
-ghost use Rattle.rohc_frame.specs.Parts.{parts_of, refusal_of};
+ghost use Rattle.std.specs.Prelude.{◌≡◌, ℕ, IsOk, IfOk, IfErr, IfSome, MatchResult, Ok, Err, ◌<◌, ◌≤◌};
+ghost use Rattle.rohc_frame.specs.Reading.{Reading, option_header, reading_of, IsReading};
+ghost use Rattle.rohc_frame.specs.Parts.{kind_of, large_cid, small_parts, large_parts, header_parts, parts_of};
+ghost use Rattle.rohc_frame.specs.Refused.{IsRefused};
 
 use crate::elements::{Elements, Framed};
 use crate::header::{CidKind, Forward, HeadKind};
+use crate::items::after_items;
 use crate::refusal::FrameRefusal;
+use rohc_bits::read_value;
 
-/// The kind of header that an octet begins.
-fn head_kind(first: u8) -> Option<HeadKind>
+/// The kind of header that an octet begins, or its refusal where it begins none. E1 to EF are asked
+/// for on a large link alone, and E0 never, since it is padding.
+fn head_kind(first: u8) -> Result<HeadKind, FrameRefusal>
     ensures { result ≡ kind_of first }
 {
     match first {
-        0x00..=0xdf => Some(HeadKind::Other),
-        0xf8 => Some(HeadKind::IrDyn),
-        0xfc => Some(HeadKind::Ir { dynamic: false }),
-        0xfd => Some(HeadKind::Ir { dynamic: true }),
-        _ => None,
+        0x00..=0xdf => Ok(HeadKind::Other),
+        0xe0..=0xef => Err(FrameRefusal::AddCidOnLarge),
+        0xf0..=0xf7 => Err(FrameRefusal::FeedbackShort),
+        0xf8 => Ok(HeadKind::IrDyn),
+        0xf9..=0xfb => Err(FrameRefusal::ReservedType),
+        0xfc => Ok(HeadKind::Ir { dynamic: false }),
+        0xfd => Ok(HeadKind::Ir { dynamic: true }),
+        0xfe..=0xff => Err(FrameRefusal::Segment),
     }
 }
 
-/// Why no header begins with this octet.
-fn refusal(first: u8) -> FrameRefusal
-    ensures { result ≡ refusal_of CidKind.Small (first ∷ []) }
+/// Whether the link may bear this identifier.
+fn in_range(cid: u16, max_cid: u16) -> Result<(), FrameRefusal>
+    ensures { MatchResult result (λ _. cid ≤ max_cid) (λ e. (e ≡ FrameRefusal.CidRange) × (max_cid < cid)) }
 {
-    if first >= 0xfe {
-        FrameRefusal::Segment
-    } else {
-        FrameRefusal::ReservedType
+    if cid > max_cid {
+        return Err(FrameRefusal::CidRange);
+    }
+    Ok(())
+}
+
+/// The header of a small link: an Add-CID octet or none for identifier 0, then its own octets.
+fn small_header<'a>(max_cid: u16, octets: &'a [u8]) -> Result<Option<Forward<'a>>, FrameRefusal>
+    ensures { MatchResult result (λ forward. small_parts max_cid octets.entry.now ≡ Ok (option_header forward))
+        (λ e. small_parts max_cid octets.entry.now ≡ Err e) }
+{
+    let Some((first, behind)) = octets.split_first() else {
+        return Ok(None);
+    };
+    if !(0xe1..=0xef).contains(first) {
+        return Ok(Some(Forward {
+            cid: 0,
+            size: CidKind::Small,
+            kind: head_kind(*first)?,
+            first: *first,
+            cid_octets: &[],
+            rest: behind,
+        }));
+    }
+    let cid = u16::from(first & 0x0f);
+    in_range(cid, max_cid)?;
+    let (first, rest) = behind.split_first().ok_or(FrameRefusal::NoHeader)?;
+    let kind = match first {
+        0xe0..=0xef => return Err(FrameRefusal::ReservedType),
+        0xf0..=0xf7 => return Err(FrameRefusal::AfterAddCid),
+        _ => head_kind(*first)?,
+    };
+    Ok(Some(Forward {
+        cid,
+        size: CidKind::Small,
+        kind,
+        first: *first,
+        cid_octets: &octets[..1],
+        rest,
+    }))
+}
+
+/// The first octets from this on have first bits 11, and begin values of three or four octets.
+const FIRST_BITS_11: u8 = 0xc0;
+
+/// The identifier of a large link at the front of the octets, and how many of them spell it: one or
+/// two, since first bits 11 are refused.
+fn large_identifier(octets: &[u8]) -> Result<(u16, usize), FrameRefusal>
+    ensures { result ≡ large_cid octets.now }
+{
+    let Some((first, _)) = octets.split_first() else {
+        return Err(FrameRefusal::NoHeader);
+    };
+    if *first >= FIRST_BITS_11 {
+        return Err(FrameRefusal::LargeCid);
+    }
+    let Some((value, count)) = read_value(octets) else {
+        return Err(FrameRefusal::NoHeader);
+    };
+    Ok((value as u16, count))
+}
+
+/// The header of a large link: its first octet, the identifier, and the rest.
+fn large_header<'a>(max_cid: u16, octets: &'a [u8]) -> Result<Option<Forward<'a>>, FrameRefusal>
+    ensures { MatchResult result (λ forward. large_parts max_cid octets.entry.now ≡ Ok (option_header forward))
+        (λ e. large_parts max_cid octets.entry.now ≡ Err e) }
+{
+    let Some((first, behind)) = octets.split_first() else {
+        return Ok(None);
+    };
+    let kind = head_kind(*first)?;
+    let (cid, count) = large_identifier(behind)?;
+    in_range(cid, max_cid)?;
+    let (cid_octets, rest) = behind.split_at(count);
+    Ok(Some(Forward {
+        cid,
+        size: CidKind::Large,
+        kind,
+        first: *first,
+        cid_octets,
+        rest,
+    }))
+}
+
+/// The header that stands after padding and feedback elements, if there is one.
+#[tactic(auto, unfolding(crate::specs::Parts::header_parts))]
+fn header<'a>(
+    size: CidKind,
+    max_cid: u16,
+    octets: &'a [u8],
+) -> Result<Option<Forward<'a>>, FrameRefusal>
+    ensures { MatchResult result (λ forward. header_parts size max_cid octets.entry.now ≡ Ok (option_header forward))
+        (λ e. header_parts size max_cid octets.entry.now ≡ Err e) }
+{
+    match size {
+        CidKind::Small => small_header(max_cid, octets),
+        CidKind::Large => large_header(max_cid, octets),
     }
 }
 
 /// Cuts a packet of a link into its parts (RFC 5795 5.2).
 ///
 /// `max_cid` is the greatest identifier of the link. A packet has at most one reading; where it has
-/// none, the refusal is that of the octets at its front. Until identifiers other than 0 come, every
-/// packet of a large link that isn't empty is `ReservedType`.
+/// none, the refusal is that of the octets after its padding and feedback elements.
 #[tactic(auto, unfolding(crate::specs::Parts::parts_of))]
 pub fn cut<'a>(size: CidKind, max_cid: u16, octets: &'a [u8]) -> Result<Framed<'a>, FrameRefusal>
     ensures reading { IfOk result (λ framed. IsReading size max_cid octets.entry.now (reading_of framed)) }
     ensures only { (r : Reading) → IsReading size max_cid octets.entry.now r → IsOk result }
-    ensures refusal { IfErr result (λ e. e ≡ refusal_of size octets.entry.now) }
+    ensures refusal { IfErr result (λ e. IsRefused size max_cid octets.entry.now e) }
     ensures parts { IfOk result (λ framed. parts_of size max_cid octets.entry.now ≡ Ok (reading_of framed)) }
     ensures sized { IfOk result (λ framed. IfSome framed.forward (λ f. f.size ≡ size)) }
     ensures within { IfOk result (λ framed. IfSome framed.forward (λ f. f.cid ≤ max_cid)) }
     ensures no_parts { IfErr result (λ e. parts_of size max_cid octets.entry.now ≡ Err e) }
 {
-    let Some((first, rest)) = octets.split_first() else {
+    if octets.is_empty() {
         return Err(FrameRefusal::Empty);
-    };
-    if size == CidKind::Large {
-        return Err(FrameRefusal::ReservedType);
     }
-    let Some(kind) = head_kind(*first) else {
-        return Err(refusal(*first));
-    };
-    let forward = Forward {
-        cid: 0,
-        size,
-        kind,
-        first: *first,
-        cid_octets: &[],
-        rest,
-    };
+    let forward = header(size, max_cid, after_items(octets))?;
     Ok(Framed {
-        forward: Some(forward),
-        elements: Elements::none(),
+        forward,
+        elements: Elements::at_front_of(octets),
     })
 }
+
+#[cfg(test)]
+mod tests;

@@ -3,22 +3,24 @@
 ghost use Rattle.std.specs.Iterator.{YieldsFirstRef, item_count};
 
 use crate::header::Forward;
+use crate::items::split_element;
 
-/// The data of a packet's feedback elements, in order. There are none yet.
+/// The data of a packet's feedback elements, in order, lent from the packet's octets.
 #[derive(Clone, Copy, Debug)]
 pub struct Elements<'a> {
     octets: &'a [u8],
 }
 
 impl<'a> Elements<'a> {
-    ghost use Rattle.std.specs.Prelude.{◌≡◌, []};
+    ghost use Rattle.std.specs.Prelude.{◌≡◌};
+    ghost use Rattle.rohc_frame.specs.Items.{elements_in};
     ghost use Rattle.rohc_frame.specs.Reading.{elements_of};
 
-    /// No elements.
-    pub(crate) fn none() -> Self
-        ensures { elements_of result ≡ [] }
+    /// The elements among the items at the front of these octets.
+    pub(crate) fn at_front_of(octets: &'a [u8]) -> Self
+        ensures { elements_of result ≡ elements_in octets.entry.now }
     {
-        Elements { octets: &[] }
+        Elements { octets }
     }
 }
 
@@ -32,7 +34,9 @@ impl<'a> Iterator for Elements<'a> {
     ghost remaining = { item_count elements_of };
 
     fn next(&mut self) -> Option<&'a [u8]> {
-        None
+        let (data, behind) = split_element(self.octets)?;
+        self.octets = behind;
+        Some(data)
     }
 }
 

@@ -1,7 +1,7 @@
 //! The header of a packet, as it stands in its frame.
 
-ghost use Rattle.std.specs.Prelude.{◌≡◌, true};
-ghost use Rattle.rohc_frame.specs.Header.{is_header};
+ghost use Rattle.std.specs.Prelude.{◌≡◌, ◌≤◌, true};
+ghost use Rattle.rohc_frame.specs.Header.{greatest_cid, is_header};
 
 /// How a link spells its context identifiers (RFC 5795 5.1.3).
 #[derive(Clone, Copy, Debug, PartialEq, Eq)]
@@ -34,9 +34,11 @@ pub struct Forward<'a> {
     pub kind: HeadKind,
     /// The first octet of the header.
     pub first: u8,
-    /// The identifier's octets as they stood: the Add-CID octet or none on a small link.
+    /// The identifier's octets as they stood: the Add-CID octet or none on a small link, one or two
+    /// octets on a large one.
     pub cid_octets: &'a [u8],
     /// What follows the first octet and a large identifier.
     pub rest: &'a [u8],
     ghost is_header: { is_header size cid kind first cid_octets.now ≡ true },
+    ghost in_range: { cid ≤ greatest_cid size },
 }

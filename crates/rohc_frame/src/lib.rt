@@ -4,6 +4,8 @@
 pub mod cutting;
 pub mod elements;
 pub mod header;
+mod items;
+pub mod laws;
 pub mod refusal;
 
 pub use cutting::cut;

@@ -1,5 +1,5 @@
 -- What a writer took of one text, and then of the next.
-use Rattle.std.proofs.Common.{ℕ, ◌+◌, ◌-◌, ◌<◌, ◌^◌, List, [], ◌++◌, length, take, drop, Option, Some, None, Result, Ok, Err, append_assoc, append-nil, sym, ◌∙◌, ap, arith, length-append, length-drop}
+use Rattle.std.proofs.Common.{ℕ, ◌+◌, ◌-◌, ◌<◌, ◌^◌, List, [], ◌++◌, length, take, drop, Option, Some, None, Result, Ok, Err, append_assoc, append-nil, sym, ◌∙◌, ap, refl, subst, ◌≡◌, arith, length-append, length-drop}
 use Rattle.std.proofs.lemmas.List.{take-append-drop, take_rest}
 use Rattle.std.proofs.Math.Seq.{take-add}
 use Rattle.std.specs.Prelude.{IsErr}
@@ -79,3 +79,39 @@ part_of held holding before after count text less h = record {
   some_left = omega (arith, length-drop count text);
   taken = h;
 }
+
+-- A front of a text was taken, and this is what is left of it.
+pub record TakesFront (held holding : Option (List ℕ)) (before after : ℕ) (whole rest : List ℕ) : Type 0 where
+  pub front : List ℕ
+  pub taken : TakesAll held holding before after front
+  pub parts : front ++ rest ≡ whole
+
+-- nothing was taken yet
+pub front_none : (held : Option (List ℕ)) (before : ℕ) (whole : List ℕ) → before < 2 ^ 64 → TakesFront held held before before whole whole
+front_none held before whole small = record { front = []; taken = takes_none held before small; parts = refl }
+
+-- the next part was taken
+pub front_more : (held mid holding : Option (List ℕ)) (before between after : ℕ) (whole rest part left : List ℕ)
+    → TakesFront held mid before between whole rest → rest ≡ part ++ left → TakesAll mid holding between after part
+    → TakesFront held holding before after whole left
+front_more held mid holding before between after whole rest part left h cut all = record {
+  front = h.front ++ part;
+  taken = takes_more held mid holding before between after h.front part h.taken all;
+  parts = append_assoc h.front part left ∙ ap (λ (l : List ℕ). h.front ++ l) (sym cut) ∙ h.parts;
+}
+
+-- not all of the next part was taken
+pub front_part : (held mid holding : Option (List ℕ)) (before between after : ℕ) (whole rest part left : List ℕ)
+    → TakesFront held mid before between whole rest → rest ≡ part ++ left → TakesPart mid holding between after part
+    → TakesPart held holding before after whole
+front_part held mid holding before between after whole rest part left h cut some =
+    let parts : h.front ++ (part ++ left) ≡ whole = ap (λ (l : List ℕ). h.front ++ l) (sym cut) ∙ h.parts in
+    subst (λ (text : List ℕ). TakesPart held holding before after text) parts
+    (part_more held mid holding before between after h.front (part ++ left) h.taken (part_longer mid holding between after part left some))
+
+-- all was taken
+pub front_all : (held holding : Option (List ℕ)) (before after : ℕ) (whole rest : List ℕ)
+    → TakesFront held holding before after whole rest → rest ≡ [] → TakesAll held holding before after whole
+front_all held holding before after whole rest h none =
+    subst (λ (text : List ℕ). TakesAll held holding before after text)
+    (sym (append-nil h.front) ∙ ap (λ (l : List ℕ). h.front ++ l) (sym none) ∙ h.parts) h.taken

@@ -1,4 +1,4 @@
-//! Octets as lower case pairs of digits, written and read without branches.
+//! Octets as lower case pairs of digits. The loops have no way out, so that many octets can be taken at once.
 
 ghost use Rattle.std.specs.Prelude.{◌≡◌, ℕ, List, ◌*◌, ◌<◌, length, slice_index, All, IsTrue};
 ghost use Rattle.hex.specs.Hex.{encode_lower, lower_digits};
@@ -38,12 +38,13 @@ pub(crate) fn encode(octets: &[u8], text: &mut [u8])
     }
 }
 
-/// Reads pairs of digits, and answers whether the text has nothing else in it. Where it has, the octets mean
-/// nothing.
+/// Reads pairs of digits, and answers whether the text has nothing else in it. Where it has, the octets are
+/// left at any values.
 pub(crate) fn decode(text: &[u8], octets: &mut [u8]) -> bool
     requires { length text.now ≡ 2 * length octets.old }
     ensures spelled { IsTrue result → text.now ≡ encode_lower octets.new }
-    ensures only { (other : List ℕ) → All (λ octet. octet < 256) other → text.now ≡ encode_lower other → IsTrue result }
+    ensures only { (other : List ℕ) → All (λ octet. octet < 256) other →
+        text.now ≡ encode_lower other → IsTrue result }
 {
     let mut are_digits = true;
     for i in 0..octets.len() {

@@ -18,3 +18,6 @@ pub use fault::RunFault;
 pub use links::{Key, Links, LinksFault, Ports, read_links};
 pub use run::replay;
 pub use tally::Tally;
+
+#[cfg(test)]
+mod tests;

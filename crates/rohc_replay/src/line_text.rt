@@ -1,6 +1,6 @@
 //! A line of answers, built in a buffer of fixed size.
 
-ghost use Rattle.std.specs.Prelude.{◌≡◌, ◌+◌, ◌*◌, ◌-◌, ◌≤◌, ◌<◌, ◌++◌, ◌∷◌, [], length, codes};
+ghost use Rattle.std.specs.Prelude.{◌≡◌, ◌+◌, ◌*◌, ◌≤◌, ◌++◌, length};
 ghost use Rattle.std.specs.Fmt.{decimal};
 ghost use Rattle.arrayvec.specs.ArrayVec.{array_vec_len};
 ghost use Rattle.hex.specs.Hex.{encode_lower};
@@ -13,12 +13,15 @@ use arrayvec::ArrayVec;
 /// How many octets of a line are kept before they are offered.
 pub(crate) const ROOM: usize = 1024;
 
+/// How many octets are spelled at once.
+pub(crate) const PART: usize = 64;
+
 /// The octets of a line that weren't offered yet.
 pub(crate) type LineText = ArrayVec<u8, ROOM>;
 
 /// Puts a text behind the line.
 pub(crate) fn put(line: &mut LineText, text: &[u8])
-    requires { array_vec_len line.old + length text.now ≤ 1024 }
+    requires { array_vec_len line.old + length text.now ≤ ROOM }
     ensures text { line.new.items ≡ line.old.items ++ text.now }
     ensures len { array_vec_len line.new ≡ array_vec_len line.old + length text.now }
 {
@@ -27,7 +30,7 @@ pub(crate) fn put(line: &mut LineText, text: &[u8])
 
 /// Puts a number behind the line, in decimal.
 pub(crate) fn put_number(line: &mut LineText, number: u16)
-    requires { array_vec_len line.old + 5 ≤ 1024 }
+    requires { array_vec_len line.old + 5 ≤ ROOM }
     ensures text { line.new.items ≡ line.old.items ++ decimal number }
     ensures len { array_vec_len line.new ≤ array_vec_len line.old + 5 }
 {
@@ -45,7 +48,7 @@ pub(crate) fn put_number(line: &mut LineText, number: u16)
 
 /// Puts a link and an identifier behind the line, each with a space behind it.
 pub(crate) fn put_pair(line: &mut LineText, link: u16, cid: u16)
-    requires { array_vec_len line.old + 12 ≤ 1024 }
+    requires { array_vec_len line.old + 12 ≤ ROOM }
     ensures text { line.new.items ≡ line.old.items ++ pair_text link cid }
     ensures len { array_vec_len line.new ≤ array_vec_len line.old + 12 }
 {
@@ -55,23 +58,23 @@ pub(crate) fn put_pair(line: &mut LineText, link: u16, cid: u16)
     line.push(b' ');
 }
 
-/// Puts octets behind the line, as lower case pairs of digits.
+/// Puts a few octets behind the line, as lower case pairs of digits.
 pub(crate) fn put_hex(line: &mut LineText, octets: &[u8])
-    requires few { length octets.now ≤ 64 }
-    requires room { array_vec_len line.old + 2 * length octets.now ≤ 1024 }
+    requires few { length octets.now ≤ PART }
+    requires room { array_vec_len line.old + 2 * length octets.now ≤ ROOM }
     ensures text { line.new.items ≡ line.old.items ++ encode_lower octets.now }
     ensures len { array_vec_len line.new ≡ array_vec_len line.old + 2 * length octets.now }
 {
-    let mut digits = [b'0'; 128];
+    let mut digits = [b'0'; 2 * PART];
     let digits = &mut digits[..2 * octets.len()];
     encode(octets, digits);
     put(line, digits);
 }
 
-/// Puts octets behind the line, as lower case pairs of digits, or `-` for none.
+/// Puts a few octets behind the line, as lower case pairs of digits, or `-` for none.
 pub(crate) fn put_octets(line: &mut LineText, octets: &[u8])
-    requires few { length octets.now ≤ 64 }
-    requires room { array_vec_len line.old + 1 + 2 * length octets.now ≤ 1024 }
+    requires few { length octets.now ≤ PART }
+    requires room { array_vec_len line.old + 1 + 2 * length octets.now ≤ ROOM }
     ensures text { line.new.items ≡ line.old.items ++ hex_text octets.now }
     ensures len { array_vec_len line.new ≤ array_vec_len line.old + 1 + 2 * length octets.now }
 {

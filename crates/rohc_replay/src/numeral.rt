@@ -20,11 +20,12 @@ fn is_plain(digits: &[u8]) -> bool
 
 /// Reads a number in front of a text, and lends what stands behind it.
 ///
-/// Digits are taken as far as they go. It is `None` where there is none, where more than one begin with
-/// `0`, and where the number is no `u64`.
+/// Digits are taken as far as they go. It is `None` where there is none, where `0` stands in front of
+/// others, and where the number is no `u64`.
 pub(crate) fn read_number(text: &[u8]) -> Option<(u64, &[u8])>
     ensures read { IfSome result (λ r. IsNumberAt text.entry.now r.0 r.1.now) }
-    ensures none { IfNone result ((number : ℕ) (rest : List ℕ) → ¬ IsNumberAt text.entry.now number rest) }
+    ensures none { IfNone result ((number : ℕ) (rest : List ℕ) →
+        ¬ IsNumberAt text.entry.now number rest) }
 {
     let mut number = 0;
     let mut size = 0;

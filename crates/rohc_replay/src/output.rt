@@ -1,6 +1,6 @@
 //! Answers, as lines offered to a writer.
 
-ghost use Rattle.std.specs.Prelude.{[], ◌∷◌, ◌++◌, ◌+◌, ◌<◌, ◌≤◌, ◌≡◌, length, take, map};
+ghost use Rattle.std.specs.Prelude.{[], ◌∷◌, ◌++◌, ◌+◌, ◌*◌, ◌<◌, ◌≤◌, ◌≡◌, length, take, map};
 ghost use Rattle.std.specs.Io.KnownBytes.{Appends};
 ghost use Rattle.arrayvec.specs.ArrayVec.{array_vec_len};
 ghost use Rattle.hex.specs.Hex.{encode_lower};
@@ -8,10 +8,11 @@ ghost use Rattle.rohc_frame.specs.Reading.{elements_of};
 ghost use Rattle.rohc_context.specs.Response.{response_of};
 ghost use Rattle.rohc_concentrator.specs.Report.{report_of};
 ghost use Rattle.rohc_replay.specs.Script.{hex_text};
-ghost use Rattle.rohc_replay.specs.AnswerLines.{relay_line, packet_lines, stored_lines, feedback_lines, refused_lines, response_lines, report_lines, link_refusal, text_of};
+ghost use Rattle.rohc_replay.specs.AnswerLines.{text_of, report_lines, link_refusal, relay_line};
+ghost use Rattle.rohc_replay.specs.AnswerLines.{response_lines, packet_lines, stored_lines, feedback_lines, refused_lines};
 ghost use Rattle.rohc_replay.specs.Offers.{Offers};
 
-use crate::line_text::{LineText, put, put_hex, put_number, put_octets, put_pair};
+use crate::line_text::{LineText, PART, ROOM, put, put_hex, put_number, put_octets, put_pair};
 use rohc_concentrator::Answer;
 use rohc_context::{Outcome, Refusal, Reply};
 use rohc_frame::Elements;
@@ -23,7 +24,8 @@ pub(crate) struct Stopped;
 
 /// Offers a whole line to the writer, by single writes whose taken octets are counted.
 pub(crate) fn offer<W: Write>(writer: &mut W, taken: &mut u64, line: &[u8]) -> Result<(), Stopped>
-    ensures { Offers (W.contents writer.old) (W.contents writer.new) taken.old taken.new line.now result }
+    ensures { Offers (W.contents writer.old) (W.contents writer.new) taken.old taken.new
+        line.now result }
 {
     let count = give(writer, line);
     *taken = taken.saturating_add(count as u64);
@@ -59,8 +61,8 @@ fn offer_octets<W: Write>(
     head: &[u8],
     rest: &[u8],
 ) -> Result<(), Stopped>
-    requires few { length head.now ≤ 64 }
-    requires room { array_vec_len line.old + 129 ≤ 1024 }
+    requires few { length head.now ≤ PART }
+    requires room { array_vec_len line.old + 2 * PART < ROOM }
     ensures { Offers (W.contents writer.old) (W.contents writer.new) taken.old taken.new
         (line.old.items ++ hex_text (head.now ++ rest.now) ++ 10 ∷ []) result }
 {
@@ -79,11 +81,11 @@ fn offer_digits<W: Write>(
     line: &mut LineText,
     octets: &[u8],
 ) -> Result<(), Stopped>
-    requires { array_vec_len line.old < 1024 }
+    requires { array_vec_len line.old < ROOM }
     ensures { Offers (W.contents writer.old) (W.contents writer.new) taken.old taken.new
         (line.old.items ++ encode_lower octets.now ++ 10 ∷ []) result }
 {
-    for part in octets.chunks(64) {
+    for part in octets.chunks(PART) {
         if line.remaining_capacity() <= 2 * part.len() {
             offer(writer, taken, line.as_slice())?;
             line.clear();
@@ -122,6 +124,7 @@ fn offer_relays<W: Write>(
     ensures { Offers (W.contents writer.old) (W.contents writer.new) taken.old taken.new
         (text_of (map (relay_line link) (elements_of relayed.entry))) result }
 {
+    // The proof takes from this read that the count is within its type.
     let _taken = *taken;
     for feedback in relayed {
         offer_relay(writer, taken, line, link, feedback)?;
@@ -141,6 +144,7 @@ fn offer_packet<W: Write>(
     ensures { Offers (W.contents writer.old) (W.contents writer.new) taken.old taken.new
         (text_of (packet_lines link cid (response_of reply.now).packet)) result }
 {
+    // The proof takes from this read that the count is within its type.
     let _taken = *taken;
     let Some(packet) = &reply.packet else {
         return Ok(());
@@ -153,7 +157,7 @@ fn offer_packet<W: Write>(
 
 /// Puts the line `stored` behind the text, where that is the outcome.
 fn put_stored(line: &mut LineText, link: u16, cid: u16, outcome: Outcome)
-    requires { array_vec_len line.old + 19 ≤ 1024 }
+    requires { array_vec_len line.old + 19 ≤ ROOM }
     ensures text { line.new.items ≡ line.old.items ++ text_of (stored_lines link cid outcome) }
     ensures len { array_vec_len line.new ≤ array_vec_len line.old + 19 }
 {
@@ -165,8 +169,9 @@ fn put_stored(line: &mut LineText, link: u16, cid: u16, outcome: Outcome)
 
 /// Puts the line of a reply's feedback behind the text, where there is some.
 fn put_feedback(line: &mut LineText, link: u16, cid: u16, reply: &Reply<'_>)
-    requires { array_vec_len line.old + 39 ≤ 1024 }
-    ensures text { line.new.items ≡ line.old.items ++ text_of (feedback_lines link cid (response_of reply.now).feedback) }
+    requires { array_vec_len line.old + 39 ≤ ROOM }
+    ensures text { line.new.items ≡ line.old.items
+        ++ text_of (feedback_lines link cid (response_of reply.now).feedback) }
     ensures len { array_vec_len line.new ≤ array_vec_len line.old + 39 }
 {
     if let Some(element) = &reply.feedback {
@@ -179,7 +184,7 @@ fn put_feedback(line: &mut LineText, link: u16, cid: u16, reply: &Reply<'_>)
 
 /// Puts the line of a refusal behind the text, where that is the outcome.
 fn put_refused(line: &mut LineText, link: u16, cid: u16, outcome: Outcome)
-    requires { array_vec_len line.old + 37 ≤ 1024 }
+    requires { array_vec_len line.old + 37 ≤ ROOM }
     ensures text { line.new.items ≡ line.old.items ++ text_of (refused_lines link cid outcome) }
     ensures len { array_vec_len line.new ≤ array_vec_len line.old + 37 }
 {
@@ -218,7 +223,8 @@ pub(crate) fn offer_answer<W: Write>(
     link: u16,
     answer: &Answer<'_>,
 ) -> Result<(), Stopped>
-    ensures { Offers (W.contents writer.old) (W.contents writer.new) taken.old taken.new (text_of (report_lines link (report_of answer.now))) result }
+    ensures { Offers (W.contents writer.old) (W.contents writer.new) taken.old taken.new
+        (text_of (report_lines link (report_of answer.now))) result }
 {
     let mut line = LineText::new();
     match answer {
@@ -242,7 +248,8 @@ pub(crate) fn offer_refusal<W: Write>(
     link: u16,
     refusal: Refusal,
 ) -> Result<(), Stopped>
-    ensures { Offers (W.contents writer.old) (W.contents writer.new) taken.old taken.new (text_of (link_refusal link refusal ∷ [])) result }
+    ensures { Offers (W.contents writer.old) (W.contents writer.new) taken.old taken.new
+        (text_of (link_refusal link refusal ∷ [])) result }
 {
     let mut line = LineText::new();
     put_number(&mut line, link);
@@ -250,4 +257,199 @@ pub(crate) fn offer_refusal<W: Write>(
     put(&mut line, refusal.name().as_bytes());
     line.push(b'\n');
     offer(writer, taken, line.as_slice())
+}
+
+#[cfg(test)]
+mod tests {
+    use super::*;
+    use arrayvec::ArrayVec;
+    use rohc_context::Delivered;
+    use rohc_frame::{CidKind, cut};
+    use std::alloc::{AllocError, Global};
+    use std::io::{self, Error, ErrorKind};
+
+    /// A writer that takes a few octets at a call and fails at one.
+    #[derive(Drop)]
+    struct Taker {
+        text: Vec<u8>,
+        calls: u32,
+        most: usize,
+        fails_at: u32,
+    }
+
+    impl Write for Taker {
+        ghost use Rattle.std.specs.Prelude.{Some};
+
+        ghost contents = { λ taker. Some taker.text.items };
+
+        fn write(&mut self, text: &[u8]) -> io::Result<usize> {
+            self.calls = self.calls.wrapping_add(1);
+            if self.calls == self.fails_at {
+                return Err(Error::from(ErrorKind::TimedOut));
+            }
+            let size = text.len().min(self.most);
+            self.text.extend_from_slice(&text[..size])?;
+            Ok(size)
+        }
+
+        fn flush(&mut self) -> io::Result<()> {
+            Ok(())
+        }
+    }
+
+    fn taking(alloc: Global, most: usize, fails_at: u32) -> Taker {
+        Taker {
+            text: Vec::new(alloc),
+            calls: 0,
+            most,
+            fails_at,
+        }
+    }
+
+    /// A reply with these octets, where they aren't empty, and this feedback.
+    fn reply<'a>(head: &[u8], payload: &'a [u8], feedback: &[u8], outcome: Outcome) -> Reply<'a> {
+        let mut packet = None;
+        if outcome == Outcome::Delivered {
+            let mut all = ArrayVec::new();
+            let _ = all.try_extend_from_slice(head);
+            packet = Some(Delivered { head: all, payload });
+        }
+        let mut element = None;
+        if !feedback.is_empty() {
+            let mut all = ArrayVec::new();
+            let _ = all.try_extend_from_slice(feedback);
+            element = Some(all);
+        }
+        Reply {
+            packet,
+            feedback: element,
+            outcome,
+        }
+    }
+
+    /// The answer of one identifier, without anything to relay.
+    fn arrived<'a>(cid: u16, reply: Reply<'a>) -> Answer<'a> {
+        match cut(CidKind::Small, 15, &[0x10]) {
+            Ok(framed) => Answer::Arrived {
+                cid,
+                reply,
+                relayed: framed.feedback(),
+            },
+            Err(_) => Answer::Refused(Refusal::Empty),
+        }
+    }
+
+    #[test]
+    fn answers_are_lines(rt: HostRuntime) -> Result<(), AllocError> {
+        for (link, answer, lines) in [
+            (
+                1,
+                arrived(0, reply(&[], b"\x45\xaa", b"\xf1\x00", Outcome::Delivered)),
+                "1 0 ip 45aa\n1 0 feedback f100\n",
+            ),
+            (
+                1,
+                arrived(0, reply(&[], &[], b"\xf1\x00", Outcome::Stored)),
+                "1 0 stored\n1 0 feedback f100\n",
+            ),
+            (
+                2,
+                arrived(300, reply(&[0x45], b"\x01\x02", &[], Outcome::Delivered)),
+                "2 300 ip 450102\n",
+            ),
+            (
+                1,
+                arrived(
+                    1,
+                    reply(&[], &[], &[], Outcome::Refused(Refusal::NoContext)),
+                ),
+                "1 1 refused NoContext\n",
+            ),
+            (
+                1,
+                arrived(
+                    0,
+                    reply(
+                        &[],
+                        &[],
+                        b"\xf4\x60\x01\x11\x0d",
+                        Outcome::Refused(Refusal::Check),
+                    ),
+                ),
+                "1 0 feedback f46001110d\n1 0 refused Check\n",
+            ),
+            (
+                1,
+                arrived(0, reply(&[], &[], &[], Outcome::Delivered)),
+                "1 0 ip -\n",
+            ),
+            (9, Answer::Refused(Refusal::NoLink), "9 - refused NoLink\n"),
+        ] {
+            let mut taker = taking(rt.alloc(), usize::MAX, 0);
+            let mut taken = 0;
+            assert!(rt;
+                offer_answer(&mut taker, &mut taken, link, &answer).is_ok(),
+                "{lines}"
+            );
+            assert_eq!(rt; taker.text.as_slice(), lines.as_bytes(), "{lines}");
+            assert_eq!(rt; taken, lines.len() as u64, "{lines}");
+        }
+        Ok(())
+    }
+
+    #[test]
+    fn relayed_feedback_is_a_line(rt: HostRuntime) -> Result<(), AllocError> {
+        for (feedback, text) in [
+            (b"\x20\x07".as_slice(), "1 - relay 2007\n"),
+            (b"".as_slice(), "1 - relay -\n"),
+        ] {
+            let mut taker = taking(rt.alloc(), usize::MAX, 0);
+            let mut taken = 0;
+            assert!(rt;
+                offer_relay(&mut taker, &mut taken, &mut LineText::new(), 1, feedback).is_ok()
+            );
+            assert_eq!(rt; taker.text.as_slice(), text.as_bytes());
+        }
+        Ok(())
+    }
+
+    #[test]
+    fn a_short_line_is_one_write_and_a_long_one_goes_in_parts(
+        rt: HostRuntime,
+    ) -> Result<(), AllocError> {
+        for (size, calls) in [(200, 1), (1400, 3)] {
+            let mut payload = Vec::new(rt.alloc());
+            payload.resize(size, 0x5a)?;
+            let answer = arrived(0, reply(&[], &payload, &[], Outcome::Delivered));
+            let mut whole = taking(rt.alloc(), usize::MAX, 0);
+            let mut slow = taking(rt.alloc(), 7, 0);
+            assert!(rt; offer_answer(&mut whole, &mut 0, 1, &answer).is_ok());
+            assert!(rt; offer_answer(&mut slow, &mut 0, 1, &answer).is_ok());
+            assert_eq!(rt; whole.calls, calls);
+            assert_eq!(rt; whole.text.len(), 2 * size + 8);
+            assert!(rt; whole.text.ends_with(b"5a5a5a\n"));
+            assert_eq!(rt; whole.text.as_slice(), slow.text.as_slice());
+        }
+        Ok(())
+    }
+
+    #[test]
+    fn a_fault_stops_the_line(rt: HostRuntime) -> Result<(), AllocError> {
+        for (most, fails_at, text) in [
+            (3, 2, "9 -"),
+            (7, 3, "9 - refused No"),
+            (0, 0, ""),
+            (usize::MAX, 1, ""),
+        ] {
+            let mut taker = taking(rt.alloc(), most, fails_at);
+            let mut taken = 0;
+            assert_eq!(rt;
+                offer_refusal(&mut taker, &mut taken, 9, Refusal::NoLink),
+                Err(Stopped)
+            );
+            assert_eq!(rt; taker.text.as_slice(), text.as_bytes());
+            assert_eq!(rt; taken, text.len() as u64);
+        }
+        Ok(())
+    }
 }

@@ -128,6 +128,8 @@ fn keep_behind(line: &mut [u8], used: usize, end: usize) -> usize
     ensures count { result + used ≡ end }
     ensures kept { take result line.new ≡ slice_range line.old used end }
 {
-    line.copy_within(used..end, 0);
+    if used > 0 {
+        line.copy_within(used..end, 0);
+    }
     end - used
 }

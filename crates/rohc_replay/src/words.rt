@@ -1,6 +1,6 @@
 //! One line of a script.
 
-ghost use Rattle.std.specs.Prelude.{◌≡◌, ◌≢◌, ℕ, List, [], ◌∷◌, ◌++◌, ◌<◌, ◌≤◌, ◌^◌, length, take, codes, All, IfSome, IfNone};
+ghost use Rattle.std.specs.Prelude.{◌≡◌, ◌≢◌, ℕ, List, ◌++◌, ◌<◌, ◌≤◌, ◌^◌, length, take, codes, All, IfSome, IfNone};
 ghost use Rattle.std.specs.Fmt.{decimal};
 ghost use Rattle.std.specs.Option.{SomeIff};
 ghost use Rattle.hex.specs.Hex.{encode_lower};
@@ -42,10 +42,12 @@ pub(crate) fn read_words(line: &[u8], packet: &mut [u8]) -> Option<Words>
 /// Reads what stands behind `arrive `: a link, a moment and the octets of a packet.
 fn read_arrival(text: &[u8], packet: &mut [u8]) -> Option<Words>
     requires { length packet.old ≡ 65535 }
-    ensures spelled { IfSome result (λ words. codes "arrive " ++ text.now ≡ spelling (event_in words packet.new)) }
+    ensures spelled { IfSome result (λ words.
+        codes "arrive " ++ text.now ≡ spelling (event_in words packet.new)) }
     ensures good { IfSome result (λ words. IsEvent (event_in words packet.new)) }
     ensures fits { IfSome result (λ words. size_in words ≤ 65535) }
-    ensures bad { IfNone result ((e : Event) → IsEvent e → codes "arrive " ++ text.now ≢ spelling e) }
+    ensures bad { IfNone result ((e : Event) → IsEvent e →
+        codes "arrive " ++ text.now ≢ spelling e) }
 {
     let (link, text) = read_field(text)?;
     let link = link_number(link)?;
@@ -76,8 +78,9 @@ fn link_number(number: u64) -> Option<u16>
 
 /// Reads a number and the space behind it, and lends what comes next.
 fn read_field(text: &[u8]) -> Option<(u64, &[u8])>
-    ensures read { IfSome result (λ r. IsNumberAt text.entry.now r.0 (32 ∷ r.1.now)) }
-    ensures none { IfNone result ((number : ℕ) (rest : List ℕ) → ¬ IsNumberAt text.entry.now number (32 ∷ rest)) }
+    ensures read { IfSome result (λ r. IsNumberAt text.entry.now r.0 (codes " " ++ r.1.now)) }
+    ensures none { IfNone result ((number : ℕ) (rest : List ℕ) →
+        ¬ IsNumberAt text.entry.now number (codes " " ++ rest)) }
 {
     let (number, rest) = read_number(text)?;
     let (space, rest) = rest.split_first()?;
@@ -93,7 +96,8 @@ fn read_field(text: &[u8]) -> Option<(u64, &[u8])>
 fn read_octets(text: &[u8], packet: &mut [u8]) -> Option<usize>
     ensures fits { IfSome result (λ size. size ≤ length packet.old) }
     ensures spelled { IfSome result (λ size. text.now ≡ hex_text (take size packet.new)) }
-    ensures none { IfNone result ((octets : List ℕ) → length octets ≤ length packet.old → All (λ octet. octet < 256) octets → text.now ≢ hex_text octets) }
+    ensures none { IfNone result ((octets : List ℕ) → length octets ≤ length packet.old →
+        All (λ octet. octet < 256) octets → text.now ≢ hex_text octets) }
 {
     match text {
         [b'-'] => Some(0),
@@ -106,7 +110,8 @@ fn read_octets(text: &[u8], packet: &mut [u8]) -> Option<usize>
 fn read_pairs(text: &[u8], packet: &mut [u8]) -> Option<usize>
     ensures fits { IfSome result (λ size. (0 < size) × (size ≤ length packet.old)) }
     ensures spelled { IfSome result (λ size. text.now ≡ encode_lower (take size packet.new)) }
-    ensures none { IfNone result ((octets : List ℕ) → 0 < length octets → length octets ≤ length packet.old → All (λ octet. octet < 256) octets → text.now ≢ encode_lower octets) }
+    ensures none { IfNone result ((octets : List ℕ) → 0 < length octets → length octets ≤ length packet.old →
+        All (λ octet. octet < 256) octets → text.now ≢ encode_lower octets) }
 {
     let size = text.len() / 2;
     if size == 0 || text.len() % 2 == 1 || packet.len() < size {
@@ -116,5 +121,109 @@ fn read_pairs(text: &[u8], packet: &mut [u8]) -> Option<usize>
         Some(size)
     } else {
         None
+    }
+}
+
+#[cfg(test)]
+mod tests {
+    use super::*;
+    use std::alloc::{AllocError, Global};
+    use std::process::Abort;
+
+    #[test]
+    fn lines_are_read(rt: HostRuntime) -> Result<(), AllocError> {
+        let mut packet = vec![in rt.alloc(); 0u8; 65535]?;
+        say_their_event(&rt, &mut packet);
+        say_nothing(&rt, &mut packet);
+        have_room(&rt, rt.alloc(), &mut packet)
+    }
+
+    fn say_their_event(rt: &impl Abort, packet: &mut [u8])
+        requires { length packet.old ≡ 65535 }
+    {
+        for (line, link, moment, octets) in [
+            (
+                "arrive 1 0 fc00b745aa",
+                1,
+                0,
+                b"\xfc\x00\xb7\x45\xaa".as_slice(),
+            ),
+            (
+                "arrive 1 999999999999 e110ac",
+                1,
+                999_999_999_999,
+                b"\xe1\x10\xac".as_slice(),
+            ),
+            (
+                "arrive 65535 18446744073709551615 -",
+                65535,
+                u64::MAX,
+                b"".as_slice(),
+            ),
+        ] {
+            let size = octets.len();
+            assert_eq!(rt;
+                read_words(line.as_bytes(), packet),
+                Some(Words::Arrive { link, moment, size }),
+                "{line}"
+            );
+            assert!(rt; packet.starts_with(octets), "{line}");
+        }
+        for (line, link) in [("reset 0", 0), ("reset 9", 9), ("reset 65535", 65535)] {
+            assert_eq!(rt;
+                read_words(line.as_bytes(), packet),
+                Some(Words::Reset { link }),
+                "{line}"
+            );
+        }
+    }
+
+    fn say_nothing(rt: &impl Abort, packet: &mut [u8])
+        requires { length packet.old ≡ 65535 }
+    {
+        for line in [
+            "",
+            "oops",
+            "reset",
+            "reset ",
+            "reset 01",
+            "reset 00",
+            "reset +1",
+            "reset -",
+            "reset 65536",
+            "reset 1 ",
+            "reset 1\r",
+            "reset\t1",
+            "reset  1",
+            " reset 1",
+            "Reset 1",
+            "arrive 1 0 FC",
+            "arrive 1 0 fC",
+            "arrive 1 0 fc0",
+            "arrive 1 0 0g",
+            "arrive 1 0",
+            "arrive 1 0 ",
+            "arrive 1 0 - ",
+            "arrive 1  0 fc",
+            "arrive 1 00 fc",
+            "arrive 1 18446744073709551616 fc",
+            "arrive 65536 0 fc",
+            "arrive 1 0 fc fc",
+            "arrive 1 0 é",
+        ] {
+            assert_eq!(rt; read_words(line.as_bytes(), packet), None, "{line}");
+        }
+    }
+
+    // 65,535 pairs and 65,536 behind the eleven octets `arrive 1 0 `
+    fn have_room(rt: &impl Abort, alloc: Global, packet: &mut [u8]) -> Result<(), AllocError>
+        requires { length packet.old ≡ 65535 }
+    {
+        for (size, is_good) in [(131_081, true), (131_083, false)] {
+            let mut line = Vec::from_slice(alloc, b"arrive 1 0 ")?;
+            line.resize(size, b'f')?;
+            assert_eq!(rt; read_words(&line, packet).is_some(), is_good);
+        }
+        Ok(())
     }
 }

@@ -1,4 +1,5 @@
-use Rattle.std.proofs.Common.{◌≡◌, ◌≤◌, ◌∙◌, refl, length, [], arith}
+use Rattle.std.proofs.Common.{◌++◌, ◌∷◌, ◌≡◌, ◌≤◌, ◌∙◌, refl, length, [], arith}
+use Rattle.hex.specs.Hex.{encode_lower}
 use Rattle.arrayvec.specs.ArrayVec.{array_vec_len}
 use Rattle.rohc_replay.proofs.OfferLemmas.{offers_stopped}
 use Rattle.rohc_replay.proofs.WaitingLemmas.{waits_first_of, waits_digits, waits_taken, waits_part, waits_offered, waits_newline}
@@ -15,7 +16,7 @@ loop-part-init g c = record {
 pub returns-in_err-offer : goal.returns-in_err-offer
 returns-in_err-offer g c =
     offers_stopped _ _ _ _ _ _ c.from_residual.ensures.0
-    (waits_part _ _ _ _ _ _ _ _ _ c.loop-part.invariant.waits (rw c.as_slice.ensures.value at c.in_err-offer.ensures))
+    (waits_part _ _ _ _ _ _ (c.args.line.now.items ++ encode_lower c.args.octets.now ++ 10 ∷ []) _ _ c.loop-part.invariant.waits (rw c.as_slice.ensures.value at c.in_err-offer.ensures))
 
 pub loop-part-preserved : goal.loop-part-preserved
 loop-part-preserved g c =
@@ -35,16 +36,16 @@ loop-part-preserved g c =
       ];
       waits = elim c.if-remaining_capacity-part.branch [
         | then-remaining_capacity-part+in_ok-offer w ↦
-            let taken = waits_taken _ _ _ _ _ _ _ _ _ c.loop-part.invariant.waits (rw w.as_slice.ensures.value at w.in_ok-offer.ensures) in
+            let taken = waits_taken _ _ _ _ _ _ (c.args.line.now.items ++ encode_lower c.args.octets.now ++ 10 ∷ []) _ _ c.loop-part.invariant.waits (rw w.as_slice.ensures.value at w.in_ok-offer.ensures) in
             rw (w.writer-is, w.taken-is)
-            (waits_digits _ _ _ _ _ [] _ _ part _ cut.0 (rw (w.line-is, w.clear.ensures) at c.put_hex.ensures.text) taken)
+            (waits_digits _ _ _ _ (c.args.line.now.items ++ encode_lower c.args.octets.now ++ 10 ∷ []) [] _ _ part _ cut.0 (rw (w.line-is, w.clear.ensures) at c.put_hex.ensures.text) taken)
         | else-remaining_capacity-part w ↦
-            rw (w.writer-is, w.taken-is) (waits_digits _ _ _ _ _ _ _ _ part _ cut.0 (rw w.line-is at c.put_hex.ensures.text) c.loop-part.invariant.waits)
+            rw (w.writer-is, w.taken-is) (waits_digits _ _ _ _ (c.args.line.now.items ++ encode_lower c.args.octets.now ++ 10 ∷ []) _ _ _ part _ cut.0 (rw w.line-is at c.put_hex.ensures.text) c.loop-part.invariant.waits)
       ];
     }
 
 pub returns : goal.returns
 returns g c =
-    waits_offered _ _ _ _ _ _ _ _ _
-    (waits_newline _ _ _ _ _ _ _ c.in-None.ensures.steps.1.0 c.loop-part.invariant.waits)
+    waits_offered _ _ _ _ _ _ (c.args.line.now.items ++ encode_lower c.args.octets.now ++ 10 ∷ []) _ _
+    (waits_newline _ _ _ _ (c.args.line.now.items ++ encode_lower c.args.octets.now ++ 10 ∷ []) _ _ c.in-None.ensures.steps.1.0 c.loop-part.invariant.waits)
     (rw (c.as_slice-2.ensures.value, c.push.ensures.items) at c.offer-2.ensures)

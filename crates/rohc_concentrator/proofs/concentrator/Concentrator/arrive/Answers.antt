@@ -13,3 +13,9 @@ returns-clause-settings c = record {
   each = search rules;
   in_order = settings_after (nat_eq c.args.link) c.args.self.now.links.entries _ c.in-Some.records.now _ (c.get_mut.follows.holds _).0 (search rules) c.arrive_at-reply.ensures.setting;
 }
+
+pub returns-in_default-forward-clause-settings : goal.returns-in_default-forward-clause-settings
+returns-in_default-forward-clause-settings c = record {
+  each = search rules;
+  in_order = settings_after (nat_eq c.args.link) c.args.self.now.links.entries _ c.in-Some.records.now _ (c.get_mut.follows.holds _).0 (search rules) refl;
+}

@@ -1,0 +1,65 @@
+//! Bits and how many there are.
+
+ghost use Rattle.std.specs.Prelude.{◌≡◌, ◌<◌, ◌≤◌, ◌+◌, ◌*◌, ◌^◌, ◌%◌, min};
+
+/// The low `count` bits of a field, most significant first.
+#[derive(Clone, Copy, Debug, PartialEq, Eq)]
+pub struct Bits {
+    /// The number that the bits spell.
+    pub value: u32,
+    /// How many bits there are, at most 32.
+    pub count: u8,
+    ghost narrow: { count ≤ 32 },
+    ghost fits: { value < 2 ^ count },
+}
+
+impl Bits {
+    /// The bits that spell `value` in `count` places.
+    pub fn new(value: u32, count: u8) -> Self
+        requires narrow { count ≤ 32 }
+        requires fits { value < 2 ^ count }
+        ensures value { result.value ≡ value }
+        ensures count { result.count ≡ count }
+    {
+        Bits { value, count }
+    }
+
+    /// These bits with less significant ones behind them. Of more than 32 the low 32 are kept.
+    pub fn append(self, value: u32, count: u8) -> Self
+        requires narrow { count ≤ 32 }
+        requires fits { value < 2 ^ count }
+        ensures value { result.value ≡ (self.value * 2 ^ count + value) % 2 ^ 32 }
+        ensures count { result.count ≡ min (self.count + count) 32 }
+    {
+        Bits::new(
+            joined(self.value, value, count),
+            (self.count + count).min(32),
+        )
+    }
+}
+
+/// The low 32 bits of `high` with the `count` bits of `low` behind it.
+fn joined(high: u32, low: u32, count: u8) -> u32
+    requires narrow { count ≤ 32 }
+    requires fits { low < 2 ^ count }
+    ensures { result ≡ (high * 2 ^ count + low) % 2 ^ 32 }
+{
+    if count == 32 {
+        low
+    } else {
+        (high << count).wrapping_add(low)
+    }
+}
+
+#[cfg(test)]
+mod tests {
+    use super::*;
+
+    #[test]
+    fn bits_stand_behind_one_another(rt: HostRuntime) {
+        let bits = Bits::new(0b101, 3).append(0b0011, 4);
+        assert_eq!(rt; bits, Bits::new(0b101_0011, 7));
+        let full = Bits::new(0xffff_ff12, 32).append(0x34, 8);
+        assert_eq!(rt; full, Bits::new(0xffff_1234, 32));
+    }
+}

@@ -1,0 +1,70 @@
+//! Octets taken from the front of a text.
+
+ghost use Rattle.std.specs.Prelude.{◌≡◌, ◌<◌, ◌↔◌, ℕ, List, [], ◌∷◌, ◌++◌, length, IfSome, IfNone, IsNone};
+
+use std::marker::Model;
+
+/// The octets of a text that are left to be read. Contracts see it as their list.
+#[derive(Debug, Drop)]
+pub struct Cursor<'a> {
+    octets: &'a [u8],
+}
+
+impl<'a> Model for Cursor<'a> {
+    ghost Value = { List ℕ };
+
+    ghost view = { λ c. c.octets.now };
+}
+
+impl<'a> Cursor<'a> {
+    /// A cursor at the front of a text.
+    pub fn new(octets: &'a [u8]) -> Self
+        ensures { result ≡ octets.entry.now }
+    {
+        Cursor { octets }
+    }
+
+    /// The next octet, or `None` where none is left.
+    pub fn octet(&mut self) -> Option<u8>
+        ensures split { IfSome result (λ octet. self.old ≡ octet ∷ self.new) }
+        ensures none { IsNone result ↔ (self.old ≡ []) }
+        ensures stays { IfNone result (self.new ≡ self.old) }
+    {
+        let (first, rest) = self.octets.split_first()?;
+        self.octets = rest;
+        Some(*first)
+    }
+
+    /// The next `count` octets, or `None` where fewer are left.
+    pub fn take(&mut self, count: usize) -> Option<&'a [u8]>
+        ensures split { IfSome result (λ front. self.old ≡ front.now ++ self.new) }
+        ensures counted { IfSome result (λ front. length front.now ≡ count) }
+        ensures none { IsNone result ↔ (length self.old < count) }
+        ensures stays { IfNone result (self.new ≡ self.old) }
+    {
+        let (front, rest) = self.octets.split_at_checked(count)?;
+        self.octets = rest;
+        Some(front)
+    }
+
+    /// What is left.
+    pub fn rest(&self) -> &'a [u8]
+        ensures { result.now ≡ self.now }
+    {
+        self.octets
+    }
+}
+
+#[cfg(test)]
+mod tests {
+    use super::*;
+
+    #[test]
+    fn a_text_is_taken_in_order(rt: HostRuntime) {
+        let mut cursor = Cursor::new(&[1, 2, 3, 4]);
+        assert_eq!(rt; cursor.octet(), Some(1));
+        assert_eq!(rt; cursor.take(2), Some([2, 3].as_slice()));
+        assert_eq!(rt; cursor.take(2), None);
+        assert_eq!(rt; cursor.rest(), [4].as_slice());
+    }
+}

@@ -1,0 +1,79 @@
+//! Self-describing values (RFC 3095 4.5.6).
+
+ghost use Rattle.std.specs.Prelude.{◌≡◌, ◌<◌, ◌≤◌, ◌↔◌, ℕ, List, ◌++◌, length, take, Some, IfSome, IsNone};
+ghost use Rattle.rohc_bits.specs.Spelling.{IsSpelled};
+
+use arrayvec::ArrayVec;
+
+/// The self-describing value at the front of the octets, and how many of them spell it.
+///
+/// A longer spelling than needed is read. `None` where the octets end before the value does.
+pub fn read_value(octets: &[u8]) -> Option<(u32, usize)>
+    ensures within { IfSome result (λ read. read.1 ≤ length octets.now) }
+    ensures spelled { IfSome result (λ read. IsSpelled (take read.1 octets.now) read.0) }
+    ensures every { (text rest : List ℕ) (value : ℕ) → octets.now ≡ text ++ rest → IsSpelled text value → result ≡ Some (value, length text) }
+{
+    match *octets {
+        [a @ 0x00..=0x7f, ..] => Some((u32::from(a), 1)),
+        [a @ 0x80..=0xbf, b, ..] => Some((u32::from_be_bytes([0, 0, a & 0x3f, b]), 2)),
+        [a @ 0xc0..=0xdf, b, c, ..] => Some((u32::from_be_bytes([0, a & 0x1f, b, c]), 3)),
+        [a @ 0xe0..=0xff, b, c, d, ..] => Some((u32::from_be_bytes([a & 0x1f, b, c, d]), 4)),
+        _ => None,
+    }
+}
+
+/// The shortest spelling of a value, or `None` above 536,870,911, which none has.
+pub fn write_value(value: u32) -> Option<ArrayVec<u8, 4>>
+    ensures spelled { IfSome result (λ text. IsSpelled text.items value) }
+    ensures shortest { IfSome result (λ text. (other : List ℕ) → IsSpelled other value → length text.items ≤ length other) }
+    ensures none { IsNone result ↔ (536870911 < value) }
+{
+    let [a, b, c, d] = value.to_be_bytes();
+    match value {
+        0..=0x7f => ArrayVec::try_from([d].as_slice()).ok(),
+        0x80..=0x3fff => ArrayVec::try_from([0x80 | c, d].as_slice()).ok(),
+        0x4000..=0x1f_ffff => ArrayVec::try_from([0xc0 | b, c, d].as_slice()).ok(),
+        0x20_0000..=0x1fff_ffff => ArrayVec::try_from([0xe0 | a, b, c, d].as_slice()).ok(),
+        _ => None,
+    }
+}
+
+#[cfg(test)]
+mod tests {
+    use super::*;
+
+    // The first and last values of each length (RFC 3095 4.5.6).
+    const ENDS: [(u32, &[u8]); 8] = [
+        (0, &[0x00]),
+        (127, &[0x7f]),
+        (128, &[0x80, 0x80]),
+        (16_383, &[0xbf, 0xff]),
+        (16_384, &[0xc0, 0x40, 0x00]),
+        (2_097_151, &[0xdf, 0xff, 0xff]),
+        (2_097_152, &[0xe0, 0x20, 0x00, 0x00]),
+        (536_870_911, &[0xff, 0xff, 0xff, 0xff]),
+    ];
+
+    #[test]
+    fn the_ends_of_each_length(rt: HostRuntime) {
+        for (value, octets) in ENDS {
+            assert_eq!(rt; read_value(octets), Some((value, octets.len())));
+            let text = write_value(value).expect(&rt, "a spelling");
+            assert_eq!(rt; text.as_slice(), octets);
+        }
+        assert!(rt; write_value(536_870_912).is_none());
+    }
+
+    #[test]
+    fn a_longer_spelling_is_read(rt: HostRuntime) {
+        assert_eq!(rt; read_value(&[0x80, 0x05, 0xaa]), Some((5, 2)));
+    }
+
+    #[test]
+    fn a_cut_off_value_is_none(rt: HostRuntime) {
+        let texts: [&[u8]; 4] = [&[], &[0x80], &[0xc0, 0x00], &[0xe0, 0x00, 0x00]];
+        for octets in texts {
+            assert!(rt; read_value(octets).is_none());
+        }
+    }
+}

@@ -1,0 +1,37 @@
+-- One context machine, run alone.
+use Rattle.std.specs.Prelude.{◌≡◌, ℕ, List, [], ◌∷◌, ◌++◌, Bool, true, false, ◌==◌, if◌then◌else◌, Option, Some, None, Result, Ok, Err}
+use Rattle.rohc_frame.specs.Header.{Header}
+use Rattle.rohc_frame.specs.Reading.{Reading}
+use Rattle.rohc_frame.specs.Parts.{parts_of}
+use Rattle.rohc_frame.specs.declared.refusal.FrameRefusal.{FrameRefusal}
+use Rattle.rohc_context.specs.declared.settings.Settings.{Settings}
+use Rattle.rohc_context.specs.Record.{Record}
+use Rattle.rohc_context.specs.Response.{Response}
+use Rattle.rohc_context.specs.Step.{LoneStep}
+use Rattle.rohc_concentrator.specs.declared.setting.LinkSetting.{LinkSetting}
+
+-- what happens to one context: a header arrives at a moment, or all is forgotten
+pub data LoneEvent : Type 0 where
+  Arrival : ℕ → Header → LoneEvent
+  Forget : LoneEvent
+
+-- The lone step over a list of events, from a record or none; a reset leaves none. There is a reply for each arrival.
+abbrev pub LoneRun : Settings → Option Record → List LoneEvent → List Response → Option Record → Type 0
+LoneRun s before [] [] after = after ≡ before
+LoneRun s before [] (reply ∷ replies) after = ⊥
+LoneRun s before (Forget ∷ events) replies after = LoneRun s None events replies after
+LoneRun s before (Arrival moment h ∷ events) [] after = ⊥
+LoneRun s before (Arrival moment h ∷ events) (reply ∷ replies) after = (mid : Option Record) × LoneStep before s moment h reply mid × LoneRun s mid events replies after
+
+-- an arrival at the context that its header names, and none else
+abbrev pub arrival_of : ℕ → ℕ → Option Header → List LoneEvent
+arrival_of cid moment None = []
+arrival_of cid moment (Some h) = if h.cid == cid then Arrival moment h ∷ [] else []
+
+abbrev pub arrival_in : ℕ → ℕ → Result Reading FrameRefusal → List LoneEvent
+arrival_in cid moment (Ok reading) = arrival_of cid moment reading.header
+arrival_in cid moment (Err refusal) = []
+
+-- a packet of a link is an arrival at the context of the identifier that it bears
+abbrev pub own_arrival : LinkSetting → ℕ → ℕ → List ℕ → List LoneEvent
+own_arrival s cid moment octets = arrival_in cid moment (parts_of s.settings.size s.settings.max_cid octets)

@@ -1,0 +1,73 @@
+use Rattle.std.specs.Prelude.{◌≡◌, ℕ, ◌-◌, ◌+◌, ◌*◌, ◌%◌, List, [], ◌∷◌, ◌++◌, length, drop, All, Bool, false, Option, Some, None, ◌==◌, ◌&&◌, nat_lt, nat_le, if◌then◌else◌}
+use Rattle.rohc_frame.specs.declared.header.CidKind.{CidKind}
+use Rattle.rohc_frame.specs.declared.header.CidKind.TheVariants.{Small, Large}
+use Rattle.rohc_frame.specs.declared.refusal.FrameRefusal.{FrameRefusal}
+use Rattle.rohc_frame.specs.declared.refusal.FrameRefusal.TheVariants.{Empty, FeedbackShort, AfterAddCid, Segment, ReservedType, AddCidOnLarge, LargeCid, CidRange, NoHeader}
+use Rattle.rohc_frame.specs.Header.{is_within}
+use Rattle.rohc_frame.specs.Items.{Item, IsItem, spelled, all_spelled}
+
+-- the first octet is from low to high
+abbrev pub begins : ℕ → ℕ → List ℕ → Bool
+begins low high [] = false
+begins low high (octet ∷ octets) = is_within low high octet
+
+-- the first octet is this or above
+abbrev pub begins_from : ℕ → List ℕ → Bool
+begins_from low [] = false
+begins_from low (octet ∷ octets) = nat_le low octet
+
+-- the identifier that an Add-CID octet says
+abbrev pub add_cid : List ℕ → ℕ
+add_cid [] = 0
+add_cid (octet ∷ octets) = octet - 224
+
+-- the identifier that one or two octets say, the first below C0
+abbrev pub spelled_cid : List ℕ → ℕ
+spelled_cid [] = 0
+spelled_cid (a ∷ []) = a
+spelled_cid (a ∷ b ∷ octets) = if nat_lt a 128 then a else a % 64 * 256 + b
+
+-- Why the octets after the longest list of items are no header's, in the order in which it is judged: the
+-- first row whose test holds gives the refusal (RFC 5795 5.2).
+abbrev pub rows : CidKind → ℕ → List ℕ → List (Bool × FrameRefusal)
+rows Small max_cid r =
+    (begins 240 247 r, FeedbackShort)
+    ∷ (begins 225 239 r && nat_lt max_cid (add_cid r), CidRange)
+    ∷ (begins 225 239 r && (length r == 1), NoHeader)
+    ∷ (begins 225 239 r && begins 240 247 (drop 1 r), AfterAddCid)
+    ∷ (begins 225 239 r && begins 224 239 (drop 1 r), ReservedType)
+    ∷ (begins 225 239 r && begins 249 251 (drop 1 r), ReservedType)
+    ∷ (begins 225 239 r && begins_from 254 (drop 1 r), Segment)
+    ∷ (begins 249 251 r, ReservedType)
+    ∷ (begins_from 254 r, Segment)
+    ∷ []
+rows Large max_cid r =
+    (begins 240 247 r, FeedbackShort)
+    ∷ (begins 225 239 r, AddCidOnLarge)
+    ∷ (begins 249 251 r, ReservedType)
+    ∷ (begins_from 254 r, Segment)
+    ∷ (length r == 1, NoHeader)
+    ∷ (begins_from 192 (drop 1 r), LargeCid)
+    ∷ (begins 128 191 (drop 1 r) && (length r == 2), NoHeader)
+    ∷ (nat_lt max_cid (spelled_cid (drop 1 r)), CidRange)
+    ∷ []
+
+-- the refusal of the first row that holds
+abbrev pub first_of_rows : List (Bool × FrameRefusal) → Option FrameRefusal
+first_of_rows [] = None
+first_of_rows ((holds, refusal) ∷ more) = if holds then Some refusal else first_of_rows more
+
+-- The octets are those of items and others after them, at whose front no item stands whole, and which this
+-- refuses.
+pub record StopsBy (size : CidKind) (max_cid : ℕ) (octets : List ℕ) (refusal : FrameRefusal) : Type 0 where
+  pub items : List Item
+  pub after : List ℕ
+  pub are_items : All IsItem items
+  pub whole : octets ≡ all_spelled items ++ after
+  pub longest : (item : Item) (rest : List ℕ) → IsItem item → after ≡ spelled item ++ rest → ⊥
+  pub stopped : first_of_rows (rows size max_cid after) ≡ Some refusal
+
+-- A packet has no reading, for this reason.
+abbrev pub IsRefused : CidKind → ℕ → List ℕ → FrameRefusal → Type 0
+IsRefused size max_cid [] refusal = refusal ≡ Empty
+IsRefused size max_cid (octet ∷ octets) refusal = StopsBy size max_cid (octet ∷ octets) refusal

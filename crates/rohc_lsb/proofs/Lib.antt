@@ -1,0 +1,5 @@
+pub mod Margins
+pub mod Meant
+pub mod Offsets
+pub mod Residues
+pub mod Strides

@@ -1,0 +1,36 @@
+use Rattle.std.specs.Prelude.{◌≡◌, ℕ, ◌-◌, ◌^◌, ◌<◌, List, All, ℤ, pos, ◌+ℤ◌, ◌-ℤ◌, ◌≤ℤ◌, unsigned_abs, nat_le, if◌then◌else◌}
+use Rattle.std.specs.Int.{int_rem_euclid}
+
+-- v modulo m, from 0 to m - 1 also where v is below zero: -1 modulo 16 is 15
+abbrev pub modulo : ℤ → ℕ → ℕ
+modulo v m = unsigned_abs (int_rem_euclid v (pos m))
+
+-- The value v that k bits mean against a reference: v lies in [reference - p, reference + 2^k - 1 - p],
+-- and these are its low k bits (RFC 3095 4.5.1). Reference and value are whole numbers without limits.
+pub record LiesInInterval (reference : ℤ) (k p bits : ℕ) (v : ℤ) : Type 0 where
+  pub least : (reference -ℤ pos p) ≤ℤ v
+  pub greatest : v ≤ℤ (reference +ℤ pos (2 ^ k) -ℤ pos 1 -ℤ pos p)
+  pub low : modulo v (2 ^ k) ≡ bits
+
+-- p for k bits of a sequence number (RFC 3095 5.7)
+abbrev pub sn_margin : ℕ → ℕ
+sn_margin k = if nat_le k 4 then 1 else 2 ^ (k - 5) - 1
+
+-- p for k bits of a timestamp (RFC 3095 5.7)
+abbrev pub ts_margin : ℕ → ℕ
+ts_margin k = 2 ^ (k - 2) - 1
+
+-- Bits mean exactly one value.
+abbrev pub OneValue : Type 0
+OneValue = (reference : ℤ) (k p bits : ℕ) → bits < 2 ^ k →
+    (v : ℤ) × LiesInInterval reference k p bits v × ((w : ℤ) → LiesInInterval reference k p bits w → w ≡ v)
+
+-- Bits that mean v against the least and the greatest of the references mean v against each of them, as a
+-- window's writer relies on (RFC 3095 4.5.2).
+abbrev pub WindowAgrees : Type 0
+WindowAgrees = (references : List ℤ) (least greatest : ℤ) (k p bits : ℕ) (v : ℤ) →
+    All (λ reference. least ≤ℤ reference) references →
+    All (λ reference. reference ≤ℤ greatest) references →
+    LiesInInterval least k p bits v →
+    LiesInInterval greatest k p bits v →
+    All (λ reference. LiesInInterval reference k p bits v) references

@@ -1,0 +1,17 @@
+//! Fields of a header from their low bits: intervals, sequence numbers, timestamps and the
+//! Identification (RFC 3095 4.5).
+#![tactic(auto)]
+
+pub mod identification;
+pub mod interval;
+pub mod laws;
+pub mod sequence;
+pub mod timestamp;
+
+pub use identification::ip_id;
+pub use interval::interval_value;
+pub use sequence::{sn_shift, sn_value};
+pub use timestamp::{inferred_ts, scaled, ts_shift, unscaled};
+
+#[cfg(test)]
+mod tests;

@@ -1,0 +1,370 @@
+//! Worked examples, long lines, pieces and faults, through `replay`.
+
+use crate::fault::RunFault;
+use crate::links::read_links;
+use crate::run::replay;
+use crate::tally::Tally;
+use rohc_concentrator::Concentrator;
+use std::alloc::Global;
+use std::io;
+use std::io::{Error, ErrorKind, Read, Write};
+use std::test::Fail;
+
+/// Link 1 of the worked examples.
+const LINKS: &str = "version = 1
+[[link]]
+number = 1
+cid = \"small\"
+max_cid = 15
+mode = \"O\"
+k1 = 2
+n1 = 3
+k2 = 2
+n2 = 3
+packet_ms = 20
+static_nack_ms = 1000
+deliver_port = 6001
+feedback_port = 6002
+relay_port = 6003
+";
+
+/// A script with good and bad lines and an unfinished last line.
+const SCRIPT: &str = "arrive 1 0 fc00b745aa\noops\narrive 1 20 45ab\nreset 1\narrive 1 40 10ac";
+
+/// Its answers, line by line.
+const ANSWERS: [&str; 5] = [
+    "1 0 ip 45aa\n1 0 feedback f100\n",
+    "- - refused BadLine\n",
+    "1 0 ip 45ab\n",
+    "",
+    "1 0 refused NoContext\n",
+];
+
+/// The concentrator of link 1, with no record.
+fn concentrator(alloc: Global) -> Result<Concentrator, Fail> {
+    let links = read_links(alloc, LINKS)?;
+    Ok(Concentrator::new(alloc, links.settings())?)
+}
+
+/// The first so many lines' answers of the script.
+fn first_answers(alloc: Global, lines: usize) -> Result<String, Fail> {
+    let mut text = String::new(alloc);
+    for answer in ANSWERS.iter().take(lines) {
+        text.push_str(answer)?;
+    }
+    Ok(text)
+}
+
+/// A reader that gives pieces of this size, and fails at one call.
+#[derive(Drop)]
+struct Pieces<'a> {
+    rest: &'a [u8],
+    size: usize,
+    calls_left: usize,
+}
+
+impl Read for Pieces<'_> {
+    ghost use Rattle.std.specs.Prelude.{Some};
+
+    ghost remaining = { λ p. Some p.rest.now };
+
+    fn read(&mut self, buf: &mut [u8]) -> io::Result<usize> {
+        if self.calls_left == 0 {
+            return Err(Error::from(ErrorKind::TimedOut));
+        }
+        self.calls_left -= 1;
+        let count = self.size.max(1).min(buf.len()).min(self.rest.len());
+        let (piece, rest) = self.rest.split_at(count);
+        buf[..count].copy_from_slice(piece);
+        self.rest = rest;
+        Ok(count)
+    }
+}
+
+/// What a writer does once its calls are used up.
+#[derive(Clone, Copy, Debug, PartialEq, Eq)]
+enum Tired {
+    Fails,
+    TakesNone,
+    TakesOneThenFails,
+}
+
+/// A writer in memory that takes whole texts for a number of calls.
+#[derive(Drop)]
+struct Taker {
+    text: Vec<u8>,
+    calls_left: usize,
+    tired: Tired,
+    flushes: bool,
+}
+
+impl Write for Taker {
+    ghost use Rattle.std.specs.Prelude.{Some};
+
+    ghost contents = { λ t. Some t.text.items };
+
+    fn write(&mut self, buf: &[u8]) -> io::Result<usize> {
+        let count = if self.calls_left > 0 {
+            self.calls_left -= 1;
+            buf.len()
+        } else {
+            match self.tired {
+                Tired::Fails => return Err(Error::from(ErrorKind::TimedOut)),
+                Tired::TakesNone => 0,
+                Tired::TakesOneThenFails => {
+                    self.tired = Tired::Fails;
+                    buf.len().min(1)
+                }
+            }
+        };
+        self.text.extend_from_slice(&buf[..count])?;
+        Ok(count)
+    }
+
+    fn flush(&mut self) -> io::Result<()> {
+        if self.flushes {
+            Ok(())
+        } else {
+            Err(Error::from(ErrorKind::TimedOut))
+        }
+    }
+}
+
+/// What a replay of the text through this reader and writer answers, and the text that was written.
+fn replayed(
+    alloc: Global,
+    reader: &mut Pieces<'_>,
+    writer: &mut Taker,
+) -> Result<Result<Tally, RunFault>, Fail> {
+    let mut concentrator = concentrator(alloc)?;
+    Ok(replay(alloc, &mut concentrator, reader, writer))
+}
+
+/// A writer that never tires.
+fn willing(alloc: Global) -> Taker {
+    Taker {
+        text: Vec::new(alloc),
+        calls_left: usize::MAX,
+        tired: Tired::Fails,
+        flushes: true,
+    }
+}
+
+/// A reader that never fails.
+fn steady(text: &[u8], size: usize) -> Pieces<'_> {
+    Pieces {
+        rest: text,
+        size,
+        calls_left: usize::MAX,
+    }
+}
+
+#[test]
+fn worked_examples(rt: HostRuntime) -> Result<(), Fail> {
+    let examples = [
+        (
+            "arrive 1 0 fc00b745aa\n",
+            "1 0 ip 45aa\n1 0 feedback f100\n",
+            1,
+            0,
+        ),
+        (
+            "arrive 1 0 fc00b7\n",
+            "1 0 stored\n1 0 feedback f100\n",
+            1,
+            0,
+        ),
+        (
+            "arrive 1 0 10ac\narrive 1 0 fc00b845aa\narrive 1 0 10ac\n",
+            "1 0 refused NoContext\n1 0 refused Check\n1 0 refused NoContext\n",
+            3,
+            0,
+        ),
+        (
+            "arrive 1 0 fc00b745aa\nreset 1\narrive 1 0 10ac\nreset 9\n",
+            "1 0 ip 45aa\n1 0 feedback f100\n1 0 refused NoContext\n9 - refused NoLink\n",
+            4,
+            0,
+        ),
+        ("", "", 0, 0),
+        ("\n", "- - refused BadLine\n", 0, 1),
+        (
+            "reset 01\narrive 1 0 FC\n",
+            "- - refused BadLine\n- - refused BadLine\n",
+            0,
+            2,
+        ),
+        ("arrive 1 0 -", "1 - refused Empty\n", 1, 0),
+        ("arrive 9 0 -", "9 - refused NoLink\n", 1, 0),
+    ];
+    for (script, answers, events, bad) in examples {
+        let mut writer = willing(rt.alloc());
+        let told = replayed(
+            rt.alloc(),
+            &mut steady(script.as_bytes(), 4096),
+            &mut writer,
+        )?;
+        assert_eq!(rt; told, Ok(Tally { events, bad }), "of {script}");
+        assert_eq!(rt; writer.text.as_slice(), answers.as_bytes(), "of {script}");
+    }
+    Ok(())
+}
+
+#[test]
+fn long_lines(rt: HostRuntime) -> Result<(), Fail> {
+    let lines = [
+        (131_200, "", "- - refused BadLine\n"),
+        (131_201, "", "- - refused LongLine\n"),
+        (
+            200_000,
+            "\nreset 9",
+            "- - refused LongLine\n9 - refused NoLink\n",
+        ),
+        (
+            131_200,
+            "\nreset 9\n",
+            "- - refused BadLine\n9 - refused NoLink\n",
+        ),
+    ];
+    for (len, behind, answers) in lines {
+        let mut script = vec![in rt.alloc(); b'x'; len]?;
+        script.extend_from_slice(behind.as_bytes())?;
+        for size in [7, 131_200, 200_000] {
+            let mut writer = willing(rt.alloc());
+            let told = replayed(
+                rt.alloc(),
+                &mut steady(script.as_slice(), size),
+                &mut writer,
+            )?;
+            assert!(rt; told.is_ok());
+            assert_eq!(rt;
+                writer.text.as_slice(),
+                answers.as_bytes(),
+                "of {len} octets"
+            );
+        }
+    }
+    Ok(())
+}
+
+#[test]
+fn pieces_of_any_size(rt: HostRuntime) -> Result<(), Fail> {
+    let whole = first_answers(rt.alloc(), 5)?;
+    for size in [1, 2, 7, 131_200] {
+        let mut writer = willing(rt.alloc());
+        let told = replayed(
+            rt.alloc(),
+            &mut steady(SCRIPT.as_bytes(), size),
+            &mut writer,
+        )?;
+        assert_eq!(rt;
+            told,
+            Ok(Tally { events: 4, bad: 1 }),
+            "in pieces of {size}"
+        );
+        assert_eq!(rt;
+            writer.text.as_slice(),
+            whole.as_bytes(),
+            "in pieces of {size}"
+        );
+    }
+    Ok(())
+}
+
+#[test]
+fn each_read_fails_in_turn(rt: HostRuntime) -> Result<(), Fail> {
+    let script = SCRIPT.as_bytes();
+    for calls in 0..=script.len().div_ceil(7) {
+        let seen = &script[..(7 * calls).min(script.len())];
+        let finished = seen.iter().filter(|octet| **octet == b'\n').count();
+        let want = first_answers(rt.alloc(), finished)?;
+        let mut reader = Pieces {
+            rest: script,
+            size: 7,
+            calls_left: calls,
+        };
+        let mut writer = willing(rt.alloc());
+        let told = replayed(rt.alloc(), &mut reader, &mut writer)?;
+        let written = want.len() as u64;
+        assert_eq!(rt;
+            told,
+            Err(RunFault::Read { written }),
+            "after {calls} reads"
+        );
+        assert_eq!(rt;
+            writer.text.as_slice(),
+            want.as_bytes(),
+            "after {calls} reads"
+        );
+    }
+    Ok(())
+}
+
+#[test]
+fn each_write_fails_in_turn(rt: HostRuntime) -> Result<(), Fail> {
+    let whole = first_answers(rt.alloc(), 5)?;
+    let places = [0, 12, 30, 50, 62];
+    for tired in [Tired::Fails, Tired::TakesNone, Tired::TakesOneThenFails] {
+        for (calls, place) in places.iter().enumerate() {
+            let mut writer = Taker {
+                text: Vec::new(rt.alloc()),
+                calls_left: calls,
+                tired,
+                flushes: true,
+            };
+            let told = replayed(
+                rt.alloc(),
+                &mut steady(SCRIPT.as_bytes(), 4096),
+                &mut writer,
+            )?;
+            let taken = if tired == Tired::TakesOneThenFails {
+                *place + 1
+            } else {
+                *place
+            };
+            assert_eq!(rt;
+                told,
+                Err(RunFault::Write {
+                    written: taken as u64
+                }),
+                "after {calls} writes"
+            );
+            assert_eq!(rt;
+                writer.text.as_slice(),
+                whole.as_bytes().get(..taken).unwrap_or(b"short"),
+                "after {calls} writes"
+            );
+        }
+    }
+    Ok(())
+}
+
+#[test]
+fn the_flush_fails(rt: HostRuntime) -> Result<(), Fail> {
+    let whole = first_answers(rt.alloc(), 5)?;
+    let mut writer = willing(rt.alloc());
+    writer.flushes = false;
+    let told = replayed(
+        rt.alloc(),
+        &mut steady(SCRIPT.as_bytes(), 4096),
+        &mut writer,
+    )?;
+    let written = whole.len() as u64;
+    assert_eq!(rt; told, Err(RunFault::Write { written }));
+    assert_eq!(rt; writer.text.as_slice(), whole.as_bytes());
+    Ok(())
+}
+
+#[test]
+fn faults_show_their_names(rt: HostRuntime) -> Result<(), Fail> {
+    let faults = [
+        (RunFault::NoMemory, "NoMemory"),
+        (RunFault::Read { written: 1 }, "Read"),
+        (RunFault::Write { written: 2 }, "Write"),
+    ];
+    for (fault, name) in faults {
+        let shown = format!(in rt.alloc(); "{fault}")?;
+        assert_eq!(rt; shown.as_str(), name);
+    }
+    Ok(())
+}
