@@ -8,9 +8,10 @@ use rohc_concentrator::Concentrator;
 use std::alloc::Global;
 use std::io;
 use std::io::{Error, ErrorKind, Read, Write};
+use std::process::Abort;
 use std::test::Fail;
 
-/// Link 1 of the worked examples.
+/// Links 1 to 3 of the worked examples.
 const LINKS: &str = "version = 1
 [[link]]
 number = 1
@@ -26,6 +27,34 @@ static_nack_ms = 1000
 deliver_port = 6001
 feedback_port = 6002
 relay_port = 6003
+[[link]]
+number = 2
+cid = \"large\"
+max_cid = 16383
+mode = \"O\"
+k1 = 2
+n1 = 3
+k2 = 2
+n2 = 3
+packet_ms = 20
+static_nack_ms = 1000
+deliver_port = 6004
+feedback_port = 6005
+relay_port = 6006
+[[link]]
+number = 3
+cid = \"small\"
+max_cid = 3
+mode = \"U\"
+k1 = 2
+n1 = 3
+k2 = 2
+n2 = 3
+packet_ms = 20
+static_nack_ms = 1000
+deliver_port = 6007
+feedback_port = 6008
+relay_port = 6009
 ";
 
 /// A script with good and bad lines and an unfinished last line.
@@ -40,7 +69,7 @@ const ANSWERS: [&str; 5] = [
     "1 0 refused NoContext\n",
 ];
 
-/// The concentrator of link 1, with no record.
+/// The concentrator of these links, with no record.
 fn concentrator(alloc: Global) -> Result<Concentrator, Fail> {
     let links = read_links(alloc, LINKS)?;
     Ok(Concentrator::new(alloc, links.settings())?)
@@ -159,6 +188,21 @@ fn steady(text: &[u8], size: usize) -> Pieces<'_> {
     }
 }
 
+/// Runs each script, and compares its answers and its tally.
+fn agrees(rt: &impl Abort, alloc: Global, examples: &[(&str, &str, u64, u64)]) -> Result<(), Fail> {
+    for (script, answers, events, bad) in examples {
+        let mut writer = willing(alloc);
+        let told = replayed(alloc, &mut steady(script.as_bytes(), 4096), &mut writer)?;
+        let tally = Tally {
+            events: *events,
+            bad: *bad,
+        };
+        assert_eq!(rt; told, Ok(tally));
+        assert_eq!(rt; writer.text.as_slice(), answers.as_bytes());
+    }
+    Ok(())
+}
+
 #[test]
 fn worked_examples(rt: HostRuntime) -> Result<(), Fail> {
     let examples = [
@@ -194,20 +238,52 @@ fn worked_examples(rt: HostRuntime) -> Result<(), Fail> {
             0,
             2,
         ),
-        ("arrive 1 0 -", "1 - refused Empty\n", 1, 0),
         ("arrive 9 0 -", "9 - refused NoLink\n", 1, 0),
     ];
-    for (script, answers, events, bad) in examples {
-        let mut writer = willing(rt.alloc());
-        let told = replayed(
-            rt.alloc(),
-            &mut steady(script.as_bytes(), 4096),
-            &mut writer,
-        )?;
-        assert_eq!(rt; told, Ok(Tally { events, bad }), "of {script}");
-        assert_eq!(rt; writer.text.as_slice(), answers.as_bytes(), "of {script}");
-    }
-    Ok(())
+    agrees(&rt, rt.alloc(), &examples)
+}
+
+#[test]
+fn worked_examples_of_framing(rt: HostRuntime) -> Result<(), Fail> {
+    let examples = [
+        (
+            "arrive 1 0 e1fc003045aa\n",
+            "1 1 ip 45aa\n1 1 feedback f2e100\n",
+            1,
+            0,
+        ),
+        (
+            "arrive 2 0 fc812c00e6450102\narrive 2 0 45812c0102\n",
+            "2 300 ip 450102\n2 300 feedback f3812c00\n2 300 ip 450102\n",
+            2,
+            0,
+        ),
+        (
+            "arrive 1 0 e0e0f22007fc00b745aa\n",
+            "1 - relay 2007\n1 0 ip 45aa\n1 0 feedback f100\n",
+            1,
+            0,
+        ),
+        (
+            "arrive 1 0 f00901\narrive 1 0 f0\narrive 1 0 f000\narrive 1 0 e0\n",
+            "1 - refused FeedbackShort\n1 - refused FeedbackShort\n1 - relay -\n",
+            4,
+            0,
+        ),
+        (
+            "arrive 1 0 e1f100\narrive 1 0 ff00\narrive 1 0 f9\narrive 1 0 e1e0\narrive 1 0 e1\narrive 1 0 -\n",
+            "1 - refused AfterAddCid\n1 - refused Segment\n1 - refused ReservedType\n1 - refused ReservedType\n1 - refused NoHeader\n1 - refused Empty\n",
+            6,
+            0,
+        ),
+        (
+            "arrive 2 0 fcc0\narrive 2 0 e1fc\narrive 2 0 fc81\narrive 3 0 e410ac\narrive 1 0 e710ac\narrive 9 0 10ac\n",
+            "2 - refused LargeCid\n2 - refused AddCidOnLarge\n2 - refused NoHeader\n3 - refused CidRange\n1 7 refused NoContext\n9 - refused NoLink\n",
+            6,
+            0,
+        ),
+    ];
+    agrees(&rt, rt.alloc(), &examples)
 }
 
 #[test]

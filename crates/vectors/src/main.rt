@@ -1,0 +1,83 @@
+//! Runs tables of test data: questions on standard input, our answers on standard output.
+//!
+//! A line with a table's name begins it, and is repeated. Each line behind it is a question, and its
+//! answer is one line: `-` where a call's conditions aren't met, `?` where a question can't be read.
+#![tactic(auto)]
+
+mod checks;
+mod fields;
+mod framing;
+mod text;
+mod values;
+
+use std::alloc::Global;
+use std::io::{self, BufRead, BufReader, BufWriter, Write};
+use text::NoAnswer;
+
+/// The tables.
+#[derive(Clone, Copy)]
+enum Table {
+    Checks,
+    Values,
+    Framing,
+    Fields,
+}
+
+impl Table {
+    /// The table that a line begins, or `None` where it is a question.
+    fn begun_by(line: &str) -> Option<Table> {
+        match line {
+            "# checks" => Some(Table::Checks),
+            "# values" => Some(Table::Values),
+            "# framing" => Some(Table::Framing),
+            "# fields" => Some(Table::Fields),
+            _ => None,
+        }
+    }
+
+    /// Our answer to a question of this table.
+    fn answer(self, alloc: Global, question: &str) -> Result<String, NoAnswer> {
+        let columns: Vec<&str> = question.split('\t').collect(alloc)?;
+        match self {
+            Table::Checks => checks::answer(alloc, &columns),
+            Table::Values => values::answer(alloc, &columns),
+            Table::Framing => framing::answer(alloc, &columns),
+            Table::Fields => fields::answer(alloc, &columns),
+        }
+    }
+}
+
+/// Writes the answer to a question of the table on a line, or the mark of a question without one.
+fn write_answer<W: Write>(
+    alloc: Global,
+    writer: &mut W,
+    table: Option<Table>,
+    question: &str,
+) -> io::Result<()> {
+    let answer = match table {
+        Some(table) => table.answer(alloc, question),
+        None => Err(NoAnswer::Unreadable),
+    };
+    match answer {
+        Ok(answer) => writeln!(writer, "{answer}"),
+        Err(NoAnswer::Unreadable) => writeln!(writer, "?"),
+        Err(NoAnswer::OutsideConditions) => writeln!(writer, "-"),
+        Err(NoAnswer::NoMemory(error)) => Err(error.into()),
+    }
+}
+
+fn main(rt: HostRuntime) -> io::Result<()> {
+    let alloc = rt.alloc();
+    let mut writer = BufWriter::new(alloc, io::writer(&rt))?;
+    let mut table = None;
+    for line in BufReader::new(alloc, rt.reader())?.lines(alloc) {
+        let line = line?;
+        if let Some(begun) = Table::begun_by(&line) {
+            table = Some(begun);
+            writeln!(writer, "{line}")?;
+        } else {
+            write_answer(alloc, &mut writer, table, &line)?;
+        }
+    }
+    writer.flush()
+}

@@ -1,0 +1,53 @@
+#!/usr/bin/env python3
+"""Cuts tables of test data to what the program `vectors` reads and must write.
+
+    tools/cut_vectors.py DIR
+
+DIR holds checks.tsv, values.tsv, framing.tsv and fields.tsv, whose first lines name their columns; a
+line that begins with # is a comment. The questions go to crates/vectors/stdin, the wanted answers to
+crates/vectors/stdout. Of a long table the first 400 lines are kept, and each fifth of the others.
+"""
+
+import pathlib
+import sys
+
+# The tables, and how many of the last columns are the answer.
+TABLES = {"checks": 1, "values": 2, "framing": 1, "fields": 1}
+KEPT_WHOLE = 400
+KEPT_OF_THE_OTHERS = 5
+
+
+def cut(lines):
+    """The first lines, and each fifth of the others."""
+    return lines[:KEPT_WHOLE] + lines[KEPT_WHOLE::KEPT_OF_THE_OTHERS]
+
+
+def question_and_answer(line, answer_columns):
+    """A line's columns before the answer, and the answer's."""
+    columns = line.split("\t")
+    if columns[0].startswith("write "):
+        # What is written has no number of octets taken behind it.
+        return columns[0], columns[1]
+    return "\t".join(columns[:-answer_columns]), "\t".join(columns[-answer_columns:])
+
+
+def main():
+    if len(sys.argv) != 2:
+        sys.exit(__doc__)
+    tables = pathlib.Path(sys.argv[1])
+    crate = pathlib.Path(__file__).resolve().parent.parent / "crates" / "vectors"
+    questions, answers = [], []
+    for name, answer_columns in TABLES.items():
+        questions.append(f"# {name}")
+        answers.append(f"# {name}")
+        _columns, *lines = (tables / f"{name}.tsv").read_text().splitlines()
+        for line in cut([line for line in lines if not line.startswith("#")]):
+            question, answer = question_and_answer(line, answer_columns)
+            questions.append(question)
+            answers.append(answer)
+    (crate / "stdin").write_text("\n".join(questions) + "\n")
+    (crate / "stdout").write_text("\n".join(answers) + "\n")
+
+
+if __name__ == "__main__":
+    main()
