@@ -52,3 +52,27 @@ impl fmt::Display for End {
         }
     }
 }
+
+#[cfg(test)]
+mod tests {
+    use super::End;
+    use std::test::Fail;
+
+    #[test]
+    fn each_end_has_its_status_and_its_text(rt: HostRuntime) -> Result<(), Fail> {
+        let ends = [
+            (End::Done, 0, ""),
+            (End::CommandLine, 2, "rohcd: command line"),
+            (End::LinksFile("NoLinks"), 3, "rohcd: links file: NoLinks"),
+            (End::Read, 4, "rohcd: read"),
+            (End::Write, 4, "rohcd: write"),
+            (End::Memory, 5, "rohcd: memory"),
+        ];
+        for (end, status, text) in ends {
+            let shown = format!(in rt.alloc(); "{end}")?;
+            assert_eq!(rt; end.status(), status);
+            assert_eq!(rt; shown.as_str(), text);
+        }
+        Ok(())
+    }
+}
