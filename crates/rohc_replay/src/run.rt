@@ -4,6 +4,7 @@ ghost use Rattle.std.specs.Prelude.{◌≡◌, ◌≢◌, ◌+◌, ◌<◌, ◌�
 ghost use Rattle.std.specs.List.{slice_range};
 ghost use Rattle.std.specs.Io.KnownBytes.{Consumes, IsAtEnd, Keeps};
 ghost use Rattle.rohc_replay.specs.Script.{longest_line};
+ghost use Rattle.rohc_replay.specs.Isolation.{Isolates};
 ghost use Rattle.rohc_replay.specs.Run.{Replays, Fails};
 
 use crate::counts::Counts;
@@ -35,6 +36,8 @@ pub fn replay<R: Read, W: Write>(
 ) -> Result<Tally, RunFault>
     ensures whole { IfOk result (λ tally. IfSome (R.remaining reader.old) (λ input.
         Replays concentrator.old input (W.contents writer.old) (W.contents writer.new) tally concentrator.new)) }
+    ensures isolated { IfOk result (λ tally. IfSome (R.remaining reader.old) (λ input.
+        Isolates concentrator.old input (W.contents writer.old) (W.contents writer.new) concentrator.new)) }
     ensures fault { IfErr result (λ e. Fails R.remaining W.contents concentrator.old reader.old writer.old e concentrator.new reader.new writer.new) }
 {
     let (Ok(mut line), Ok(mut packet)) = (
