@@ -1,3 +1,4 @@
 pub mod GoodLemmas
 pub mod OrderLemmas
 pub mod SetupLemmas
+pub mod WorldLemmas

@@ -4,3 +4,4 @@ pub mod Report
 pub mod Setup
 pub mod Events
 pub mod LoneRun
+pub mod Laws

@@ -9,6 +9,7 @@ use Rattle.rohc_context.specs.Record.{Record}
 use Rattle.rohc_context.specs.Response.{Response}
 use Rattle.rohc_context.specs.Step.{LoneStep}
 use Rattle.rohc_concentrator.specs.declared.setting.LinkSetting.{LinkSetting}
+use Rattle.rohc_concentrator.specs.Report.{IsPoor}
 
 -- what happens to one context: a header arrives at a moment, or all is forgotten
 pub data LoneEvent : Type 0 where
@@ -22,6 +23,26 @@ LoneRun s before [] (reply ∷ replies) after = ⊥
 LoneRun s before (Forget ∷ events) replies after = LoneRun s None events replies after
 LoneRun s before (Arrival moment h ∷ events) [] after = ⊥
 LoneRun s before (Arrival moment h ∷ events) (reply ∷ replies) after = (mid : Option Record) × LoneStep before s moment h reply mid × LoneRun s mid events replies after
+
+-- An arrival with its mark: without one it is the lone step, and with one it is an IR that the lone step accepts for an
+-- identifier without a record, which is refused for want of memory and changes nothing.
+abbrev pub MarkedStep : Settings → ℕ → Header → Bool → Option Record → Response → Option Record → Type 0
+MarkedStep s moment h false before reply after = LoneStep before s moment h reply after
+MarkedStep s moment h true before reply after = IsPoor s moment h before reply after
+
+-- The same machine where memory may be wanting: each event has a mark, true where it was refused for that.
+abbrev pub MarkedRun : Settings → Option Record → List (LoneEvent × Bool) → List Response → Option Record → Type 0
+MarkedRun s before [] [] after = after ≡ before
+MarkedRun s before [] (reply ∷ replies) after = ⊥
+MarkedRun s before ((Forget, true) ∷ events) replies after = ⊥
+MarkedRun s before ((Forget, false) ∷ events) replies after = MarkedRun s None events replies after
+MarkedRun s before ((Arrival moment h, mark) ∷ events) [] after = ⊥
+MarkedRun s before ((Arrival moment h, mark) ∷ events) (reply ∷ replies) after = (mid : Option Record) × MarkedStep s moment h mark before reply mid × MarkedRun s mid events replies after
+
+-- the events without a mark
+abbrev pub unmarked : List (LoneEvent × Bool) → List LoneEvent
+unmarked [] = []
+unmarked ((event, mark) ∷ events) = if mark then unmarked events else event ∷ unmarked events
 
 -- an arrival at the context that its header names, and none else
 abbrev pub arrival_of : ℕ → ℕ → Option Header → List LoneEvent

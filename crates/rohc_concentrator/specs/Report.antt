@@ -1,10 +1,12 @@
-use Rattle.std.specs.Prelude.{◌≡◌, ◌≢◌, ℕ, List, Option, Some, None, Result, Ok, Err, ◌⊎◌}
+use Rattle.std.specs.Prelude.{◌≡◌, ◌≢◌, ℕ, List, Bool, true, false, Option, Some, None, Result, Ok, Err, ◌⊎◌}
 use Rattle.rohc_frame.specs.Header.{Header}
 use Rattle.rohc_frame.specs.Reading.{Reading, elements_of}
 use Rattle.rohc_frame.specs.Parts.{parts_of}
 use Rattle.rohc_frame.specs.declared.refusal.FrameRefusal.{FrameRefusal}
 use Rattle.rohc_context.specs.declared.refusal.Refusal.{Refusal}
 use Rattle.rohc_context.specs.declared.refusal.Refusal.TheVariants as refusals
+use Rattle.rohc_context.specs.declared.reply.Outcome.{Outcome}
+use Rattle.rohc_context.specs.declared.reply.Outcome.TheVariants as outcomes
 use Rattle.rohc_context.specs.declared.settings.Settings.{Settings}
 use Rattle.rohc_context.specs.Framing.{refusal_of_framing}
 use Rattle.rohc_context.specs.Record.{Record}
@@ -70,3 +72,24 @@ borne_in (Err refusal) = None
 abbrev pub borne : Option LinkSetting → List ℕ → Option ℕ
 borne None octets = None
 borne (Some s) octets = borne_in (parts_of s.settings.size s.settings.max_cid octets)
+
+abbrev pub is_no_memory : Outcome → Bool
+is_no_memory (outcomes.Refused refusals.NoMemory) = true
+is_no_memory outcome = false
+
+-- an arrival is answered `NoMemory`
+abbrev pub wants_memory : Report → Bool
+wants_memory (Arrived cid response relayed) = is_no_memory response.outcome
+wants_memory (OnlyFront relayed) = false
+wants_memory (Refused refusal) = false
+
+abbrev pub is_refusal : Outcome → Bool
+is_refusal (outcomes.Refused refusal) = true
+is_refusal outcomes.Delivered = false
+is_refusal outcomes.Stored = false
+
+-- an arrival is answered a refusal
+abbrev pub is_refused : Report → Bool
+is_refused (Arrived cid response relayed) = is_refusal response.outcome
+is_refused (OnlyFront relayed) = false
+is_refused (Refused refusal) = true

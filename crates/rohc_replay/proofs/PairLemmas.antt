@@ -3,7 +3,7 @@ use Rattle.std.proofs.Common.{◌≡◌, ℕ, ◌+◌, ◌%◌, ◌<◌, ◌≤�
 use Rattle.std.specs.Fmt.{decimal}
 use Rattle.rohc_replay.specs.Numeral.{IsNumberAt}
 use Rattle.rohc_replay.specs.AnswerLines.{pair_text}
-use Rattle.rohc_replay.specs.Isolation.{begins_with, is_own_line}
+use Rattle.rohc_replay.specs.Isolation.{begins_with, is_pair_line, is_own_line}
 use Rattle.rohc_replay.specs.Lines.{has_newline}
 use Rattle.rohc_replay.proofs.NumeralLemmas.{number_unique}
 use Rattle.rohc_replay.proofs.SplitLemmas.{has_newline-append, both_false}
@@ -71,20 +71,20 @@ no_dash n x y fits e =
     omega (arith, first.3)
 
 -- a line that doesn't begin with the pair isn't its own
-not_begun : (l c : ℕ) (line : List ℕ) → (begins_with (pair_text l c) line ≡ true → ⊥) → is_own_line l c line ≡ false
-not_begun l c line never = elim (begins_with (pair_text l c) line) as (λ b. (b ≡ true → ⊥) → (b && not (begins_with (pair_text l c ++ codes "refused NoMemory") line)) ≡ false) [
+not_begun : (l c : ℕ) (line : List ℕ) → (begins_with (pair_text l c) line ≡ true → ⊥) → is_pair_line l c line ≡ false
+not_begun l c line never = elim (begins_with (pair_text l c) line) as (λ b. (b ≡ true → ⊥) → b ≡ false) [
   | true ↦ λ f. absurd (f refl)
   | false ↦ λ f. refl
 ] never
 
 -- a line of another pair isn't this pair's
-pub other_pair : (l c k d : ℕ) (rest : List ℕ) → l < 2 ^ 16 → c < 2 ^ 16 → k < 2 ^ 16 → d < 2 ^ 16 → ((l ≡ k) × (c ≡ d) → ⊥) → is_own_line l c (pair_text k d ++ rest) ≡ false
+pub other_pair : (l c k d : ℕ) (rest : List ℕ) → l < 2 ^ 16 → c < 2 ^ 16 → k < 2 ^ 16 → d < 2 ^ 16 → ((l ≡ k) × (c ≡ d) → ⊥) → is_pair_line l c (pair_text k d ++ rest) ≡ false
 other_pair l c k d rest lf cf kf df apart = not_begun l c (pair_text k d ++ rest) (λ e.
     let parts = begins_parts (pair_text l c) (pair_text k d ++ rest) e in
     apart (pair_unique l c k d parts.0 rest lf cf kf df (sym parts.1)))
 
 -- nor is a line with a dash where the identifier would stand
-pub no_pair : (l c k : ℕ) (rest : List ℕ) → l < 2 ^ 16 → c < 2 ^ 16 → k < 2 ^ 16 → is_own_line l c (decimal k ++ 32 ∷ 45 ∷ rest) ≡ false
+pub no_pair : (l c k : ℕ) (rest : List ℕ) → l < 2 ^ 16 → c < 2 ^ 16 → k < 2 ^ 16 → is_pair_line l c (decimal k ++ 32 ∷ 45 ∷ rest) ≡ false
 no_pair l c k rest lf cf kf = not_begun l c (decimal k ++ 32 ∷ 45 ∷ rest) (λ e.
     let parts = begins_parts (pair_text l c) (decimal k ++ 32 ∷ 45 ∷ rest) e in
     let whole : decimal l ++ 32 ∷ (decimal c ++ 32 ∷ parts.0) ≡ decimal k ++ 32 ∷ 45 ∷ rest = sym (pair_spelled l c parts.0) ∙ sym parts.1 in
@@ -93,7 +93,7 @@ no_pair l c k rest lf cf kf = not_begun l c (decimal k ++ 32 ∷ 45 ∷ rest) (�
     no_dash c (32 ∷ parts.0) rest cf behind)
 
 -- nor a line that begins with a dash
-pub no_link : (l c : ℕ) (rest : List ℕ) → l < 2 ^ 16 → is_own_line l c (45 ∷ rest) ≡ false
+pub no_link : (l c : ℕ) (rest : List ℕ) → l < 2 ^ 16 → is_pair_line l c (45 ∷ rest) ≡ false
 no_link l c rest lf = not_begun l c (45 ∷ rest) (λ e.
     let parts = begins_parts (pair_text l c) (45 ∷ rest) e in
     no_dash l (32 ∷ (decimal c ++ 32 ∷ parts.0)) rest lf (sym (pair_spelled l c parts.0) ∙ sym parts.1))
@@ -106,7 +106,7 @@ pub poor_pair : (l c : ℕ) (rest : List ℕ) → begins_with (codes "refused No
 poor_pair l c rest poor = rw (begins_whole (pair_text l c) rest, begins_behind (pair_text l c) (codes "refused NoMemory") rest, poor) refl
 
 -- a line of another link isn't this pair's
-pub other_link : (l c k d : ℕ) (rest : List ℕ) → l < 2 ^ 16 → k < 2 ^ 16 → (l ≡ k → ⊥) → is_own_line l c (pair_text k d ++ rest) ≡ false
+pub other_link : (l c k d : ℕ) (rest : List ℕ) → l < 2 ^ 16 → k < 2 ^ 16 → (l ≡ k → ⊥) → is_pair_line l c (pair_text k d ++ rest) ≡ false
 other_link l c k d rest lf kf apart = not_begun l c (pair_text k d ++ rest) (λ e.
     let parts = begins_parts (pair_text l c) (pair_text k d ++ rest) e in
     let whole : decimal l ++ 32 ∷ (decimal c ++ 32 ∷ parts.0) ≡ decimal k ++ 32 ∷ (decimal d ++ 32 ∷ rest) = sym (pair_spelled l c parts.0) ∙ sym parts.1 ∙ pair_spelled k d rest in

@@ -1,28 +1,147 @@
 -- A replay isolates each identifier of each link from all others.
-use Rattle.std.proofs.Common.{◌≡◌, ℕ, List, filter, Option, Some, None, Result, Ok, Err, IfOk, IfSome, ◌∙◌, ap}
-use Rattle.std.specs.List.{flat_map}
+use Rattle.std.proofs.Common.{◌≡◌, ℕ, ◌<◌, ◌^◌, List, [], ◌∷◌, ◌++◌, append_assoc, append-nil, map, if◌then◌else◌, filter, Bool, true, false, Option, Some, None, Result, Ok, Err, IfOk, IfSome, refl, sym, ◌∙◌, ap, subst}
+use Rattle.std.specs.List.{flat_map, AllByRecursion}
+use Rattle.rohc_context.specs.declared.settings.Settings.{Settings}
+use Rattle.rohc_context.specs.Record.{Record}
+use Rattle.rohc_context.specs.Response.{Response}
+use Rattle.rohc_context.proofs.StepLemmas.{step_rich}
 use Rattle.rohc_concentrator.specs.declared.concentrator.Concentrator.{Concentrator}
+use Rattle.rohc_concentrator.specs.declared.setting.LinkSetting.{LinkSetting}
+use Rattle.rohc_concentrator.specs.Setting.{settings_in}
+use Rattle.rohc_concentrator.specs.Tables.{setting_at, record_at}
+use Rattle.rohc_concentrator.specs.LoneRun.{LoneEvent, Arrival, Forget, LoneRun, MarkedRun, unmarked}
 use Rattle.rohc_replay.specs.declared.tally.Tally.{Tally}
 use Rattle.rohc_replay.specs.declared.fault.RunFault.{RunFault}
-use Rattle.rohc_replay.specs.AnswerLines.{text_of}
-use Rattle.rohc_replay.specs.Isolation.{is_own_line, Isolates}
-use Rattle.rohc_replay.specs.Run.{Replays}
-use Rattle.rohc_replay.specs.Script.{lines_of}
-use Rattle.rohc_replay.proofs.ToldLemmas.{marks_of, AreFit, lines_fit, run_told}
+use Rattle.rohc_replay.specs.AnswerLines.{response_lines, text_of}
+use Rattle.rohc_replay.specs.Isolation.{is_pair_line, is_own_line, pair_lines, own_lines, own, own_line, own_marked, left, left_of, IsAnswered, IsTold, IsToldAlike, Isolates}
+use Rattle.rohc_replay.specs.Lines.{has_newline}
+use Rattle.rohc_replay.specs.Run.{Replays, Runs}
+use Rattle.rohc_replay.specs.Script.{Line, IsLine, AreLines, IsScript, lines_of}
+use Rattle.rohc_replay.proofs.IsolationLemmas.{Tells, with_mark}
+use Rattle.rohc_replay.proofs.OwnLines.{filter-append, filter-within, reply_kept, poor_left_out}
+use Rattle.rohc_replay.proofs.SplitLemmas.{lines_of-splits, lines_of-each}
+use Rattle.rohc_replay.proofs.ToldLemmas.{marked_of, marked_lines, AreFit, lines_fit, run_told}
 use Rattle.rohc_replay.proofs.WholeLemmas.{written_lines, absent_run}
+
+-- Without the marked events and their replies a marked run is a lone run.
+abbrev pub RunsAlone : Settings → ℕ → ℕ → Option Record → List LoneEvent → List Response → Option Record → Type 0
+RunsAlone s l c before events replies after =
+    (kept : List Response) × LoneRun s before events kept after × (filter (is_own_line l c) (flat_map (response_lines l c) replies) ≡ flat_map (response_lines l c) kept)
+
+pub runs_alone : (s : Settings) (l c : ℕ) (before after : Option Record) (marked : List (LoneEvent × Bool)) (replies : List Response) → MarkedRun s before marked replies after → RunsAlone s l c before (unmarked marked) replies after
+runs_alone s l c before after [] [] run = ([], run, refl)
+runs_alone s l c before after [] (reply ∷ replies) run = absurd run
+runs_alone s l c before after ((Forget, true) ∷ marked) replies run = absurd run
+runs_alone s l c before after ((Forget, false) ∷ marked) replies run = runs_alone s l c None after marked replies run
+runs_alone s l c before after ((Arrival m h, mark) ∷ marked) [] run = absurd run
+runs_alone s l c before after ((Arrival m h, false) ∷ marked) (reply ∷ replies) run =
+    let more = runs_alone s l c run.0 after marked replies run.2 in (
+      reply ∷ more.0,
+      (run.0, run.1, more.1),
+      filter-append (is_own_line l c) (response_lines l c reply) (flat_map (response_lines l c) replies)
+          ∙ rw (reply_kept l c reply (step_rich before s m h reply run.0 run.1), more.2) refl,
+    )
+runs_alone s l c before after ((Arrival m h, true) ∷ marked) (reply ∷ replies) run =
+    let more = runs_alone s l c run.0 after marked replies run.2 in
+    let same : run.0 ≡ before = run.1.1 ∙ sym run.1.0 in (
+      more.0,
+      subst (λ r. LoneRun s r (unmarked marked) more.0 after) same more.1,
+      filter-append (is_own_line l c) (response_lines l c reply) (flat_map (response_lines l c) replies)
+          ∙ rw (run.1.2, poor_left_out l c, more.2) refl,
+    )
+
+module _ (old new : Concentrator) (l c : ℕ) (s : LinkSetting) (written : List ℕ) where
+  -- what is told of want of memory too is told without it
+  pub told_alone : (marked : List (Line × Bool)) → IsAnswered old new marked written l c s → IsTold old new (own s l c marked) written l c s
+  told_alone marked a =
+      let alone = runs_alone (settings_in s c) l c (record_at old l c) (record_at new l c) (own_marked s l c marked) a.replies a.run in
+      record { replies = alone.0; run = alone.1; told = filter-within (is_pair_line l c) _ (lines_of written) ∙ ap (filter (is_own_line l c)) a.told ∙ alone.2 }
+
+-- The lines that are left of a script: what they are, and that nothing of the pair's own is missing.
+module _ (s : LinkSetting) (l c : ℕ) where
+  abbrev pub left_lines : List (Line × Bool) → List Line
+  left_lines [] = []
+  left_lines ((line, mark) ∷ marked) = left_of (own_line s l c line) mark line ++ left_lines marked
+
+  each_left : (octets : List ℕ) (events : List LoneEvent) (mark : Bool) (more : List (List ℕ)) → has_newline octets ≡ false → AllByRecursion (λ (line : List ℕ). has_newline line ≡ false) more →
+      AllByRecursion (λ (line : List ℕ). has_newline line ≡ false) (left_of events mark octets ++ more)
+  each_left octets [] mark more one each = each
+  each_left octets (event ∷ events) true more one each = each
+  each_left octets (event ∷ events) false more one each = (one, each)
+
+  left_each : (texts : List (List ℕ)) (marked : List (Line × Bool)) → AllByRecursion (λ (line : List ℕ). has_newline line ≡ false) texts → AllByRecursion (λ (line : List ℕ). has_newline line ≡ false) (left s l c texts marked)
+  left_each [] marked each = tt
+  left_each (octets ∷ texts) [] each = tt
+  left_each (octets ∷ texts) ((line, mark) ∷ marked) each = each_left octets (own_line s l c line) mark (left s l c texts marked) each.0 (left_each texts marked each.1)
+
+  line_left : (octets : List ℕ) (line : Line) (events : List LoneEvent) (mark : Bool) (texts : List (List ℕ)) (lines : List Line) → IsLine octets line → AreLines texts lines → AreLines (left_of events mark octets ++ texts) (left_of events mark line ++ lines)
+  line_left octets line [] mark texts lines is are = are
+  line_left octets line (event ∷ events) true texts lines is are = are
+  line_left octets line (event ∷ events) false texts lines is are = (is, are)
+
+  lines_left : (texts : List (List ℕ)) (marked : List (Line × Bool)) → AreLines texts (map (λ (m : Line × Bool). m.0) marked) → AreLines (left s l c texts marked) (left_lines marked)
+  lines_left [] [] are = tt
+  lines_left [] (m ∷ marked) are = absurd are
+  lines_left (octets ∷ texts) [] are = absurd are
+  lines_left (octets ∷ texts) ((line, mark) ∷ marked) are = line_left octets line (own_line s l c line) mark (left s l c texts marked) (left_lines marked) are.0 (lines_left texts marked are.1)
+
+  -- cutting the text of the lines that are left into lines gives them back
+  pub script_left : (text : List ℕ) (marked : List (Line × Bool)) → IsScript text (map (λ (m : Line × Bool). m.0) marked) → IsScript (text_of (left s l c (lines_of text) marked)) (left_lines marked)
+  script_left text marked script =
+      let texts = left s l c (lines_of text) marked in
+      let cut : lines_of (text_of texts) ≡ texts = lines_of-splits (text_of texts) texts [] (record {
+            whole = sym (append-nil (text_of texts));
+            each = left_each (lines_of text) marked (lines_of-each text);
+            unfinished = refl;
+          }) ∙ append-nil texts in
+      subst (λ ts. AreLines ts (left_lines marked)) (sym cut) (lines_left (lines_of text) marked script)
+
+  unmarked_with : (mark : Bool) (events : List LoneEvent) (more : List (LoneEvent × Bool)) → unmarked (with_mark mark events ++ more) ≡ (if mark then [] else events) ++ unmarked more
+  unmarked_with true [] more = refl
+  unmarked_with false [] more = refl
+  unmarked_with true (event ∷ events) more = unmarked_with true events more
+  unmarked_with false (event ∷ events) more = ap (λ es. event ∷ es) (unmarked_with false events more)
+
+  line_own : (line : Line) (events : List LoneEvent) (mark : Bool) (more : List Line) → own_line s l c line ≡ events → (if mark then [] else events) ++ flat_map (own_line s l c) more ≡ flat_map (own_line s l c) (left_of events mark line ++ more)
+  line_own line [] true more same = refl
+  line_own line [] false more same = refl
+  line_own line (event ∷ events) true more same = refl
+  line_own line (event ∷ events) false more same = ap (λ es. es ++ flat_map (own_line s l c) more) (sym same)
+
+  -- the pair's own events without the marked ones are those of the lines that are left
+  pub own_left : (marked : List (Line × Bool)) → own s l c marked ≡ flat_map (own_line s l c) (left_lines marked)
+  own_left [] = refl
+  own_left ((line, mark) ∷ marked) =
+      unmarked_with mark (own_line s l c line) (own_marked s l c marked)
+      ∙ ap (λ es. (if mark then [] else own_line s l c line) ++ es) (own_left marked)
+      ∙ line_own line (own_line s l c line) mark (left_lines marked) refl
+
+module _ (old new : Concentrator) (l c : ℕ) (s : LinkSetting) (text written : List ℕ) where
+  pub told_alike : (marked : List (Line × Bool)) → IsScript text (map (λ (m : Line × Bool). m.0) marked) → IsTold old new (own s l c marked) written l c s → IsToldAlike old new text marked written l c s
+  told_alike marked script told = record {
+    lines = left_lines s l c marked;
+    script = script_left s l c text marked script;
+    alike = subst (λ es. IsTold old new es written l c s) (own_left s l c marked) told;
+  }
 
 pub replay_isolates : (old : Concentrator) (text : List ℕ) (held holding : Option (List ℕ)) (t : Tally) (new : Concentrator) → Replays old text held holding t new → Isolates old text held holding new
 replay_isolates old text held holding t new r =
     let fit : AreFit r.lines = lines_fit (lines_of text) r.lines r.script in
-    let lines : lines_of (flat_map text_of r.answers) ≡ flat_map (λ a. a) r.answers = written_lines old r.lines r.answers new r.run fit in (
-      flat_map text_of r.answers,
+    let written = flat_map text_of r.answers in
+    let lines : lines_of written ≡ flat_map (λ a. a) r.answers = written_lines old r.lines r.answers new r.run fit in
+    let marked = marked_of old r.lines r.answers new r.run in
+    let script : IsScript text (map (λ (m : Line × Bool). m.0) marked) = subst (IsScript text) (sym (marked_lines old r.lines r.answers new r.run)) r.script in
+    let answered : (l c : ℕ) (s : LinkSetting) → l < 2 ^ 16 → c < 2 ^ 16 → setting_at old l ≡ Some s → IsAnswered old new marked written l c s =
+          λ l c s lf cf set. let told = run_told s l c lf cf old r.lines r.answers new r.run fit set in record { replies = told.0; run = told.1; told = ap (filter (is_pair_line l c)) lines ∙ told.2 } in (
+      written,
       r.written,
       record {
-        lines = r.lines;
-        script = r.script;
-        marks = marks_of old r.lines r.answers new r.run;
-        each = λ l c s lf cf set. let told = run_told s l c lf cf old r.lines r.answers new r.run fit set in record { replies = told.0; run = told.1; told = ap (filter (is_own_line l c)) lines ∙ told.2 };
-        absent = λ l c lf cf none. ap (filter (is_own_line l c)) lines ∙ absent_run l c lf cf old r.lines r.answers new r.run fit none;
+        marked = marked;
+        script = script;
+        answered = answered;
+        alone = λ l c s lf cf set. told_alone old new l c s written marked (answered l c s lf cf set);
+        taken_out = λ l c s lf cf set. told_alike old new l c s text written marked script (told_alone old new l c s written marked (answered l c s lf cf set));
+        absent = λ l c lf cf none. ap (filter (is_pair_line l c)) lines ∙ absent_run l c lf cf old r.lines r.answers new r.run fit none;
       },
     )
 

@@ -51,6 +51,18 @@ lines_of-finished (line ∷ lines) rest each none =
 pub lines_of-splits : (text : List ℕ) (finished : List (List ℕ)) (rest : List ℕ) → Splits text finished rest → lines_of text ≡ finished ++ last_line rest
 lines_of-splits text finished rest s = ap lines_of s.whole ∙ lines_of-finished finished rest s.each s.unfinished
 
+onto_each : (octet : ℕ) (lines : List (List ℕ)) → (octet == 10) ≡ false → AllByRecursion (λ (line : List ℕ). has_newline line ≡ false) lines → AllByRecursion (λ (line : List ℕ). has_newline line ≡ false) (onto_first octet lines)
+onto_each octet [] other each = (both_false _ _ other refl, tt)
+onto_each octet (line ∷ lines) other each = (both_false _ _ other each.0, each.1)
+
+-- no line of a text has a newline within
+pub lines_of-each : (text : List ℕ) → AllByRecursion (λ (line : List ℕ). has_newline line ≡ false) (lines_of text)
+lines_of-each [] = tt
+lines_of-each (octet ∷ octets) = elim (octet == 10) as (λ b. (octet == 10) ≡ b → AllByRecursion (λ (line : List ℕ). has_newline line ≡ false) (if b then [] ∷ lines_of octets else onto_first octet (lines_of octets))) [
+  | true ↦ λ e. (refl, lines_of-each octets)
+  | false ↦ λ e. onto_each octet (lines_of octets) e (lines_of-each octets)
+] refl
+
 -- octets without a newline go to the rest
 pub Splits-more : (text : List ℕ) (finished : List (List ℕ)) (rest more : List ℕ) → Splits text finished rest → has_newline more ≡ false → Splits (text ++ more) finished (rest ++ more)
 Splits-more text finished rest more s none = record {

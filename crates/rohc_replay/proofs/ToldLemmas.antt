@@ -1,5 +1,5 @@
 -- What a run tells a pair.
-use Rattle.std.proofs.Common.{◌≡◌, ℕ, ◌<◌, ◌^◌, List, [], ◌∷◌, ◌++◌, Bool, false, Option, Some, if◌then◌else◌, refl, sym, ◌∙◌, ap, subst}
+use Rattle.std.proofs.Common.{◌≡◌, ℕ, ◌<◌, ◌^◌, List, [], ◌∷◌, ◌++◌, map, Bool, false, Option, Some, refl, sym, ◌∙◌, ap, subst}
 use Rattle.std.specs.List.{flat_map}
 use Rattle.std.proofs.lemmas.Grind.{flat_map-append}
 use Rattle.rohc_context.specs.declared.settings.Settings.{Settings}
@@ -10,11 +10,11 @@ use Rattle.rohc_concentrator.specs.Setting.{settings_in}
 use Rattle.rohc_concentrator.specs.Tables.{setting_at, record_at}
 use Rattle.rohc_concentrator.specs.LoneRun.{LoneEvent}
 use Rattle.rohc_replay.specs.AnswerLines.{response_lines}
-use Rattle.rohc_replay.specs.Isolation.{is_own_line, events_of, own, own_event}
+use Rattle.rohc_replay.specs.Isolation.{is_pair_line, own_marked, own_event}
 use Rattle.rohc_replay.specs.Run.{Turns, Runs}
 use Rattle.rohc_replay.specs.Script.{Event, Arrive, Reset, IsEvent, Line, Good, Bad, Long, AreLines}
 use Rattle.rohc_replay.proofs.OwnLines.{filter-append}
-use Rattle.rohc_replay.proofs.IsolationLemmas.{mark_of, LoneRun-append, Tells, tells_nothing}
+use Rattle.rohc_replay.proofs.IsolationLemmas.{mark_of, with_mark, MarkedRun-append, Tells, tells_nothing}
 use Rattle.rohc_replay.proofs.EventLemmas.{arrive_told, reset_told, bad_left_out, long_left_out}
 
 -- whether an event was answered for want of memory
@@ -22,20 +22,28 @@ abbrev pub turn_mark : (old : Concentrator) (e : Event) (answers : List (List �
 turn_mark old (Arrive link moment octets) answers new turn = mark_of turn.0
 turn_mark old (Reset link) answers new turn = false
 
--- the same of each event of a run
-abbrev pub marks_of : (old : Concentrator) (lines : List Line) (answers : List (List (List ℕ))) (new : Concentrator) → Runs old lines answers new → List Bool
-marks_of old [] answers new run = []
-marks_of old (line ∷ lines) [] new run = []
-marks_of old (Good e ∷ lines) (a ∷ more) new run = turn_mark old e a run.0 run.1 ∷ marks_of run.0 lines more new run.2
-marks_of old (Bad ∷ lines) (a ∷ more) new run = marks_of run.0 lines more new run.2
-marks_of old (Long ∷ lines) (a ∷ more) new run = marks_of run.0 lines more new run.2
+-- the lines of a run, each with its mark
+abbrev pub marked_of : (old : Concentrator) (lines : List Line) (answers : List (List (List ℕ))) (new : Concentrator) → Runs old lines answers new → List (Line × Bool)
+marked_of old [] answers new run = []
+marked_of old (line ∷ lines) [] new run = []
+marked_of old (Good e ∷ lines) (a ∷ more) new run = (Good e, turn_mark old e a run.0 run.1) ∷ marked_of run.0 lines more new run.2
+marked_of old (Bad ∷ lines) (a ∷ more) new run = (Bad, false) ∷ marked_of run.0 lines more new run.2
+marked_of old (Long ∷ lines) (a ∷ more) new run = (Long, false) ∷ marked_of run.0 lines more new run.2
+
+pub marked_lines : (old : Concentrator) (lines : List Line) (answers : List (List (List ℕ))) (new : Concentrator) (run : Runs old lines answers new) → map (λ (m : Line × Bool). m.0) (marked_of old lines answers new run) ≡ lines
+marked_lines old [] [] new run = refl
+marked_lines old [] (a ∷ more) new run = absurd run
+marked_lines old (line ∷ lines) [] new run = absurd run
+marked_lines old (Good e ∷ lines) (a ∷ more) new run = ap (λ ls. Good e ∷ ls) (marked_lines run.0 lines more new run.2)
+marked_lines old (Bad ∷ lines) (a ∷ more) new run = ap (λ ls. Bad ∷ ls) (marked_lines run.0 lines more new run.2)
+marked_lines old (Long ∷ lines) (a ∷ more) new run = ap (λ ls. Long ∷ ls) (marked_lines run.0 lines more new run.2)
 
 -- one after the other
-tells_append : (s : Settings) (l c : ℕ) (a b d : Option Record) (xs ys : List LoneEvent) (ps qs : List (List ℕ)) → Tells s l c a xs ps b → Tells s l c b ys qs d → Tells s l c a (xs ++ ys) (ps ++ qs) d
+tells_append : (s : Settings) (l c : ℕ) (a b d : Option Record) (xs ys : List (LoneEvent × Bool)) (ps qs : List (List ℕ)) → Tells s l c a xs ps b → Tells s l c b ys qs d → Tells s l c a (xs ++ ys) (ps ++ qs) d
 tells_append s l c a b d xs ys ps qs first second = (
   first.0 ++ second.0,
-  LoneRun-append s a b d xs ys first.0 second.0 first.1 second.1,
-  filter-append (is_own_line l c) ps qs ∙ rw (first.2, second.2) (sym (flat_map-append (response_lines l c) first.0 second.0)),
+  MarkedRun-append s a b d xs ys first.0 second.0 first.1 second.1,
+  filter-append (is_pair_line l c) ps qs ∙ rw (first.2, second.2) (sym (flat_map-append (response_lines l c) first.0 second.0)),
 )
 
 -- the events of good lines fit their fields
@@ -61,27 +69,27 @@ event_set l old (Reset k) answers new turn = turn.0.settings.each l
 module _ (s : LinkSetting) (l c : ℕ) (lf : l < 2 ^ 16) (cf : c < 2 ^ 16) where
   -- one good line
   event_told : (old : Concentrator) (e : Event) (answers : List (List ℕ)) (new : Concentrator) (turn : Turns old (Good e) answers new) → IsEvent e → setting_at old l ≡ Some s →
-      Tells (settings_in s c) l c (record_at old l c) (if turn_mark old e answers new turn then [] else own_event s l c e) answers (record_at new l c)
+      Tells (settings_in s c) l c (record_at old l c) (with_mark (turn_mark old e answers new turn) (own_event s l c e)) answers (record_at new l c)
   event_told old (Arrive k m octets) answers new turn fits set =
-      subst (λ a. Tells (settings_in s c) l c (record_at old l c) (if mark_of turn.0 then [] else own_event s l c (Arrive k m octets)) a (record_at new l c)) (sym turn.2)
+      subst (λ a. Tells (settings_in s c) l c (record_at old l c) (with_mark (mark_of turn.0) (own_event s l c (Arrive k m octets))) a (record_at new l c)) (sym turn.2)
       (arrive_told old new s l c lf cf set k m octets turn.0 fits.0 fits.3 turn.1)
   event_told old (Reset k) answers new turn fits set =
-      subst (λ a. Tells (settings_in s c) l c (record_at old l c) (own_event s l c (Reset k)) a (record_at new l c)) (sym turn.1) (reset_told old new s l c lf cf set k fits turn.0)
+      subst (λ a. Tells (settings_in s c) l c (record_at old l c) (with_mark false (own_event s l c (Reset k))) a (record_at new l c)) (sym turn.1) (reset_told old new s l c lf cf set k fits turn.0)
 
   pub run_told : (old : Concentrator) (lines : List Line) (answers : List (List (List ℕ))) (new : Concentrator) (run : Runs old lines answers new) → AreFit lines → setting_at old l ≡ Some s →
-      Tells (settings_in s c) l c (record_at old l c) (own s l c (events_of lines) (marks_of old lines answers new run)) (flat_map (λ a. a) answers) (record_at new l c)
+      Tells (settings_in s c) l c (record_at old l c) (own_marked s l c (marked_of old lines answers new run)) (flat_map (λ a. a) answers) (record_at new l c)
   run_told old [] [] new run fit set = tells_nothing (settings_in s c) l c (record_at old l c) (record_at new l c) [] (ap (λ k. record_at k l c) run) refl
   run_told old [] (a ∷ more) new run fit set = absurd run
   run_told old (line ∷ lines) [] new run fit set = absurd run
   run_told old (Good e ∷ lines) (a ∷ more) new run fit set =
-      tells_append (settings_in s c) l c (record_at old l c) (record_at run.0 l c) (record_at new l c) (if turn_mark old e a run.0 run.1 then [] else own_event s l c e) (own s l c (events_of lines) (marks_of run.0 lines more new run.2)) a (flat_map (λ b. b) more)
+      tells_append (settings_in s c) l c (record_at old l c) (record_at run.0 l c) (record_at new l c) (with_mark (turn_mark old e a run.0 run.1) (own_event s l c e)) (own_marked s l c (marked_of run.0 lines more new run.2)) a (flat_map (λ b. b) more)
       (event_told old e a run.0 run.1 fit.0 set)
       (run_told run.0 lines more new run.2 fit.1 (event_set l old e a run.0 run.1 ∙ set))
   run_told old (Bad ∷ lines) (a ∷ more) new run fit set =
-      tells_append (settings_in s c) l c (record_at old l c) (record_at run.0 l c) (record_at new l c) [] (own s l c (events_of lines) (marks_of run.0 lines more new run.2)) a (flat_map (λ b. b) more)
+      tells_append (settings_in s c) l c (record_at old l c) (record_at run.0 l c) (record_at new l c) [] (own_marked s l c (marked_of run.0 lines more new run.2)) a (flat_map (λ b. b) more)
       (tells_nothing (settings_in s c) l c (record_at old l c) (record_at run.0 l c) a (ap (λ k. record_at k l c) run.1.0) (rw run.1.1 (bad_left_out l c lf)))
       (run_told run.0 lines more new run.2 fit (ap (λ k. setting_at k l) run.1.0 ∙ set))
   run_told old (Long ∷ lines) (a ∷ more) new run fit set =
-      tells_append (settings_in s c) l c (record_at old l c) (record_at run.0 l c) (record_at new l c) [] (own s l c (events_of lines) (marks_of run.0 lines more new run.2)) a (flat_map (λ b. b) more)
+      tells_append (settings_in s c) l c (record_at old l c) (record_at run.0 l c) (record_at new l c) [] (own_marked s l c (marked_of run.0 lines more new run.2)) a (flat_map (λ b. b) more)
       (tells_nothing (settings_in s c) l c (record_at old l c) (record_at run.0 l c) a (ap (λ k. record_at k l c) run.1.0) (rw run.1.1 (long_left_out l c lf)))
       (run_told run.0 lines more new run.2 fit (ap (λ k. setting_at k l) run.1.0 ∙ set))

@@ -18,7 +18,7 @@ use Rattle.rohc_concentrator.specs.Setting.{IsGoodSetting}
 use Rattle.rohc_concentrator.specs.Tables.{setting_at, record_at}
 use Rattle.rohc_concentrator.specs.Report.{Report, IsAnswered, IsRead, IsCut}
 use Rattle.rohc_replay.specs.AnswerLines.{report_lines, reset_lines, response_lines, relay_line, text_of, bad_line, long_line}
-use Rattle.rohc_replay.specs.Isolation.{is_own_line}
+use Rattle.rohc_replay.specs.Isolation.{is_pair_line}
 use Rattle.rohc_replay.specs.Run.{Turns, Runs}
 use Rattle.rohc_replay.specs.Script.{Event, Arrive, Reset, IsEvent, Line, Good, Bad, Long, lines_of}
 use Rattle.rohc_replay.proofs.EventLemmas.{report_left_out, reset_left_out, bad_left_out, long_left_out}
@@ -77,25 +77,25 @@ written_lines old lines answers new run fit =
 
 -- A pair of a link that isn't there is told nothing.
 module _ (l c : ℕ) (lf : l < 2 ^ 16) (cf : c < 2 ^ 16) where
-  absent_event : (old : Concentrator) (e : Event) (answers : List (List ℕ)) (new : Concentrator) → Turns old (Good e) answers new → IsEvent e → setting_at old l ≡ None → filter (is_own_line l c) answers ≡ []
-  absent_event old (Arrive k m octets) answers new turn fits absent = ap (filter (is_own_line l c)) turn.2 ∙ ⊎_elim
+  absent_event : (old : Concentrator) (e : Event) (answers : List (List ℕ)) (new : Concentrator) → Turns old (Good e) answers new → IsEvent e → setting_at old l ≡ None → filter (is_pair_line l c) answers ≡ []
+  absent_event old (Arrive k m octets) answers new turn fits absent = ap (filter (is_pair_line l c)) turn.2 ∙ ⊎_elim
       (λ e. let here : IsAnswered (setting_at old l) (record_at old k) m octets turn.0 (record_at new k) = subst (λ x. IsAnswered (setting_at old x) (record_at old k) m octets turn.0 (record_at new k)) e turn.1.answer in
       let none : IsAnswered None (record_at old k) m octets turn.0 (record_at new k) = subst (λ x. IsAnswered x (record_at old k) m octets turn.0 (record_at new k)) absent here in
-      ap (λ x. filter (is_own_line l c) (report_lines k x)) none ∙ refusal_left_out l c k refusals.NoLink lf cf fits.0)
+      ap (λ x. filter (is_pair_line l c) (report_lines k x)) none ∙ refusal_left_out l c k refusals.NoLink lf cf fits.0)
       (λ apart. report_left_out l c k turn.0 lf cf fits.0 apart)
       (cases_eq k l)
-  absent_event old (Reset k) answers new turn fits absent = ap (filter (is_own_line l c)) turn.1 ∙ reset_left_out l c k (setting_at old k) lf cf fits
+  absent_event old (Reset k) answers new turn fits absent = ap (filter (is_pair_line l c)) turn.1 ∙ reset_left_out l c k (setting_at old k) lf cf fits
 
-  pub absent_run : (old : Concentrator) (lines : List Line) (answers : List (List (List ℕ))) (new : Concentrator) → Runs old lines answers new → AreFit lines → setting_at old l ≡ None → filter (is_own_line l c) (flat_map (λ a. a) answers) ≡ []
+  pub absent_run : (old : Concentrator) (lines : List Line) (answers : List (List (List ℕ))) (new : Concentrator) → Runs old lines answers new → AreFit lines → setting_at old l ≡ None → filter (is_pair_line l c) (flat_map (λ a. a) answers) ≡ []
   absent_run old [] [] new run fit absent = refl
   absent_run old [] (a ∷ more) new run fit absent = absurd run
   absent_run old (line ∷ lines) [] new run fit absent = absurd run
   absent_run old (Good e ∷ lines) (a ∷ more) new run fit absent =
-      filter-append (is_own_line l c) a (flat_map (λ b. b) more)
+      filter-append (is_pair_line l c) a (flat_map (λ b. b) more)
       ∙ rw (absent_event old e a run.0 run.1 fit.0 absent) (absent_run run.0 lines more new run.2 fit.1 (event_set l old e a run.0 run.1 ∙ absent))
   absent_run old (Bad ∷ lines) (a ∷ more) new run fit absent =
-      filter-append (is_own_line l c) a (flat_map (λ b. b) more)
-      ∙ rw (ap (filter (is_own_line l c)) run.1.1 ∙ bad_left_out l c lf) (absent_run run.0 lines more new run.2 fit (ap (λ k. setting_at k l) run.1.0 ∙ absent))
+      filter-append (is_pair_line l c) a (flat_map (λ b. b) more)
+      ∙ rw (ap (filter (is_pair_line l c)) run.1.1 ∙ bad_left_out l c lf) (absent_run run.0 lines more new run.2 fit (ap (λ k. setting_at k l) run.1.0 ∙ absent))
   absent_run old (Long ∷ lines) (a ∷ more) new run fit absent =
-      filter-append (is_own_line l c) a (flat_map (λ b. b) more)
-      ∙ rw (ap (filter (is_own_line l c)) run.1.1 ∙ long_left_out l c lf) (absent_run run.0 lines more new run.2 fit (ap (λ k. setting_at k l) run.1.0 ∙ absent))
+      filter-append (is_pair_line l c) a (flat_map (λ b. b) more)
+      ∙ rw (ap (filter (is_pair_line l c)) run.1.1 ∙ long_left_out l c lf) (absent_run run.0 lines more new run.2 fit (ap (λ k. setting_at k l) run.1.0 ∙ absent))

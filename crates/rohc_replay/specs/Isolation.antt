@@ -1,5 +1,5 @@
 -- Isolation: what one link and identifier are told, whatever comes under the others.
-use Rattle.std.specs.Prelude.{◌≡◌, ℕ, ◌^◌, ◌<◌, List, [], ◌∷◌, ◌++◌, filter, Bool, true, false, not, ◌==◌, ◌&&◌, if◌then◌else◌, Option, Some, None, codes}
+use Rattle.std.specs.Prelude.{◌≡◌, ℕ, ◌^◌, ◌<◌, List, [], ◌∷◌, ◌++◌, map, filter, Bool, true, false, not, ◌==◌, ◌&&◌, if◌then◌else◌, Option, Some, None, codes}
 use Rattle.std.specs.List.{flat_map}
 use Rattle.std.specs.Io.KnownBytes.{Appends}
 use Rattle.rohc_context.specs.Response.{Response}
@@ -7,28 +7,29 @@ use Rattle.rohc_concentrator.specs.declared.concentrator.Concentrator.{Concentra
 use Rattle.rohc_concentrator.specs.declared.setting.LinkSetting.{LinkSetting}
 use Rattle.rohc_concentrator.specs.Setting.{settings_in}
 use Rattle.rohc_concentrator.specs.Tables.{setting_at, record_at}
-use Rattle.rohc_concentrator.specs.LoneRun.{LoneEvent, Forget, LoneRun, own_arrival}
+use Rattle.rohc_concentrator.specs.LoneRun.{LoneEvent, Forget, LoneRun, MarkedRun, unmarked, own_arrival}
 use Rattle.rohc_replay.specs.Script.{Event, Arrive, Reset, Line, Good, Bad, Long, IsScript, lines_of}
-use Rattle.rohc_replay.specs.AnswerLines.{pair_text, response_lines}
+use Rattle.rohc_replay.specs.AnswerLines.{pair_text, response_lines, text_of}
 
--- the events of the good lines
-abbrev pub events_of : List Line → List Event
-events_of [] = []
-events_of (Good e ∷ lines) = e ∷ events_of lines
-events_of (Bad ∷ lines) = events_of lines
-events_of (Long ∷ lines) = events_of lines
-
--- what an event of a script is to an identifier of a link
+-- what an event of a script is to an identifier of a link: the link's resets, and the arrivals on it that bear the identifier
 abbrev pub own_event : LinkSetting → ℕ → ℕ → Event → List LoneEvent
 own_event s l c (Arrive link moment octets) = if link == l then own_arrival s c moment octets else []
 own_event s l c (Reset link) = if link == l then Forget ∷ [] else []
 
--- Its own events: the link's resets, and the arrivals on the link that bear the identifier, in their order, without those that
--- are marked as refused for want of memory.
-abbrev pub own : LinkSetting → ℕ → ℕ → List Event → List Bool → List LoneEvent
-own s l c [] marks = []
-own s l c (e ∷ events) [] = []
-own s l c (e ∷ events) (mark ∷ marks) = (if mark then [] else own_event s l c e) ++ own s l c events marks
+-- a bad or a long line is no event
+abbrev pub own_line : LinkSetting → ℕ → ℕ → Line → List LoneEvent
+own_line s l c (Good e) = own_event s l c e
+own_line s l c Bad = []
+own_line s l c Long = []
+
+-- its own events in their order, each with the mark of its line: true where it was refused for want of memory
+abbrev pub own_marked : LinkSetting → ℕ → ℕ → List (Line × Bool) → List (LoneEvent × Bool)
+own_marked s l c [] = []
+own_marked s l c ((line, mark) ∷ marked) = map (λ event. (event, mark)) (own_line s l c line) ++ own_marked s l c marked
+
+-- its own events without the marked ones
+abbrev pub own : LinkSetting → ℕ → ℕ → List (Line × Bool) → List LoneEvent
+own s l c marked = unmarked (own_marked s l c marked)
 
 -- the text begins with these octets
 abbrev pub begins_with : List ℕ → List ℕ → Bool
@@ -36,27 +37,59 @@ begins_with [] text = true
 begins_with (o ∷ os) [] = false
 begins_with (o ∷ os) (p ∷ ps) = (o == p) && begins_with os ps
 
+-- a line of the pair begins with the link, a space, the identifier and a space
+abbrev pub is_pair_line : ℕ → ℕ → List ℕ → Bool
+is_pair_line l c line = begins_with (pair_text l c) line
+
+abbrev pub pair_lines : ℕ → ℕ → List ℕ → List (List ℕ)
+pair_lines l c text = filter (is_pair_line l c) (lines_of text)
+
 -- a line of the pair that isn't want of memory
 abbrev pub is_own_line : ℕ → ℕ → List ℕ → Bool
-is_own_line l c line = begins_with (pair_text l c) line && not (begins_with (pair_text l c ++ codes "refused NoMemory") line)
+is_own_line l c line = is_pair_line l c line && not (begins_with (pair_text l c ++ codes "refused NoMemory") line)
 
--- the lines of a text that begin with the link, a space, the identifier and a space, but for want of memory
-abbrev pub pair_lines : ℕ → ℕ → List ℕ → List (List ℕ)
-pair_lines l c text = filter (is_own_line l c) (lines_of text)
+abbrev pub own_lines : ℕ → ℕ → List ℕ → List (List ℕ)
+own_lines l c text = filter (is_own_line l c) (lines_of text)
+
+-- All that a replay told one pair, want of memory among it: the replies of one context machine over the pair's own events, each of
+-- which is marked exactly where its reply is `NoMemory`, and may be marked only where it is an accepted first IR.
+pub record IsAnswered (old new : Concentrator) (marked : List (Line × Bool)) (written : List ℕ) (l c : ℕ) (s : LinkSetting) : Type 0 where
+  pub replies : List Response
+  pub run : MarkedRun (settings_in s c) (record_at old l c) (own_marked s l c marked) replies (record_at new l c)
+  pub told : pair_lines l c written ≡ flat_map (response_lines l c) replies
 
 -- What a replay told one pair: the replies of one context machine, run alone under the link's settings for that identifier, over
 -- the pair's own events from its record before, and where that run leads its record stands.
-pub record IsTold (old new : Concentrator) (events : List Event) (marks : List Bool) (written : List ℕ) (l c : ℕ) (s : LinkSetting) : Type 0 where
+pub record IsTold (old new : Concentrator) (own_events : List LoneEvent) (written : List ℕ) (l c : ℕ) (s : LinkSetting) : Type 0 where
   pub replies : List Response
-  pub run : LoneRun (settings_in s c) (record_at old l c) (own s l c events marks) replies (record_at new l c)
-  pub told : pair_lines l c written ≡ flat_map (response_lines l c) replies
+  pub run : LoneRun (settings_in s c) (record_at old l c) own_events replies (record_at new l c)
+  pub told : own_lines l c written ≡ flat_map (response_lines l c) replies
 
--- Isolation, for all links and identifiers at once.
-pub record IsIsolated (old : Concentrator) (text written : List ℕ) (new : Concentrator) : Type 0 where
+-- a line is left where it is the pair's own and isn't marked
+abbrev pub left_of : {X : Type 0} → List LoneEvent → Bool → X → List X
+left_of [] mark x = []
+left_of (event ∷ events) true x = []
+left_of (event ∷ events) false x = x ∷ []
+
+-- The lines of a script without every other arrival, every other link's reset, every bad or long line and every marked arrival.
+abbrev pub left : LinkSetting → ℕ → ℕ → List (List ℕ) → List (Line × Bool) → List (List ℕ)
+left s l c [] marked = []
+left s l c (octets ∷ texts) [] = []
+left s l c (octets ∷ texts) ((line, mark) ∷ marked) = left_of (own_line s l c line) mark octets ++ left s l c texts marked
+
+-- It was told what the script of the lines that are left tells, none of which is marked.
+pub record IsToldAlike (old new : Concentrator) (text : List ℕ) (marked : List (Line × Bool)) (written : List ℕ) (l c : ℕ) (s : LinkSetting) : Type 0 where
   pub lines : List Line
-  pub script : IsScript text lines
-  pub marks : List Bool
-  pub each : (l c : ℕ) (s : LinkSetting) → l < 2 ^ 16 → c < 2 ^ 16 → setting_at old l ≡ Some s → IsTold old new (events_of lines) marks written l c s
+  pub script : IsScript (text_of (left s l c (lines_of text) marked)) lines
+  pub alike : IsTold old new (flat_map (own_line s l c) lines) written l c s
+
+-- Isolation, for all links and identifiers at once: the script's lines, each with its mark, and what each pair was told.
+pub record IsIsolated (old : Concentrator) (text written : List ℕ) (new : Concentrator) : Type 0 where
+  pub marked : List (Line × Bool)
+  pub script : IsScript text (map (λ (m : Line × Bool). m.0) marked)
+  pub answered : (l c : ℕ) (s : LinkSetting) → l < 2 ^ 16 → c < 2 ^ 16 → setting_at old l ≡ Some s → IsAnswered old new marked written l c s
+  pub alone : (l c : ℕ) (s : LinkSetting) → l < 2 ^ 16 → c < 2 ^ 16 → setting_at old l ≡ Some s → IsTold old new (own s l c marked) written l c s
+  pub taken_out : (l c : ℕ) (s : LinkSetting) → l < 2 ^ 16 → c < 2 ^ 16 → setting_at old l ≡ Some s → IsToldAlike old new text marked written l c s
   pub absent : (l c : ℕ) → l < 2 ^ 16 → c < 2 ^ 16 → setting_at old l ≡ None → pair_lines l c written ≡ []
 
 -- A replay isolates: what it writes tells each identifier of each link what one context machine run alone tells.

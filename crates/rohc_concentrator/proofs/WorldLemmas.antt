@@ -1,0 +1,130 @@
+-- Two concentrators that agree on what one identifier needs answer it alike.
+use Rattle.std.proofs.Common.{◌≡◌, ◌≢◌, ℕ, ◌<◌, ◌^◌, List, All, Bool, true, false, Option, Some, None, Result, Ok, Err, ◌⊎◌, inl, inr, ⊎_elim, refl, sym, ◌∙◌, ap, subst}
+use Rattle.std.proofs.lemmas.Bool.{cases_eq}
+use Rattle.rohc_frame.specs.Header.{Header}
+use Rattle.rohc_frame.specs.Laws.{IsOctet}
+use Rattle.rohc_frame.specs.Reading.{Reading}
+use Rattle.rohc_frame.specs.Parts.{parts_of}
+use Rattle.rohc_frame.specs.declared.refusal.FrameRefusal.{FrameRefusal}
+use Rattle.rohc_context.specs.declared.refusal.Refusal.{Refusal}
+use Rattle.rohc_context.specs.declared.refusal.Refusal.TheVariants as refusals
+use Rattle.rohc_context.specs.declared.reply.Outcome.{Outcome}
+use Rattle.rohc_context.specs.declared.reply.Outcome.TheVariants as outcomes
+use Rattle.rohc_context.specs.declared.settings.Settings.{Settings}
+use Rattle.rohc_context.specs.Good.{AreGoodValues}
+use Rattle.rohc_context.specs.Record.{Record}
+use Rattle.rohc_context.specs.Response.{Response, refused}
+use Rattle.rohc_context.specs.Step.{LoneStep}
+use Rattle.rohc_context.proofs.StepLemmas.{has_no_other, never_poor, leaves_none}
+use Rattle.rohc_concentrator.specs.declared.concentrator.Concentrator.{Concentrator}
+use Rattle.rohc_concentrator.specs.declared.setting.LinkSetting.{LinkSetting}
+use Rattle.rohc_concentrator.specs.Setting.{settings_in}
+use Rattle.rohc_concentrator.specs.Tables.{setting_at, record_at}
+use Rattle.rohc_concentrator.specs.Events.{Arrives}
+use Rattle.rohc_concentrator.specs.Report.{Report, Arrived, OnlyFront, Refused, OwnStep, IsArrival, IsCut, IsRead, IsAnswered, borne, borne_in, cid_in, is_no_memory, wants_memory, is_refusal, is_refused}
+use Rattle.rohc_concentrator.specs.Laws.{TwoWorlds, NoTrace}
+use Rattle.rohc_concentrator.proofs.GoodLemmas.{good_arrival}
+
+-- no other outcome is want of memory
+pub is_no_memory-only : (o : Outcome) → is_no_memory o ≡ true → o ≡ outcomes.Refused refusals.NoMemory
+is_no_memory-only (outcomes.Refused refusals.NoMemory) e = refl
+is_no_memory-only o e = absurd (let f : false ≡ true = e in cc)
+
+-- the own step of an identifier, or want of memory, has one reply and one record after it
+own_step_one : (s : Settings) (m : ℕ) (h : Header) (before : Option Record) (x y : Response) (a b : Option Record) → AreGoodValues before s m h → OwnStep s m h before x a → OwnStep s m h before y b →
+    is_no_memory x.outcome ≡ is_no_memory y.outcome → (x ≡ y) × (a ≡ b)
+own_step_one s m h before x y a b good (inl p) (inl q) e = has_no_other before s m h good x y a b p q
+own_step_one s m h before x y a b good (inr p) (inr q) e = (p.2 ∙ sym q.2, p.1 ∙ sym q.1)
+own_step_one s m h before x y a b good (inl p) (inr q) e = absurd (never_poor before s m h x a p (is_no_memory-only x.outcome (e ∙ ap (λ (r : Response). is_no_memory r.outcome) q.2)))
+own_step_one s m h before x y a b good (inr p) (inl q) e = absurd (never_poor before s m h y b q (is_no_memory-only y.outcome (sym e ∙ ap (λ (r : Response). is_no_memory r.outcome) p.2)))
+
+module _ (s t : LinkSetting) (m : ℕ) (before there after after_there : ℕ → Option Record) (x y : Report) where
+  arrival_one : (h : Header) (relayed : List (List ℕ)) → settings_in s h.cid ≡ settings_in t h.cid → before h.cid ≡ there h.cid → AreGoodValues (before h.cid) (settings_in s h.cid) m h →
+      IsArrival s m h relayed before x after → IsArrival t m h relayed there y after_there → wants_memory x ≡ wants_memory y → (x ≡ y) × (after h.cid ≡ after_there h.cid)
+  arrival_one h relayed settings records good p q e =
+      let wants : is_no_memory p.0.outcome ≡ is_no_memory q.0.outcome = sym (ap wants_memory p.1) ∙ e ∙ ap wants_memory q.1 in
+      let own : OwnStep (settings_in s h.cid) m h (before h.cid) q.0 (after_there h.cid) =
+            subst (λ z. OwnStep z m h (before h.cid) q.0 (after_there h.cid)) (sym settings) (subst (λ b. OwnStep (settings_in t h.cid) m h b q.0 (after_there h.cid)) (sym records) q.2) in
+      let step = own_step_one (settings_in s h.cid) m h (before h.cid) p.0 q.0 (after h.cid) (after_there h.cid) good p.2 own wants in
+      (p.1 ∙ ap (λ r. Arrived h.cid r relayed) step.0 ∙ sym q.1, step.1)
+
+  -- what a header needs to be answered alike
+  abbrev pub Meets : Header → Type 0
+  Meets h = (settings_in s h.cid ≡ settings_in t h.cid) × (before h.cid ≡ there h.cid) × AreGoodValues (before h.cid) (settings_in s h.cid) m h
+
+  cut_one : (relayed : List (List ℕ)) (header : Option Header) → ((h : Header) → header ≡ Some h → Meets h) → IsCut s m relayed header before x after → IsCut t m relayed header there y after_there →
+      wants_memory x ≡ wants_memory y → (x ≡ y) × ((c : ℕ) → cid_in header ≡ Some c → after c ≡ after_there c)
+  cut_one relayed None meets p q e = (p ∙ sym q, λ c borne. absurd (let f : ◌≡◌ {A = Option ℕ} None (Some c) = borne in cc))
+  cut_one relayed (Some h) meets p q e =
+      let met = meets h refl in
+      let one = arrival_one h relayed met.0 met.1 met.2 p q e in
+      (one.0, λ c borne. let same : h.cid ≡ c = (let f : ◌≡◌ {A = Option ℕ} (Some h.cid) (Some c) = borne in cc) in subst (λ d. after d ≡ after_there d) same one.1)
+
+  pub read_one : (parts : Result Reading FrameRefusal) → ((r : Reading) (h : Header) → parts ≡ Ok r → r.header ≡ Some h → Meets h) → IsRead s m parts before x after → IsRead t m parts there y after_there →
+      wants_memory x ≡ wants_memory y → (x ≡ y) × ((c : ℕ) → borne_in parts ≡ Some c → after c ≡ after_there c)
+  read_one (Err refusal) meets p q e = (p ∙ sym q, λ c borne. absurd (let f : ◌≡◌ {A = Option ℕ} None (Some c) = borne in cc))
+  read_one (Ok r) meets p q e = cut_one r.elements r.header (λ h. meets r h refl) p q e
+
+-- equal settings of an identifier cut a packet alike
+same_parts : (s t : LinkSetting) (c : ℕ) (octets : List ℕ) → settings_in s c ≡ settings_in t c → parts_of s.settings.size s.settings.max_cid octets ≡ parts_of t.settings.size t.settings.max_cid octets
+same_parts s t c octets e = ap (λ (z : Settings). parts_of z.size z.max_cid octets) e
+
+pub two_worlds : TwoWorlds
+two_worlds a b after_a after_b l c m octets x y agree fits all bears p q rich_x rich_y =
+    let s = agree.here in
+    let t = agree.there in
+    let parts = parts_of s.settings.size s.settings.max_cid octets in
+    let borne_here : borne_in parts ≡ Some c = subst (λ z. borne z octets ≡ Some c) agree.set_here bears in
+    let here : IsRead s m parts (record_at a l) x (record_at after_a l) = subst (λ z. IsAnswered z (record_at a l) m octets x (record_at after_a l)) agree.set_here p.answer in
+    let there : IsRead t m parts (record_at b l) y (record_at after_b l) =
+          subst (λ z. IsRead t m z (record_at b l) y (record_at after_b l)) (sym (same_parts s t c octets agree.settings)) (subst (λ z. IsAnswered z (record_at b l) m octets y (record_at after_b l)) agree.set_there q.answer) in
+    let bears_cid : (r : Reading) (h : Header) → parts ≡ Ok r → r.header ≡ Some h → h.cid ≡ c =
+          λ r h e f. let g : ◌≡◌ {A = Option ℕ} (Some h.cid) (Some c) = sym (ap cid_in f) ∙ sym (ap borne_in e) ∙ borne_here in cc in
+    let one = read_one s t m (record_at a l) (record_at b l) (record_at after_a l) (record_at after_b l) x y parts
+          (λ r h e f. let same = bears_cid r h e f in (
+            subst (λ d. settings_in s d ≡ settings_in t d) (sym same) agree.settings,
+            subst (λ d. record_at a l d ≡ record_at b l d) (sym same) agree.records,
+            good_arrival a l h.cid m s octets r h agree.set_here fits e f all,
+          ))
+          here there (rich_x ∙ sym rich_y) in
+    (one.0, one.1 c borne_here)
+
+-- A refusal makes no record.
+
+which_refusal : (o : Outcome) → is_refusal o ≡ true → (refusal : Refusal) × (o ≡ outcomes.Refused refusal)
+which_refusal (outcomes.Refused refusal) e = (refusal, refl)
+which_refusal outcomes.Delivered e = absurd (let f : false ≡ true = e in cc)
+which_refusal outcomes.Stored e = absurd (let f : false ≡ true = e in cc)
+
+own_none : (s : Settings) (m : ℕ) (h : Header) (before : Option Record) (response : Response) (after : Option Record) → OwnStep s m h before response after → is_refusal response.outcome ≡ true → before ≡ None → after ≡ None
+own_none s m h before response after (inl step) refuses none =
+    let refusal = which_refusal response.outcome refuses in
+    leaves_none s m h response after refusal.0 (subst (λ b. LoneStep b s m h response after) none step) refusal.1
+own_none s m h before response after (inr poor) refuses none = poor.1
+
+module _ (s : LinkSetting) (m : ℕ) (before after : ℕ → Option Record) (report : Report) (refuses : is_refused report ≡ true) (c : ℕ) (none : before c ≡ None) where
+  cut_none : (relayed : List (List ℕ)) (header : Option Header) → cid_in header ≡ Some c → IsCut s m relayed header before report after → after c ≡ None
+  cut_none relayed None bears a = absurd (let f : ◌≡◌ {A = Option ℕ} None (Some c) = bears in cc)
+  cut_none relayed (Some h) bears a =
+      let same : h.cid ≡ c = (let f : ◌≡◌ {A = Option ℕ} (Some h.cid) (Some c) = bears in cc) in
+      let refused_here : is_refusal a.0.outcome ≡ true = sym (ap is_refused a.1) ∙ refuses in
+      subst (λ d. after d ≡ None) same (own_none (settings_in s h.cid) m h (before h.cid) a.0 (after h.cid) a.2 refused_here (subst (λ d. before d ≡ None) (sym same) none))
+
+  read_none : (parts : Result Reading FrameRefusal) → borne_in parts ≡ Some c → IsRead s m parts before report after → after c ≡ None
+  read_none (Ok r) bears a = cut_none r.elements r.header bears a
+  read_none (Err refusal) bears a = absurd (let f : ◌≡◌ {A = Option ℕ} None (Some c) = bears in cc)
+
+answered_none : (set : Option LinkSetting) (m : ℕ) (octets : List ℕ) (before after : ℕ → Option Record) (report : Report) → is_refused report ≡ true → (c : ℕ) → before c ≡ None → borne set octets ≡ Some c → IsAnswered set before m octets report after → after c ≡ None
+answered_none None m octets before after report refuses c none bears a = absurd (let f : ◌≡◌ {A = Option ℕ} None (Some c) = bears in cc)
+answered_none (Some s) m octets before after report refuses c none bears a = read_none s m before after report refuses c none (parts_of s.settings.size s.settings.max_cid octets) bears a
+
+-- an identifier is borne or it isn't
+borne_or_not : (b : Option ℕ) (c : ℕ) → (b ≡ Some c) ⊎ (b ≢ Some c)
+borne_or_not None c = inr (λ e. let f : ◌≡◌ {A = Option ℕ} None (Some c) = e in cc)
+borne_or_not (Some d) c = ⊎_elim (λ e. inl (ap (λ x. Some x) e)) (λ apart. inr (λ e. apart (let f : ◌≡◌ {A = Option ℕ} (Some d) (Some c) = e in cc))) (cases_eq d c)
+
+pub no_trace : NoTrace
+no_trace old new l m octets report a refuses c none = ⊎_elim
+    (λ bears. answered_none (setting_at old l) m octets (record_at old l) (record_at new l) report refuses c none bears a.answer)
+    (λ apart. a.others l c (inr apart) ∙ none)
+    (borne_or_not (borne (setting_at old l) octets) c)
