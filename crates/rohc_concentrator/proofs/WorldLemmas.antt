@@ -1,5 +1,6 @@
 -- Two concentrators that agree on what one identifier needs answer it alike.
-use Rattle.std.proofs.Common.{◌≡◌, ◌≢◌, ℕ, ◌<◌, ◌^◌, List, All, Bool, true, false, Option, Some, None, Result, Ok, Err, ◌⊎◌, inl, inr, ⊎_elim, refl, sym, ◌∙◌, ap, subst}
+use Rattle.std.proofs.Common.{◌≡◌, ◌≢◌, ℕ, ◌<◌, ◌^◌, List, [], ◌∷◌, All, IfSome, Bool, true, false, Option, Some, None, Result, Ok, Err, ◌⊎◌, inl, inr, ⊎_elim, refl, sym, ◌∙◌, ap, subst}
+use Rattle.std.specs.List.{AllByRecursion}
 use Rattle.std.proofs.lemmas.Bool.{cases_eq}
 use Rattle.rohc_frame.specs.Header.{Header}
 use Rattle.rohc_frame.specs.Laws.{IsOctet}
@@ -11,18 +12,20 @@ use Rattle.rohc_context.specs.declared.refusal.Refusal.TheVariants as refusals
 use Rattle.rohc_context.specs.declared.reply.Outcome.{Outcome}
 use Rattle.rohc_context.specs.declared.reply.Outcome.TheVariants as outcomes
 use Rattle.rohc_context.specs.declared.settings.Settings.{Settings}
-use Rattle.rohc_context.specs.Good.{AreGoodValues}
+use Rattle.rohc_context.specs.Good.{AreGoodValues, IsGoodHeader, IsGoodRecord}
+use Rattle.rohc_context.specs.Settings.{AreGood}
 use Rattle.rohc_context.specs.Record.{Record}
 use Rattle.rohc_context.specs.Response.{Response, refused}
 use Rattle.rohc_context.specs.Step.{LoneStep}
-use Rattle.rohc_context.proofs.StepLemmas.{has_no_other, never_poor, leaves_none}
+use Rattle.rohc_context.proofs.StepLemmas.{has_no_other, leaves_good, leaves_none, never_poor}
 use Rattle.rohc_concentrator.specs.declared.concentrator.Concentrator.{Concentrator}
 use Rattle.rohc_concentrator.specs.declared.setting.LinkSetting.{LinkSetting}
 use Rattle.rohc_concentrator.specs.Setting.{settings_in}
 use Rattle.rohc_concentrator.specs.Tables.{setting_at, record_at}
-use Rattle.rohc_concentrator.specs.Events.{Arrives}
+use Rattle.rohc_concentrator.specs.Events.{Arrives, Resets}
 use Rattle.rohc_concentrator.specs.Report.{Report, Arrived, OnlyFront, Refused, OwnStep, IsArrival, IsCut, IsRead, IsAnswered, borne, borne_in, cid_in, is_no_memory, wants_memory, is_refusal, is_refused}
-use Rattle.rohc_concentrator.specs.Laws.{TwoWorlds, NoTrace}
+use Rattle.rohc_concentrator.specs.LoneRun.{LoneEvent, Arrival, Forget, LoneRun}
+use Rattle.rohc_concentrator.specs.Laws.{TwoWorlds, NoTrace, AreAlike}
 use Rattle.rohc_concentrator.proofs.GoodLemmas.{good_arrival}
 
 -- no other outcome is want of memory
@@ -128,3 +131,69 @@ no_trace old new l m octets report a refuses c none = ⊎_elim
     (λ bears. answered_none (setting_at old l) m octets (record_at old l) (record_at new l) report refuses c none bears a.answer)
     (λ apart. a.others l c (inr apart) ∙ none)
     (borne_or_not (borne (setting_at old l) octets) c)
+
+-- Alike concentrators stay alike.
+
+module _ (a b after_a after_b : Concentrator) (l m : ℕ) (octets : List ℕ) (x y : Report) (alike : AreAlike a b) (fits : m < 2 ^ 64) (all : All IsOctet octets)
+    (p : Arrives a l m octets x after_a) (q : Arrives b l m octets y after_b) (wants : wants_memory x ≡ wants_memory y) where
+  abbrev pub AnsweredAlike : Option LinkSetting → Type 0
+  AnsweredAlike set = (x ≡ y) × ((c : ℕ) → borne set octets ≡ Some c → record_at after_a l c ≡ record_at after_b l c)
+
+  answered_alike : (set : Option LinkSetting) → setting_at a l ≡ set → IsAnswered set (record_at a l) m octets x (record_at after_a l) → IsAnswered set (record_at b l) m octets y (record_at after_b l) → AnsweredAlike set
+  answered_alike None set here there = (here ∙ sym there, λ c bears. absurd (let f : ◌≡◌ {A = Option ℕ} None (Some c) = bears in cc))
+  answered_alike (Some s) set here there =
+      read_one s s m (record_at a l) (record_at b l) (record_at after_a l) (record_at after_b l) x y (parts_of s.settings.size s.settings.max_cid octets)
+      (λ r h e f. (refl, alike.records l h.cid, good_arrival a l h.cid m s octets r h set fits e f all))
+      here there wants
+
+  both_answered : AnsweredAlike (setting_at a l)
+  both_answered = answered_alike (setting_at a l) refl p.answer (subst (λ z. IsAnswered z (record_at b l) m octets y (record_at after_b l)) (sym (alike.settings l)) q.answer)
+
+  others_alike : (k d : ℕ) → (k ≢ l) ⊎ (borne (setting_at a l) octets ≢ Some d) → record_at after_a k d ≡ record_at after_b k d
+  others_alike k d apart = p.others k d apart ∙ alike.records k d ∙ sym (q.others k d (subst (λ z. (k ≢ l) ⊎ (borne z octets ≢ Some d)) (alike.settings l) apart))
+
+  -- an arrival is answered alike, and leaves them alike, where both or neither want memory
+  pub arrive_alike : (x ≡ y) × AreAlike after_a after_b
+  arrive_alike = (
+    both_answered.0,
+    record {
+      settings = λ k. p.settings.each k ∙ alike.settings k ∙ sym (q.settings.each k);
+      records = λ k d. ⊎_elim
+          (λ here. ⊎_elim
+          (λ bears. subst (λ z. record_at after_a z d ≡ record_at after_b z d) (sym here) (both_answered.1 d bears))
+          (λ apart. others_alike k d (inr apart))
+          (borne_or_not (borne (setting_at a l) octets) d))
+          (λ apart. others_alike k d (inl apart))
+          (cases_eq k l);
+    },
+  )
+
+-- and so does a reset
+pub reset_alike : (a b after_a after_b : Concentrator) (l : ℕ) → AreAlike a b → Resets a l after_a → Resets b l after_b → AreAlike after_a after_b
+reset_alike a b after_a after_b l alike p q = record {
+  settings = λ k. p.settings.each k ∙ alike.settings k ∙ sym (q.settings.each k);
+  records = λ k d. ⊎_elim
+      (λ here. subst (λ z. record_at after_a z d ≡ record_at after_b z d) (sym here) (p.forgotten d ∙ sym (q.forgotten d)))
+      (λ apart. p.others k d apart ∙ alike.records k d ∙ sym (q.others k d apart))
+      (cases_eq k l);
+}
+
+-- A lone run has one list of replies and one record after it.
+
+abbrev pub IsGoodEvent : Settings → LoneEvent → Type 0
+IsGoodEvent s (Arrival m h) = (m < 2 ^ 64) × IsGoodHeader s h
+IsGoodEvent s Forget = Unit {0}
+
+pub lone_run_one : (s : Settings) (before : Option Record) (events : List LoneEvent) (x y : List Response) (a b : Option Record) → AreGood s → AllByRecursion (IsGoodEvent s) events → IfSome before IsGoodRecord →
+    LoneRun s before events x a → LoneRun s before events y b → (x ≡ y) × (a ≡ b)
+lone_run_one s before [] [] [] a b good each kept p q = (refl, p ∙ sym q)
+lone_run_one s before [] (r ∷ x) y a b good each kept p q = absurd p
+lone_run_one s before [] [] (r ∷ y) a b good each kept p q = absurd q
+lone_run_one s before (Forget ∷ events) x y a b good each kept p q = lone_run_one s None events x y a b good each.1 tt p q
+lone_run_one s before (Arrival m h ∷ events) [] y a b good each kept p q = absurd p
+lone_run_one s before (Arrival m h ∷ events) (r ∷ x) [] a b good each kept p q = absurd q
+lone_run_one s before (Arrival m h ∷ events) (r ∷ x) (t ∷ y) a b good each kept p q =
+    let values : AreGoodValues before s m h = record { record_before = kept; settings = good; moment_fits = each.0.0; header = each.0.1 } in
+    let one = has_no_other before s m h values r t p.0 q.0 p.1 q.1 in
+    let rest = lone_run_one s p.0 events x y a b good each.1 (leaves_good before s m h values r p.0 p.1) p.2 (subst (λ z. LoneRun s z events y b) (sym one.1) q.2) in
+    (ap (λ z. z ∷ x) one.0 ∙ ap (λ z. t ∷ z) rest.0, rest.1)

@@ -25,6 +25,11 @@ TwoWorlds = (a b after_a after_b : Concentrator) (l c moment : ℕ) (octets : Li
     Arrives a l moment octets x after_a → Arrives b l moment octets y after_b → wants_memory x ≡ false → wants_memory y ≡ false →
     (x ≡ y) × (record_at after_a l c ≡ record_at after_b l c)
 
+-- two concentrators are alike: in all settings and all records
+pub record AreAlike (a b : Concentrator) : Type 0 where
+  pub settings : (l : ℕ) → setting_at a l ≡ setting_at b l
+  pub records : (l c : ℕ) → record_at a l c ≡ record_at b l c
+
 -- No trace: an arrival that is refused leaves no record where there was none.
 abbrev pub NoTrace : Type 0
 NoTrace = (old new : Concentrator) (l moment : ℕ) (octets : List ℕ) (report : Report) → Arrives old l moment octets report new →

@@ -9,7 +9,7 @@ use Rattle.rohc_concentrator.specs.declared.concentrator.Concentrator.{Concentra
 use Rattle.rohc_concentrator.specs.declared.setting.LinkSetting.{LinkSetting}
 use Rattle.rohc_concentrator.specs.Setting.{settings_in}
 use Rattle.rohc_concentrator.specs.Tables.{setting_at, record_at}
-use Rattle.rohc_concentrator.specs.Report.{Report, Arrived, OnlyFront, Refused, IsAnswered, borne}
+use Rattle.rohc_concentrator.specs.Report.{Report, Arrived, OnlyFront, Refused, IsAnswered, borne, wants_memory}
 use Rattle.rohc_concentrator.specs.Events.{Arrives, Resets}
 use Rattle.rohc_concentrator.specs.LoneRun.{own_arrival}
 use Rattle.rohc_replay.specs.AnswerLines.{report_lines, reset_lines, response_lines, relay_line, bad_line, long_line}
@@ -17,7 +17,7 @@ use Rattle.rohc_replay.specs.Isolation.{is_pair_line, own_event}
 use Rattle.rohc_replay.specs.Script.{Arrive, Reset}
 use Rattle.rohc_replay.proofs.OwnLines.{filter-append, filter-left_out, relays_left_out, refusal_left_out, reply_left_out}
 use Rattle.rohc_replay.proofs.PairLemmas.{other_link, no_link}
-use Rattle.rohc_replay.proofs.IsolationLemmas.{mark_of, with_mark, Tells, tells_nothing, none_told, read_told, cid_fits}
+use Rattle.rohc_replay.proofs.IsolationLemmas.{with_mark, Tells, tells_nothing, none_told, read_told, cid_fits}
 
 -- the answer on another link is left out
 pub report_left_out : (l c k : ℕ) (report : Report) → l < 2 ^ 16 → c < 2 ^ 16 → k < 2 ^ 16 → k ≢ l → filter (is_pair_line l c) (report_lines k report) ≡ []
@@ -33,7 +33,7 @@ reset_left_out l c k None lf cf kf = refusal_left_out l c k refusals.NoLink lf c
 
 module _ (old new : Concentrator) (s : LinkSetting) (l c : ℕ) (lf : l < 2 ^ 16) (cf : c < 2 ^ 16) (set : setting_at old l ≡ Some s) where
   here_told : (m : ℕ) (octets : List ℕ) (report : Report) → All IsOctet octets → Arrives old l m octets report new →
-      Tells (settings_in s c) l c (record_at old l c) (with_mark (mark_of report) (own_arrival s c m octets)) (report_lines l report) (record_at new l c)
+      Tells (settings_in s c) l c (record_at old l c) (with_mark (wants_memory report) (own_arrival s c m octets)) (report_lines l report) (record_at new l c)
   here_told m octets report all a =
       read_told s l c lf cf m (parts_of s.settings.size s.settings.max_cid octets) (record_at old l) (record_at new l) report
       (λ r h. cid_fits s octets r h (good_setting old l s set) all)
@@ -41,12 +41,12 @@ module _ (old new : Concentrator) (s : LinkSetting) (l c : ℕ) (lf : l < 2 ^ 16
       (subst (λ x. IsAnswered x (record_at old l) m octets report (record_at new l)) set a.answer)
 
   pub arrive_told : (k m : ℕ) (octets : List ℕ) (report : Report) → k < 2 ^ 16 → All IsOctet octets → Arrives old k m octets report new →
-      Tells (settings_in s c) l c (record_at old l c) (with_mark (mark_of report) (own_event s l c (Arrive k m octets))) (report_lines k report) (record_at new l c)
+      Tells (settings_in s c) l c (record_at old l c) (with_mark (wants_memory report) (own_event s l c (Arrive k m octets))) (report_lines k report) (record_at new l c)
   arrive_told k m octets report kf all a = ⊎_elim
       (λ e. let yes : (k == l) ≡ true = eq-eqb k l e in
-      rw yes (subst (λ x. Arrives old x m octets report new → Tells (settings_in s c) l c (record_at old l c) (with_mark (mark_of report) (own_arrival s c m octets)) (report_lines x report) (record_at new l c)) (sym e) (here_told m octets report all) a))
+      rw yes (subst (λ x. Arrives old x m octets report new → Tells (settings_in s c) l c (record_at old l c) (with_mark (wants_memory report) (own_arrival s c m octets)) (report_lines x report) (record_at new l c)) (sym e) (here_told m octets report all) a))
       (λ apart. let no : (k == l) ≡ false = ne_eqb k l apart in
-      none_told (settings_in s c) l c (mark_of report) (record_at old l c) (record_at new l c) (own_event s l c (Arrive k m octets)) (report_lines k report) (rw no refl)
+      none_told (settings_in s c) l c (wants_memory report) (record_at old l c) (record_at new l c) (own_event s l c (Arrive k m octets)) (report_lines k report) (rw no refl)
       (tells_nothing (settings_in s c) l c (record_at old l c) (record_at new l c) (report_lines k report) (a.others l c (inl (λ e. apart (sym e)))) (report_left_out l c k report lf cf kf apart)))
       (cases_eq k l)
 

@@ -20,23 +20,14 @@ use Rattle.rohc_context.specs.Response.{Response, refused}
 use Rattle.rohc_context.proofs.StepLemmas.{step_rich}
 use Rattle.rohc_concentrator.specs.declared.setting.LinkSetting.{LinkSetting}
 use Rattle.rohc_concentrator.specs.Setting.{settings_in, IsGoodSetting}
-use Rattle.rohc_concentrator.specs.Report.{Report, Arrived, OnlyFront, Refused, OwnStep, IsArrival, IsCut, IsRead, borne_in, cid_in}
+use Rattle.rohc_concentrator.specs.Report.{Report, Arrived, OnlyFront, Refused, OwnStep, IsArrival, IsCut, IsRead, borne_in, cid_in, is_no_memory, wants_memory}
 use Rattle.rohc_concentrator.specs.LoneRun.{LoneEvent, Arrival, Forget, MarkedRun, MarkedStep, arrival_of, arrival_in}
 use Rattle.rohc_replay.specs.AnswerLines.{report_lines, response_lines, relay_line, link_refusal}
 use Rattle.rohc_replay.specs.Isolation.{is_pair_line}
 use Rattle.rohc_replay.proofs.OwnLines.{filter-append, relays_left_out, refusal_left_out, reply_left_out, reply_whole_kept}
 use Rattle.rohc_replay.proofs.PairLemmas.{other_pair}
 
--- an arrival was answered for want of memory
-abbrev pub is_no_memory : Outcome → Bool
-is_no_memory (outcomes.Refused refusals.NoMemory) = true
-is_no_memory outcome = false
-
-abbrev pub mark_of : Report → Bool
-mark_of (Arrived cid response relayed) = is_no_memory response.outcome
-mark_of (OnlyFront relayed) = false
-mark_of (Refused refusal) = false
-
+-- an outcome that isn't want of memory
 is_no_memory-not : (o : Outcome) → o ≢ outcomes.Refused refusals.NoMemory → is_no_memory o ≡ false
 is_no_memory-not outcomes.Delivered rich = refl
 is_no_memory-not outcomes.Stored rich = refl
@@ -129,7 +120,7 @@ module _ (s : LinkSetting) (l c : ℕ) (lf : l < 2 ^ 16) (cf : c < 2 ^ 16) where
 
   header_told : (m : ℕ) (h : Header) (relayed : List (List ℕ)) (before after : ℕ → Option Record) (report : Report) → h.cid < 2 ^ 16 → (h.cid ≢ c → after c ≡ before c) →
       IsArrival s m h relayed before report after →
-      Tells (settings_in s c) l c (before c) (with_mark (mark_of report) (arrival_of c m (Some h))) (report_lines l report) (after c)
+      Tells (settings_in s c) l c (before c) (with_mark (wants_memory report) (arrival_of c m (Some h))) (report_lines l report) (after c)
   header_told m h relayed before after report hf others a =
       rw a.1 (⊎_elim
       (λ e. let yes : (h.cid == c) ≡ true = eq-eqb h.cid c e in rw yes (same_told m h relayed before after a.0 hf e a.2))
@@ -140,14 +131,14 @@ module _ (s : LinkSetting) (l c : ℕ) (lf : l < 2 ^ 16) (cf : c < 2 ^ 16) where
 
   cut_told : (m : ℕ) (relayed : List (List ℕ)) (header : Option Header) (before after : ℕ → Option Record) (report : Report) → ((h : Header) → header ≡ Some h → h.cid < 2 ^ 16) →
       (cid_in header ≢ Some c → after c ≡ before c) → IsCut s m relayed header before report after →
-      Tells (settings_in s c) l c (before c) (with_mark (mark_of report) (arrival_of c m header)) (report_lines l report) (after c)
+      Tells (settings_in s c) l c (before c) (with_mark (wants_memory report) (arrival_of c m header)) (report_lines l report) (after c)
   cut_told m relayed (Some h) before after report bound others a = header_told m h relayed before after report (bound h refl) (λ apart. others (λ e. apart (let same : ◌≡◌ {A = Option ℕ} (Some h.cid) (Some c) = e in cc))) a
   cut_told m relayed None before after report bound others a =
       rw a (tells_nothing (settings_in s c) l c (before c) (after c) (map (relay_line l) relayed) (others (λ e. let same : ◌≡◌ {A = Option ℕ} None (Some c) = e in cc)) (relays_left_out l c l relayed lf cf lf))
 
   pub read_told : (m : ℕ) (parts : Result Reading FrameRefusal) (before after : ℕ → Option Record) (report : Report) → ((r : Reading) (h : Header) → parts ≡ Ok r → r.header ≡ Some h → h.cid < 2 ^ 16) →
       (borne_in parts ≢ Some c → after c ≡ before c) → IsRead s m parts before report after →
-      Tells (settings_in s c) l c (before c) (with_mark (mark_of report) (arrival_in c m parts)) (report_lines l report) (after c)
+      Tells (settings_in s c) l c (before c) (with_mark (wants_memory report) (arrival_in c m parts)) (report_lines l report) (after c)
   read_told m (Ok r) before after report bound others a = cut_told m r.elements r.header before after report (λ h. bound r h refl) others a
   read_told m (Err refusal) before after report bound others a =
       rw a (tells_nothing (settings_in s c) l c (before c) (after c) (link_refusal l (refusal_of_framing refusal) ∷ []) (others (λ e. let same : ◌≡◌ {A = Option ℕ} None (Some c) = e in cc)) (refusal_left_out l c l (refusal_of_framing refusal) lf cf lf))

@@ -22,3 +22,7 @@ pub mod StreamLemmas
 pub mod TurnLemmas
 pub mod WaitingLemmas
 pub mod WholeLemmas
+pub mod ScriptLemmas
+pub mod RunLemmas
+pub mod SameLemmas
+pub mod FrontLemmas

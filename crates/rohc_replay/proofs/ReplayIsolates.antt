@@ -15,12 +15,12 @@ use Rattle.rohc_replay.specs.declared.fault.RunFault.{RunFault}
 use Rattle.rohc_replay.specs.AnswerLines.{response_lines, text_of}
 use Rattle.rohc_replay.specs.Isolation.{is_pair_line, is_own_line, pair_lines, own_lines, own, own_line, own_marked, left, left_of, IsAnswered, IsTold, IsToldAlike, Isolates}
 use Rattle.rohc_replay.specs.Lines.{has_newline}
-use Rattle.rohc_replay.specs.Run.{Replays, Runs}
+use Rattle.rohc_replay.specs.Run.{Replays, Runs, marked_of}
 use Rattle.rohc_replay.specs.Script.{Line, IsLine, AreLines, IsScript, lines_of}
 use Rattle.rohc_replay.proofs.IsolationLemmas.{Tells, with_mark}
 use Rattle.rohc_replay.proofs.OwnLines.{filter-append, filter-within, reply_kept, poor_left_out}
 use Rattle.rohc_replay.proofs.SplitLemmas.{lines_of-splits, lines_of-each}
-use Rattle.rohc_replay.proofs.ToldLemmas.{marked_of, marked_lines, AreFit, lines_fit, run_told}
+use Rattle.rohc_replay.proofs.ToldLemmas.{marked_lines, AreFit, lines_fit, run_told}
 use Rattle.rohc_replay.proofs.WholeLemmas.{written_lines, absent_run}
 
 -- Without the marked events and their replies a marked run is a lone run.
@@ -96,7 +96,7 @@ module _ (s : LinkSetting) (l c : ℕ) where
           }) ∙ append-nil texts in
       subst (λ ts. AreLines ts (left_lines marked)) (sym cut) (lines_left (lines_of text) marked script)
 
-  unmarked_with : (mark : Bool) (events : List LoneEvent) (more : List (LoneEvent × Bool)) → unmarked (with_mark mark events ++ more) ≡ (if mark then [] else events) ++ unmarked more
+  pub unmarked_with : (mark : Bool) (events : List LoneEvent) (more : List (LoneEvent × Bool)) → unmarked (with_mark mark events ++ more) ≡ (if mark then [] else events) ++ unmarked more
   unmarked_with true [] more = refl
   unmarked_with false [] more = refl
   unmarked_with true (event ∷ events) more = unmarked_with true events more

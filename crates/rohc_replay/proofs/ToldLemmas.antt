@@ -9,27 +9,16 @@ use Rattle.rohc_concentrator.specs.declared.setting.LinkSetting.{LinkSetting}
 use Rattle.rohc_concentrator.specs.Setting.{settings_in}
 use Rattle.rohc_concentrator.specs.Tables.{setting_at, record_at}
 use Rattle.rohc_concentrator.specs.LoneRun.{LoneEvent}
+use Rattle.rohc_concentrator.specs.Report.{wants_memory}
 use Rattle.rohc_replay.specs.AnswerLines.{response_lines}
 use Rattle.rohc_replay.specs.Isolation.{is_pair_line, own_marked, own_event}
-use Rattle.rohc_replay.specs.Run.{Turns, Runs}
+use Rattle.rohc_replay.specs.Run.{Turns, Runs, turn_mark, marked_of}
 use Rattle.rohc_replay.specs.Script.{Event, Arrive, Reset, IsEvent, Line, Good, Bad, Long, AreLines}
 use Rattle.rohc_replay.proofs.OwnLines.{filter-append}
-use Rattle.rohc_replay.proofs.IsolationLemmas.{mark_of, with_mark, MarkedRun-append, Tells, tells_nothing}
+use Rattle.rohc_replay.proofs.IsolationLemmas.{with_mark, MarkedRun-append, Tells, tells_nothing}
 use Rattle.rohc_replay.proofs.EventLemmas.{arrive_told, reset_told, bad_left_out, long_left_out}
 
--- whether an event was answered for want of memory
-abbrev pub turn_mark : (old : Concentrator) (e : Event) (answers : List (List ℕ)) (new : Concentrator) → Turns old (Good e) answers new → Bool
-turn_mark old (Arrive link moment octets) answers new turn = mark_of turn.0
-turn_mark old (Reset link) answers new turn = false
-
--- the lines of a run, each with its mark
-abbrev pub marked_of : (old : Concentrator) (lines : List Line) (answers : List (List (List ℕ))) (new : Concentrator) → Runs old lines answers new → List (Line × Bool)
-marked_of old [] answers new run = []
-marked_of old (line ∷ lines) [] new run = []
-marked_of old (Good e ∷ lines) (a ∷ more) new run = (Good e, turn_mark old e a run.0 run.1) ∷ marked_of run.0 lines more new run.2
-marked_of old (Bad ∷ lines) (a ∷ more) new run = (Bad, false) ∷ marked_of run.0 lines more new run.2
-marked_of old (Long ∷ lines) (a ∷ more) new run = (Long, false) ∷ marked_of run.0 lines more new run.2
-
+-- the lines of a run, but for their marks
 pub marked_lines : (old : Concentrator) (lines : List Line) (answers : List (List (List ℕ))) (new : Concentrator) (run : Runs old lines answers new) → map (λ (m : Line × Bool). m.0) (marked_of old lines answers new run) ≡ lines
 marked_lines old [] [] new run = refl
 marked_lines old [] (a ∷ more) new run = absurd run
@@ -71,7 +60,7 @@ module _ (s : LinkSetting) (l c : ℕ) (lf : l < 2 ^ 16) (cf : c < 2 ^ 16) where
   event_told : (old : Concentrator) (e : Event) (answers : List (List ℕ)) (new : Concentrator) (turn : Turns old (Good e) answers new) → IsEvent e → setting_at old l ≡ Some s →
       Tells (settings_in s c) l c (record_at old l c) (with_mark (turn_mark old e answers new turn) (own_event s l c e)) answers (record_at new l c)
   event_told old (Arrive k m octets) answers new turn fits set =
-      subst (λ a. Tells (settings_in s c) l c (record_at old l c) (with_mark (mark_of turn.0) (own_event s l c (Arrive k m octets))) a (record_at new l c)) (sym turn.2)
+      subst (λ a. Tells (settings_in s c) l c (record_at old l c) (with_mark (wants_memory turn.0) (own_event s l c (Arrive k m octets))) a (record_at new l c)) (sym turn.2)
       (arrive_told old new s l c lf cf set k m octets turn.0 fits.0 fits.3 turn.1)
   event_told old (Reset k) answers new turn fits set =
       subst (λ a. Tells (settings_in s c) l c (record_at old l c) (with_mark false (own_event s l c (Reset k))) a (record_at new l c)) (sym turn.1) (reset_told old new s l c lf cf set k fits turn.0)

@@ -14,3 +14,4 @@ pub mod Script
 pub mod Stream
 pub mod Turn
 pub mod Words
+pub mod Laws

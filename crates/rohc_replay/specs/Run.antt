@@ -4,7 +4,7 @@ use Rattle.std.specs.List.{flat_map}
 use Rattle.std.specs.Io.KnownBytes.{Appends, Consumes}
 use Rattle.rohc_concentrator.specs.declared.concentrator.Concentrator.{Concentrator}
 use Rattle.rohc_concentrator.specs.Tables.{setting_at}
-use Rattle.rohc_concentrator.specs.Report.{Report}
+use Rattle.rohc_concentrator.specs.Report.{Report, wants_memory}
 use Rattle.rohc_concentrator.specs.Events.{Arrives, Resets}
 use Rattle.rohc_replay.specs.declared.tally.Tally.{Tally}
 use Rattle.rohc_replay.specs.declared.fault.RunFault.{RunFault}
@@ -27,6 +27,19 @@ Runs old [] [] new = new ≡ old
 Runs old (line ∷ lines) (answers ∷ more) new = (mid : Concentrator) × Turns old line answers mid × Runs mid lines more new
 Runs old [] (answers ∷ more) new = ⊥
 Runs old (line ∷ lines) [] new = ⊥
+
+-- whether an event was answered `NoMemory`
+abbrev pub turn_mark : (old : Concentrator) (e : Event) (answers : List (List ℕ)) (new : Concentrator) → Turns old (Good e) answers new → Bool
+turn_mark old (Arrive link moment octets) answers new turn = wants_memory turn.0
+turn_mark old (Reset link) answers new turn = false
+
+-- the lines of a run, each with its mark: true where its event was answered `NoMemory`
+abbrev pub marked_of : (old : Concentrator) (lines : List Line) (answers : List (List (List ℕ))) (new : Concentrator) → Runs old lines answers new → List (Line × Bool)
+marked_of old [] answers new run = []
+marked_of old (line ∷ lines) [] new run = []
+marked_of old (Good e ∷ lines) (a ∷ more) new run = (Good e, turn_mark old e a run.0 run.1) ∷ marked_of run.0 lines more new run.2
+marked_of old (Bad ∷ lines) (a ∷ more) new run = (Bad, false) ∷ marked_of run.0 lines more new run.2
+marked_of old (Long ∷ lines) (a ∷ more) new run = (Long, false) ∷ marked_of run.0 lines more new run.2
 
 abbrev pub is_good_line : Line → Bool
 is_good_line (Good e) = true

@@ -4,6 +4,7 @@
 mod counts;
 pub mod fault;
 mod hex_octets;
+pub mod laws;
 mod line_text;
 pub mod links;
 mod numeral;

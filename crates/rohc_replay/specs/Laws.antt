@@ -1,0 +1,50 @@
+-- Promises over two runs, and over a text's one script.
+use Rattle.std.specs.Prelude.{◌≡◌, ℕ, ◌<◌, ◌^◌, List, [], ◌∷◌, ◌++◌, Bool, Option, Some}
+use Rattle.std.specs.List.{flat_map}
+use Rattle.rohc_concentrator.specs.declared.concentrator.Concentrator.{Concentrator}
+use Rattle.rohc_concentrator.specs.Laws.{Agree, AreAlike}
+use Rattle.rohc_concentrator.specs.Tables.{record_at}
+use Rattle.rohc_replay.specs.Script.{Line, IsScript}
+use Rattle.rohc_replay.specs.AnswerLines.{text_of}
+use Rattle.rohc_replay.specs.Isolation.{IsIsolated, own, own_lines}
+use Rattle.rohc_replay.specs.Run.{Runs, marked_of, ReadFails, WriteFails, FlushFails}
+
+-- the one list begins with the other
+abbrev pub IsFront : {X : Type 0} → List X → List X → Type 0
+IsFront {X} front whole = (rest : List X) × (whole ≡ front ++ rest)
+
+-- a text is one script
+abbrev pub HasOneScript : Type 0
+HasOneScript = (text : List ℕ) (a b : List Line) → IsScript text a → IsScript text b → a ≡ b
+
+-- Two replays of scripts that agree there, in their own events, their settings and their records, tell an identifier of a link the
+-- same lines and leave it equal records, whatever else the scripts hold.
+abbrev pub SameLines : Type 0
+SameLines = (a b after_a after_b : Concentrator) (text other heard told : List ℕ) (p : IsIsolated a text heard after_a) (q : IsIsolated b other told after_b)
+    (l c : ℕ) (agree : Agree a b l c) → l < 2 ^ 16 → c < 2 ^ 16 → own agree.here l c p.marked ≡ own agree.there l c q.marked →
+    (own_lines l c heard ≡ own_lines l c told) × (record_at after_a l c ≡ record_at after_b l c)
+
+-- A whole run of a script begins with what a run of its first lines answers, where the same events want memory.
+abbrev pub BeginsAlike : Type 0
+BeginsAlike = (a b after_a after_b : Concentrator) (text : List ℕ) (lines more : List Line) (answers others : List (List (List ℕ)))
+    (run : Runs a lines answers after_a) (whole : Runs b (lines ++ more) others after_b) → AreAlike a b → IsScript text (lines ++ more) →
+    IsFront (marked_of a lines answers after_a run) (marked_of b (lines ++ more) others after_b whole) → IsFront answers others
+
+-- What a failed read leaves written begins what a whole run of the text writes, where the same events want memory.
+abbrev pub ReadLeavesFront : Type 0
+ReadLeavesFront = (old new after : Concentrator) (text : List ℕ) (left held holding : Option (List ℕ)) (written : ℕ) (f : ReadFails old (Some text) left held holding written new)
+    (lines : List Line) (answers : List (List (List ℕ))) (whole : Runs old lines answers after) → IsScript text lines →
+    IsFront (marked_of old f.lines f.answers new f.run) (marked_of old lines answers after whole) → IsFront (flat_map text_of f.answers) (flat_map text_of answers)
+
+-- And so does what a failed write leaves.
+abbrev pub WriteLeavesFront : Type 0
+WriteLeavesFront = (old new after : Concentrator) (text : List ℕ) (held holding : Option (List ℕ)) (written : ℕ) (f : WriteFails old text held holding written new)
+    (lines : List Line) (answers : List (List (List ℕ))) (whole : Runs old lines answers after) → IsScript text lines →
+    IsFront (marked_of old (f.stops.earlier ++ f.stops.last ∷ []) (f.stops.answers ++ f.stops.last_answers ∷ []) new f.stops.run) (marked_of old lines answers after whole) →
+    IsFront (flat_map text_of f.stops.answers ++ f.stops.part) (flat_map text_of answers)
+
+-- And what a failed flush leaves is all of it.
+abbrev pub FlushLeavesAll : Type 0
+FlushLeavesAll = (old new after : Concentrator) (text : List ℕ) (held holding : Option (List ℕ)) (written : ℕ) (f : FlushFails old text held holding written new)
+    (lines : List Line) (answers : List (List (List ℕ))) (whole : Runs old lines answers after) → IsScript text lines →
+    IsFront (marked_of old f.lines f.answers new f.run) (marked_of old lines answers after whole) → flat_map text_of f.answers ≡ flat_map text_of answers

@@ -1,0 +1,27 @@
+//! Laws of replays, as contracts of functions that do nothing: promises over two runs, which no one call makes.
+
+ghost use Rattle.rohc_replay.specs.Laws.{HasOneScript, SameLines, BeginsAlike, ReadLeavesFront, WriteLeavesFront, FlushLeavesAll};
+
+/// A text is one script.
+pub fn one_script()
+    ensures { HasOneScript }
+{}
+
+/// Two replays of scripts that agree on an identifier of a link tell it the same lines: equal own events, equal
+/// settings and equal records before give equal lines and equal records after.
+pub fn same_lines()
+    ensures { SameLines }
+{}
+
+/// A run of a script's first lines answers as a whole run begins, where the same events want memory.
+pub fn begins_alike()
+    ensures { BeginsAlike }
+{}
+
+/// What a replay that failed has written begins what a whole replay of the text writes, where the same events
+/// want memory; where the flush failed, it is all of it.
+pub fn faults_leave_a_front()
+    ensures read { ReadLeavesFront }
+    ensures write { WriteLeavesFront }
+    ensures flush { FlushLeavesAll }
+{}
