@@ -1,5 +1,7 @@
 //! Worked examples, long lines, pieces and faults, through `replay`.
 
+mod isolation;
+
 use crate::fault::RunFault;
 use crate::links::read_links;
 use crate::run::replay;
@@ -229,6 +231,12 @@ fn worked_examples(rt: HostRuntime) -> Result<(), Fail> {
             "1 0 ip 45aa\n1 0 feedback f100\n1 0 refused NoContext\n9 - refused NoLink\n",
             4,
             0,
+        ),
+        (
+            "arrive 1 999999999999 e110ac\narrive 2 5 fc812c00e6450102\noops\narrive 1 20 e2fc008145aa\narrive 1 0 e710ac\n",
+            "1 1 refused NoContext\n2 300 ip 450102\n2 300 feedback f3812c00\n- - refused BadLine\n1 2 ip 45aa\n1 2 feedback f2e200\n1 7 refused NoContext\n",
+            4,
+            1,
         ),
         ("", "", 0, 0),
         ("\n", "- - refused BadLine\n", 0, 1),

@@ -1,0 +1,172 @@
+//! Each identifier of each link is told what its own lines alone would tell it.
+
+use super::{replayed, steady, willing};
+use std::alloc::{AllocError, Global};
+use std::test::Fail;
+
+/// Whose a line is.
+#[derive(Clone, Copy, Debug, PartialEq, Eq)]
+enum Whose {
+    /// An arrival on this link that bears this identifier.
+    Call(u16, u16),
+    /// A reset of this link.
+    Link(u16),
+    /// Any other line.
+    Nobody,
+}
+
+/// A line that stands for one of 131,201 octets.
+const LONG: &str = "long";
+
+/// The identifiers of the script.
+const PAIRS: [(u16, u16); 8] = [
+    (1, 0),
+    (1, 1),
+    (1, 2),
+    (1, 4),
+    (1, 5),
+    (2, 0),
+    (2, 5),
+    (2, 300),
+];
+
+/// Honest and damaged packets of these identifiers, resets, bad lines and a long one.
+const LINES: [(Whose, &str); 32] = [
+    (Whose::Call(1, 0), "arrive 1 0 fc00b745aa"),
+    (Whose::Call(1, 1), "arrive 1 999999999999 e110ac"),
+    (Whose::Call(2, 300), "arrive 2 5 fc812c00e6450102"),
+    (Whose::Nobody, "oops"),
+    (Whose::Call(1, 2), "arrive 1 7 e2fc008145aa"),
+    (Whose::Call(2, 0), "arrive 2 8 fc0000b17ad7ed17"),
+    (Whose::Call(1, 0), "arrive 1 20 45ab"),
+    (Whose::Call(1, 4), "arrive 1 21 e4fc00229087"),
+    (Whose::Call(2, 5), "arrive 2 22 fc0500a9eea2"),
+    (Whose::Nobody, LONG),
+    (Whose::Call(1, 5), "arrive 1 23 f22007e5fc00f276e975"),
+    (Whose::Call(1, 1), "arrive 1 24 e1fc0030beef"),
+    (Whose::Call(1, 0), "arrive 1 25 fc00b845aa"),
+    (Whose::Nobody, "arrive 1 26 ff00"),
+    (Whose::Call(2, 300), "arrive 2 30 45812c0102"),
+    (Whose::Call(1, 7), "arrive 1 31 e710ac"),
+    (Whose::Nobody, "arrive 3 32 e410ac"),
+    (Whose::Nobody, ""),
+    (Whose::Link(1), "reset 1"),
+    (Whose::Call(1, 0), "arrive 1 40 45ac"),
+    (Whose::Call(1, 2), "arrive 1 41 e245ac"),
+    (Whose::Call(1, 4), "arrive 1 42 e4fc0022"),
+    (Whose::Call(2, 5), "arrive 2 43 450545"),
+    (Whose::Call(2, 0), "arrive 2 44 450001"),
+    (Whose::Call(1, 0), "arrive 1 45 fc00b7"),
+    (Whose::Link(2), "reset 2"),
+    (Whose::Call(2, 300), "arrive 2 50 45812c0102"),
+    (Whose::Call(1, 5), "arrive 1 51 e545"),
+    (Whose::Call(1, 1), "arrive 1 52 e1fc0030"),
+    (Whose::Nobody, "reset 9"),
+    (Whose::Call(2, 0), "arrive 2 53 fc0000b1"),
+    (Whose::Nobody, "arrive 2 54 fcc0"),
+];
+
+/// Lines that no identifier of the script bears, and no reset.
+const HOSTILE: [&str; 16] = [
+    "arrive 1 18446744073709551615 e9fc00758f",
+    "arrive 1 0 e9ffff",
+    "arrive 1 0 e9fc00768f",
+    "arrive 1 0 eefc0006de5b386a00",
+    "arrive 1 0 ee45",
+    "arrive 1 0 f00901",
+    "arrive 1 0 f3010203",
+    "arrive 1 0 e1e0",
+    "arrive 2 18446744073709551615 fc812d00e6",
+    "arrive 2 0 fcc0",
+    "arrive 2 0 e1fc",
+    "arrive 2 0 4580060000",
+    "arrive 1 0 -",
+    "arrive 9 0 10ac",
+    "1 0 ip 45aa",
+    "arrive 1 0 FC",
+];
+
+/// How many of them stand between two lines, so that they are 10,000 in all.
+const BETWEEN: usize = 10_000 / LINES.len() + 1;
+
+/// A script of the lines that are wanted, with so many hostile lines behind each.
+fn script(
+    alloc: Global,
+    wanted: impl Fn(Whose) -> bool,
+    hostile: usize,
+) -> Result<String, AllocError> {
+    let mut text = String::new(alloc);
+    let mut noise = HOSTILE.iter().cycle();
+    for (whose, line) in LINES {
+        if !wanted(whose) {
+            continue;
+        }
+        if line == LONG {
+            for _ in 0..131_201u32 {
+                text.push_str("x")?;
+            }
+        } else {
+            text.push_str(line)?;
+        }
+        text.push_str("\n")?;
+        for line in noise.by_ref().take(hostile) {
+            text.push_str(line)?;
+            text.push_str("\n")?;
+        }
+    }
+    Ok(text)
+}
+
+/// What a replay of the script writes.
+fn answers(alloc: Global, script: &str) -> Result<String, Fail> {
+    let mut writer = willing(alloc);
+    replayed(alloc, &mut steady(script.as_bytes(), 4096), &mut writer)??;
+    Ok(String::from_utf8(writer.text)?)
+}
+
+/// The lines of a text that begin with the link and the identifier.
+fn lines_of_pair(alloc: Global, text: &str, link: u16, cid: u16) -> Result<String, AllocError> {
+    let begin = format!(in alloc; "{link} {cid} ")?;
+    let mut lines = String::new(alloc);
+    for line in text.lines() {
+        if line.starts_with(begin.as_str()) {
+            lines.push_str(line)?;
+            lines.push_str("\n")?;
+        }
+    }
+    Ok(lines)
+}
+
+#[test]
+fn each_pair_is_told_what_its_own_script_tells(rt: HostRuntime) -> Result<(), Fail> {
+    let alloc = rt.alloc();
+    let whole = answers(alloc, script(alloc, |_| true, 0)?.as_str())?;
+    for (link, cid) in PAIRS {
+        let own = |whose| whose == Whose::Call(link, cid) || whose == Whose::Link(link);
+        let alone = answers(alloc, script(alloc, own, 0)?.as_str())?;
+        let told = lines_of_pair(alloc, whole.as_str(), link, cid)?;
+        let expected = lines_of_pair(alloc, alone.as_str(), link, cid)?;
+        assert!(rt; !expected.is_empty(), "of {link} {cid}");
+        assert_eq!(rt; told.as_str(), expected.as_str(), "of {link} {cid}");
+    }
+    let first = lines_of_pair(alloc, whole.as_str(), 1, 0)?;
+    assert_eq!(rt;
+        first.as_str(),
+        "1 0 ip 45aa\n1 0 feedback f100\n1 0 ip 45ab\n1 0 refused Check\n1 0 refused NoContext\n1 0 stored\n1 0 feedback f100\n"
+    );
+    Ok(())
+}
+
+#[test]
+fn ten_thousand_hostile_lines_change_nothing(rt: HostRuntime) -> Result<(), Fail> {
+    let alloc = rt.alloc();
+    let quiet = answers(alloc, script(alloc, |_| true, 0)?.as_str())?;
+    let noisy = answers(alloc, script(alloc, |_| true, BETWEEN)?.as_str())?;
+    assert!(rt; noisy.lines().count() > 10_000);
+    for (link, cid) in PAIRS {
+        let told = lines_of_pair(alloc, noisy.as_str(), link, cid)?;
+        let expected = lines_of_pair(alloc, quiet.as_str(), link, cid)?;
+        assert_eq!(rt; told.as_str(), expected.as_str(), "of {link} {cid}");
+    }
+    Ok(())
+}
