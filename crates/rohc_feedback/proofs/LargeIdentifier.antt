@@ -1,5 +1,6 @@
-use Rattle.std.proofs.Common.{◌≡◌, ℕ, ◌+◌, ◌/◌, ◌%◌, ◌<◌, ◌≤◌, true, false, List, [], ◌∷◌, length, refl, ⊎_elim, arith}
-use Rattle.std.specs.Prelude.{Option, Some, IfSome, nat_lt}
+use Rattle.std.proofs.Common.{◌≡◌, ℕ, ◌+◌, ◌-◌, ◌/◌, ◌%◌, ◌<◌, ◌≤◌, true, false, List, [], ◌∷◌, ◌++◌, length, take, drop, take_all, refl, sym, ap, ◌∙◌, length-drop, ⊎_elim, arith}
+use Rattle.std.proofs.Math.Seq.{drop-append_seam}
+use Rattle.std.specs.Prelude.{Option, Some, None, IfSome, nat_lt}
 use Rattle.arrayvec.specs.ArrayVec.{ArrayVec}
 use Rattle.std.proofs.lemmas.Bool.Decides.{nat_tests}
 use Rattle.std.proofs.lemmas.Bool.{cases_lt}
@@ -63,3 +64,42 @@ written_octets written text value cid is same fits spelled shortest =
 
 pub identifier_length : (cid : ℕ) → length (identifier_octets Large cid) ≤ 2
 identifier_length cid = grind (arith, nat_tests)
+
+-- the definition's octets spell the identifier
+pub spelled_identifier : (cid : ℕ) → cid ≤ 16383 → IsSpelled (identifier_octets Large cid) cid
+spelled_identifier cid fits = ⊎_elim
+    (λ (low : cid < 128).
+    let test : nat_lt cid 128 ≡ true = grind (arith, nat_tests) in
+    rw test (one_octet cid low))
+    (λ (high : 128 ≤ cid).
+    let test : nat_lt cid 128 ≡ false = grind (arith, nat_tests) in
+    rw test (two_octets cid high fits))
+    (cases_lt cid 128)
+
+-- what is read where the octets of an identifier stand in front of feedback
+abbrev ReadsFront : Option (ℕ × ℕ) → List ℕ → Type 0
+ReadsFront read octets = (text rest : List ℕ) (value : ℕ) → octets ≡ text ++ rest → IsSpelled text value → read ≡ Some (value, length text)
+
+-- it isn't none
+pub read_some : (read : Option (ℕ × ℕ)) (octets feedback : List ℕ) (cid : ℕ) → ReadsFront read octets → cid ≤ 16383 → octets ≡ identifier_octets Large cid ++ feedback → read ≡ None → ⊥
+read_some read octets feedback cid every fits is none =
+    let front : read ≡ Some (cid, length (identifier_octets Large cid)) = every (identifier_octets Large cid) feedback cid is (spelled_identifier cid fits) in
+    cc
+
+behind_front : (octets identifier feedback : List ℕ) (count : ℕ) → octets ≡ identifier ++ feedback → count ≡ length identifier → take (length octets - count) (drop count octets) ≡ feedback
+behind_front octets identifier feedback count is counted =
+    let behind : drop count octets ≡ feedback = rw (counted, is) (drop-append_seam identifier feedback) in
+    let left : length feedback ≡ length octets - count = sym (ap length behind) ∙ length-drop count octets in
+    rw behind (take_all (length octets - count) feedback (omega arith))
+
+-- it is the identifier, and the feedback stands behind
+pub read_identifier : (read : Option (ℕ × ℕ)) (octets feedback : List ℕ) (cid value count : ℕ) → ReadsFront read octets → cid ≤ 16383 → octets ≡ identifier_octets Large cid ++ feedback → read ≡ Some (value, count)
+    → ◌≡◌ {A = Option (ℕ × List ℕ)} (Some (value, take (length octets - count) (drop count octets))) (Some (cid, feedback))
+read_identifier read octets feedback cid value count every fits is some =
+    let identifier : List ℕ = identifier_octets Large cid in
+    let front : read ≡ Some (cid, length identifier) = every identifier feedback cid is (spelled_identifier cid fits) in
+    let same : ◌≡◌ {A = ℕ × ℕ} (value, count) (cid, length identifier) = cc in
+    let number : value ≡ cid = ap (λ (p : ℕ × ℕ). p.0) same in
+    let counted : count ≡ length identifier = ap (λ (p : ℕ × ℕ). p.1) same in
+    let behind = behind_front octets identifier feedback count is counted in
+    cc

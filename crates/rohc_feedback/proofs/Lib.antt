@@ -1,1 +1,5 @@
+pub mod Checked
 pub mod LargeIdentifier
+pub mod Parts
+pub mod Uniqueness
+pub mod Written

@@ -1,11 +1,16 @@
-use Rattle.std.specs.Prelude.{ℕ, ◌+◌, ◌/◌, ◌%◌, List, [], ◌∷◌, ◌++◌, Option, Some, None, length, ◌==◌, nat_lt, if◌then◌else◌}
+use Rattle.std.specs.Prelude.{◌≡◌, ℕ, ◌+◌, ◌*◌, ◌/◌, ◌%◌, ◌<◌, ◌≤◌, List, [], ◌∷◌, ◌++◌, Option, Some, None, length, ◌==◌, nat_lt, if◌then◌else◌}
 use Rattle.arrayvec.specs.ArrayVec.{ArrayVec}
+use Rattle.rohc_checks.specs.Division.{check, poly8}
 use Rattle.rohc_frame.specs.declared.header.CidKind.{CidKind}
 use Rattle.rohc_frame.specs.declared.header.CidKind.TheVariants.{Small, Large}
+use Rattle.rohc_frame.specs.Header.{greatest_cid}
+use Rattle.rohc_feedback.specs.declared.meaning.Word.{Word}
+use Rattle.rohc_feedback.specs.declared.meaning.Word.TheVariants.{Ack, Nack, StaticNack, Plain}
+use Rattle.rohc_feedback.specs.declared.meaning.Reading.{Reading}
 
 -- a feedback element: the type octet, whose low three bits are the size of the data, and the data (RFC 5795 5.3.1.4)
 abbrev pub element_octets : List ℕ → List ℕ
-element_octets feedback = (240 + length feedback) ∷ feedback
+element_octets octets = (240 + length octets) ∷ octets
 
 -- The identifier's octets in front of feedback (RFC 5795 5.3.1.1): on a small link none for 0, else the
 -- Add-CID octet; on a large one the shortest spelling, one octet below 128 and two from there on.
@@ -13,9 +18,69 @@ abbrev pub identifier_octets : CidKind → ℕ → List ℕ
 identifier_octets Small cid = if cid == 0 then [] else (224 + cid) ∷ []
 identifier_octets Large cid = if nat_lt cid 128 then cid ∷ [] else (128 + cid / 256) ∷ (cid % 256) ∷ []
 
--- FEEDBACK-1 with octet 00 (RFC 3095 5.7.6)
-unfoldable pub plain_ack_octets : CidKind → ℕ → List ℕ
-plain_ack_octets size cid = element_octets (identifier_octets size cid ++ 0 ∷ [])
+-- What an element says: an identifier, a word, and a sequence number (SN) or none.
+abbrev pub meaning : ℕ → Word → Option ℕ → Reading
+meaning cid word sn = record { cid = cid; word = word; sn = sn }
+
+-- Which numbers go with a word: one of 12 bits with an ACK, one or none with a NACK, none with the others.
+abbrev pub GoesWith : Word → Option ℕ → Type 0
+GoesWith Ack (Some sn) = sn < 4096
+GoesWith Ack None = ⊥
+GoesWith Nack (Some sn) = sn < 4096
+GoesWith Nack None = Unit {0}
+GoesWith StaticNack sn = sn ≡ None
+GoesWith Plain sn = sn ≡ None
+
+-- What an element of the link can say: the identifier is at most the link's greatest, and the number goes
+-- with the word.
+pub record IsMeaning (size : CidKind) (m : Reading) : Type 0 where
+  pub within : m.cid ≤ greatest_cid size
+  pub number : GoesWith m.word m.sn
+
+-- FEEDBACK-2: two bits of Acktype, two of Mode, which is 2, twelve of SN, then the options (RFC 3095 5.7.6.1).
+abbrev pub feedback_2 : ℕ → ℕ → List ℕ → List ℕ
+feedback_2 acktype sn options = (acktype * 64 + 2 * 16 + sn / 256) ∷ (sn % 256) ∷ options
+
+-- The CRC option, octet 11 and the check, stands last. Without a number SN is 0, and the option
+-- SN-NOT-VALID, octet 30, says so (RFC 3095 5.7.6.3, 5.7.6.5).
+abbrev pub acknowledgement : ℕ → Option ℕ → ℕ → List ℕ
+acknowledgement acktype (Some sn) crc = feedback_2 acktype sn (17 ∷ crc ∷ [])
+acknowledgement acktype None crc = feedback_2 acktype 0 (48 ∷ 17 ∷ crc ∷ [])
+
+-- The feedback for a word, with this check octet: FEEDBACK-2 of Acktype 0, 1 or 2, or FEEDBACK-1, octet 00,
+-- which has no check (RFC 3095 5.7.6.1).
+abbrev pub feedback_octets : Word → Option ℕ → ℕ → List ℕ
+feedback_octets Ack sn crc = acknowledgement 0 sn crc
+feedback_octets Nack sn crc = acknowledgement 1 sn crc
+feedback_octets StaticNack sn crc = acknowledgement 2 sn crc
+feedback_octets Plain sn crc = 0 ∷ []
+
+-- The 8-bit check, begun from all ones, over the identifier's octets and the feedback, in which the check
+-- octet itself stands as 00 (RFC 3095 5.7.6.3, 5.9.1).
+abbrev pub feedback_check : List ℕ → Word → Option ℕ → ℕ
+feedback_check identifier word sn = check poly8 255 (identifier ++ feedback_octets word sn 0)
+
+-- an element's data: the identifier's octets, then the feedback with its check
+abbrev pub data_octets : List ℕ → Word → Option ℕ → List ℕ
+data_octets identifier word sn = identifier ++ feedback_octets word sn (feedback_check identifier word sn)
+
+-- the element of a link that says this
+unfoldable pub octets_of_meaning : CidKind → Reading → List ℕ
+octets_of_meaning size m = element_octets (data_octets (identifier_octets size m.cid) m.word m.sn)
+
+-- The four elements. Of a number the low 12 bits are told.
+abbrev pub ack_octets : CidKind → ℕ → ℕ → List ℕ
+ack_octets size cid sn = octets_of_meaning size (meaning cid Ack (Some (sn % 4096)))
+
+abbrev pub nack_octets : CidKind → ℕ → Option ℕ → List ℕ
+nack_octets size cid None = octets_of_meaning size (meaning cid Nack None)
+nack_octets size cid (Some sn) = octets_of_meaning size (meaning cid Nack (Some (sn % 4096)))
+
+abbrev pub static_nack_octets : CidKind → ℕ → List ℕ
+static_nack_octets size cid = octets_of_meaning size (meaning cid StaticNack None)
+
+abbrev pub plain_ack_octets : CidKind → ℕ → List ℕ
+plain_ack_octets size cid = octets_of_meaning size (meaning cid Plain None)
 
 -- an element's octets, where there is one
 abbrev pub octets_of : Option (ArrayVec ℕ) → Option (List ℕ)

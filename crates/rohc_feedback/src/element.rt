@@ -1,38 +1,181 @@
 //! Whole feedback elements: a type octet and the feedback data.
 
-ghost use Rattle.std.specs.Prelude.{◌≡◌, ◌≤◌, ◌++◌, length};
+ghost use Rattle.std.specs.Prelude.{◌≡◌, ◌+◌, ◌<◌, ◌≤◌, [], ◌∷◌, ◌++◌, length};
+ghost use Rattle.std.specs.Option.{ForSome};
+ghost use Rattle.arrayvec.specs.ArrayVec.{array_vec_len};
+ghost use Rattle.rohc_checks.specs.Division.{check, poly8};
 ghost use Rattle.rohc_frame.specs.Header.{greatest_cid};
-ghost use Rattle.rohc_feedback.specs.Element.{element_octets, identifier_octets, plain_ack_octets};
+ghost use Rattle.rohc_feedback.specs.Element.{IsMeaning, acknowledgement, ack_octets, element_octets, feedback_2, identifier_octets, nack_octets, octets_of_meaning, plain_ack_octets, static_nack_octets};
 
+use crate::meaning::{Reading, Word};
 use arrayvec::ArrayVec;
 use rohc_bits::write_value;
+use rohc_checks::crc8;
 use rohc_frame::CidKind;
 
 /// A feedback element: its type octet and at most seven octets of data.
 pub type Element = ArrayVec<u8, 8>;
 
-/// The element that carries FEEDBACK-1 with octet 00: a context of profile 0x0000 was made or renewed.
+/// The data of an element: the identifier's octets and the feedback.
+type Data = ArrayVec<u8, 7>;
+
+/// Mode O, in which this feedback is sent.
+const MODE: u8 = 2;
+
+/// The option that says that the number means nothing (RFC 3095 5.7.6.5).
+pub(crate) const SN_NOT_VALID: u8 = 0x30;
+
+/// The first octet of the CRC option, whose second is the check (RFC 3095 5.7.6.3).
+pub(crate) const CRC_OPTION: u8 = 0x11;
+
+/// The register that the check begins from (RFC 3095 5.9.1).
+const ALL_ONES: u8 = 0xff;
+
+/// FEEDBACK-1 of profile 0x0000.
+pub(crate) const PLAIN: u8 = 0x00;
+
+/// The element that acknowledges a packet with this sequence number, of which it tells the low 12 bits:
+/// FEEDBACK-2 of Acktype 0 (RFC 3095 5.7.6.1).
 ///
 /// The identifier is at most 15 on a small link and 16,383 on a large one.
-#[tactic(auto, unfolding(crate::specs::Element::plain_ack_octets))]
+pub fn ack(size: CidKind, cid: u16, sn: u16) -> Element
+    requires { cid ≤ greatest_cid size }
+    ensures { result.items ≡ ack_octets size cid sn }
+{
+    write(
+        size,
+        Reading {
+            cid,
+            word: Word::Ack,
+            sn: Some(sn % 4096),
+        },
+    )
+}
+
+/// The element that asks for a refresh of the context's dynamic part, and tells the low 12 bits of the
+/// last sequence number if there is one: FEEDBACK-2 of Acktype 1 (RFC 3095 5.7.6.1).
+///
+/// The identifier is at most 15 on a small link and 16,383 on a large one.
+pub fn nack(size: CidKind, cid: u16, sn: Option<u16>) -> Element
+    requires { cid ≤ greatest_cid size }
+    ensures { result.items ≡ nack_octets size cid sn }
+{
+    write(
+        size,
+        Reading {
+            cid,
+            word: Word::Nack,
+            sn: sn.map(|sn| sn % 4096),
+        },
+    )
+}
+
+/// The element that asks for a refresh of the whole context: FEEDBACK-2 of Acktype 2, without a sequence
+/// number (RFC 3095 5.7.6.1).
+///
+/// The identifier is at most 15 on a small link and 16,383 on a large one.
+pub fn static_nack(size: CidKind, cid: u16) -> Element
+    requires { cid ≤ greatest_cid size }
+    ensures { result.items ≡ static_nack_octets size cid }
+{
+    write(
+        size,
+        Reading {
+            cid,
+            word: Word::StaticNack,
+            sn: None,
+        },
+    )
+}
+
+/// The element that carries FEEDBACK-1 with octet 00: a context of profile 0x0000 was made or renewed
+/// (RFC 3095 5.7.6.1).
+///
+/// The identifier is at most 15 on a small link and 16,383 on a large one.
 pub fn plain_ack(size: CidKind, cid: u16) -> Element
     requires { cid ≤ greatest_cid size }
     ensures { result.items ≡ plain_ack_octets size cid }
 {
-    element(size, cid, &[0x00])
+    write(
+        size,
+        Reading {
+            cid,
+            word: Word::Plain,
+            sn: None,
+        },
+    )
 }
 
-/// The element with this feedback behind the identifier's octets.
-fn element(size: CidKind, cid: u16, feedback: &[u8]) -> Element
-    requires cid { cid ≤ greatest_cid size }
-    requires short { length feedback.now ≤ 5 }
-    ensures { result.items ≡ element_octets (identifier_octets size cid ++ feedback.now) }
+/// The element that says this.
+#[tactic(auto, unfolding(crate::specs::Element::octets_of_meaning))]
+pub(crate) fn write(size: CidKind, reading: Reading) -> Element
+    requires { IsMeaning size reading }
+    ensures { result.items ≡ octets_of_meaning size reading }
 {
-    let identifier = identifier(size, cid);
+    let mut data = Data::new();
+    data.try_extend_from_slice(&identifier(size, reading.cid))
+        .unwrap();
+    match reading.word {
+        Word::Ack => push_acknowledgement(&mut data, 0, reading.sn),
+        Word::Nack => push_acknowledgement(&mut data, 1, reading.sn),
+        Word::StaticNack => push_acknowledgement(&mut data, 2, reading.sn),
+        Word::Plain => data.push(PLAIN),
+    }
+    element(&data)
+}
+
+/// Appends FEEDBACK-2 to the identifier's octets, with the check of both as its last octet.
+fn push_acknowledgement(octets: &mut Data, acktype: u8, sn: Option<u16>)
+    requires room { array_vec_len octets.old ≤ 2 }
+    requires acktype { acktype < 4 }
+    requires number { ForSome sn (λ sn. sn < 4096) }
+    ensures items { octets.new.items ≡ octets.old.items
+        ++ acknowledgement acktype sn (check poly8 255 (octets.old.items ++ acknowledgement acktype sn 0)) }
+    ensures len { array_vec_len octets.new ≤ 7 }
+{
+    match sn {
+        Some(sn) => push_fields(octets, acktype, sn),
+        None => {
+            push_fields(octets, acktype, 0);
+            octets.push(SN_NOT_VALID);
+        }
+    }
+    push_check(octets);
+}
+
+/// Appends the Acktype, the Mode and the number.
+fn push_fields(octets: &mut Data, acktype: u8, sn: u16)
+    requires room { array_vec_len octets.old ≤ 2 }
+    requires acktype { acktype < 4 }
+    requires number { sn < 4096 }
+    ensures items { octets.new.items ≡ octets.old.items ++ feedback_2 acktype sn [] }
+    ensures len { array_vec_len octets.new ≡ array_vec_len octets.old + 2 }
+{
+    let [high, low] = sn.to_be_bytes();
+    octets.push((acktype << 6) + (MODE << 4) + high);
+    octets.push(low);
+}
+
+/// Appends the CRC option: its check covers what stands before it, its first octet, and 00 for itself.
+fn push_check(octets: &mut Data)
+    requires { array_vec_len octets.old ≤ 5 }
+    ensures items { octets.new.items ≡ octets.old.items
+        ++ 17 ∷ check poly8 255 (octets.old.items ++ 17 ∷ 0 ∷ []) ∷ [] }
+    ensures len { array_vec_len octets.new ≡ array_vec_len octets.old + 2 }
+{
+    octets.push(CRC_OPTION);
+    let check = crc8(crc8(ALL_ONES, octets), &[0x00]);
+    octets.push(check);
+}
+
+/// The element with this data.
+fn element(octets: &[u8]) -> Element
+    requires { length octets.now ≤ 7 }
+    ensures { result.items ≡ element_octets octets.now }
+{
     let mut element = Element::new();
-    element.push(0xf0 + (identifier.len() + feedback.len()) as u8);
-    element.try_extend_from_slice(&identifier).unwrap();
-    element.try_extend_from_slice(feedback).unwrap();
+    element.push(0xf0 + octets.len() as u8);
+    element.try_extend_from_slice(octets).unwrap();
     element
 }
 
@@ -50,23 +193,5 @@ fn identifier(size: CidKind, cid: u16) -> ArrayVec<u8, 4>
             octets
         }
         CidKind::Large => write_value(u32::from(cid)).unwrap(),
-    }
-}
-
-#[cfg(test)]
-mod tests {
-    use super::*;
-
-    #[test]
-    fn plain_calls_are_acknowledged(rt: HostRuntime) {
-        let elements: [(CidKind, u16, &[u8]); 4] = [
-            (CidKind::Small, 0, &[0xf1, 0x00]),
-            (CidKind::Small, 1, &[0xf2, 0xe1, 0x00]),
-            (CidKind::Large, 0, &[0xf2, 0x00, 0x00]),
-            (CidKind::Large, 300, &[0xf3, 0x81, 0x2c, 0x00]),
-        ];
-        for (size, cid, octets) in elements {
-            assert_eq!(rt; plain_ack(size, cid).as_slice(), octets);
-        }
     }
 }

@@ -1,6 +1,16 @@
-//! Feedback for the compressor (RFC 3095 5.7.6, RFC 5795 5.3.1.4).
+//! Feedback for the compressor, written and read (RFC 3095 5.7.6, RFC 5795 5.3.1.4).
+//!
+//! Nothing allocates.
 #![tactic(auto)]
 
 pub mod element;
+pub mod laws;
+pub mod meaning;
+mod reader;
 
-pub use element::{Element, plain_ack};
+pub use element::{Element, ack, nack, plain_ack, static_nack};
+pub use meaning::{Reading, Word};
+pub use reader::read;
+
+#[cfg(test)]
+mod tests;

@@ -17,7 +17,8 @@ pub(crate) fn answer(alloc: Global, columns: &[&str]) -> Result<String, NoAnswer
     }
 }
 
-fn cid_kind(name: &str) -> Result<CidKind, NoAnswer> {
+/// How a link spells identifiers.
+pub(crate) fn cid_kind(name: &str) -> Result<CidKind, NoAnswer> {
     match name {
         "small" => Ok(CidKind::Small),
         "large" => Ok(CidKind::Large),

@@ -5,6 +5,7 @@
 #![tactic(auto)]
 
 mod checks;
+mod feedback;
 mod fields;
 mod framing;
 mod text;
@@ -21,6 +22,7 @@ enum Table {
     Values,
     Framing,
     Fields,
+    Feedback,
 }
 
 impl Table {
@@ -31,6 +33,7 @@ impl Table {
             "# values" => Some(Table::Values),
             "# framing" => Some(Table::Framing),
             "# fields" => Some(Table::Fields),
+            "# feedback" => Some(Table::Feedback),
             _ => None,
         }
     }
@@ -43,6 +46,7 @@ impl Table {
             Table::Values => values::answer(alloc, &columns),
             Table::Framing => framing::answer(alloc, &columns),
             Table::Fields => fields::answer(alloc, &columns),
+            Table::Feedback => feedback::answer(alloc, &columns),
         }
     }
 }

@@ -1,0 +1,13 @@
+//! Laws of the definitions, as contracts of functions that do nothing.
+
+ghost use Rattle.rohc_feedback.specs.Laws.{MeaningsDiffer, MeaningsAreWritten};
+
+/// Two meanings never have the same octets on one link.
+pub fn one_meaning()
+    ensures { MeaningsDiffer }
+{}
+
+/// The texts that have a meaning are those that the four calls write.
+pub fn all_written()
+    ensures { MeaningsAreWritten }
+{}

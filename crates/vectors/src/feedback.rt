@@ -1,0 +1,92 @@
+//! Feedback elements, written and read.
+
+ghost use Rattle.std.specs.Prelude.{◌≡◌};
+ghost use Rattle.rohc_frame.specs.Header as frame;
+
+use crate::framing::cid_kind;
+use crate::text::{NoAnswer, read_octets, spell};
+use rohc_feedback::{Element, Reading, Word, ack, nack, plain_ack, read, static_nack};
+use rohc_frame::CidKind;
+use std::alloc::{AllocError, Global};
+use std::str::SplitWhitespace;
+
+/// The columns are how the link spells identifiers, and a call with its arguments: an identifier and
+/// perhaps a sequence number, or for `read` an element.
+pub(crate) fn answer(alloc: Global, columns: &[&str]) -> Result<String, NoAnswer> {
+    let [kind, call] = *columns else {
+        return Err(NoAnswer::Unreadable);
+    };
+    let size = cid_kind(kind)?;
+    let mut words = call.split_whitespace();
+    let name = next(&mut words)?;
+    if name == "read" {
+        let text = read_octets(alloc, next(&mut words)?)?;
+        return Ok(meaning(alloc, read(size, &text))?);
+    }
+    let element = element(size, name, &mut words)?;
+    Ok(spell(alloc, &element)?)
+}
+
+/// The next word of a call, which has to be there.
+fn next<'a>(words: &mut SplitWhitespace<'a>) -> Result<&'a str, NoAnswer> {
+    words.next().ok_or(NoAnswer::Unreadable)
+}
+
+/// The element that a call of this name writes.
+fn element(
+    size: CidKind,
+    name: &str,
+    words: &mut SplitWhitespace<'_>,
+) -> Result<Element, NoAnswer> {
+    let cid: u16 = next(words)?.parse()?;
+    if cid > greatest_cid(size) {
+        return Err(NoAnswer::OutsideConditions);
+    }
+    match name {
+        "ack" => Ok(ack(size, cid, next(words)?.parse()?)),
+        "nack" => Ok(nack(size, cid, number(next(words)?)?)),
+        "static_nack" => Ok(static_nack(size, cid)),
+        "plain_ack" => Ok(plain_ack(size, cid)),
+        _ => Err(NoAnswer::Unreadable),
+    }
+}
+
+/// The greatest identifier of a link.
+fn greatest_cid(size: CidKind) -> u16
+    ensures { result ≡ frame.greatest_cid size }
+{
+    match size {
+        CidKind::Small => 15,
+        CidKind::Large => 16_383,
+    }
+}
+
+/// A sequence number, or `-` for none.
+fn number(text: &str) -> Result<Option<u16>, NoAnswer> {
+    match text {
+        "-" => Ok(None),
+        number => Ok(Some(number.parse()?)),
+    }
+}
+
+/// The identifier, the word and the number of what was read, or `none`.
+fn meaning(alloc: Global, reading: Option<Reading>) -> Result<String, AllocError> {
+    let Some(Reading { cid, word, sn }) = reading else {
+        return String::from_str(alloc, "none");
+    };
+    let word = word_name(word);
+    match sn {
+        Some(sn) => format!(in alloc; "{cid} {word} {sn}"),
+        None => format!(in alloc; "{cid} {word} -"),
+    }
+}
+
+/// The name of a word.
+fn word_name(word: Word) -> &'static str {
+    match word {
+        Word::Ack => "Ack",
+        Word::Nack => "Nack",
+        Word::StaticNack => "StaticNack",
+        Word::Plain => "Plain",
+    }
+}
