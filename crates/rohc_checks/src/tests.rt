@@ -5,6 +5,13 @@ use std::test::Fail;
 
 const DIGITS: &[u8] = b"123456789";
 
+// The coefficients of each polynomial below its highest power, from the next one down.
+const LOWER3: &[bool] = &[false, true, true];
+
+const LOWER7: &[bool] = &[true, false, false, true, true, true, true];
+
+const LOWER8: &[bool] = &[false, false, false, false, false, true, true, true];
+
 // The check values of the nine digits, begun from all ones.
 #[test]
 fn check_values(rt: HostRuntime) {
@@ -31,10 +38,7 @@ fn three_bits(rt: HostRuntime) -> Result<(), Fail> {
     ];
     for (reg, octets, check) in cases {
         assert_eq!(rt; crc3(reg, octets), check);
-        assert_eq!(rt;
-            by_division(rt.alloc(), &[false, true, true], reg, octets)?,
-            check
-        );
+        assert_eq!(rt; by_division(rt.alloc(), LOWER3, reg, octets)?, check);
     }
     Ok(())
 }
@@ -61,15 +65,7 @@ fn seven_bits(rt: HostRuntime) -> Result<(), Fail> {
     ];
     for (reg, octets, check) in cases {
         assert_eq!(rt; crc7(reg, octets), check);
-        assert_eq!(rt;
-            by_division(
-                rt.alloc(),
-                &[true, false, false, true, true, true, true],
-                reg,
-                octets
-            )?,
-            check
-        );
+        assert_eq!(rt; by_division(rt.alloc(), LOWER7, reg, octets)?, check);
     }
     Ok(())
 }
@@ -98,15 +94,23 @@ fn eight_bits(rt: HostRuntime) -> Result<(), Fail> {
     ];
     for (reg, octets, check) in cases {
         assert_eq!(rt; crc8(reg, octets), check);
-        assert_eq!(rt;
-            by_division(
-                rt.alloc(),
-                &[false, false, false, false, false, true, true, true],
-                reg,
-                octets
-            )?,
-            check
-        );
+        assert_eq!(rt; by_division(rt.alloc(), LOWER8, reg, octets)?, check);
+    }
+    Ok(())
+}
+
+// Each octet alone, from each register.
+#[test]
+fn each_octet(rt: HostRuntime) -> Result<(), Fail> {
+    for octet in 0..=u8::MAX {
+        for reg in 0..=u8::MAX {
+            let check3 = by_division(rt.alloc(), LOWER3, reg, &[octet])?;
+            assert_eq!(rt; crc3(reg, &[octet]), check3);
+            let check7 = by_division(rt.alloc(), LOWER7, reg, &[octet])?;
+            assert_eq!(rt; crc7(reg, &[octet]), check7);
+            let check8 = by_division(rt.alloc(), LOWER8, reg, &[octet])?;
+            assert_eq!(rt; crc8(reg, &[octet]), check8);
+        }
     }
     Ok(())
 }

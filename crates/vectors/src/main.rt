@@ -8,6 +8,7 @@ mod checks;
 mod feedback;
 mod fields;
 mod framing;
+mod headers;
 mod text;
 mod values;
 
@@ -23,6 +24,7 @@ enum Table {
     Framing,
     Fields,
     Feedback,
+    Headers,
 }
 
 impl Table {
@@ -34,6 +36,7 @@ impl Table {
             "# framing" => Some(Table::Framing),
             "# fields" => Some(Table::Fields),
             "# feedback" => Some(Table::Feedback),
+            "# headers" => Some(Table::Headers),
             _ => None,
         }
     }
@@ -47,6 +50,7 @@ impl Table {
             Table::Framing => framing::answer(alloc, &columns),
             Table::Fields => fields::answer(alloc, &columns),
             Table::Feedback => feedback::answer(alloc, &columns),
+            Table::Headers => headers::answer(alloc, &columns),
         }
     }
 }

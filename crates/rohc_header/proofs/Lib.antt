@@ -1,0 +1,5 @@
+pub mod InARow
+pub mod Split
+pub mod SevenOctets
+pub mod Checks
+pub mod StaticFields

@@ -1,0 +1,12 @@
+use Rattle.std.proofs.Common.{◌<◌, ◌≡◌, ℕ, length, get_or, rules}
+use Rattle.rohc_checks.specs.Division.{poly7}
+use Rattle.rohc_header.proofs.SevenOctets.{period7}
+use Rattle.rohc_header.proofs.Checks.{dynamic_parted}
+use Rattle.rohc_header.proofs.header.Header.check7_from.Goals as goal
+
+pub returns : goal.returns
+returns c =
+    let octets = c.args.self.now.octets in
+    let forty : length octets ≡ 40 = search rules in
+    let small : (k : ℕ) → get_or octets k 0 < 256 = search rules in
+    rw (c.crc7.ensures, c.crc7-reg-3.ensures, c.crc7-reg-2.ensures, c.crc7-reg.ensures) (dynamic_parted poly7 c.args.reg octets period7 forty small)

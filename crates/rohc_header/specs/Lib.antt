@@ -1,0 +1,3 @@
+pub mod Original
+pub mod Check
+pub mod Laws

@@ -1,0 +1,109 @@
+//! Whole headers.
+
+ghost use Rattle.std.specs.Prelude.{◌≡◌, ◌<◌, ◌↔◌, IfSome, IsNone};
+ghost use Rattle.rohc_checks.specs.Division.{check, poly3, poly7};
+ghost use Rattle.rohc_header.specs.Original.{IsOriginal};
+ghost use Rattle.rohc_header.specs.Check.{all_ones, header_check, static_octets, dynamic_octets};
+
+use crate::parts::{Octets, put_ip, put_rtp, put_udp};
+use crate::{Dynamic, Static};
+use rohc_checks::{crc3, crc7};
+
+/// The longest payload of a packet: 65,535 octets hold it behind its header.
+const LONGEST_PAYLOAD: usize = 65_495;
+
+/// A whole RTP/UDP/IPv4 header.
+#[derive(Clone, Copy, Debug)]
+pub struct Header {
+    /// Its octets: 20 of IPv4, 8 of UDP, 12 of RTP.
+    pub octets: [u8; 40],
+}
+
+impl Header {
+    /// The header of a packet with these fields and as many octets of payload, or `None` where the
+    /// packet would be over 65,535 octets. The payload type is below 128.
+    pub fn build(fixed: &Static, moving: &Dynamic, payload_len: usize) -> Option<Header>
+        requires { moving.now.payload_type < 128 }
+        ensures header { IfSome result (λ header. IsOriginal fixed.now moving.now payload_len header.octets) }
+        ensures none { IsNone result ↔ (65495 < payload_len) }
+    {
+        if payload_len > LONGEST_PAYLOAD {
+            return None;
+        }
+        let payload_len = payload_len as u16;
+        let mut octets = Octets::new();
+        put_ip(&mut octets, fixed, moving, payload_len);
+        put_udp(&mut octets, fixed, moving, payload_len);
+        put_rtp(&mut octets, fixed, moving);
+        let octets = octets.into_inner().unwrap();
+        Some(Header { octets })
+    }
+
+    /// The 3-bit check of the header (RFC 3095 5.9.2).
+    pub fn check3(&self) -> u8
+        ensures { result ≡ header_check poly3 self.now.octets }
+    {
+        self.check3_from(self.static3())
+    }
+
+    /// The 7-bit check of the header (RFC 3095 5.9.2).
+    pub fn check7(&self) -> u8
+        ensures { result ≡ header_check poly7 self.now.octets }
+    {
+        self.check7_from(self.static7())
+    }
+
+    /// The registers that the static octets leave, of the 3-bit and of the 7-bit check.
+    pub fn registers(&self) -> (u8, u8)
+        ensures three { result.0 ≡ check poly3 (all_ones poly3) (static_octets self.now.octets) }
+        ensures seven { result.1 ≡ check poly7 (all_ones poly7) (static_octets self.now.octets) }
+    {
+        (self.static3(), self.static7())
+    }
+
+    /// The 3-bit check from the register that the static octets left: `check3` from the first of
+    /// `registers`.
+    pub fn check3_from(&self, reg: u8) -> u8
+        ensures { result ≡ check poly3 reg (dynamic_octets self.now.octets) }
+    {
+        let reg = crc3(reg, &self.octets[2..6]);
+        let reg = crc3(reg, &self.octets[10..12]);
+        let reg = crc3(reg, &self.octets[24..28]);
+        // The polynomial divides x^56 + 1: over seven octets a register stays, but for their own check.
+        reg ^ crc3(0x00, &self.octets[29..36])
+    }
+
+    /// The 7-bit check from the register that the static octets left: `check7` from the second of
+    /// `registers`.
+    pub fn check7_from(&self, reg: u8) -> u8
+        ensures { result ≡ check poly7 reg (dynamic_octets self.now.octets) }
+    {
+        let reg = crc7(reg, &self.octets[2..6]);
+        let reg = crc7(reg, &self.octets[10..12]);
+        let reg = crc7(reg, &self.octets[24..28]);
+        // As above: this polynomial divides x^56 + 1 too.
+        reg ^ crc7(0x00, &self.octets[29..36])
+    }
+
+    /// The 3-bit register after the static octets.
+    fn static3(&self) -> u8
+        ensures { result ≡ check poly3 (all_ones poly3) (static_octets self.now.octets) }
+    {
+        let reg = crc3(0x07, &self.octets[0..2]);
+        let reg = crc3(reg, &self.octets[6..10]);
+        let reg = crc3(reg, &self.octets[12..24]);
+        let reg = crc3(reg, &self.octets[28..29]);
+        crc3(reg, &self.octets[36..40])
+    }
+
+    /// The 7-bit register after the static octets.
+    fn static7(&self) -> u8
+        ensures { result ≡ check poly7 (all_ones poly7) (static_octets self.now.octets) }
+    {
+        let reg = crc7(0x7f, &self.octets[0..2]);
+        let reg = crc7(reg, &self.octets[6..10]);
+        let reg = crc7(reg, &self.octets[12..24]);
+        let reg = crc7(reg, &self.octets[28..29]);
+        crc7(reg, &self.octets[36..40])
+    }
+}

@@ -1,0 +1,13 @@
+//! Whole RTP/UDP/IPv4 headers and their checks (RFC 3095 5.9; RFC 791, 768, 3550). Nothing allocates.
+#![tactic(auto)]
+
+pub mod fields;
+pub mod header;
+pub mod laws;
+mod parts;
+
+pub use fields::{Dynamic, Static};
+pub use header::Header;
+
+#[cfg(test)]
+mod tests;

@@ -1,0 +1,103 @@
+//! The parts of a header, each written behind the octets that are there.
+
+ghost use Rattle.std.specs.Prelude.{◌≡◌, ◌+◌, ◌<◌, ◌≤◌, ◌++◌, length};
+ghost use Rattle.rohc_header.specs.Original.{flag as flag_octet, word as word_octets, quad as quad_octets, ip_front, ip_part, ip_sum, addresses, udp_part, rtp_part};
+
+use crate::{Dynamic, Static};
+use arrayvec::ArrayVec;
+use rohc_checks::internet_sum;
+
+/// The octets of a header, as far as they are written.
+pub(crate) type Octets = ArrayVec<u8, 40>;
+
+/// The IPv4 part (RFC 791 3.1).
+pub(crate) fn put_ip(octets: &mut Octets, fixed: &Static, moving: &Dynamic, payload_len: u16)
+    requires room { length octets.old.items + 20 ≤ 40 }
+    requires fits { payload_len ≤ 65495 }
+    ensures { octets.new.items ≡ octets.old.items ++ ip_part fixed.now moving.now payload_len (ip_sum fixed.now moving.now payload_len) }
+{
+    let mut summed = Octets::new();
+    put_ip_front(&mut summed, moving, payload_len);
+    put_addresses(&mut summed, fixed);
+    put_ip_front(octets, moving, payload_len);
+    put_word(octets, internet_sum(&summed));
+    put_addresses(octets, fixed);
+}
+
+/// The IPv4 part up to its checksum.
+fn put_ip_front(octets: &mut Octets, moving: &Dynamic, payload_len: u16)
+    requires room { length octets.old.items + 10 ≤ 40 }
+    requires fits { payload_len ≤ 65495 }
+    ensures { octets.new.items ≡ octets.old.items ++ ip_front moving.now payload_len }
+{
+    octets.push(0x45);
+    octets.push(moving.tos);
+    put_word(octets, 40 + payload_len);
+    put_word(octets, moving.id);
+    octets.push(flag(moving.df, 0x40));
+    octets.push(0x00);
+    octets.push(moving.ttl);
+    octets.push(17);
+}
+
+/// The addresses behind the checksum of the IPv4 part.
+fn put_addresses(octets: &mut Octets, fixed: &Static)
+    requires { length octets.old.items + 8 ≤ 40 }
+    ensures { octets.new.items ≡ octets.old.items ++ addresses fixed.now }
+{
+    put(octets, &fixed.source);
+    put(octets, &fixed.destination);
+}
+
+/// The UDP part (RFC 768).
+pub(crate) fn put_udp(octets: &mut Octets, fixed: &Static, moving: &Dynamic, payload_len: u16)
+    requires room { length octets.old.items + 8 ≤ 40 }
+    requires fits { payload_len ≤ 65495 }
+    ensures { octets.new.items ≡ octets.old.items ++ udp_part fixed.now moving.now payload_len }
+{
+    put_word(octets, fixed.source_port);
+    put_word(octets, fixed.destination_port);
+    put_word(octets, 20 + payload_len);
+    put_word(octets, moving.udp_sum);
+}
+
+/// The RTP part (RFC 3550 5.1).
+pub(crate) fn put_rtp(octets: &mut Octets, fixed: &Static, moving: &Dynamic)
+    requires room { length octets.old.items + 12 ≤ 40 }
+    requires narrow { moving.now.payload_type < 128 }
+    ensures { octets.new.items ≡ octets.old.items ++ rtp_part fixed.now moving.now }
+{
+    octets.push(0x80 + flag(moving.padding, 0x20) + flag(moving.extension, 0x10));
+    octets.push(flag(moving.marker, 0x80) + moving.payload_type);
+    put_word(octets, moving.sn);
+    put_quad(octets, moving.ts);
+    put_quad(octets, fixed.ssrc);
+}
+
+/// A flag as the bit of this value.
+fn flag(set: bool, value: u8) -> u8
+    ensures { result ≡ flag_octet set value }
+{
+    if set { value } else { 0x00 }
+}
+
+fn put_word(octets: &mut Octets, word: u16)
+    requires { length octets.old.items + 2 ≤ 40 }
+    ensures { octets.new.items ≡ octets.old.items ++ word_octets word }
+{
+    put(octets, &word.to_be_bytes());
+}
+
+fn put_quad(octets: &mut Octets, quad: u32)
+    requires { length octets.old.items + 4 ≤ 40 }
+    ensures { octets.new.items ≡ octets.old.items ++ quad_octets quad }
+{
+    put(octets, &quad.to_be_bytes());
+}
+
+fn put(octets: &mut Octets, more: &[u8])
+    requires { length octets.old.items + length more.now ≤ 40 }
+    ensures { octets.new.items ≡ octets.old.items ++ more.now }
+{
+    octets.try_extend_from_slice(more).unwrap();
+}
