@@ -1,16 +1,19 @@
-use Rattle.std.proofs.Common.{◌≡◌, ◌≢◌, ℕ, ◌<◌, ◌^◌, List, [], ◌∷◌, Bool, true, false, Option, Some, None, Result, Ok, Err, IfSome, ◌==◌, if◌then◌else◌, refl, sym, ◌∙◌, ap, subst}
+use Rattle.std.proofs.Common.{◌≡◌, ◌≢◌, ℕ, ◌<◌, ◌^◌, List, [], ◌∷◌, Bool, true, false, ◌||◌, Option, Some, None, Result, Ok, Err, IfSome, ◌==◌, if◌then◌else◌, refl, sym, ◌∙◌, ap, subst}
 use Rattle.rohc_frame.specs.declared.header.HeadKind.{HeadKind}
 use Rattle.rohc_frame.specs.declared.header.HeadKind.TheVariants.{Ir, IrDyn, Other}
 use Rattle.rohc_frame.specs.Header.{Header}
 use Rattle.rohc_context.specs.declared.refusal.Refusal.{Refusal}
-use Rattle.rohc_context.specs.declared.refusal.Refusal.TheVariants.{NoContext, Profile, Truncated, Check, NoMemory}
+use Rattle.rohc_context.specs.declared.refusal.Refusal.TheVariants.{NoContext, Profile, NoMemory}
 use Rattle.rohc_context.specs.declared.reply.Outcome.TheVariants.{Refused}
 use Rattle.rohc_context.specs.declared.record.Context.{Context}
 use Rattle.rohc_context.specs.declared.settings.Settings.{Settings}
 use Rattle.rohc_context.specs.Laws.{HasNoOther, LeavesGood, LeavesNone, NeverPoor}
 use Rattle.rohc_context.specs.Good.{AreGoodValues, IsGoodRecord}
-use Rattle.rohc_context.specs.PlainIr.{plain_ir, behind_front, behind_profile, covered}
-use Rattle.rohc_checks.specs.Division.{check, poly8}
+use Rattle.rohc_chain.specs.declared.refusal.ChainRefusal.{ChainRefusal}
+use Rattle.rohc_chain.specs.declared.refusal.ChainRefusal.TheVariants as chains
+use Rattle.rohc_chain.specs.Packets.{IrContent, Plain, StaticOnly, Whole, ir_at}
+use Rattle.rohc_context.specs.Chains.{refusal_of_chain}
+use Rattle.rohc_context.specs.PlainIr.{plain_ir, plain_content, names_other_profile}
 use Rattle.rohc_context.specs.Record.{Record, record_of}
 use Rattle.rohc_context.specs.Response.{Response, stored, delivered, refused}
 use Rattle.rohc_context.specs.Step.{renewed, Turn, Renews, Takes, Refuses, LoneStep, standing, acknowledgement}
@@ -97,21 +100,34 @@ step_none s m h response next refusal step e = turn_none s m h h.kind response n
 
 -- No refusal of a step is want of memory.
 
-either_rich : (b : Bool) (read : Result (List ℕ) Refusal) (refusal : Refusal) → read ≢ Err NoMemory → refusal ≢ NoMemory → (if b then read else Err refusal) ≢ Err NoMemory
-either_rich true read refusal not_read not_refusal e = not_read e
-either_rich false read refusal not_read not_refusal e = not_refusal (cc)
+-- no refusal of a chain is want of memory
+chain_rich : (refusal : ChainRefusal) → refusal_of_chain refusal ≢ NoMemory
+chain_rich chains.Profile e = cc
+chain_rich chains.ProfileChange e = cc
+chain_rich chains.Truncated e = cc
+chain_rich chains.IpVersion e = cc
+chain_rich chains.Protocol e = cc
+chain_rich chains.ExtensionList e = cc
+chain_rich chains.RtpVersion e = cc
+chain_rich chains.Csrc e = cc
+chain_rich chains.ZeroStride e = cc
+chain_rich chains.ReliableMode e = cc
+chain_rich chains.Trailing e = cc
+chain_rich chains.TooLong e = cc
+chain_rich chains.Check e = cc
 
-behind_profile_rich : (cover rest : List ℕ) → behind_profile cover rest ≢ Err NoMemory
-behind_profile_rich cover [] e = cc
-behind_profile_rich cover (octet ∷ packet) e = either_rich (check poly8 255 cover == octet) (Ok packet) Check (λ f. cc) (λ f. cc) e
+content_rich : (read : Result IrContent ChainRefusal) → plain_content read ≢ Err NoMemory
+content_rich (Ok (Plain packet)) e = cc
+content_rich (Ok (StaticOnly fixed)) e = cc
+content_rich (Ok (Whole fixed moving payload)) e = cc
+content_rich (Err refusal) e = chain_rich refusal (let f : ◌≡◌ {A = Result (List ℕ) Refusal} (Err (refusal_of_chain refusal)) (Err NoMemory) = e in cc)
 
-behind_front_rich : (cover rest : List ℕ) → behind_front cover rest ≢ Err NoMemory
-behind_front_rich cover [] e = cc
-behind_front_rich cover (profile ∷ rest) e = either_rich (profile == 0) (behind_profile cover rest) Profile (behind_profile_rich cover rest) (λ f. cc) e
+either_rich : (b : Bool) (read : Result (List ℕ) Refusal) → read ≢ Err NoMemory → (if b then Err Profile else read) ≢ Err NoMemory
+either_rich true read rich e = cc
+either_rich false read rich e = rich e
 
 plain_ir_rich : (h : Header) (dynamic : Bool) → plain_ir h dynamic ≢ Err NoMemory
-plain_ir_rich h true e = cc
-plain_ir_rich h false e = behind_front_rich (covered h) h.rest e
+plain_ir_rich h dynamic e = either_rich (dynamic || names_other_profile h.rest) (plain_content (ir_at h)) (content_rich (ir_at h)) e
 
 renews_rich : (s : Settings) (m : ℕ) (h : Header) (read : Result (List ℕ) Refusal) (before : Option Record) (response : Response) (next : Option Record) → read ≢ Err NoMemory → Renews s m h read before response next → response.outcome ≢ Refused NoMemory
 renews_rich s m h (Ok packet) before response next rich step e = renewed_not_refused packet (acknowledgement s.mode h) NoMemory (sym (ap (λ (r : Response). r.outcome) step.0) ∙ e)

@@ -2,6 +2,7 @@ pub mod Refusal
 pub mod Settings
 pub mod Record
 pub mod Response
+pub mod Chains
 pub mod PlainIr
 pub mod Step
 pub mod Good

@@ -4,6 +4,7 @@
 //! answer is one line: `-` where a call's conditions aren't met, `?` where a question can't be read.
 #![tactic(auto)]
 
+mod chains;
 mod checks;
 mod feedback;
 mod fields;
@@ -25,6 +26,7 @@ enum Table {
     Fields,
     Feedback,
     Headers,
+    Chains,
 }
 
 impl Table {
@@ -37,6 +39,7 @@ impl Table {
             "# fields" => Some(Table::Fields),
             "# feedback" => Some(Table::Feedback),
             "# headers" => Some(Table::Headers),
+            "# chains" => Some(Table::Chains),
             _ => None,
         }
     }
@@ -51,6 +54,7 @@ impl Table {
             Table::Fields => fields::answer(alloc, &columns),
             Table::Feedback => feedback::answer(alloc, &columns),
             Table::Headers => headers::answer(alloc, &columns),
+            Table::Chains => chains::answer(alloc, &columns),
         }
     }
 }

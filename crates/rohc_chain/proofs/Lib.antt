@@ -1,0 +1,9 @@
+pub mod Steps
+pub mod Checks
+pub mod Values
+pub mod FieldLemmas
+pub mod FaultLemmas
+pub mod BitLemmas
+pub mod SpelledLemmas
+pub mod FoundLemmas
+pub mod TextLemmas

@@ -1,0 +1,87 @@
+-- The octets that spell what a chain says, bits that a reader ignores being free (RFC 3095 5.7.7.3 to
+-- 5.7.7.5).
+use Rattle.std.specs.Prelude.{◌≡◌, ℕ, ◌+◌, ◌*◌, ◌/◌, ◌%◌, ◌<◌, ◌≤◌, List, [], ◌∷◌, ◌++◌, length, Bool, true, false, if◌then◌else◌, Option, Some, None}
+use Rattle.rohc_bits.specs.Spelling.{IsSpelled}
+use Rattle.rohc_header.specs.declared.fields.Static.{Static}
+use Rattle.rohc_header.specs.declared.fields.Dynamic.{Dynamic}
+use Rattle.rohc_chain.specs.declared.parts.Kept.{Kept}
+
+-- a number of two octets, most significant first
+abbrev pub word : ℕ → List ℕ
+word n = n / 256 ∷ n % 256 ∷ []
+
+-- a number of four octets, most significant first
+abbrev pub quad : ℕ → List ℕ
+quad n = word (n / 65536) ++ word (n % 65536)
+
+-- a flag by the weight of its bit
+abbrev pub flag : ℕ → Bool → ℕ
+flag weight set = if set then weight else 0
+
+-- IPv4, static: version 4 and four ignored bits; protocol 17; the addresses.
+pub record SpellsIpStatic (source destination : List ℕ) (text : List ℕ) : Type 0 where
+  pub ignored : ℕ
+  pub four_bits : ignored < 16
+  pub four_octets : length source ≡ 4
+  pub also_four : length destination ≡ 4
+  pub whole : text ≡ (64 + ignored) ∷ 17 ∷ source ++ destination
+
+-- IPv4, UDP and RTP, static: behind IPv4's the ports, and the synchronization source.
+pub record SpellsStatic (fixed : Static) (text : List ℕ) : Type 0 where
+  pub ip : List ℕ
+  pub spells_ip : SpellsIpStatic fixed.source fixed.destination ip
+  pub whole : text ≡ ip ++ (word fixed.source_port ++ (word fixed.destination_port ++ quad fixed.ssrc))
+
+-- IPv4, dynamic: TOS; TTL; Identification, as it stands in the IP header; DF, RND, NBO and five ignored
+-- bits; an empty list of extension headers.
+pub record SpellsIpDynamic (moving : Dynamic) (text : List ℕ) : Type 0 where
+  pub ignored : ℕ
+  pub five_bits : ignored < 32
+  pub whole : text ≡ moving.tos ∷ moving.ttl ∷ word moving.id ++ (flag 128 moving.df + flag 64 moving.rnd + flag 32 moving.nbo + ignored) ∷ 0 ∷ []
+
+-- the stride of timestamps: a value above 0, or none where the one that is kept stays
+abbrev pub SpellsStride : Bool → Option ℕ → Option ℕ → List ℕ → Type 0
+SpellsStride false kept stride text = (text ≡ []) × (stride ≡ kept)
+SpellsStride true kept None text = ⊥
+SpellsStride true kept (Some stride) text = IsSpelled text stride × (1 ≤ stride)
+
+-- a stride of time: any value, or none
+abbrev pub SpellsTimeStride : Bool → List ℕ → Type 0
+SpellsTimeStride false text = text ≡ []
+SpellsTimeStride true text = (value : ℕ) × IsSpelled text value
+
+-- Three ignored bits, X, Mode, TIS and TSS; the stride, if TSS; the stride of time, if TIS.
+pub record SpellsFlags (kept : Option ℕ) (extension : Bool) (stride : Option ℕ) (text : List ℕ) : Type 0 where
+  pub ignored : ℕ
+  pub mode : ℕ
+  pub tis : Bool
+  pub tss : Bool
+  pub stride_text : List ℕ
+  pub time_text : List ℕ
+  pub three_bits : ignored < 8
+  pub not_reliable : mode < 3
+  pub spells_stride : SpellsStride tss kept stride stride_text
+  pub spells_time : SpellsTimeStride tis time_text
+  pub whole : text ≡ (32 * ignored + flag 16 extension + 4 * mode + flag 2 tis + flag 1 tss) ∷ stride_text ++ time_text
+
+-- the octet of these flags and what it names, or nothing where what is kept stays
+abbrev pub SpellsGiven : Bool → Kept → Bool → Option ℕ → List ℕ → Type 0
+SpellsGiven false kept extension stride text = (text ≡ []) × (extension ≡ kept.extension) × (stride ≡ kept.stride)
+SpellsGiven true kept extension stride text = SpellsFlags kept.stride extension stride text
+
+-- RTP, dynamic: version 2, P, RX and no contributing sources; M and PT; SN; TS; an empty list of
+-- contributing sources; the octet of flags, if RX.
+pub record SpellsRtpDynamic (kept : Kept) (moving : Dynamic) (text : List ℕ) : Type 0 where
+  pub rx : Bool
+  pub given : List ℕ
+  pub seven_bits : moving.payload_type < 128
+  pub spells_given : SpellsGiven rx kept moving.extension moving.stride given
+  pub whole : text ≡ (128 + flag 32 moving.padding + flag 16 rx) ∷ (flag 128 moving.marker + moving.payload_type) ∷ word moving.sn ++ (quad moving.ts ++ 0 ∷ given)
+
+-- IPv4, UDP and RTP, dynamic: between IPv4's and RTP's the UDP checksum.
+pub record SpellsDynamic (kept : Kept) (moving : Dynamic) (text : List ℕ) : Type 0 where
+  pub ip : List ℕ
+  pub rtp : List ℕ
+  pub spells_ip : SpellsIpDynamic moving ip
+  pub spells_rtp : SpellsRtpDynamic kept moving rtp
+  pub whole : text ≡ ip ++ (word moving.udp_sum ++ rtp)

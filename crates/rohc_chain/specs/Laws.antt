@@ -1,0 +1,32 @@
+use Rattle.std.specs.Prelude.{◌≡◌, ℕ, ◌<◌, ◌≤◌, ◌↔◌, List, length, All, Some, Ok, Err}
+use Rattle.rohc_frame.specs.Header.{Header}
+use Rattle.rohc_frame.specs.Laws.{IsOctet}
+use Rattle.rohc_chain.specs.declared.parts.Kept.{Kept}
+use Rattle.rohc_chain.specs.declared.refusal.ChainRefusal.{ChainRefusal}
+use Rattle.rohc_chain.specs.Packets.{IrContent, DynContent, IsIr, ir_at, ir_dyn_at}
+use Rattle.rohc_chain.specs.Texts.{IsIrText, IsIrDynText, IsShort, ir_fault, ir_dyn_fault}
+
+-- what an IR of octets says is read exactly where its octets spell it and the rebuilt packet isn't too long
+abbrev pub ReadsIrs : Type 0
+ReadsIrs = (h : Header) (content : IrContent) → IsIr h.kind → All IsOctet h.rest →
+    (ir_at h ≡ Ok content) ↔ (IsIrText h content × IsShort content)
+
+-- and it is refused exactly where that is its first fault
+abbrev pub RefusesIrs : Type 0
+RefusesIrs = (h : Header) (refusal : ChainRefusal) → (ir_at h ≡ Err refusal) ↔ (ir_fault h ≡ Some refusal)
+
+-- an IR says one thing at most
+abbrev pub SaysOne : Type 0
+SaysOne = (h : Header) (a b : IrContent) → IsIrText h a → IsIrText h b → a ≡ b
+
+-- the same of an IR-DYN for a context of profile 0 or 1
+abbrev pub ReadsIrDyns : Type 0
+ReadsIrDyns = (h : Header) (profile : ℕ) (kept : Kept) (packet : DynContent) → profile ≤ 1 → All IsOctet h.rest →
+    (ir_dyn_at h profile kept ≡ Ok packet) ↔ (IsIrDynText h profile kept packet × (length packet.payload ≤ 65495))
+
+abbrev pub RefusesIrDyns : Type 0
+RefusesIrDyns = (h : Header) (profile : ℕ) (kept : Kept) (refusal : ChainRefusal) →
+    (ir_dyn_at h profile kept ≡ Err refusal) ↔ (ir_dyn_fault h profile ≡ Some refusal)
+
+abbrev pub DynSaysOne : Type 0
+DynSaysOne = (h : Header) (profile : ℕ) (kept : Kept) (a b : DynContent) → IsIrDynText h profile kept a → IsIrDynText h profile kept b → a ≡ b

@@ -1,0 +1,8 @@
+pub mod Octets
+pub mod Faults
+pub mod Chains
+pub mod Packets
+pub mod ChainText
+pub mod Fields
+pub mod Texts
+pub mod Laws

@@ -1,0 +1,134 @@
+-- Whole IR and IR-DYN packets, read from left to right, with the first fault that is met.
+use Rattle.std.specs.Prelude.{ℕ, ◌-◌, List, [], ◌∷◌, ◌++◌, length, take, Bool, true, false, ◌==◌, nat_lt, if◌then◌else◌, Option, None, Result, Ok, Err}
+use Rattle.rohc_checks.specs.Division.{check, poly8}
+use Rattle.rohc_frame.specs.declared.header.CidKind.{CidKind}
+use Rattle.rohc_frame.specs.declared.header.CidKind.TheVariants.{Small, Large}
+use Rattle.rohc_frame.specs.declared.header.HeadKind.{HeadKind}
+use Rattle.rohc_frame.specs.declared.header.HeadKind.TheVariants.{Ir, IrDyn, Other}
+use Rattle.rohc_frame.specs.Header.{Header}
+use Rattle.rohc_header.specs.declared.fields.Static.{Static}
+use Rattle.rohc_header.specs.declared.fields.Dynamic.{Dynamic}
+use Rattle.rohc_chain.specs.declared.packet.Ir as lent
+use Rattle.rohc_chain.specs.declared.packet.IrDyn as lent_dyn
+use Rattle.rohc_chain.specs.declared.packet.Ir.TheVariants as code
+use Rattle.rohc_chain.specs.declared.parts.Kept.{Kept}
+use Rattle.rohc_chain.specs.declared.refusal.ChainRefusal.{ChainRefusal}
+use Rattle.rohc_chain.specs.declared.refusal.ChainRefusal.TheVariants.{Trailing, TooLong, Check}
+use Rattle.rohc_chain.specs.Octets.{◌>>=◌, octet_at}
+use Rattle.rohc_chain.specs.Faults.{ir_profile_fault, dyn_profile_fault, unless}
+use Rattle.rohc_chain.specs.Chains.{judged, judged_octet, static_at, dynamic_at}
+
+-- What an IR says, apart from where its payload lies in memory.
+pub data IrContent : Type 0 where
+  Plain : List ℕ → IrContent
+  StaticOnly : Static → IrContent
+  Whole : Static → Dynamic → List ℕ → IrContent
+
+abbrev pub ir_content : lent.Ir → IrContent
+ir_content (code.Plain packet) = Plain packet.now
+ir_content (code.StaticOnly fixed) = StaticOnly fixed
+ir_content (code.Whole fixed moving payload) = Whole fixed moving payload.now
+
+-- What an IR-DYN says.
+pub record DynContent : Type 0 where
+  pub moving : Dynamic
+  pub payload : List ℕ
+
+abbrev pub dyn_content : lent_dyn.IrDyn → DynContent
+dyn_content packet = record { moving = packet.moving; payload = packet.payload.now }
+
+abbrev pub IsIr : HeadKind → Type 0
+IsIr (Ir dynamic) = Unit {0}
+IsIr IrDyn = ⊥
+IsIr Other = ⊥
+
+abbrev pub IsIrDyn : HeadKind → Type 0
+IsIrDyn (Ir dynamic) = ⊥
+IsIrDyn IrDyn = Unit {0}
+IsIrDyn Other = ⊥
+
+-- the IR has a dynamic chain
+abbrev pub is_dynamic : HeadKind → Bool
+is_dynamic (Ir dynamic) = dynamic
+is_dynamic IrDyn = false
+is_dynamic Other = false
+
+-- the octets of a header up to its first octet, with the identifier where the link puts it
+abbrev pub front_of : CidKind → List ℕ → ℕ → List ℕ
+front_of Small cid_octets first = cid_octets ++ first ∷ []
+front_of Large cid_octets first = first ∷ cid_octets
+
+abbrev pub front : Header → List ℕ
+front h = front_of h.size h.cid_octets h.first
+
+-- What the check of profile 0x0000 covers: the packet through its Profile octet (RFC 3095 5.10.1).
+abbrev pub plain_cover : Header → List ℕ
+plain_cover h = front h ++ 0 ∷ []
+
+-- What the check of profile 0x0001 covers: the packet without its payload, the check's own octet as 00
+-- (RFC 3095 5.7.7).
+abbrev pub cover : Header → List ℕ → List ℕ
+cover h chains = front h ++ 1 ∷ 0 ∷ chains
+
+abbrev pub fits : ℕ → List ℕ → Bool
+fits octet covered = check poly8 255 covered == octet
+
+-- the flag X and the stride that stay where a dynamic chain doesn't give them
+abbrev pub kept_values : Bool → Option ℕ → Kept
+kept_values extension stride = record { extension = extension; stride = stride }
+
+-- an IR keeps nothing
+abbrev pub nothing_kept : Kept
+nothing_kept = kept_values false None
+
+-- the octets before these at the end
+abbrev pub before : List ℕ → List ℕ → List ℕ
+before behind text = take (length text - length behind) text
+
+-- the payload of a packet that isn't too long: of 65,535 octets 40 are the header's
+abbrev pub length_fault : List ℕ → Option ChainRefusal
+length_fault payload = unless (nat_lt (length payload) 65496) TooLong
+
+abbrev pub check_fault : ℕ → List ℕ → Option ChainRefusal
+check_fault octet covered = unless (fits octet covered) Check
+
+-- behind the check octet, of profile 0x0000
+abbrev pub plain_at : Header → ℕ → List ℕ → Result IrContent ChainRefusal
+plain_at h octet packet = judged (check_fault octet (plain_cover h)) (Plain packet)
+
+-- nothing may follow
+abbrev pub ended : List ℕ → Option ChainRefusal
+ended text = unless (length text == 0) Trailing
+
+unfoldable pub static_only_at : Header → ℕ → List ℕ → Result IrContent ChainRefusal
+static_only_at h octet chains = do
+  (fixed, behind) ← static_at chains
+  _ ← judged (ended behind) behind
+  judged (check_fault octet (cover h chains)) (StaticOnly fixed)
+
+unfoldable pub whole_at : Header → ℕ → List ℕ → Result IrContent ChainRefusal
+whole_at h octet text = do
+  (fixed, behind) ← static_at text
+  (moving, payload) ← dynamic_at nothing_kept behind
+  _ ← judged (length_fault payload) payload
+  judged (check_fault octet (cover h (before payload text))) (Whole fixed moving payload)
+
+-- behind the check octet, of profile 0x0001
+abbrev pub chains_at : Header → Bool → ℕ → List ℕ → Result IrContent ChainRefusal
+chains_at h dynamic octet text = if dynamic then whole_at h octet text else static_only_at h octet text
+
+-- what an IR says, or its first fault
+unfoldable pub ir_at : Header → Result IrContent ChainRefusal
+ir_at h = do
+  (profile, text) ← judged_octet (ir_profile_fault (is_dynamic h.kind)) h.rest
+  (octet, text) ← octet_at text
+  if profile == 0 then plain_at h octet text else chains_at h (is_dynamic h.kind) octet text
+
+-- what an IR-DYN says to a context of this profile, or its first fault
+unfoldable pub ir_dyn_at : Header → ℕ → Kept → Result DynContent ChainRefusal
+ir_dyn_at h profile kept = do
+  (_, text) ← judged_octet (dyn_profile_fault profile) h.rest
+  (octet, text) ← octet_at text
+  (moving, payload) ← dynamic_at kept text
+  _ ← judged (length_fault payload) payload
+  judged (check_fault octet (cover h (before payload text))) (record { moving = moving; payload = payload })

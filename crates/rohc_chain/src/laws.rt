@@ -1,0 +1,19 @@
+//! Laws of the definitions, as contracts of functions that do nothing. The crates above know what a
+//! packet says by these.
+
+ghost use Rattle.rohc_chain.specs.Laws.{ReadsIrs, RefusesIrs, SaysOne, ReadsIrDyns, RefusesIrDyns, DynSaysOne};
+
+/// An IR of octets is read exactly where they spell what it says and it isn't too long; else its first
+/// fault is the refusal. It says one thing at most.
+pub fn one_ir()
+    ensures reads { ReadsIrs }
+    ensures refuses { RefusesIrs }
+    ensures unique { SaysOne }
+{}
+
+/// The same of an IR-DYN.
+pub fn one_ir_dyn()
+    ensures reads { ReadsIrDyns }
+    ensures refuses { RefusesIrDyns }
+    ensures unique { DynSaysOne }
+{}

@@ -1,0 +1,22 @@
+//! IR and IR-DYN packets: their chains, and what they say (RFC 3095 5.7.7 and 5.10). Nothing allocates;
+//! payloads are lent from the packet.
+#![tactic(auto)]
+
+mod cover;
+mod dynamic_chain;
+mod ir;
+mod ir_dyn;
+pub mod laws;
+mod octets;
+pub mod packet;
+pub mod parts;
+pub mod refusal;
+mod static_chain;
+
+pub use ir::read_ir;
+pub use ir_dyn::read_ir_dyn;
+pub use packet::{Ir, IrDyn};
+pub use refusal::ChainRefusal;
+
+#[cfg(test)]
+mod tests;

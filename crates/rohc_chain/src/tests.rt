@@ -1,0 +1,445 @@
+use crate::{ChainRefusal, Ir, IrDyn, read_ir, read_ir_dyn};
+use rohc_frame::{CidKind, Forward, HeadKind, cut};
+use rohc_header::{Dynamic, Static};
+use std::alloc::{AllocError, Global};
+use std::test::Fail;
+
+// A packet by its parts.
+type Parts = [&'static [u8]; 4];
+
+// The fields of a static chain, and those of a dynamic chain by their protocols.
+type Fixed = ([u8; 4], [u8; 4], u16, u16, u32);
+
+type Ip = (u8, u8, u16, bool, bool, bool);
+
+type Rtp = (bool, bool, bool, u8, u16, u32, Option<u32>);
+
+type Moving = (Ip, u16, Rtp);
+
+// The chains of example whole IR.
+const STATIC: &[u8] = &[
+    0x40, 0x11, 0x0a, 0, 0, 0x01, 0x0a, 0, 0, 0x02, 0x13, 0x88, 0x13, 0x8a, 0, 0, 0, 0x01,
+];
+
+const MOVING: &[u8] = &[
+    0, 0x40, 0, 0x01, 0x20, 0, 0, 0, 0x90, 0, 0, 0x01, 0, 0, 0, 0xa0, 0, 0x09, 0x80, 0xa0,
+];
+
+const FIXED: Fixed = ([10, 0, 0, 1], [10, 0, 0, 2], 5000, 5002, 1);
+
+const IN_ORDER: Ip = (0, 64, 1, false, false, true);
+
+const FIRST: Rtp = (false, false, false, 0, 1, 160, Some(160));
+
+fn octets_of(alloc: Global, parts: Parts) -> Result<Vec<u8>, AllocError> {
+    let mut octets = Vec::new(alloc);
+    for part in parts {
+        octets.extend_from_slice(part)?;
+    }
+    Ok(octets)
+}
+
+fn header_in(size: CidKind, packet: &[u8]) -> Option<Forward<'_>> {
+    let max_cid = match size {
+        CidKind::Small => 15,
+        CidKind::Large => 16_383,
+    };
+    cut(size, max_cid, packet).ok()?.forward
+}
+
+// What an IR says; none where the packet isn't one.
+fn ir_in(size: CidKind, packet: &[u8]) -> Option<Result<Ir<'_>, ChainRefusal>> {
+    let forward = header_in(size, packet)?;
+    let HeadKind::Ir { .. } = forward.kind else {
+        return None;
+    };
+    Some(read_ir(&forward))
+}
+
+// What an IR-DYN says to a context that keeps these values; none where the packet isn't one.
+fn ir_dyn_in(
+    size: CidKind,
+    packet: &[u8],
+    profile: u8,
+    extension: bool,
+    stride: Option<u32>,
+) -> Option<Result<IrDyn<'_>, ChainRefusal>> {
+    let forward = header_in(size, packet)?;
+    let HeadKind::IrDyn = forward.kind else {
+        return None;
+    };
+    if profile > 1 {
+        return None;
+    }
+    Some(read_ir_dyn(&forward, profile, extension, stride))
+}
+
+fn fixed_fields(fixed: Static) -> Fixed {
+    let source = fixed.source;
+    let destination = fixed.destination;
+    (
+        source,
+        destination,
+        fixed.source_port,
+        fixed.destination_port,
+        fixed.ssrc,
+    )
+}
+
+fn moving_fields(moving: Dynamic) -> Moving {
+    let ip = (
+        moving.tos, moving.ttl, moving.id, moving.df, moving.rnd, moving.nbo,
+    );
+    let rtp = (
+        moving.padding,
+        moving.extension,
+        moving.marker,
+        moving.payload_type,
+        moving.sn,
+        moving.ts,
+        moving.stride,
+    );
+    (ip, moving.udp_sum, rtp)
+}
+
+// The IRs of profile 0x0000: how the link spells identifiers, the packet, and its IP packet. Plain
+// call, without an IP packet, behind Add-CID, and on a large identifier.
+const PLAIN: [(CidKind, &[u8], &[u8]); 4] = [
+    (CidKind::Small, &[0xfc, 0, 0xb7, 0x45, 0xaa], &[0x45, 0xaa]),
+    (CidKind::Small, &[0xfc, 0, 0xb7], &[]),
+    (
+        CidKind::Small,
+        &[0xe1, 0xfc, 0, 0x30, 0x45, 0xaa],
+        &[0x45, 0xaa],
+    ),
+    (
+        CidKind::Large,
+        &[0xfc, 0x81, 0x2c, 0, 0xe6, 0x45, 0x01, 0x02],
+        &[0x45, 0x01, 0x02],
+    ),
+];
+
+#[test]
+fn plain_irs(rt: HostRuntime) {
+    for (size, packet, expected) in PLAIN {
+        let Some(Ok(Ir::Plain { packet })) = ir_in(size, packet) else {
+            panic!(rt; "no plain IR");
+        };
+        assert_eq!(rt; packet, expected);
+    }
+}
+
+// The whole IRs: the packet, and what its dynamic chain says.
+const WHOLE: [(Parts, Moving); 5] = [
+    // Whole IR.
+    (
+        [&[0xfd, 0x01, 0x2b], STATIC, MOVING, &[0xab]],
+        (IN_ORDER, 0, FIRST),
+    ),
+    // Ends of types.
+    (
+        [
+            &[0xfd, 0x01, 0x2a],
+            STATIC,
+            &[
+                0, 0x40, 0, 0x01, 0x20, 0, 0, 0, 0x90, 0, 0xff, 0xff, 0xff, 0xff, 0xff, 0x60, 0,
+                0x09, 0x80, 0xa0,
+            ],
+            &[0xab],
+        ],
+        (
+            IN_ORDER,
+            0,
+            (false, false, false, 0, 0xffff, 0xffff_ff60, Some(160)),
+        ),
+    ),
+    // No stride.
+    (
+        [
+            &[0xfd, 0x01, 0x44],
+            STATIC,
+            &[
+                0, 0x40, 0, 0x01, 0x20, 0, 0, 0, 0x80, 0, 0, 0x01, 0, 0, 0, 0xa0, 0,
+            ],
+            &[0xab],
+        ],
+        (IN_ORDER, 0, (false, false, false, 0, 1, 160, None)),
+    ),
+    // UDP checksum.
+    (
+        [
+            &[0xfd, 0x01, 0x79],
+            STATIC,
+            &[
+                0, 0x40, 0, 0x01, 0x20, 0, 0xbe, 0xef, 0x90, 0, 0, 0x01, 0, 0, 0, 0xa0, 0, 0x09,
+                0x80, 0xa0,
+            ],
+            &[0xab],
+        ],
+        (IN_ORDER, 0xbeef, FIRST),
+    ),
+    // Swapped IP-ID: the Identification stands as in the IP header.
+    (
+        [
+            &[0xfd, 0x01, 0x45],
+            STATIC,
+            &[
+                0, 0x40, 0x01, 0, 0, 0, 0, 0, 0x90, 0, 0, 0x01, 0, 0, 0, 0xa0, 0, 0x09, 0x80, 0xa0,
+            ],
+            &[0xab],
+        ],
+        ((0, 64, 256, false, false, false), 0, FIRST),
+    ),
+];
+
+#[test]
+fn whole_irs(rt: HostRuntime) -> Result<(), Fail> {
+    for (parts, expected) in WHOLE {
+        let packet = octets_of(rt.alloc(), parts)?;
+        let Some(
+            Ok(
+                Ir::Whole {
+                    fixed,
+                    moving,
+                    payload,
+                },
+            ),
+        ) = ir_in(CidKind::Small, &packet)
+        else {
+            panic!(rt; "no whole IR");
+        };
+        assert_eq!(rt; fixed_fields(fixed), FIXED);
+        assert!(rt; moving_fields(moving) == expected);
+        assert_eq!(rt; payload, [0xab].as_slice());
+    }
+    Ok(())
+}
+
+// Example static first.
+#[test]
+fn an_ir_of_a_static_chain(rt: HostRuntime) -> Result<(), Fail> {
+    let packet = octets_of(rt.alloc(), [&[0xfc, 0x01, 0xde], STATIC, &[], &[]])?;
+    let Some(Ok(Ir::StaticOnly { fixed })) = ir_in(CidKind::Small, &packet) else {
+        panic!(rt; "no static IR");
+    };
+    assert_eq!(rt; fixed_fields(fixed), FIXED);
+    Ok(())
+}
+
+// The IR-DYN of example static first, and one whose RTP part gives neither X nor a stride, whatever
+// is kept.
+const DYNAMIC: [(Parts, bool, Option<u32>, Moving); 2] = [
+    (
+        [&[0xf8, 0x01, 0x0e], MOVING, &[0xab], &[]],
+        true,
+        Some(20),
+        (IN_ORDER, 0, FIRST),
+    ),
+    (
+        [
+            &[0xf8, 0x01, 0x91],
+            &[
+                0, 0x40, 0, 0x01, 0x20, 0, 0, 0, 0x80, 0, 0, 0x01, 0, 0, 0, 0xa0, 0,
+            ],
+            &[0xab],
+            &[],
+        ],
+        true,
+        Some(20),
+        (IN_ORDER, 0, (false, true, false, 0, 1, 160, Some(20))),
+    ),
+];
+
+#[test]
+fn ir_dyns(rt: HostRuntime) -> Result<(), Fail> {
+    for (parts, extension, stride, expected) in DYNAMIC {
+        let packet = octets_of(rt.alloc(), parts)?;
+        let Some(Ok(said)) = ir_dyn_in(CidKind::Small, &packet, 1, extension, stride) else {
+            panic!(rt; "no IR-DYN");
+        };
+        assert!(rt; moving_fields(said.moving) == expected);
+        assert_eq!(rt; said.payload, [0xab].as_slice());
+    }
+    Ok(())
+}
+
+// The IRs of example refused chains, and Trailing, which comes before Check.
+const REFUSED_IRS: [(Parts, ChainRefusal); 9] = [
+    ([&[0xfd, 0, 0], &[], &[], &[]], ChainRefusal::Profile),
+    ([&[0xfc, 0x02], &[], &[], &[]], ChainRefusal::Profile),
+    ([&[0xfc], &[], &[], &[]], ChainRefusal::Truncated),
+    (
+        [&[0xfd, 0x01, 0, 0x60], &[], &[], &[]],
+        ChainRefusal::IpVersion,
+    ),
+    (
+        [&[0xfd, 0x01, 0, 0x40, 0x06], &[], &[], &[]],
+        ChainRefusal::Protocol,
+    ),
+    ([&[0xfd, 0x01, 0], &[], &[], &[]], ChainRefusal::Truncated),
+    (
+        [&[0xfc, 0x01, 0xde], STATIC, &[0xab], &[]],
+        ChainRefusal::Trailing,
+    ),
+    (
+        [&[0xfc, 0x01, 0xdf], STATIC, &[0xab], &[]],
+        ChainRefusal::Trailing,
+    ),
+    (
+        [&[0xfc, 0, 0xb8, 0x45], &[0xaa], &[], &[]],
+        ChainRefusal::Check,
+    ),
+];
+
+#[test]
+fn refused_irs(rt: HostRuntime) -> Result<(), Fail> {
+    for (parts, refusal) in REFUSED_IRS {
+        let packet = octets_of(rt.alloc(), parts)?;
+        let said = ir_in(CidKind::Small, &packet).expect(&rt, "an IR");
+        assert_eq!(rt; said.err(), Some(refusal));
+    }
+    Ok(())
+}
+
+// The IR-DYNs of example refused chains, and the profiles of the context: the profile, the packet, and
+// its refusal.
+const REFUSED_IR_DYNS: [(u8, &[u8], ChainRefusal); 12] = [
+    (
+        1,
+        &[0xf8, 0x01, 0, 0, 0x40, 0, 0x01, 0x20, 0x01],
+        ChainRefusal::ExtensionList,
+    ),
+    (
+        1,
+        &[0xf8, 0x01, 0, 0, 0x40, 0, 0x01, 0x20, 0, 0, 0, 0x50],
+        ChainRefusal::RtpVersion,
+    ),
+    (
+        1,
+        &[0xf8, 0x01, 0, 0, 0x40, 0, 0x01, 0x20, 0, 0, 0, 0x91],
+        ChainRefusal::Csrc,
+    ),
+    (
+        1,
+        &[0xf8, 0x01, 0, 0, 0x40, 0, 0x01, 0x20, 0, 0, 0, 0x51],
+        ChainRefusal::RtpVersion,
+    ),
+    (
+        1,
+        &[
+            0xf8, 0x01, 0, 0, 0x40, 0, 0x01, 0x20, 0, 0, 0, 0x90, 0, 0, 0x01, 0, 0, 0, 0xa0, 0,
+            0x0c,
+        ],
+        ChainRefusal::ReliableMode,
+    ),
+    (
+        1,
+        &[
+            0xf8, 0x01, 0, 0, 0x40, 0, 0x01, 0x20, 0, 0, 0, 0x90, 0, 0, 0x01, 0, 0, 0, 0xa0, 0,
+            0x09, 0,
+        ],
+        ChainRefusal::ZeroStride,
+    ),
+    (1, &[0xf8, 0x02], ChainRefusal::Profile),
+    (1, &[0xf8, 0], ChainRefusal::Profile),
+    (0, &[0xf8], ChainRefusal::Truncated),
+    (0, &[0xf8, 0x01, 0x0e], ChainRefusal::ProfileChange),
+    (0, &[0xf8, 0x02], ChainRefusal::Profile),
+    (0, &[0xf8, 0], ChainRefusal::Profile),
+];
+
+#[test]
+fn refused_ir_dyns(rt: HostRuntime) {
+    for (profile, packet, refusal) in REFUSED_IR_DYNS {
+        let said = ir_dyn_in(CidKind::Small, packet, profile, false, None);
+        assert_eq!(rt; said.expect(&rt, "an IR-DYN").err(), Some(refusal));
+    }
+}
+
+// What a packet says of its payload, or why it is refused.
+fn payload_in<'a>(forward: &Forward<'a>) -> Result<&'a [u8], ChainRefusal> {
+    match forward.kind {
+        HeadKind::Ir { .. } => match read_ir(forward)? {
+            Ir::Plain { packet } => Ok(packet),
+            Ir::StaticOnly { .. } => Ok(&[]),
+            Ir::Whole { payload, .. } => Ok(payload),
+        },
+        HeadKind::IrDyn => Ok(read_ir_dyn(forward, 1, false, None)?.payload),
+        HeadKind::Other => Ok(forward.rest),
+    }
+}
+
+// Packets, and how many octets their headers have. A packet cut inside its header is Truncated, and
+// one cut behind it says a shorter payload.
+const CUT: [(CidKind, Parts, usize); 6] = [
+    (
+        CidKind::Small,
+        [&[0xfc, 0, 0xb7], &[0x45, 0xaa], &[], &[]],
+        3,
+    ),
+    (
+        CidKind::Small,
+        [&[0xe1, 0xfc, 0, 0x30], &[0x45, 0xaa], &[], &[]],
+        4,
+    ),
+    (
+        CidKind::Large,
+        [&[0xfc, 0x81, 0x2c, 0, 0xe6], &[0x45, 0x01, 0x02], &[], &[]],
+        5,
+    ),
+    (
+        CidKind::Small,
+        [&[0xfd, 0x01, 0x2b], STATIC, MOVING, &[0xab]],
+        41,
+    ),
+    (CidKind::Small, [&[0xfc, 0x01, 0xde], STATIC, &[], &[]], 21),
+    (
+        CidKind::Small,
+        [&[0xf8, 0x01, 0x0e], MOVING, &[0xab], &[]],
+        23,
+    ),
+];
+
+#[test]
+fn each_beginning_of_a_packet(rt: HostRuntime) -> Result<(), Fail> {
+    for (size, parts, header) in CUT {
+        let packet = octets_of(rt.alloc(), parts)?;
+        for count in 0..packet.len() + 1 {
+            let Some(forward) = header_in(size, &packet[..count]) else {
+                // The first octet or the identifier is cut off, which framing refuses.
+                continue;
+            };
+            let expected = if count < header {
+                Err(ChainRefusal::Truncated)
+            } else {
+                Ok(&packet[header..count])
+            };
+            assert!(rt; payload_in(&forward) == expected);
+        }
+    }
+    Ok(())
+}
+
+// A packet whose rebuilt header and payload are over 65,535 octets is too long, and the check is judged
+// after that: the header's octets, its check octet, and the answer.
+const LONG: [(u8, usize, Option<ChainRefusal>); 4] = [
+    (0x2b, 65_495, None),
+    (0x2c, 65_495, Some(ChainRefusal::Check)),
+    (0x2b, 65_496, Some(ChainRefusal::TooLong)),
+    (0x2c, 65_496, Some(ChainRefusal::TooLong)),
+];
+
+#[test]
+fn long_packets(rt: HostRuntime) -> Result<(), Fail> {
+    for (check, length, refusal) in LONG {
+        let mut packet = octets_of(rt.alloc(), [&[0xfd, 0x01], &[], &[], &[]])?;
+        packet.push(check)?;
+        packet.extend_from_slice(STATIC)?;
+        packet.extend_from_slice(MOVING)?;
+        let header = packet.len();
+        packet.resize(header + length, 0)?;
+        let said = ir_in(CidKind::Small, &packet).expect(&rt, "an IR");
+        assert_eq!(rt; said.err(), refusal);
+    }
+    Ok(())
+}
