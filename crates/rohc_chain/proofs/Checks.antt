@@ -1,4 +1,4 @@
-use Rattle.std.proofs.Common.{◌≡◌, ℕ, List, ◌++◌, Bool, ap, ◌∙◌, append_assoc}
+use Rattle.std.proofs.Common.{◌≡◌, ℕ, List, ◌++◌, Bool, ◌∙◌}
 use Rattle.rohc_checks.specs.Division.{check}
 use Rattle.rohc_checks.proofs.Division.{check-append}
 

@@ -1,5 +1,5 @@
 -- A packet is refused by the first fault among its fields, else by the last one.
-use Rattle.std.proofs.Common.{◌≡◌, ℕ, zero, suc, ◌-◌, Bool, true, false, List, [], ◌∷◌, length, take, Option, Some, None, Result, Ok, Err, refl, sym, ap, ◌∙◌, arith}
+use Rattle.std.proofs.Common.{◌≡◌, ℕ, ◌-◌, Bool, true, false, List, [], ◌∷◌, length, Option, Some, None, Result, Ok, Err, refl, sym, ap, ◌∙◌, arith}
 use Rattle.std.specs.Prelude.{◌==◌, ◌↔◌, if◌then◌else◌}
 use Rattle.std.specs.Result.{result_err}
 use Rattle.std.proofs.lemmas.Bool.Decides.{nat_tests}
@@ -7,12 +7,11 @@ use Rattle.std.proofs.lemmas.List.{take_all}
 use Rattle.rohc_frame.specs.Header.{Header}
 use Rattle.rohc_chain.specs.declared.parts.Kept.{Kept}
 use Rattle.rohc_chain.specs.declared.refusal.ChainRefusal.{ChainRefusal}
-use Rattle.rohc_chain.specs.declared.refusal.ChainRefusal.TheVariants.{Truncated}
 use Rattle.rohc_chain.specs.Octets.{◌>>=◌, octet_at}
 use Rattle.rohc_chain.specs.Faults.{ir_profile_fault, dyn_profile_fault}
 use Rattle.rohc_chain.specs.Chains.{judged, judged_octet, static_at, dynamic_at}
-use Rattle.rohc_chain.specs.Packets.{IrContent, DynContent, is_dynamic, cover, plain_cover, before, nothing_kept, length_fault, check_fault, ended, plain_at, static_only_at, whole_at, chains_at, ir_at, ir_dyn_at}
-use Rattle.rohc_chain.specs.Fields.{Fields, Payload, Nothing, Octets, Octet, after_fields, static_fields, dynamic_fields, chain_fields, ir_fields, ir_dyn_fields}
+use Rattle.rohc_chain.specs.Packets.{IrContent, is_dynamic, cover, plain_cover, before, nothing_kept, length_fault, check_fault, ended, plain_at, static_only_at, whole_at, chains_at, ir_at, ir_dyn_at}
+use Rattle.rohc_chain.specs.Fields.{Fields, Payload, Nothing, Octets, Octet, after_fields, static_fields, dynamic_fields, chain_fields}
 use Rattle.rohc_chain.specs.Texts.{or_else, last_fault, last_ir_fault, fault_among, ir_fault, ir_dyn_fault}
 use Rattle.rohc_chain.proofs.Steps.{octet_found, judged_found}
 use Rattle.rohc_chain.proofs.FieldLemmas.{octet_fields, judged_fields, static_chain_fields, dynamic_chain_fields}

@@ -1,13 +1,11 @@
 -- Reading a chain goes as far as its fields, and stops at the first fault among them.
-use Rattle.std.proofs.Common.{◌≡◌, ℕ, zero, suc, Bool, true, false, List, [], ◌∷◌, Option, Some, None, Result, Ok, Err, refl, sym, ap, ◌∙◌}
-use Rattle.rohc_header.specs.declared.fields.Static.{Static}
-use Rattle.rohc_header.specs.declared.fields.Dynamic.{Dynamic}
+use Rattle.std.proofs.Common.{◌≡◌, ℕ, Bool, true, false, List, [], ◌∷◌, Option, Some, None, Result, Ok, Err, refl, ◌∙◌}
 use Rattle.rohc_chain.specs.declared.parts.Kept.{Kept}
 use Rattle.rohc_chain.specs.declared.refusal.ChainRefusal.{ChainRefusal}
 use Rattle.rohc_chain.specs.Octets.{◌>>=◌, octet_at, word_at, four_octets_at, quad_at, value_at, bit}
 use Rattle.rohc_chain.specs.Faults.{version_fault, protocol_fault, extension_list_fault, csrc_list_fault, rtp_fault, mode_fault, stride_fault}
 use Rattle.rohc_chain.specs.Chains.{judged, judged_octet, judged_value, ip_static_at, static_at, ip_dynamic_at, stride_at, behind_time_stride, flags_at, rtp_dynamic_at, dynamic_at}
-use Rattle.rohc_chain.specs.Fields.{Fields, Octets, Octet, Value, after_fields, any_value, static_fields, ip_dynamic_fields, time_stride_fields, stride_fields, given_fields, rtp_dynamic_fields, dynamic_fields}
+use Rattle.rohc_chain.specs.Fields.{Fields, Octets, Octet, Value, after_fields, static_fields, ip_dynamic_fields, time_stride_fields, stride_fields, given_fields, rtp_dynamic_fields, dynamic_fields}
 
 -- Two steps and what follows them, where the second goes on as g does.
 tied : {A B C : Type 0} (r : Result A ChainRefusal) (f : A → Result B ChainRefusal) (k : B → Result C ChainRefusal) (g : A → Result C ChainRefusal) (whole : Result C ChainRefusal) →

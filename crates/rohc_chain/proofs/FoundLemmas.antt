@@ -1,5 +1,5 @@
 -- What is read from a text is spelled by it.
-use Rattle.std.proofs.Common.{◌≡◌, ℕ, zero, suc, ◌+◌, ◌*◌, ◌/◌, ◌%◌, ◌<◌, ◌≤◌, Bool, true, false, List, [], ◌∷◌, ◌++◌, length, drop, Option, Some, None, Result, Ok, Err, refl, sym, ap, subst, ◌∙◌, append_assoc, arith}
+use Rattle.std.proofs.Common.{◌≡◌, ℕ, ◌+◌, ◌*◌, ◌/◌, ◌%◌, ◌<◌, ◌≤◌, Bool, true, false, List, [], ◌∷◌, ◌++◌, length, Option, Some, None, Ok, refl, sym, ap, subst, ◌∙◌, append_assoc, arith}
 use Rattle.std.specs.Prelude.{◌==◌, All, if◌then◌else◌}
 use Rattle.std.proofs.Math.Seq.{drop-append_seam}
 use Rattle.std.proofs.lemmas.Bool.Decides.{nat_tests}
@@ -13,11 +13,11 @@ use Rattle.rohc_chain.specs.declared.parts.IpDynamic.{IpDynamic}
 use Rattle.rohc_chain.specs.declared.parts.RtpDynamic.{RtpDynamic}
 use Rattle.rohc_chain.specs.declared.refusal.ChainRefusal.{ChainRefusal}
 use Rattle.rohc_chain.specs.declared.refusal.ChainRefusal.TheVariants.{IpVersion, Protocol, ExtensionList, RtpVersion, Csrc, ZeroStride, ReliableMode}
-use Rattle.rohc_chain.specs.Octets.{◌>>=◌, octet_at, word_at, four_octets_at, quad_at, value_at, bit}
+use Rattle.rohc_chain.specs.Octets.{octet_at, word_at, four_octets_at, quad_at, value_at, bit}
 use Rattle.rohc_chain.specs.Faults.{unless, version_fault, protocol_fault, extension_list_fault, csrc_list_fault, rtp_fault, mode_fault, stride_fault}
-use Rattle.rohc_chain.specs.Chains.{judged, judged_octet, judged_value, ip_static_at, static_at, ip_dynamic_at, stride_at, behind_time_stride, flags_at, rtp_dynamic_at, joined, dynamic_at}
+use Rattle.rohc_chain.specs.Chains.{judged_octet, judged_value, ip_static_at, static_at, ip_dynamic_at, stride_at, behind_time_stride, flags_at, rtp_dynamic_at, joined, dynamic_at}
 use Rattle.rohc_chain.specs.ChainText.{word, quad, flag, SpellsIpStatic, SpellsStatic, SpellsIpDynamic, SpellsStride, SpellsTimeStride, SpellsFlags, SpellsGiven, SpellsRtpDynamic, SpellsDynamic}
-use Rattle.rohc_chain.proofs.Steps.{ok_is, ok_parts, bind_ok, octet_found, judged_ok, judged_found}
+use Rattle.rohc_chain.proofs.Steps.{ok_is, bind_ok, octet_found, judged_ok, judged_found}
 use Rattle.rohc_chain.proofs.Values.{IsOctet, value_found}
 use Rattle.rohc_chain.proofs.BitLemmas.{ip_octet, rtp_first_octet, rtp_second_octet, given_octet}
 

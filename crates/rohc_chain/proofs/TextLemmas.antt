@@ -1,11 +1,11 @@
 -- Whole packets: what is read from them is what their octets spell.
-use Rattle.std.proofs.Common.{◌≡◌, ℕ, zero, suc, ◌+◌, ◌-◌, ◌<◌, ◌≤◌, Bool, true, false, List, [], ◌∷◌, ◌++◌, length, take, drop, get_or, Option, Some, None, Result, Ok, Err, refl, sym, ap, subst, ◌∙◌, append_assoc, length-append, arith}
+use Rattle.std.proofs.Common.{◌≡◌, ℕ, ◌-◌, ◌≤◌, Bool, true, false, List, [], ◌∷◌, ◌++◌, length, take, drop, get_or, Option, Some, None, Result, Ok, Err, refl, sym, ap, subst, ◌∙◌, append_assoc, length-append, arith}
 use Rattle.std.specs.Prelude.{◌==◌, All, nat_lt, if◌then◌else◌, IfOk, IfErr}
 use Rattle.std.specs.Result.{result_map_both, result_err}
 use Rattle.std.proofs.Math.Seq.{take-append_seam}
 use Rattle.std.proofs.lemmas.Bool.{eqb-true, eq-eqb}
 use Rattle.std.proofs.lemmas.Bool.Decides.{nat_tests}
-use Rattle.std.proofs.lemmas.List.{append-nil, take_all, take_at, nil_from_length}
+use Rattle.std.proofs.lemmas.List.{append-nil, nil_from_length}
 use Rattle.rohc_frame.specs.declared.header.HeadKind.{HeadKind}
 use Rattle.rohc_frame.specs.declared.header.HeadKind.TheVariants.{Ir, IrDyn, Other}
 use Rattle.rohc_frame.specs.Header.{Header}
@@ -16,17 +16,17 @@ use Rattle.rohc_chain.specs.declared.packet.IrDyn as lent_dyn
 use Rattle.rohc_chain.specs.declared.parts.Kept.{Kept}
 use Rattle.rohc_chain.specs.declared.refusal.ChainRefusal.{ChainRefusal}
 use Rattle.rohc_chain.specs.declared.refusal.ChainRefusal.TheVariants.{Profile, ProfileChange, Trailing, TooLong, Check}
-use Rattle.rohc_chain.specs.Octets.{◌>>=◌, octet_at}
-use Rattle.rohc_chain.specs.Faults.{unless, ir_profile_fault, dyn_profile_fault}
+use Rattle.rohc_chain.specs.Octets.{octet_at}
+use Rattle.rohc_chain.specs.Faults.{ir_profile_fault, dyn_profile_fault}
 use Rattle.rohc_chain.specs.Chains.{judged, judged_octet, static_at, dynamic_at}
 use Rattle.rohc_chain.specs.Packets.{IrContent, Plain, StaticOnly, Whole, ir_content, DynContent, dyn_content, IsIr, is_dynamic, plain_cover, cover, fits, before, nothing_kept, length_fault, check_fault, ended, plain_at, static_only_at, whole_at, chains_at, ir_at, ir_dyn_at}
 use Rattle.rohc_chain.specs.ChainText.{SpellsStatic, SpellsDynamic}
 use Rattle.rohc_chain.specs.Texts.{check_of, IsPlainText, IsStaticText, IsWholeText, IsIrText, IsIrDynText, IsShort, ir_fault, ir_dyn_fault}
-use Rattle.rohc_chain.proofs.Steps.{ok_is, ok_parts, bind_ok, octet_found, judged_ok, judged_found}
+use Rattle.rohc_chain.proofs.Steps.{ok_parts, bind_ok, octet_found, judged_ok, judged_found}
 use Rattle.rohc_chain.proofs.Values.{IsOctet}
 use Rattle.rohc_chain.proofs.FaultLemmas.{ir_faults, ir_dyn_faults}
 use Rattle.rohc_chain.proofs.SpelledLemmas.{static_read, dynamic_read}
-use Rattle.rohc_chain.proofs.FoundLemmas.{Found, one_found, unless_none, static_found, dynamic_found}
+use Rattle.rohc_chain.proofs.FoundLemmas.{one_found, unless_none, static_found, dynamic_found}
 
 -- what stands before the end of a text
 before_end : (front behind : List ℕ) → before behind (front ++ behind) ≡ front

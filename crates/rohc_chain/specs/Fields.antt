@@ -1,6 +1,6 @@
 -- The fields of IR and IR-DYN packets in the order of their octets, and the first fault among them (RFC 3095
 -- 5.7.7).
-use Rattle.std.specs.Prelude.{ℕ, zero, suc, List, [], ◌∷◌, Bool, ◌==◌, if◌then◌else◌, Option, Some, None, Result, Ok, Err}
+use Rattle.std.specs.Prelude.{ℕ, zero, suc, List, [], ◌∷◌, Bool, ◌==◌, if◌then◌else◌, Option, None, Result, Ok, Err}
 use Rattle.rohc_chain.specs.declared.refusal.ChainRefusal.{ChainRefusal}
 use Rattle.rohc_chain.specs.declared.refusal.ChainRefusal.TheVariants.{Truncated, Trailing}
 use Rattle.rohc_chain.specs.Octets.{◌>>=◌, value_at, bit}

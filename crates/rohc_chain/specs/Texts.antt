@@ -1,7 +1,7 @@
 -- The octets of whole IR and IR-DYN packets, and why others are refused (RFC 3095 5.7.7 and 5.10.1).
-use Rattle.std.specs.Prelude.{◌≡◌, ℕ, ◌≤◌, List, [], ◌∷◌, ◌++◌, length, drop, get_or, Bool, true, false, ◌==◌, if◌then◌else◌, Option, Some, None, Result, Ok, Err}
+use Rattle.std.specs.Prelude.{◌≡◌, ℕ, ◌≤◌, List, ◌∷◌, ◌++◌, length, drop, get_or, true, false, ◌==◌, if◌then◌else◌, Option, Some, None, Result, Ok, Err}
 use Rattle.rohc_checks.specs.Division.{check, poly8}
-use Rattle.rohc_frame.specs.declared.header.HeadKind.TheVariants.{Ir, IrDyn}
+use Rattle.rohc_frame.specs.declared.header.HeadKind.TheVariants.{Ir}
 use Rattle.rohc_frame.specs.Header.{Header}
 use Rattle.rohc_header.specs.declared.fields.Static.{Static}
 use Rattle.rohc_header.specs.declared.fields.Dynamic.{Dynamic}

@@ -369,53 +369,74 @@ fn payload_in<'a>(forward: &Forward<'a>) -> Result<&'a [u8], ChainRefusal> {
     }
 }
 
-// Packets, and how many octets their headers have. A packet cut inside its header is Truncated, and
-// one cut behind it says a shorter payload.
-const CUT: [(CidKind, Parts, usize); 6] = [
+// Whether each beginning of the packet that has a first octet and an identifier, which are `framed`
+// octets, says what it has to: Truncated inside the header, and behind it a shorter payload.
+fn is_read_at_each_cut(size: CidKind, packet: &[u8], framed: usize, header: usize) -> bool {
+    for count in framed..packet.len() + 1 {
+        let expected = if count < header {
+            Err(ChainRefusal::Truncated)
+        } else {
+            Ok(&packet[header..count])
+        };
+        match header_in(size, &packet[..count]) {
+            Some(forward) if payload_in(&forward) == expected => {}
+            _ => return false,
+        }
+    }
+    true
+}
+
+// How the link spells identifiers, a packet, how many octets have its first octet and its identifier,
+// and how many its header.
+const CUT: [(CidKind, Parts, usize, usize); 5] = [
     (
         CidKind::Small,
         [&[0xfc, 0, 0xb7], &[0x45, 0xaa], &[], &[]],
+        1,
         3,
     ),
     (
         CidKind::Small,
         [&[0xe1, 0xfc, 0, 0x30], &[0x45, 0xaa], &[], &[]],
+        2,
         4,
     ),
     (
         CidKind::Large,
         [&[0xfc, 0x81, 0x2c, 0, 0xe6], &[0x45, 0x01, 0x02], &[], &[]],
+        3,
         5,
     ),
     (
         CidKind::Small,
-        [&[0xfd, 0x01, 0x2b], STATIC, MOVING, &[0xab]],
-        41,
+        [&[0xfc, 0x01, 0xde], STATIC, &[], &[]],
+        1,
+        21,
     ),
-    (CidKind::Small, [&[0xfc, 0x01, 0xde], STATIC, &[], &[]], 21),
     (
         CidKind::Small,
         [&[0xf8, 0x01, 0x0e], MOVING, &[0xab], &[]],
+        1,
         23,
     ),
 ];
 
 #[test]
 fn each_beginning_of_a_packet(rt: HostRuntime) -> Result<(), Fail> {
-    for (size, parts, header) in CUT {
+    for (size, parts, framed, header) in CUT {
         let packet = octets_of(rt.alloc(), parts)?;
-        for count in 0..packet.len() + 1 {
-            let Some(forward) = header_in(size, &packet[..count]) else {
-                // The first octet or the identifier is cut off, which framing refuses.
-                continue;
-            };
-            let expected = if count < header {
-                Err(ChainRefusal::Truncated)
-            } else {
-                Ok(&packet[header..count])
-            };
-            assert!(rt; payload_in(&forward) == expected);
-        }
+        assert!(rt; is_read_at_each_cut(size, &packet, framed, header));
+    }
+    Ok(())
+}
+
+// The whole IRs, whose payload is one octet.
+#[test]
+fn each_beginning_of_a_whole_ir(rt: HostRuntime) -> Result<(), Fail> {
+    for (parts, _) in WHOLE {
+        let packet = octets_of(rt.alloc(), parts)?;
+        let header = packet.len().saturating_sub(1);
+        assert!(rt; is_read_at_each_cut(CidKind::Small, &packet, 1, header));
     }
     Ok(())
 }

@@ -1,5 +1,5 @@
-use Rattle.std.proofs.Common.{◌≡◌, [], ◌∷◌, ◌∙◌, ap, eqb}
-use Rattle.rohc_checks.specs.Division.{check, poly8}
+use Rattle.std.proofs.Common.{[], ◌∷◌, ap, eqb}
+use Rattle.rohc_checks.specs.Division.{poly8}
 use Rattle.rohc_frame.specs.Reading.{header_of}
 use Rattle.rohc_chain.specs.Packets.{front}
 use Rattle.rohc_chain.proofs.Checks.{check_of_three}

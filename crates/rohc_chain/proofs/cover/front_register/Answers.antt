@@ -1,4 +1,4 @@
-use Rattle.std.proofs.Common.{[], ◌∷◌, rules, ◌∙◌}
+use Rattle.std.proofs.Common.{[], ◌∷◌}
 use Rattle.rohc_checks.specs.Division.{poly8}
 use Rattle.rohc_chain.proofs.Checks.{check_of_two}
 use Rattle.rohc_chain.proofs.cover.front_register.Goals as goal
