@@ -1,5 +1,5 @@
 -- What a concentrator keeps is good.
-use Rattle.std.proofs.Common.{◌≡◌, ℕ, ◌<◌, ◌^◌, List, All, Option, Some, None, Result, Ok, IfSome, nat_eq, subst, sym, ap}
+use Rattle.std.proofs.Common.{◌≡◌, ℕ, ◌<◌, ◌^◌, List, All, Option, Some, None, Ok, IfSome, nat_eq, subst}
 use Rattle.indexmap.specs.IndexMap.{get}
 use Rattle.rohc_frame.specs.Header.{Header}
 use Rattle.rohc_frame.specs.Laws.{IsOctet}
@@ -7,7 +7,6 @@ use Rattle.rohc_frame.specs.Reading.{Reading}
 use Rattle.rohc_frame.specs.Parts.{parts_of}
 use Rattle.rohc_frame.proofs.LawLemmas.{header_is_good}
 use Rattle.rohc_context.specs.declared.record.Context.{Context}
-use Rattle.rohc_context.specs.declared.settings.Settings.{Settings}
 use Rattle.rohc_context.specs.Good.{AreGoodValues, IsGoodRecord, IsGoodHeader}
 use Rattle.rohc_context.specs.Settings.{AreGood}
 use Rattle.rohc_context.proofs.StepLemmas.{kept_good}

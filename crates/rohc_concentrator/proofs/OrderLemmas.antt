@@ -1,4 +1,4 @@
-use Rattle.std.proofs.Common.{◌≡◌, ℕ, List, [], ◌∷◌, ◌++◌, Option, Some, None, Bool, true, false, cond, map, nat_eq, refl, sym, ◌∙◌, ap, inl, inr}
+use Rattle.std.proofs.Common.{◌≡◌, ℕ, List, [], ◌∷◌, ◌++◌, Some, None, Bool, true, false, cond, map, nat_eq, refl, sym, ◌∙◌, ap, inr}
 use Rattle.std.specs.Map.{keys_of, lookup, set_value}
 use Rattle.std.specs.HashMap.{HashMap, get, keys}
 use Rattle.indexmap.specs.IndexMap.{insert_entry}

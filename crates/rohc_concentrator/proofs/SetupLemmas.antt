@@ -1,5 +1,5 @@
-use Rattle.std.proofs.Common.{◌≡◌, ◌≢◌, ℕ, zero, suc, ◌+◌, ◌<◌, List, [], ◌∷◌, ◌++◌, length, take, get_or, Bool, true, false, ◌||◌, ◌==◌, nat_eq, Option, Some, None, All, AllPairs, arith, refl, sym, ◌∙◌, ap, subst, eq-eqb, eqb-true, ne_eqb, length-take, inl, inr, ◌⊎◌, ⊎_elim, map, if◌then◌else◌}
-use Rattle.std.specs.List.{list_any, AllZip}
+use Rattle.std.proofs.Common.{◌≡◌, ◌≢◌, ℕ, zero, suc, ◌+◌, ◌<◌, List, [], ◌∷◌, ◌++◌, length, take, get_or, Bool, true, false, ◌||◌, ◌==◌, nat_eq, Option, Some, None, arith, refl, sym, ◌∙◌, ap, subst, eq-eqb, eqb-true, ne_eqb, length-take, ⊎_elim, map, if◌then◌else◌}
+use Rattle.std.specs.List.{AllZip}
 use Rattle.std.specs.Option.{option_or}
 use Rattle.std.proofs.lemmas.List.Folds.{find-append}
 use Rattle.std.proofs.lemmas.Bool.{cases_eq}

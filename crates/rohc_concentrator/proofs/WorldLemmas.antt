@@ -1,5 +1,5 @@
 -- Two concentrators that agree on what one identifier needs answer it alike.
-use Rattle.std.proofs.Common.{◌≡◌, ◌≢◌, ℕ, ◌<◌, ◌^◌, List, [], ◌∷◌, All, IfSome, Bool, true, false, Option, Some, None, Result, Ok, Err, ◌⊎◌, inl, inr, ⊎_elim, refl, sym, ◌∙◌, ap, subst}
+use Rattle.std.proofs.Common.{◌≡◌, ◌≢◌, ℕ, ◌<◌, ◌^◌, List, [], ◌∷◌, All, IfSome, true, false, Option, Some, None, Result, Ok, Err, ◌⊎◌, inl, inr, ⊎_elim, refl, sym, ◌∙◌, ap, subst}
 use Rattle.std.specs.List.{AllByRecursion}
 use Rattle.std.proofs.lemmas.Bool.{cases_eq}
 use Rattle.rohc_frame.specs.Header.{Header}
@@ -15,7 +15,7 @@ use Rattle.rohc_context.specs.declared.settings.Settings.{Settings}
 use Rattle.rohc_context.specs.Good.{AreGoodValues, IsGoodHeader, IsGoodRecord}
 use Rattle.rohc_context.specs.Settings.{AreGood}
 use Rattle.rohc_context.specs.Record.{Record}
-use Rattle.rohc_context.specs.Response.{Response, refused}
+use Rattle.rohc_context.specs.Response.{Response}
 use Rattle.rohc_context.specs.Step.{LoneStep}
 use Rattle.rohc_context.proofs.StepLemmas.{has_no_other, leaves_good, leaves_none, never_poor}
 use Rattle.rohc_concentrator.specs.declared.concentrator.Concentrator.{Concentrator}
@@ -23,7 +23,7 @@ use Rattle.rohc_concentrator.specs.declared.setting.LinkSetting.{LinkSetting}
 use Rattle.rohc_concentrator.specs.Setting.{settings_in}
 use Rattle.rohc_concentrator.specs.Tables.{setting_at, record_at}
 use Rattle.rohc_concentrator.specs.Events.{Arrives, Resets}
-use Rattle.rohc_concentrator.specs.Report.{Report, Arrived, OnlyFront, Refused, OwnStep, IsArrival, IsCut, IsRead, IsAnswered, borne, borne_in, cid_in, is_no_memory, wants_memory, is_refusal, is_refused}
+use Rattle.rohc_concentrator.specs.Report.{Report, Arrived, OwnStep, IsArrival, IsCut, IsRead, IsAnswered, borne, borne_in, cid_in, is_no_memory, wants_memory, is_refusal, is_refused}
 use Rattle.rohc_concentrator.specs.LoneRun.{LoneEvent, Arrival, Forget, LoneRun}
 use Rattle.rohc_concentrator.specs.Laws.{TwoWorlds, NoTrace, AreAlike}
 use Rattle.rohc_concentrator.proofs.GoodLemmas.{good_arrival}
@@ -47,7 +47,7 @@ module _ (s t : LinkSetting) (m : ℕ) (before there after after_there : ℕ →
   arrival_one h relayed settings records good p q e =
       let wants : is_no_memory p.0.outcome ≡ is_no_memory q.0.outcome = sym (ap wants_memory p.1) ∙ e ∙ ap wants_memory q.1 in
       let own : OwnStep (settings_in s h.cid) m h (before h.cid) q.0 (after_there h.cid) =
-            subst (λ z. OwnStep z m h (before h.cid) q.0 (after_there h.cid)) (sym settings) (subst (λ b. OwnStep (settings_in t h.cid) m h b q.0 (after_there h.cid)) (sym records) q.2) in
+      subst (λ z. OwnStep z m h (before h.cid) q.0 (after_there h.cid)) (sym settings) (subst (λ b. OwnStep (settings_in t h.cid) m h b q.0 (after_there h.cid)) (sym records) q.2) in
       let step = own_step_one (settings_in s h.cid) m h (before h.cid) p.0 q.0 (after h.cid) (after_there h.cid) good p.2 own wants in
       (p.1 ∙ ap (λ r. Arrived h.cid r relayed) step.0 ∙ sym q.1, step.1)
 
@@ -80,16 +80,16 @@ two_worlds a b after_a after_b l c m octets x y agree fits all bears p q rich_x 
     let borne_here : borne_in parts ≡ Some c = subst (λ z. borne z octets ≡ Some c) agree.set_here bears in
     let here : IsRead s m parts (record_at a l) x (record_at after_a l) = subst (λ z. IsAnswered z (record_at a l) m octets x (record_at after_a l)) agree.set_here p.answer in
     let there : IsRead t m parts (record_at b l) y (record_at after_b l) =
-          subst (λ z. IsRead t m z (record_at b l) y (record_at after_b l)) (sym (same_parts s t c octets agree.settings)) (subst (λ z. IsAnswered z (record_at b l) m octets y (record_at after_b l)) agree.set_there q.answer) in
+    subst (λ z. IsRead t m z (record_at b l) y (record_at after_b l)) (sym (same_parts s t c octets agree.settings)) (subst (λ z. IsAnswered z (record_at b l) m octets y (record_at after_b l)) agree.set_there q.answer) in
     let bears_cid : (r : Reading) (h : Header) → parts ≡ Ok r → r.header ≡ Some h → h.cid ≡ c =
-          λ r h e f. let g : ◌≡◌ {A = Option ℕ} (Some h.cid) (Some c) = sym (ap cid_in f) ∙ sym (ap borne_in e) ∙ borne_here in cc in
+    λ r h e f. let g : ◌≡◌ {A = Option ℕ} (Some h.cid) (Some c) = sym (ap cid_in f) ∙ sym (ap borne_in e) ∙ borne_here in cc in
     let one = read_one s t m (record_at a l) (record_at b l) (record_at after_a l) (record_at after_b l) x y parts
-          (λ r h e f. let same = bears_cid r h e f in (
-            subst (λ d. settings_in s d ≡ settings_in t d) (sym same) agree.settings,
-            subst (λ d. record_at a l d ≡ record_at b l d) (sym same) agree.records,
-            good_arrival a l h.cid m s octets r h agree.set_here fits e f all,
-          ))
-          here there (rich_x ∙ sym rich_y) in
+    (λ r h e f. let same = bears_cid r h e f in (
+      subst (λ d. settings_in s d ≡ settings_in t d) (sym same) agree.settings,
+      subst (λ d. record_at a l d ≡ record_at b l d) (sym same) agree.records,
+      good_arrival a l h.cid m s octets r h agree.set_here fits e f all,
+    ))
+    here there (rich_x ∙ sym rich_y) in
     (one.0, one.1 c borne_here)
 
 -- A refusal makes no record.

@@ -1,7 +1,6 @@
 -- Promises over two concentrators, and over what is refused.
-use Rattle.std.specs.Prelude.{◌≡◌, ℕ, ◌<◌, ◌^◌, List, All, Bool, true, false, Option, Some, None}
+use Rattle.std.specs.Prelude.{◌≡◌, ℕ, ◌<◌, ◌^◌, List, All, true, false, Some, None}
 use Rattle.rohc_frame.specs.Laws.{IsOctet}
-use Rattle.rohc_context.specs.Record.{Record}
 use Rattle.rohc_concentrator.specs.declared.concentrator.Concentrator.{Concentrator}
 use Rattle.rohc_concentrator.specs.declared.setting.LinkSetting.{LinkSetting}
 use Rattle.rohc_concentrator.specs.Setting.{settings_in}

@@ -1,4 +1,4 @@
-use Rattle.std.specs.Prelude.{◌≡◌, ℕ, ◌+◌, ◌≤◌, List, [], ◌∷◌, Bool, true, ◌&&◌, nat_le, Option, find, unwrap_or}
+use Rattle.std.specs.Prelude.{◌≡◌, ℕ, ◌+◌, List, [], ◌∷◌, Bool, true, ◌&&◌, nat_le, Option, find, unwrap_or}
 use Rattle.std.specs.Option.{option_map}
 use Rattle.rohc_context.specs.declared.settings.Mode.{Mode}
 use Rattle.rohc_context.specs.declared.settings.Settings.{Settings}

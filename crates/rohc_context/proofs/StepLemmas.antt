@@ -1,4 +1,4 @@
-use Rattle.std.proofs.Common.{◌≡◌, ◌≢◌, ℕ, ◌<◌, ◌^◌, List, [], ◌∷◌, Bool, true, false, ◌||◌, Option, Some, None, Result, Ok, Err, IfSome, ◌==◌, if◌then◌else◌, refl, sym, ◌∙◌, ap, subst}
+use Rattle.std.proofs.Common.{◌≡◌, ◌≢◌, ℕ, ◌<◌, ◌^◌, List, [], ◌∷◌, Bool, true, false, ◌||◌, Option, Some, None, Result, Ok, Err, IfSome, if◌then◌else◌, refl, sym, ◌∙◌, ap}
 use Rattle.rohc_frame.specs.declared.header.HeadKind.{HeadKind}
 use Rattle.rohc_frame.specs.declared.header.HeadKind.TheVariants.{Ir, IrDyn, Other}
 use Rattle.rohc_frame.specs.Header.{Header}
@@ -8,15 +8,15 @@ use Rattle.rohc_context.specs.declared.reply.Outcome.TheVariants.{Refused}
 use Rattle.rohc_context.specs.declared.record.Context.{Context}
 use Rattle.rohc_context.specs.declared.settings.Settings.{Settings}
 use Rattle.rohc_context.specs.Laws.{HasNoOther, LeavesGood, LeavesNone, NeverPoor}
-use Rattle.rohc_context.specs.Good.{AreGoodValues, IsGoodRecord}
+use Rattle.rohc_context.specs.Good.{IsGoodRecord}
 use Rattle.rohc_chain.specs.declared.refusal.ChainRefusal.{ChainRefusal}
 use Rattle.rohc_chain.specs.declared.refusal.ChainRefusal.TheVariants as chains
 use Rattle.rohc_chain.specs.Packets.{IrContent, Plain, StaticOnly, Whole, ir_at}
 use Rattle.rohc_context.specs.Chains.{refusal_of_chain}
 use Rattle.rohc_context.specs.PlainIr.{plain_ir, plain_content, names_other_profile}
 use Rattle.rohc_context.specs.Record.{Record, record_of}
-use Rattle.rohc_context.specs.Response.{Response, stored, delivered, refused}
-use Rattle.rohc_context.specs.Step.{renewed, Turn, Renews, Takes, Refuses, LoneStep, standing, acknowledgement}
+use Rattle.rohc_context.specs.Response.{Response, delivered, refused}
+use Rattle.rohc_context.specs.Step.{renewed, Turn, Renews, LoneStep, standing, acknowledgement}
 
 -- Existence: what is taken and what is refused each have their one answer.
 

@@ -1,5 +1,5 @@
 -- What each event of a script tells a pair.
-use Rattle.std.proofs.Common.{◌≡◌, ◌≢◌, ℕ, ◌<◌, ◌^◌, List, [], ◌∷◌, map, filter, true, false, ◌==◌, Option, Some, None, if◌then◌else◌, All, ◌⊎◌, inl, inr, ⊎_elim, eq-eqb, ne_eqb, refl, sym, ◌∙◌, subst}
+use Rattle.std.proofs.Common.{◌≡◌, ◌≢◌, ℕ, ◌<◌, ◌^◌, List, [], ◌∷◌, map, filter, true, false, ◌==◌, Option, Some, None, All, inl, inr, ⊎_elim, eq-eqb, ne_eqb, refl, sym, ◌∙◌, subst}
 use Rattle.std.proofs.lemmas.Bool.{cases_eq}
 use Rattle.rohc_frame.specs.Laws.{IsOctet}
 use Rattle.rohc_frame.specs.Parts.{parts_of}

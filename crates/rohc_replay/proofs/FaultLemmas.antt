@@ -1,5 +1,5 @@
 -- Lemmas on what a fault leaves.
-use Rattle.std.proofs.Common.{◌≡◌, ℕ, List, [], ◌++◌, Option, None, Some, IfSome, Bool, ◌⊎◌, inl, inr, append_assoc, append-nil, refl, sym, ◌∙◌, ap, subst}
+use Rattle.std.proofs.Common.{ℕ, List, [], ◌++◌, Option, None, Some, IfSome, Bool, ◌⊎◌, inl, inr, append_assoc, append-nil, sym, ◌∙◌, ap}
 use Rattle.std.specs.List.{flat_map}
 use Rattle.std.specs.Io.KnownBytes.{Consumes, Keeps, IsAtEnd}
 use Rattle.std.proofs.KnownBytes.{Appends-kept, Consumes-whole}

@@ -1,5 +1,5 @@
 -- What a failed replay has written begins what a whole one writes.
-use Rattle.std.proofs.Common.{◌≡◌, ℕ, List, [], ◌∷◌, ◌++◌, Bool, false, Option, Some, None, append_assoc, append-nil, refl, sym, ◌∙◌, ap, subst}
+use Rattle.std.proofs.Common.{◌≡◌, ℕ, List, [], ◌∷◌, ◌++◌, false, Option, Some, None, append_assoc, append-nil, refl, sym, ◌∙◌, ap, subst}
 use Rattle.std.specs.List.{flat_map, AllByRecursion}
 use Rattle.std.specs.Io.KnownBytes.{Consumes}
 use Rattle.std.proofs.lemmas.Grind.{flat_map-append}
@@ -7,7 +7,7 @@ use Rattle.rohc_concentrator.specs.declared.concentrator.Concentrator.{Concentra
 use Rattle.rohc_concentrator.specs.Laws.{AreAlike}
 use Rattle.rohc_replay.specs.AnswerLines.{text_of}
 use Rattle.rohc_replay.specs.Laws.{IsFront, ReadLeavesFront, WriteLeavesFront, FlushLeavesAll}
-use Rattle.rohc_replay.specs.Lines.{has_newline, Splits}
+use Rattle.rohc_replay.specs.Lines.{has_newline}
 use Rattle.rohc_replay.specs.Run.{Runs, marked_of}
 use Rattle.rohc_replay.specs.Script.{Line, AreLines, IsScript, lines_of}
 use Rattle.rohc_replay.proofs.RunLemmas.{begins_alike}
@@ -57,17 +57,19 @@ pub read_leaves_front : ReadLeavesFront
 read_leaves_front old new after text left held holding written f lines answers whole script marks =
     let back = consumed_front text f.seen left f.consumed in
     let cut : lines_of text ≡ f.finished ++ lines_of (f.rest ++ back.0) =
-          ap lines_of (back.1 ∙ ap (λ t. t ++ back.0) f.splits.whole ∙ append_assoc (text_of f.finished) f.rest back.0) ∙ finished_first f.finished (f.rest ++ back.0) f.splits.each in
+    ap lines_of (back.1 ∙ ap (λ t. t ++ back.0) f.splits.whole ∙ append_assoc (text_of f.finished) f.rest back.0) ∙ finished_first f.finished (f.rest ++ back.0) f.splits.each in
     front_text f.answers answers (front_answers old new after text f.finished (lines_of (f.rest ++ back.0)) f.lines f.answers f.run lines answers whole cut f.are_lines script marks)
 
 pub write_leaves_front : WriteLeavesFront
 write_leaves_front old new after text held holding written f lines answers whole script marks =
     let s = f.stops in
     let all = front_text (s.answers ++ s.last_answers ∷ []) answers
-          (front_answers old new after text f.texts f.others (s.earlier ++ s.last ∷ []) (s.answers ++ s.last_answers ∷ []) s.run lines answers whole f.first_lines s.are_lines script marks) in
-    (s.rest ++ all.0, all.1
-        ∙ ap (λ t. t ++ all.0) (flat_map-append text_of s.answers (s.last_answers ∷ []) ∙ ap (λ t. flat_map text_of s.answers ++ t) (append-nil (text_of s.last_answers) ∙ s.parts))
-        ∙ simp append_assoc)
+    (front_answers old new after text f.texts f.others (s.earlier ++ s.last ∷ []) (s.answers ++ s.last_answers ∷ []) s.run lines answers whole f.first_lines s.are_lines script marks) in (
+      s.rest ++ all.0,
+      all.1
+          ∙ ap (λ t. t ++ all.0) (flat_map-append text_of s.answers (s.last_answers ∷ []) ∙ ap (λ t. flat_map text_of s.answers ++ t) (append-nil (text_of s.last_answers) ∙ s.parts))
+          ∙ simp append_assoc,
+    )
 
 -- a run has answers for each line
 answers_alone : (old new after : Concentrator) (lines : List Line) (answers more : List (List (List ℕ))) → Runs old lines answers new → Runs old lines (answers ++ more) after → more ≡ []

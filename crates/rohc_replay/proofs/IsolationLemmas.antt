@@ -1,5 +1,5 @@
 -- Isolation: what a run tells a pair is the run of one context machine over the pair's own events.
-use Rattle.std.proofs.Common.{◌≡◌, ◌≢◌, ℕ, ◌<◌, ◌≤◌, ◌^◌, List, [], ◌∷◌, ◌++◌, map, filter, Bool, true, false, ◌==◌, Option, Some, None, Result, Ok, Err, if◌then◌else◌, All, ◌⊎◌, inl, inr, ⊎_elim, append-nil, eq-eqb, ne_eqb, arith, refl, sym, ◌∙◌, subst}
+use Rattle.std.proofs.Common.{◌≡◌, ◌≢◌, ℕ, ◌<◌, ◌≤◌, ◌^◌, List, [], ◌∷◌, ◌++◌, map, filter, Bool, true, false, ◌==◌, Option, Some, None, Result, Ok, Err, All, inl, inr, ⊎_elim, append-nil, eq-eqb, ne_eqb, arith, refl, sym, ◌∙◌, subst}
 use Rattle.std.specs.List.{flat_map}
 use Rattle.std.proofs.lemmas.Bool.{cases_eq}
 use Rattle.rohc_frame.specs.Header.{Header, greatest_cid}
@@ -20,8 +20,8 @@ use Rattle.rohc_context.specs.Response.{Response, refused}
 use Rattle.rohc_context.proofs.StepLemmas.{step_rich}
 use Rattle.rohc_concentrator.specs.declared.setting.LinkSetting.{LinkSetting}
 use Rattle.rohc_concentrator.specs.Setting.{settings_in, IsGoodSetting}
-use Rattle.rohc_concentrator.specs.Report.{Report, Arrived, OnlyFront, Refused, OwnStep, IsArrival, IsCut, IsRead, borne_in, cid_in, is_no_memory, wants_memory}
-use Rattle.rohc_concentrator.specs.LoneRun.{LoneEvent, Arrival, Forget, MarkedRun, MarkedStep, arrival_of, arrival_in}
+use Rattle.rohc_concentrator.specs.Report.{Report, OwnStep, IsArrival, IsCut, IsRead, borne_in, cid_in, is_no_memory, wants_memory}
+use Rattle.rohc_concentrator.specs.LoneRun.{LoneEvent, Arrival, Forget, MarkedRun, arrival_of, arrival_in}
 use Rattle.rohc_replay.specs.AnswerLines.{report_lines, response_lines, relay_line, link_refusal}
 use Rattle.rohc_replay.specs.Isolation.{is_pair_line}
 use Rattle.rohc_replay.proofs.OwnLines.{filter-append, relays_left_out, refusal_left_out, reply_left_out, reply_whole_kept}

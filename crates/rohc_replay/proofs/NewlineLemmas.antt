@@ -1,6 +1,6 @@
 -- No answer line has a newline within, so the lines of what was written are the answer lines.
-use Rattle.std.proofs.Common.{◌≡◌, ℕ, zero, suc, ◌+◌, ◌/◌, ◌%◌, ◌<◌, ◌^◌, List, [], ◌∷◌, ◌++◌, map, Bool, true, false, ◌||◌, ◌==◌, Option, Some, None, codes, slice_index, append-nil, append_assoc, arith, ne_eqb, refl, sym, ◌∙◌, ap}
-use Rattle.std.specs.List.{flat_map, AllByRecursion}
+use Rattle.std.proofs.Common.{◌≡◌, ℕ, zero, suc, ◌/◌, ◌%◌, ◌<◌, ◌^◌, List, [], ◌∷◌, ◌++◌, map, false, ◌==◌, Option, Some, None, codes, slice_index, arith, ne_eqb, refl, ◌∙◌, ap}
+use Rattle.std.specs.List.{AllByRecursion}
 use Rattle.std.specs.Fmt.{decimal}
 use Rattle.hex.specs.Hex.{encode_with, encode_lower, lower_digits}
 use Rattle.rohc_context.specs.Refusal.{name_of}
@@ -8,9 +8,9 @@ use Rattle.rohc_context.specs.declared.refusal.Refusal.{Refusal}
 use Rattle.rohc_context.specs.declared.reply.Outcome.{Outcome}
 use Rattle.rohc_context.specs.declared.reply.Outcome.TheVariants as outcomes
 use Rattle.rohc_context.specs.Response.{Response, Packet}
-use Rattle.rohc_replay.specs.AnswerLines.{pair_text, relay_line, link_refusal, packet_lines, stored_lines, feedback_lines, refused_lines, response_lines, text_of}
+use Rattle.rohc_replay.specs.AnswerLines.{pair_text, relay_line, link_refusal, packet_lines, stored_lines, feedback_lines, refused_lines, response_lines}
 use Rattle.rohc_replay.specs.Lines.{has_newline}
-use Rattle.rohc_replay.specs.Script.{hex_text, lines_of}
+use Rattle.rohc_replay.specs.Script.{hex_text}
 use Rattle.rohc_replay.proofs.NameLemmas.{name_one_line}
 use Rattle.rohc_replay.proofs.PairLemmas.{digits_first}
 use Rattle.rohc_replay.proofs.SplitLemmas.{both_false, neither, has_newline-append}

@@ -1,5 +1,5 @@
 -- Lemmas on which pair a line is of.
-use Rattle.std.proofs.Common.{◌≡◌, ℕ, ◌+◌, ◌%◌, ◌<◌, ◌≤◌, ◌^◌, List, [], ◌∷◌, ◌++◌, Bool, true, false, not, ◌&&◌, ◌==◌, codes, if◌then◌else◌, append_assoc, append-nil, eqb-true, eq-eqb, ne_eqb, arith, refl, sym, ◌∙◌, ap, subst}
+use Rattle.std.proofs.Common.{◌≡◌, ℕ, ◌+◌, ◌%◌, ◌<◌, ◌≤◌, ◌^◌, List, [], ◌∷◌, ◌++◌, Bool, true, false, ◌&&◌, ◌==◌, codes, append_assoc, append-nil, eqb-true, eq-eqb, ne_eqb, arith, refl, sym, ◌∙◌, ap, subst}
 use Rattle.std.specs.Fmt.{decimal}
 use Rattle.rohc_replay.specs.Numeral.{IsNumberAt}
 use Rattle.rohc_replay.specs.AnswerLines.{pair_text}

@@ -1,5 +1,5 @@
 -- A replay isolates each identifier of each link from all others.
-use Rattle.std.proofs.Common.{◌≡◌, ℕ, ◌<◌, ◌^◌, List, [], ◌∷◌, ◌++◌, append_assoc, append-nil, map, if◌then◌else◌, filter, Bool, true, false, Option, Some, None, Result, Ok, Err, IfOk, IfSome, refl, sym, ◌∙◌, ap, subst}
+use Rattle.std.proofs.Common.{◌≡◌, ℕ, ◌<◌, ◌^◌, List, [], ◌∷◌, ◌++◌, append-nil, map, if◌then◌else◌, filter, Bool, true, false, Option, Some, None, Result, Ok, Err, IfOk, IfSome, refl, sym, ◌∙◌, ap, subst}
 use Rattle.std.specs.List.{flat_map, AllByRecursion}
 use Rattle.rohc_context.specs.declared.settings.Settings.{Settings}
 use Rattle.rohc_context.specs.Record.{Record}
@@ -13,11 +13,11 @@ use Rattle.rohc_concentrator.specs.LoneRun.{LoneEvent, Arrival, Forget, LoneRun,
 use Rattle.rohc_replay.specs.declared.tally.Tally.{Tally}
 use Rattle.rohc_replay.specs.declared.fault.RunFault.{RunFault}
 use Rattle.rohc_replay.specs.AnswerLines.{response_lines, text_of}
-use Rattle.rohc_replay.specs.Isolation.{is_pair_line, is_own_line, pair_lines, own_lines, own, own_line, own_marked, left, left_of, IsAnswered, IsTold, IsToldAlike, Isolates}
+use Rattle.rohc_replay.specs.Isolation.{is_pair_line, is_own_line, own, own_line, own_marked, left, left_of, IsAnswered, IsTold, IsToldAlike, Isolates}
 use Rattle.rohc_replay.specs.Lines.{has_newline}
-use Rattle.rohc_replay.specs.Run.{Replays, Runs, marked_of}
+use Rattle.rohc_replay.specs.Run.{Replays, marked_of}
 use Rattle.rohc_replay.specs.Script.{Line, IsLine, AreLines, IsScript, lines_of}
-use Rattle.rohc_replay.proofs.IsolationLemmas.{Tells, with_mark}
+use Rattle.rohc_replay.proofs.IsolationLemmas.{with_mark}
 use Rattle.rohc_replay.proofs.OwnLines.{filter-append, filter-within, reply_kept, poor_left_out}
 use Rattle.rohc_replay.proofs.SplitLemmas.{lines_of-splits, lines_of-each}
 use Rattle.rohc_replay.proofs.ToldLemmas.{marked_lines, AreFit, lines_fit, run_told}
@@ -90,10 +90,10 @@ module _ (s : LinkSetting) (l c : ℕ) where
   script_left text marked script =
       let texts = left s l c (lines_of text) marked in
       let cut : lines_of (text_of texts) ≡ texts = lines_of-splits (text_of texts) texts [] (record {
-            whole = sym (append-nil (text_of texts));
-            each = left_each (lines_of text) marked (lines_of-each text);
-            unfinished = refl;
-          }) ∙ append-nil texts in
+        whole = sym (append-nil (text_of texts));
+        each = left_each (lines_of text) marked (lines_of-each text);
+        unfinished = refl;
+      }) ∙ append-nil texts in
       subst (λ ts. AreLines ts (left_lines marked)) (sym cut) (lines_left (lines_of text) marked script)
 
   pub unmarked_with : (mark : Bool) (events : List LoneEvent) (more : List (LoneEvent × Bool)) → unmarked (with_mark mark events ++ more) ≡ (if mark then [] else events) ++ unmarked more
@@ -132,7 +132,7 @@ replay_isolates old text held holding t new r =
     let marked = marked_of old r.lines r.answers new r.run in
     let script : IsScript text (map (λ (m : Line × Bool). m.0) marked) = subst (IsScript text) (sym (marked_lines old r.lines r.answers new r.run)) r.script in
     let answered : (l c : ℕ) (s : LinkSetting) → l < 2 ^ 16 → c < 2 ^ 16 → setting_at old l ≡ Some s → IsAnswered old new marked written l c s =
-          λ l c s lf cf set. let told = run_told s l c lf cf old r.lines r.answers new r.run fit set in record { replies = told.0; run = told.1; told = ap (filter (is_pair_line l c)) lines ∙ told.2 } in (
+    λ l c s lf cf set. let told = run_told s l c lf cf old r.lines r.answers new r.run fit set in record { replies = told.0; run = told.1; told = ap (filter (is_pair_line l c)) lines ∙ told.2 } in (
       written,
       r.written,
       record {

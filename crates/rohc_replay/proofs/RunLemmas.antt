@@ -1,10 +1,9 @@
 -- Runs of one script begin alike.
-use Rattle.std.proofs.Common.{◌≡◌, ℕ, List, [], ◌∷◌, ◌++◌, Bool, false, All, refl, sym, ◌∙◌, ap, subst}
+use Rattle.std.proofs.Common.{◌≡◌, ℕ, List, [], ◌∷◌, ◌++◌, Bool, false, refl, sym, ◌∙◌, ap, subst}
 use Rattle.rohc_concentrator.specs.declared.concentrator.Concentrator.{Concentrator}
 use Rattle.rohc_concentrator.specs.Laws.{AreAlike}
-use Rattle.rohc_concentrator.specs.Tables.{setting_at}
 use Rattle.rohc_concentrator.proofs.WorldLemmas.{arrive_alike, reset_alike}
-use Rattle.rohc_replay.specs.AnswerLines.{report_lines, reset_lines, bad_line, long_line}
+use Rattle.rohc_replay.specs.AnswerLines.{report_lines, reset_lines}
 use Rattle.rohc_replay.specs.Laws.{IsFront, BeginsAlike}
 use Rattle.rohc_replay.specs.Run.{Turns, Runs, turn_mark, marked_of}
 use Rattle.rohc_replay.specs.Script.{Event, Arrive, Reset, IsEvent, Line, Good, Bad, Long, lines_of}

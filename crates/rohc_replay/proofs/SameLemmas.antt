@@ -1,13 +1,11 @@
 -- Two replays that agree on a pair tell it the same.
-use Rattle.std.proofs.Common.{◌≡◌, ℕ, ◌<◌, ◌^◌, List, [], ◌∷◌, ◌++◌, map, Bool, true, false, if◌then◌else◌, ◌==◌, Option, Some, None, Result, Ok, Err, All, refl, sym, ◌∙◌, ap, subst}
+use Rattle.std.proofs.Common.{◌≡◌, ℕ, ◌<◌, ◌^◌, List, [], ◌∷◌, ◌++◌, map, Bool, true, false, if◌then◌else◌, ◌==◌, Option, Some, None, Result, Ok, Err, refl, sym, ◌∙◌, ap, subst}
 use Rattle.std.specs.List.{flat_map, AllByRecursion}
 use Rattle.rohc_frame.specs.Header.{Header}
-use Rattle.rohc_frame.specs.Laws.{IsOctet}
 use Rattle.rohc_frame.specs.Parts.{parts_of}
 use Rattle.rohc_frame.specs.Reading.{Reading}
 use Rattle.rohc_frame.specs.declared.refusal.FrameRefusal.{FrameRefusal}
 use Rattle.rohc_context.specs.Good.{IsGoodHeader}
-use Rattle.rohc_context.specs.Response.{Response}
 use Rattle.rohc_context.specs.declared.settings.Settings.{Settings}
 use Rattle.rohc_concentrator.specs.declared.setting.LinkSetting.{LinkSetting}
 use Rattle.rohc_concentrator.specs.Setting.{settings_in}
@@ -16,7 +14,7 @@ use Rattle.rohc_concentrator.specs.LoneRun.{LoneEvent, Arrival, Forget, LoneRun,
 use Rattle.rohc_concentrator.proofs.GoodLemmas.{good_setting, good_settings_in, good_record_at, good_header}
 use Rattle.rohc_concentrator.proofs.WorldLemmas.{IsGoodEvent, lone_run_one}
 use Rattle.rohc_replay.specs.AnswerLines.{response_lines}
-use Rattle.rohc_replay.specs.Isolation.{own, own_event, own_line, own_marked}
+use Rattle.rohc_replay.specs.Isolation.{own, own_event, own_marked}
 use Rattle.rohc_replay.specs.Laws.{SameLines}
 use Rattle.rohc_replay.specs.Script.{Event, Arrive, Reset, IsEvent, Line, Good, Bad, Long, lines_of}
 use Rattle.rohc_replay.proofs.ReplayIsolates.{unmarked_with}
@@ -65,9 +63,9 @@ same_lines a b after_a after_b text other heard told p q l c agree lf cf same =
     let there = q.alone l c t lf cf agree.set_there in
     let fit : AreFit (map (λ (m : Line × Bool). m.0) p.marked) = lines_fit (lines_of text) _ p.script in
     let moved : LoneRun (settings_in s c) (record_at a l c) (own s l c p.marked) there.replies (record_at after_b l c) =
-          subst (λ es. LoneRun (settings_in s c) (record_at a l c) es there.replies (record_at after_b l c)) (sym same)
-          (subst (λ z. LoneRun z (record_at a l c) (own t l c q.marked) there.replies (record_at after_b l c)) (sym agree.settings)
-          (subst (λ z. LoneRun (settings_in t c) z (own t l c q.marked) there.replies (record_at after_b l c)) (sym agree.records) there.run)) in
+    subst (λ es. LoneRun (settings_in s c) (record_at a l c) es there.replies (record_at after_b l c)) (sym same)
+    (subst (λ z. LoneRun z (record_at a l c) (own t l c q.marked) there.replies (record_at after_b l c)) (sym agree.settings)
+    (subst (λ z. LoneRun (settings_in t c) z (own t l c q.marked) there.replies (record_at after_b l c)) (sym agree.records) there.run)) in
     let one = lone_run_one (settings_in s c) (record_at a l c) (own s l c p.marked) here.replies there.replies (record_at after_a l c) (record_at after_b l c)
-          (good_settings_in s c (good_setting a l s agree.set_here)) (good_own s l c p.marked fit) (good_record_at a l c) here.run moved in
+    (good_settings_in s c (good_setting a l s agree.set_here)) (good_own s l c p.marked fit) (good_record_at a l c) here.run moved in
     (here.told ∙ ap (flat_map (response_lines l c)) one.0 ∙ sym there.told, one.1)

@@ -1,11 +1,10 @@
 -- A text is one script: no line is two things, and no event has the spelling of another.
-use Rattle.std.proofs.Common.{◌≡◌, ◌≢◌, ℕ, zero, suc, ◌+◌, ◌*◌, ◌<◌, ◌≤◌, ◌^◌, List, [], ◌∷◌, ◌++◌, get_or, length, All, Result, Ok, codes, arith, refl, sym, ◌∙◌, ap, subst}
+use Rattle.std.proofs.Common.{◌≡◌, ℕ, zero, suc, ◌*◌, ◌<◌, List, [], ◌∷◌, ◌++◌, get_or, length, All, arith, refl, sym, ◌∙◌, ap}
 use Rattle.std.specs.Fmt.{decimal}
 use Rattle.std.proofs.lemmas.List.Elements.{All-head, All-tail}
-use Rattle.hex.specs.Hex.{IsBytes, encode_lower, decode_of}
+use Rattle.hex.specs.Hex.{IsBytes, decode_of}
 use Rattle.hex.proofs.HexLemmas.{decode_of-encode_lower, length-encode_with}
 use Rattle.rohc_replay.specs.Laws.{HasOneScript}
-use Rattle.rohc_replay.specs.Numeral.{IsNumberAt}
 use Rattle.rohc_replay.specs.Script.{Event, Arrive, Reset, IsEvent, Line, Good, Bad, Long, IsLine, AreLines, lines_of, hex_text, spelling}
 use Rattle.rohc_replay.proofs.NumeralLemmas.{number_unique}
 use Rattle.rohc_replay.proofs.SpellingLemmas.{behind_arrive, number_alone}
@@ -27,12 +26,12 @@ hex_one (x ∷ xs) (y ∷ ys) p q e = let same = sym (decode_of-encode_lower (x 
 spelling_one : (e f : Event) → IsEvent e → IsEvent f → spelling e ≡ spelling f → e ≡ f
 spelling_one (Arrive l m xs) (Arrive k n ys) p q same =
     let behind : decimal l ++ 32 ∷ (decimal m ++ 32 ∷ hex_text xs) ≡ decimal k ++ 32 ∷ (decimal n ++ 32 ∷ hex_text ys) =
-          sym (behind_arrive _ l m xs refl) ∙ behind_arrive _ k n ys same in
+    sym (behind_arrive _ l m xs refl) ∙ behind_arrive _ k n ys same in
     let links = number_unique (decimal l ++ 32 ∷ (decimal m ++ 32 ∷ hex_text xs)) l k (32 ∷ (decimal m ++ 32 ∷ hex_text xs)) (32 ∷ (decimal n ++ 32 ∷ hex_text ys))
-          (record { fits = omega (arith, p.0); spelled = refl; ends = refl }) (record { fits = omega (arith, q.0); spelled = behind; ends = refl }) in
+    (record { fits = omega (arith, p.0); spelled = refl; ends = refl }) (record { fits = omega (arith, q.0); spelled = behind; ends = refl }) in
     let moments_text : decimal m ++ 32 ∷ hex_text xs ≡ decimal n ++ 32 ∷ hex_text ys = let h = links.1 in cc in
     let moments = number_unique (decimal m ++ 32 ∷ hex_text xs) m n (32 ∷ hex_text xs) (32 ∷ hex_text ys)
-          (record { fits = p.1; spelled = refl; ends = refl }) (record { fits = q.1; spelled = moments_text; ends = refl }) in
+    (record { fits = p.1; spelled = refl; ends = refl }) (record { fits = q.1; spelled = moments_text; ends = refl }) in
     let octets : hex_text xs ≡ hex_text ys = let h = moments.1 in cc in
     rw (links.0, moments.0, hex_one xs ys p.3 q.3 octets) refl
 spelling_one (Arrive l m xs) (Reset k) p q same = absurd (let heads : ◌≡◌ {A = ℕ} 97 114 = ap (λ (t : List ℕ). get_or t 0 0) same in omega arith)

@@ -1,6 +1,6 @@
 -- Lemmas on lines: a text that was split into finished lines and a rest has these lines.
-use Rattle.std.proofs.Common.{◌≡◌, ◌≢◌, ℕ, ◌+◌, ◌<◌, ◌≤◌, List, [], ◌∷◌, ◌++◌, length, length-append, Bool, true, false, ◌||◌, ◌==◌, append_assoc, append-nil, arith, refl, sym, ◌∙◌, ap, subst, if◌then◌else◌}
-use Rattle.std.specs.List.{list_any, AllByRecursion, flat_map}
+use Rattle.std.proofs.Common.{◌≡◌, ℕ, List, [], ◌∷◌, ◌++◌, Bool, true, false, ◌||◌, ◌==◌, append_assoc, append-nil, refl, sym, ◌∙◌, ap, if◌then◌else◌}
+use Rattle.std.specs.List.{AllByRecursion}
 use Rattle.std.proofs.lemmas.List.Folds.{list_any-append}
 use Rattle.std.proofs.lemmas.Grind.{flat_map-append}
 use Rattle.rohc_replay.specs.Script.{Line, IsLine, AreLines, lines_of, onto_first}

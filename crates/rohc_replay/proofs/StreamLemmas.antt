@@ -1,7 +1,7 @@
 -- Lemmas on where a replay stands.
-use Rattle.std.proofs.Common.{◌≡◌, ◌≢◌, ℕ, ◌+◌, ◌<◌, ◌≤◌, List, [], ◌∷◌, ◌++◌, length, length-append, Bool, true, false, cond, not, min, slice_range, get_or, drop, ◌⊎◌, inl, inr, Option, Result, Ok, Err, IfOk, IfErr, IfSome, count_by, append_assoc, append-nil, arith, refl, sym, ◌∙◌, ap, subst}
+use Rattle.std.proofs.Common.{◌≡◌, ℕ, ◌+◌, ◌<◌, ◌≤◌, List, [], ◌∷◌, ◌++◌, length, length-append, Bool, true, false, cond, not, slice_range, get_or, drop, ◌⊎◌, inl, inr, Option, Result, Ok, Err, IfOk, IfErr, IfSome, count_by, append_assoc, append-nil, arith, refl, sym, ◌∙◌, ap, subst}
 use Rattle.std.specs.List.{flat_map}
-use Rattle.std.specs.Io.KnownBytes.{Appends, Keeps, Consumes, IsAtEnd}
+use Rattle.std.specs.Io.KnownBytes.{Keeps, Consumes, IsAtEnd}
 use Rattle.std.proofs.KnownBytes.{Appends-nil, Appends-trans, Appends-kept, Consumes-trans, Consumes-whole}
 use Rattle.std.proofs.lemmas.Grind.{flat_map-append}
 use Rattle.std.proofs.lemmas.List.Sums.{sum_by-append}
@@ -15,7 +15,7 @@ use Rattle.rohc_replay.specs.Offers.{TakesAll, TakesPart, counted}
 use Rattle.rohc_replay.specs.Run.{Turns, Runs, IsTally, Replays, Stops, is_good_line}
 use Rattle.rohc_replay.specs.Turn.{with_line, TakesTurn, TakesLongTurn}
 use Rattle.rohc_replay.specs.Stream.{Stands, Ends, IsKept, StopsAt}
-use Rattle.rohc_replay.specs.Lines.{Splits, has_newline}
+use Rattle.rohc_replay.specs.Lines.{has_newline}
 use Rattle.rohc_replay.proofs.RangeLemmas.{range-append, range-one, range-none, range-end}
 use Rattle.rohc_replay.proofs.SplitLemmas.{Splits-more, Splits-newline, AreLines-push, lines_of-splits, last_line}
 

@@ -1,5 +1,5 @@
 -- Each answer of a run is lines without a newline within.
-use Rattle.std.proofs.Common.{◌≡◌, ◌≢◌, ℕ, ◌<◌, ◌^◌, List, [], ◌∷◌, ◌++◌, map, filter, Option, Some, None, Result, Ok, Err, All, ⊎_elim, append-nil, refl, sym, ◌∙◌, ap, subst}
+use Rattle.std.proofs.Common.{◌≡◌, ℕ, ◌<◌, ◌^◌, List, [], ◌∷◌, ◌++◌, map, filter, Option, Some, None, Result, Ok, Err, All, ⊎_elim, append-nil, refl, sym, ◌∙◌, ap, subst}
 use Rattle.std.specs.List.{flat_map}
 use Rattle.std.proofs.lemmas.Bool.{cases_eq}
 use Rattle.std.proofs.lemmas.Grind.{flat_map-append}
@@ -17,7 +17,7 @@ use Rattle.rohc_concentrator.specs.declared.setting.LinkSetting.{LinkSetting}
 use Rattle.rohc_concentrator.specs.Setting.{IsGoodSetting}
 use Rattle.rohc_concentrator.specs.Tables.{setting_at, record_at}
 use Rattle.rohc_concentrator.specs.Report.{Report, IsAnswered, IsRead, IsCut}
-use Rattle.rohc_replay.specs.AnswerLines.{report_lines, reset_lines, response_lines, relay_line, text_of, bad_line, long_line}
+use Rattle.rohc_replay.specs.AnswerLines.{report_lines, reset_lines, response_lines, relay_line, text_of}
 use Rattle.rohc_replay.specs.Isolation.{is_pair_line}
 use Rattle.rohc_replay.specs.Run.{Turns, Runs}
 use Rattle.rohc_replay.specs.Script.{Event, Arrive, Reset, IsEvent, Line, Good, Bad, Long, lines_of}

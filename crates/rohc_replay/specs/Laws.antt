@@ -1,5 +1,5 @@
 -- Promises over two runs, and over a text's one script.
-use Rattle.std.specs.Prelude.{◌≡◌, ℕ, ◌<◌, ◌^◌, List, [], ◌∷◌, ◌++◌, Bool, Option, Some}
+use Rattle.std.specs.Prelude.{◌≡◌, ℕ, ◌<◌, ◌^◌, List, [], ◌∷◌, ◌++◌, Option, Some}
 use Rattle.std.specs.List.{flat_map}
 use Rattle.rohc_concentrator.specs.declared.concentrator.Concentrator.{Concentrator}
 use Rattle.rohc_concentrator.specs.Laws.{Agree, AreAlike}

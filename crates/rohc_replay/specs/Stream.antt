@@ -1,10 +1,10 @@
 -- Where a replay stands between two reads.
-use Rattle.std.specs.Prelude.{◌≡◌, ℕ, ◌<◌, List, [], ◌∷◌, ◌++◌, length, Bool, true, false, ◌==◌, Option}
-use Rattle.std.specs.List.{list_any, AllByRecursion, flat_map}
+use Rattle.std.specs.Prelude.{◌≡◌, ℕ, ◌<◌, List, [], ◌++◌, length, Bool, true, false, Option}
+use Rattle.std.specs.List.{flat_map}
 use Rattle.rohc_concentrator.specs.declared.concentrator.Concentrator.{Concentrator}
 use Rattle.rohc_replay.specs.declared.counts.Counts.{Counts}
 use Rattle.rohc_replay.specs.Script.{Line, AreLines, longest_line, lines_of}
-use Rattle.rohc_replay.specs.Lines.{Splits, has_newline}
+use Rattle.rohc_replay.specs.Lines.{Splits}
 use Rattle.rohc_replay.specs.AnswerLines.{text_of}
 use Rattle.rohc_replay.specs.Offers.{TakesAll}
 use Rattle.rohc_replay.specs.Run.{Runs, IsTally, Stops}

@@ -1,5 +1,5 @@
 -- One line's turn, with what the writer took of its answers.
-use Rattle.std.specs.Prelude.{◌≡◌, ℕ, ◌∷◌, [], List, Option, Result, Bool}
+use Rattle.std.specs.Prelude.{◌≡◌, ℕ, ◌∷◌, [], List, Option, Result}
 use Rattle.rohc_concentrator.specs.declared.concentrator.Concentrator.{Concentrator}
 use Rattle.rohc_replay.specs.declared.output.Stopped.{Stopped}
 use Rattle.rohc_replay.specs.declared.tally.Tally.{Tally}

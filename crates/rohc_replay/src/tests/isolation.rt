@@ -89,29 +89,41 @@ const HOSTILE: [&str; 16] = [
 /// How many of them stand between two lines, so that they are 10,000 in all.
 const BETWEEN: usize = 10_000 / LINES.len() + 1;
 
-/// A script of the lines that are wanted, with so many hostile lines behind each.
-fn script(
-    alloc: Global,
-    wanted: impl Fn(Whose) -> bool,
-    hostile: usize,
-) -> Result<String, AllocError> {
+/// Whether the line is one of the pair's own script.
+fn is_own(whose: Whose, link: u16, cid: u16) -> bool {
+    whose == Whose::Call(link, cid) || whose == Whose::Link(link)
+}
+
+/// Appends a line.
+fn push_line(text: &mut String, line: &str) -> Result<(), AllocError> {
+    if line == LONG {
+        for _ in 0..131_201u32 {
+            text.push_str("x")?;
+        }
+    } else {
+        text.push_str(line)?;
+    }
+    text.push_str("\n")
+}
+
+/// The pair's own script.
+fn own_script(alloc: Global, link: u16, cid: u16) -> Result<String, AllocError> {
     let mut text = String::new(alloc);
-    let mut noise = HOSTILE.iter().cycle();
     for (whose, line) in LINES {
-        if !wanted(whose) {
-            continue;
+        if is_own(whose, link, cid) {
+            push_line(&mut text, line)?;
         }
-        if line == LONG {
-            for _ in 0..131_201u32 {
-                text.push_str("x")?;
-            }
-        } else {
-            text.push_str(line)?;
-        }
-        text.push_str("\n")?;
-        for line in noise.by_ref().take(hostile) {
-            text.push_str(line)?;
-            text.push_str("\n")?;
+    }
+    Ok(text)
+}
+
+/// The whole script, with so many hostile lines behind each line.
+fn whole_script(alloc: Global, hostile: usize) -> Result<String, AllocError> {
+    let mut text = String::new(alloc);
+    for (_, line) in LINES {
+        push_line(&mut text, line)?;
+        for place in 0..hostile {
+            push_line(&mut text, HOSTILE[place % HOSTILE.len()])?;
         }
     }
     Ok(text)
@@ -140,10 +152,9 @@ fn lines_of_pair(alloc: Global, text: &str, link: u16, cid: u16) -> Result<Strin
 #[test]
 fn each_pair_is_told_what_its_own_script_tells(rt: HostRuntime) -> Result<(), Fail> {
     let alloc = rt.alloc();
-    let whole = answers(alloc, script(alloc, |_| true, 0)?.as_str())?;
+    let whole = answers(alloc, whole_script(alloc, 0)?.as_str())?;
     for (link, cid) in PAIRS {
-        let own = |whose| whose == Whose::Call(link, cid) || whose == Whose::Link(link);
-        let alone = answers(alloc, script(alloc, own, 0)?.as_str())?;
+        let alone = answers(alloc, own_script(alloc, link, cid)?.as_str())?;
         let told = lines_of_pair(alloc, whole.as_str(), link, cid)?;
         let expected = lines_of_pair(alloc, alone.as_str(), link, cid)?;
         assert!(rt; !expected.is_empty(), "of {link} {cid}");
@@ -160,8 +171,8 @@ fn each_pair_is_told_what_its_own_script_tells(rt: HostRuntime) -> Result<(), Fa
 #[test]
 fn ten_thousand_hostile_lines_change_nothing(rt: HostRuntime) -> Result<(), Fail> {
     let alloc = rt.alloc();
-    let quiet = answers(alloc, script(alloc, |_| true, 0)?.as_str())?;
-    let noisy = answers(alloc, script(alloc, |_| true, BETWEEN)?.as_str())?;
+    let quiet = answers(alloc, whole_script(alloc, 0)?.as_str())?;
+    let noisy = answers(alloc, whole_script(alloc, BETWEEN)?.as_str())?;
     assert!(rt; noisy.lines().count() > 10_000);
     for (link, cid) in PAIRS {
         let told = lines_of_pair(alloc, noisy.as_str(), link, cid)?;

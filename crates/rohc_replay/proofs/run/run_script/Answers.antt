@@ -1,9 +1,7 @@
-use Rattle.std.proofs.Common.{◌≡◌, ℕ, ◌≤◌, List, [], ◌++◌, length, take, drop, slice_range, arith, refl, sym, ◌∙◌, ap, subst}
+use Rattle.std.proofs.Common.{◌≡◌, [], ◌++◌, length, take, drop, slice_range, arith, refl, sym, ◌∙◌, ap, subst}
 use Rattle.std.proofs.KnownBytes.{Consumes-nil, Consumes-trans}
 use Rattle.std.proofs.lemmas.List.{length-take-le}
 use Rattle.rohc_replay.proofs.RangeLemmas.{range-none, drop-front, take-front}
-use Rattle.rohc_replay.specs.Run.{Replays}
-use Rattle.rohc_replay.specs.Script.{longest_line}
 use Rattle.rohc_replay.proofs.StreamLemmas.{Stands-first, Stands-same, Consumes-nothing, Replays-whole}
 use Rattle.rohc_replay.proofs.FaultLemmas.{fails_writing, fails_at_end, fails_flushing}
 use Rattle.rohc_replay.specs.Stream.{StopsWithin}

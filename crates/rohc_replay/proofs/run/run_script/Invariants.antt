@@ -1,4 +1,4 @@
-use Rattle.std.proofs.Common.{◌≡◌, ℕ, ◌≤◌, List, take, length}
+use Rattle.std.proofs.Common.{ℕ, ◌≤◌, List, take}
 use Rattle.std.specs.Io.KnownBytes.{Consumes}
 use Rattle.rohc_replay.specs.Script.{longest_line}
 use Rattle.rohc_replay.specs.Stream.{Stands}

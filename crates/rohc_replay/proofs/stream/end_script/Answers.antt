@@ -1,4 +1,4 @@
-use Rattle.std.proofs.Common.{◌≡◌, ◌<◌, ℕ, List, [], length, arith, sym, eqb-true}
+use Rattle.std.proofs.Common.{◌≡◌, ◌<◌, [], length, arith, sym, eqb-true}
 use Rattle.std.proofs.lemmas.Bool.{eqb-false}
 use Rattle.std.proofs.lemmas.List.{nil_from_length}
 use Rattle.rohc_replay.proofs.StreamLemmas.{end_after_turn, end_after_long, last_after_turn, last_after_long, Ends-empty}

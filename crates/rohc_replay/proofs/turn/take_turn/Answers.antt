@@ -3,7 +3,7 @@ use Rattle.std.proofs.KnownBytes.{Appends-nil}
 use Rattle.rohc_replay.proofs.TurnLemmas.{reset_silent, counted_none}
 use Rattle.rohc_concentrator.specs.Report.{report_of}
 use Rattle.rohc_context.specs.declared.refusal.Refusal.TheVariants.{NoLink}
-use Rattle.rohc_replay.specs.Script.{Line, Good, Arrive, Reset}
+use Rattle.rohc_replay.specs.Script.{Good, Arrive, Reset}
 use Rattle.rohc_replay.specs.AnswerLines.{report_lines, link_refusal}
 use Rattle.rohc_replay.proofs.turn.take_turn.Goals as goal
 
