@@ -185,7 +185,7 @@ ip_dynamic_found text x all e =
     subst (λ (y : IpDynamic × List ℕ). (spelling : List ℕ) × Found text spelling y.1 × ((udp_sum : ℕ) (rtp : RtpDynamic) → SpellsIpDynamic (joined y.0 udp_sum rtp) spelling)) is
     (a.0.0 ∷ b.0.0 ∷ word c.0.0 ++ d.0.0 ∷ l.0.0 ∷ [], found, spells)
 
-all_right : (xs ys : List ℕ) → All IsOctet (xs ++ ys) → All IsOctet ys
+pub all_right : (xs ys : List ℕ) → All IsOctet (xs ++ ys) → All IsOctet ys
 all_right xs ys all = rw drop-append_seam at (All-drop IsOctet (length xs) (xs ++ ys) all)
 
 value_spelled : (text : List ℕ) (x : ℕ × List ℕ) → All IsOctet text → value_at text ≡ Ok x → (spelling : List ℕ) × Found text spelling x.1 × IsSpelled spelling x.0

@@ -7,3 +7,4 @@ pub mod BitLemmas
 pub mod SpelledLemmas
 pub mod FoundLemmas
 pub mod TextLemmas
+pub mod GoodLemmas

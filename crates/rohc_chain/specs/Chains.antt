@@ -22,7 +22,7 @@ judged_octet fault text = octet_at text >>= λ x. judged (fault x.0) x
 abbrev pub judged_value : (ℕ → Option ChainRefusal) → List ℕ → Result (ℕ × List ℕ) ChainRefusal
 judged_value fault text = value_at text >>= λ x. judged (fault x.0) x
 
--- the addresses
+-- the static chain of IPv4: the addresses
 unfoldable pub ip_static_at : List ℕ → Result ((List ℕ × List ℕ) × List ℕ) ChainRefusal
 ip_static_at text = do
   (version, text) ← judged_octet version_fault text
@@ -31,6 +31,7 @@ ip_static_at text = do
   (destination, text) ← four_octets_at text
   Ok ((source, destination), text)
 
+-- the static chains of IPv4, UDP and RTP
 unfoldable pub static_at : List ℕ → Result (Static × List ℕ) ChainRefusal
 static_at text = do
   (addresses, text) ← ip_static_at text
@@ -39,6 +40,7 @@ static_at text = do
   (ssrc, text) ← quad_at text
   Ok (record { source = addresses.0; destination = addresses.1; source_port = source_port; destination_port = destination_port; ssrc = ssrc }, text)
 
+-- the dynamic chain of IPv4
 unfoldable pub ip_dynamic_at : List ℕ → Result (IpDynamic × List ℕ) ChainRefusal
 ip_dynamic_at text = do
   (tos, text) ← octet_at text
@@ -73,6 +75,7 @@ flags_at kept present text =
       Ok (record { extension = bit 4 flags; stride = stride }, text))
     else Ok (kept, text)
 
+-- the dynamic chain of RTP
 unfoldable pub rtp_dynamic_at : Kept → List ℕ → Result (RtpDynamic × List ℕ) ChainRefusal
 rtp_dynamic_at kept text = do
   (first, text) ← judged_octet rtp_fault text
@@ -102,6 +105,7 @@ joined ip udp_sum rtp = record {
   stride = rtp.stride;
 }
 
+-- the dynamic chains of IPv4, UDP and RTP
 unfoldable pub dynamic_at : Kept → List ℕ → Result (Dynamic × List ℕ) ChainRefusal
 dynamic_at kept text = do
   (ip, text) ← ip_dynamic_at text

@@ -29,6 +29,7 @@ protocol_fault octet = unless (octet == 17) Protocol
 abbrev pub extension_list_fault : ℕ → Option ChainRefusal
 extension_list_fault octet = unless (octet == 0) ExtensionList
 
+-- so is the list of contributing sources
 abbrev pub csrc_list_fault : ℕ → Option ChainRefusal
 csrc_list_fault octet = unless (octet == 0) Csrc
 
@@ -40,5 +41,6 @@ rtp_fault octet = if octet / 64 == 2 then unless (octet % 16 == 0) Csrc else Som
 abbrev pub mode_fault : ℕ → Option ChainRefusal
 mode_fault octet = if octet / 4 % 4 == 3 then Some ReliableMode else None
 
+-- a stride is above 0
 abbrev pub stride_fault : ℕ → Option ChainRefusal
 stride_fault stride = if stride == 0 then Some ZeroStride else None

@@ -45,10 +45,11 @@ static_fields more = Octet version_fault (λ _. Octet protocol_fault (λ _. Octe
 abbrev pub ip_dynamic_fields : Fields → Fields
 ip_dynamic_fields more = Octets 1 (Octets 1 (Octets 2 (Octets 1 (Octet extension_list_fault (λ _. more)))))
 
--- the strides that the octet of flags names
+-- the stride of time, if the octet of flags names one
 abbrev pub time_stride_fields : ℕ → Fields → Fields
 time_stride_fields flags more = if bit 1 flags then Value any_value more else more
 
+-- and before them the stride of timestamps
 abbrev pub stride_fields : ℕ → Fields → Fields
 stride_fields flags more = if bit 0 flags then Value stride_fault (time_stride_fields flags more) else time_stride_fields flags more
 

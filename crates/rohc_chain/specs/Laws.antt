@@ -1,9 +1,11 @@
+-- What the readers of IR and IR-DYN packets and the definitions of their octets have to do with one another.
 use Rattle.std.specs.Prelude.{◌≡◌, ℕ, ◌≤◌, ◌↔◌, length, All, Some, Ok, Err}
 use Rattle.rohc_frame.specs.Header.{Header}
 use Rattle.rohc_frame.specs.Laws.{IsOctet}
 use Rattle.rohc_chain.specs.declared.parts.Kept.{Kept}
 use Rattle.rohc_chain.specs.declared.refusal.ChainRefusal.{ChainRefusal}
 use Rattle.rohc_chain.specs.Packets.{IrContent, DynContent, IsIr, ir_at, ir_dyn_at}
+use Rattle.rohc_chain.specs.Good.{IsGoodStride, IsGoodDynamic, IsGoodContent}
 use Rattle.rohc_chain.specs.Texts.{IsIrText, IsIrDynText, IsShort, ir_fault, ir_dyn_fault}
 
 -- what an IR of octets says is read exactly where its octets spell it and the rebuilt packet isn't too long
@@ -24,9 +26,20 @@ abbrev pub ReadsIrDyns : Type 0
 ReadsIrDyns = (h : Header) (profile : ℕ) (kept : Kept) (packet : DynContent) → profile ≤ 1 → All IsOctet h.rest →
     (ir_dyn_at h profile kept ≡ Ok packet) ↔ (IsIrDynText h profile kept packet × (length packet.payload ≤ 65495))
 
+-- and it is refused exactly where that is its first fault
 abbrev pub RefusesIrDyns : Type 0
 RefusesIrDyns = (h : Header) (profile : ℕ) (kept : Kept) (refusal : ChainRefusal) →
     (ir_dyn_at h profile kept ≡ Err refusal) ↔ (ir_dyn_fault h profile ≡ Some refusal)
 
+-- and says one thing at most
 abbrev pub DynSaysOne : Type 0
 DynSaysOne = (h : Header) (profile : ℕ) (kept : Kept) (a b : DynContent) → IsIrDynText h profile kept a → IsIrDynText h profile kept b → a ≡ b
+
+-- what an IR of octets says is good
+abbrev pub SaysGood : Type 0
+SaysGood = (h : Header) (content : IrContent) → All IsOctet h.rest → IsIrText h content → IsGoodContent content
+
+-- and what an IR-DYN says, where the stride that is kept is good
+abbrev pub DynSaysGood : Type 0
+DynSaysGood = (h : Header) (profile : ℕ) (kept : Kept) (packet : DynContent) → All IsOctet h.rest → IsGoodStride kept.stride →
+    IsIrDynText h profile kept packet → IsGoodDynamic packet.moving × All IsOctet packet.payload

@@ -5,4 +5,5 @@ pub mod Packets
 pub mod ChainText
 pub mod Fields
 pub mod Texts
+pub mod Good
 pub mod Laws

@@ -1,3 +1,4 @@
+-- Fields read off the front of a packet's octets, or why they can't be.
 use Rattle.std.specs.Prelude.{◌≡◌, ℕ, ◌+◌, ◌*◌, ◌/◌, ◌%◌, ◌^◌, List, [], ◌∷◌, Bool, ◌==◌, nat_lt, if◌then◌else◌, Result, Ok, Err, MatchResult}
 use Rattle.rohc_chain.specs.declared.refusal.ChainRefusal.{ChainRefusal}
 use Rattle.rohc_chain.specs.declared.refusal.ChainRefusal.TheVariants.{Truncated}
@@ -40,16 +41,18 @@ quad_at text = do
   (low, text) ← word_at text
   Ok (high * 65536 + low, text)
 
--- a self-describing value of two, three or four octets, behind its first
+-- a self-describing value of two octets, behind its first
 abbrev pub two_at : ℕ → List ℕ → Result (ℕ × List ℕ) ChainRefusal
 two_at a [] = Err Truncated
 two_at a (b ∷ text) = Ok (a % 64 * 256 + b, text)
 
+-- of three
 abbrev pub three_at : ℕ → List ℕ → Result (ℕ × List ℕ) ChainRefusal
 three_at a [] = Err Truncated
 three_at a (b ∷ []) = Err Truncated
 three_at a (b ∷ c ∷ text) = Ok ((a % 32 * 256 + b) * 256 + c, text)
 
+-- of four
 abbrev pub four_at : ℕ → List ℕ → Result (ℕ × List ℕ) ChainRefusal
 four_at a [] = Err Truncated
 four_at a (b ∷ []) = Err Truncated

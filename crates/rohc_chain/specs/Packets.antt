@@ -24,6 +24,7 @@ pub data IrContent : Type 0 where
   StaticOnly : Static → IrContent
   Whole : Static → Dynamic → List ℕ → IrContent
 
+-- the same of what the code answers
 abbrev pub ir_content : lent.Ir → IrContent
 ir_content (code.Plain packet) = Plain packet.now
 ir_content (code.StaticOnly fixed) = StaticOnly fixed
@@ -34,20 +35,23 @@ pub record DynContent : Type 0 where
   pub moving : Dynamic
   pub payload : List ℕ
 
+-- the same of what the code answers
 abbrev pub dyn_content : lent_dyn.IrDyn → DynContent
 dyn_content packet = record { moving = packet.moving; payload = packet.payload.now }
 
+-- type octet FC or FD
 abbrev pub IsIr : HeadKind → Type 0
 IsIr (Ir dynamic) = Unit {0}
 IsIr IrDyn = ⊥
 IsIr Other = ⊥
 
+-- type octet F8
 abbrev pub IsIrDyn : HeadKind → Type 0
 IsIrDyn (Ir dynamic) = ⊥
 IsIrDyn IrDyn = Unit {0}
 IsIrDyn Other = ⊥
 
--- the IR has a dynamic chain
+-- the IR has a dynamic chain: type octet FD
 abbrev pub is_dynamic : HeadKind → Bool
 is_dynamic (Ir dynamic) = dynamic
 is_dynamic IrDyn = false
@@ -58,6 +62,7 @@ abbrev pub front_of : CidKind → List ℕ → ℕ → List ℕ
 front_of Small cid_octets first = cid_octets ++ first ∷ []
 front_of Large cid_octets first = first ∷ cid_octets
 
+-- the same of a header
 abbrev pub front : Header → List ℕ
 front h = front_of h.size h.cid_octets h.first
 
@@ -70,6 +75,7 @@ plain_cover h = front h ++ 0 ∷ []
 abbrev pub cover : Header → List ℕ → List ℕ
 cover h chains = front h ++ 1 ∷ 0 ∷ chains
 
+-- the octet is the 8-bit check of what it covers, begun from all ones (RFC 3095 5.9.1)
 abbrev pub fits : ℕ → List ℕ → Bool
 fits octet covered = check poly8 255 covered == octet
 
@@ -89,6 +95,7 @@ before behind text = take (length text - length behind) text
 abbrev pub length_fault : List ℕ → Option ChainRefusal
 length_fault payload = unless (nat_lt (length payload) 65496) TooLong
 
+-- and the check
 abbrev pub check_fault : ℕ → List ℕ → Option ChainRefusal
 check_fault octet covered = unless (fits octet covered) Check
 
@@ -100,12 +107,14 @@ plain_at h octet packet = judged (check_fault octet (plain_cover h)) (Plain pack
 abbrev pub ended : List ℕ → Option ChainRefusal
 ended text = unless (length text == 0) Trailing
 
+-- the static chain and nothing behind it, then the check
 unfoldable pub static_only_at : Header → ℕ → List ℕ → Result IrContent ChainRefusal
 static_only_at h octet chains = do
   (fixed, behind) ← static_at chains
   _ ← judged (ended behind) behind
   judged (check_fault octet (cover h chains)) (StaticOnly fixed)
 
+-- both chains and the payload, then its length, then the check
 unfoldable pub whole_at : Header → ℕ → List ℕ → Result IrContent ChainRefusal
 whole_at h octet text = do
   (fixed, behind) ← static_at text

@@ -61,9 +61,11 @@ abbrev pub or_else : Option ChainRefusal → Option ChainRefusal → Option Chai
 or_else None later = later
 or_else (Some refusal) later = Some refusal
 
+-- the Profile octet
 abbrev pub profile_octet : Header → ℕ
 profile_octet h = get_or h.rest 0 0
 
+-- and the check octet behind it
 abbrev pub check_octet : Header → ℕ
 check_octet h = get_or h.rest 1 0
 

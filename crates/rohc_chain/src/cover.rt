@@ -1,6 +1,6 @@
 //! The 8-bit check of an IR or IR-DYN, over its parts in their order (RFC 3095 5.9.1).
 
-ghost use Rattle.std.specs.Prelude.{◌≡◌, List, ℕ, IsTrue, ◌↔◌};
+ghost use Rattle.std.specs.Prelude.{◌≡◌};
 ghost use Rattle.rohc_checks.specs.Division.{check, poly8};
 ghost use Rattle.rohc_frame.specs.Reading.{header_of};
 ghost use Rattle.rohc_chain.specs.Packets.{front, plain_cover, cover, fits};

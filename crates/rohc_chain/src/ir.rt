@@ -1,8 +1,8 @@
 //! The IR packet (RFC 3095 5.7.7.1 and 5.10.1).
 
-ghost use Rattle.std.specs.Prelude.{◌≡◌, ◌≤◌, length, Result, Ok, Err, Some, All, IfOk, IfErr};
-ghost use Rattle.rohc_frame.specs.Laws.{IsOctet};
+ghost use Rattle.std.specs.Prelude.{◌≡◌, All, IfOk, IfErr};
 ghost use Rattle.std.specs.Result.{result_map_both};
+ghost use Rattle.rohc_frame.specs.Laws.{IsOctet};
 ghost use Rattle.rohc_frame.specs.Reading.{header_of};
 ghost use Rattle.rohc_chain.specs.Packets.{IsIr, IrContent, ir_content, plain_at, static_only_at, whole_at, ir_at};
 ghost use Rattle.rohc_chain.specs.Texts.{IsIrText, IsShort, ir_fault};

@@ -1,8 +1,8 @@
 //! The IR-DYN packet (RFC 3095 5.7.7.2).
 
-ghost use Rattle.std.specs.Prelude.{◌≡◌, ◌≤◌, length, Result, Ok, Err, Some, All, IfOk, IfErr};
-ghost use Rattle.rohc_frame.specs.Laws.{IsOctet};
+ghost use Rattle.std.specs.Prelude.{◌≡◌, ◌≤◌, length, All, IfOk, IfErr};
 ghost use Rattle.std.specs.Result.{result_map_both};
+ghost use Rattle.rohc_frame.specs.Laws.{IsOctet};
 ghost use Rattle.rohc_frame.specs.Reading.{header_of};
 ghost use Rattle.rohc_chain.specs.Packets.{IsIrDyn, DynContent, dyn_content, kept_values, ir_dyn_at};
 ghost use Rattle.rohc_chain.specs.Texts.{IsIrDynText, ir_dyn_fault};

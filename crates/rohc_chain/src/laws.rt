@@ -1,14 +1,15 @@
 //! Laws of the definitions, as contracts of functions that do nothing. The crates above know what a
 //! packet says by these.
 
-ghost use Rattle.rohc_chain.specs.Laws.{ReadsIrs, RefusesIrs, SaysOne, ReadsIrDyns, RefusesIrDyns, DynSaysOne};
+ghost use Rattle.rohc_chain.specs.Laws.{ReadsIrs, RefusesIrs, SaysOne, SaysGood, ReadsIrDyns, RefusesIrDyns, DynSaysOne, DynSaysGood};
 
 /// An IR of octets is read exactly where they spell what it says and it isn't too long; else its first
-/// fault is the refusal. It says one thing at most.
+/// fault is the refusal. It says one thing at most, whose numbers lie in the ranges of their fields.
 pub fn one_ir()
     ensures reads { ReadsIrs }
     ensures refuses { RefusesIrs }
     ensures unique { SaysOne }
+    ensures good { SaysGood }
 {}
 
 /// The same of an IR-DYN.
@@ -16,4 +17,5 @@ pub fn one_ir_dyn()
     ensures reads { ReadsIrDyns }
     ensures refuses { RefusesIrDyns }
     ensures unique { DynSaysOne }
+    ensures good { DynSaysGood }
 {}

@@ -1,6 +1,6 @@
 //! The static chain: what stays as it is in all headers of a call (RFC 3095 5.7.7.3 to 5.7.7.5).
 
-ghost use Rattle.std.specs.Prelude.{◌≡◌, ◌≤◌, length};
+ghost use Rattle.std.specs.Prelude.{◌≤◌, length};
 ghost use Rattle.rohc_chain.specs.Octets.{Reads};
 ghost use Rattle.rohc_chain.specs.Chains.{ip_static_at, static_at};
 

@@ -1,0 +1,115 @@
+-- What octets spell lies in the ranges of its fields.
+use Rattle.std.proofs.Common.{◌≡◌, ℕ, ◌+◌, ◌/◌, ◌%◌, ◌<◌, ◌≤◌, Bool, true, false, List, [], ◌∷◌, ◌++◌, length, Option, Some, None, sym, subst, arith}
+use Rattle.std.specs.Prelude.{All}
+use Rattle.std.proofs.Math.Seq.{take-append_seam}
+use Rattle.std.proofs.lemmas.List.Elements.{All-head, All-tail, All-take}
+use Rattle.rohc_bits.specs.Spelling.{Spells}
+use Rattle.rohc_frame.specs.Header.{Header}
+use Rattle.rohc_frame.specs.Laws.{IsOctet}
+use Rattle.rohc_header.specs.declared.fields.Static.{Static}
+use Rattle.rohc_header.specs.declared.fields.Dynamic.{Dynamic}
+use Rattle.rohc_chain.specs.declared.parts.Kept.{Kept}
+use Rattle.rohc_chain.specs.ChainText.{word, quad, flag, SpellsStatic, SpellsStride, SpellsGiven, SpellsDynamic}
+use Rattle.rohc_chain.specs.Good.{IsGoodStatic, IsGoodStride, IsGoodDynamic, IsGoodContent}
+use Rattle.rohc_chain.specs.Packets.{IrContent, Plain, StaticOnly, Whole, DynContent, nothing_kept}
+use Rattle.rohc_chain.specs.Texts.{IsIrText, IsIrDynText}
+use Rattle.rohc_chain.proofs.FoundLemmas.{all_right}
+
+all_left : (xs ys : List ℕ) → All IsOctet (xs ++ ys) → All IsOctet xs
+all_left xs ys all = rw take-append_seam at (All-take IsOctet (length xs) (xs ++ ys) all)
+
+word_good : (n : ℕ) → All IsOctet (word n) → n < 65536
+word_good n all = let high : n / 256 < 256 = All-head IsOctet (n / 256) (n % 256 ∷ []) all in omega arith
+
+quad_good : (n : ℕ) → All IsOctet (quad n) → n < 4294967296
+quad_good n all = let high : n / 65536 / 256 < 256 = All-head IsOctet (n / 65536 / 256) (n / 65536 % 256 ∷ word (n % 65536)) all in omega arith
+
+static_good : (fixed : Static) (text : List ℕ) → All IsOctet text → SpellsStatic fixed text → IsGoodStatic fixed
+static_good fixed text all is =
+    let ports : List ℕ = word fixed.destination_port ++ quad fixed.ssrc in
+    let whole = subst (λ (t : List ℕ). All IsOctet t) is.whole all in
+    let ip = subst (λ (t : List ℕ). All IsOctet t) is.spells_ip.whole (all_left is.ip (word fixed.source_port ++ ports) whole) in
+    let addresses = All-tail IsOctet 17 (fixed.source ++ fixed.destination) (All-tail IsOctet (64 + is.spells_ip.ignored) (17 ∷ fixed.source ++ fixed.destination) ip) in
+    let behind = all_right is.ip (word fixed.source_port ++ ports) whole in
+    let last = all_right (word fixed.source_port) ports behind in
+    record {
+      source = record { four = is.spells_ip.four_octets; each = all_left fixed.source fixed.destination addresses };
+      destination = record { four = is.spells_ip.also_four; each = all_right fixed.source fixed.destination addresses };
+      source_port = word_good fixed.source_port (all_left (word fixed.source_port) ports behind);
+      destination_port = word_good fixed.destination_port (all_left (word fixed.destination_port) (quad fixed.ssrc) last);
+      ssrc = quad_good fixed.ssrc (all_right (word fixed.destination_port) (quad fixed.ssrc) last);
+    }
+
+spelled_bound : (text : List ℕ) (value : ℕ) → All IsOctet text → Spells text value → value ≤ 536870911
+spelled_bound [] v all s = absurd s
+spelled_bound (a ∷ []) v all s = let l = All-head IsOctet a [] all in omega (arith, s.0, s.1)
+spelled_bound (a ∷ b ∷ []) v all s =
+    let l = All-head IsOctet b [] (All-tail IsOctet a (b ∷ []) all) in
+    omega (arith, s.0, s.1)
+spelled_bound (a ∷ b ∷ c ∷ []) v all s =
+    let behind = All-tail IsOctet a (b ∷ c ∷ []) all in
+    let l = All-head IsOctet b (c ∷ []) behind in
+    let m = All-head IsOctet c [] (All-tail IsOctet b (c ∷ []) behind) in
+    omega (arith, s.0, s.1)
+spelled_bound (a ∷ b ∷ c ∷ d ∷ []) v all s =
+    let behind = All-tail IsOctet a (b ∷ c ∷ d ∷ []) all in
+    let last = All-tail IsOctet b (c ∷ d ∷ []) behind in
+    let l = All-head IsOctet b (c ∷ d ∷ []) behind in
+    let m = All-head IsOctet c (d ∷ []) last in
+    let n = All-head IsOctet d [] (All-tail IsOctet c (d ∷ []) last) in
+    omega (arith, s.0, s.1)
+spelled_bound (a ∷ b ∷ c ∷ d ∷ e ∷ text) v all s = absurd s
+
+stride_good : (tss : Bool) (kept stride : Option ℕ) (text : List ℕ) → IsGoodStride kept → SpellsStride tss kept stride text → IsGoodStride stride
+stride_good false kept stride text good is = subst IsGoodStride (sym is.1) good
+stride_good true kept None text good is = tt
+stride_good true kept (Some stride) text good is = (is.1, spelled_bound text stride is.0.octets is.0.spells)
+
+given_good : (rx : Bool) (kept : Kept) (extension : Bool) (stride : Option ℕ) (text : List ℕ) → IsGoodStride kept.stride → SpellsGiven rx kept extension stride text → IsGoodStride stride
+given_good false kept extension stride text good is = subst IsGoodStride (sym is.2) good
+given_good true kept extension stride text good is = stride_good is.tss kept.stride stride is.stride_text good is.spells_stride
+
+dynamic_good : (kept : Kept) (moving : Dynamic) (text : List ℕ) → All IsOctet text → IsGoodStride kept.stride → SpellsDynamic kept moving text → IsGoodDynamic moving
+dynamic_good kept moving text all good is =
+    let whole = subst (λ (t : List ℕ). All IsOctet t) is.whole all in
+    let flags : List ℕ = (flag 128 moving.df + flag 64 moving.rnd + flag 32 moving.nbo + is.spells_ip.ignored) ∷ 0 ∷ [] in
+    let ip = subst (λ (t : List ℕ). All IsOctet t) is.spells_ip.whole (all_left is.ip (word moving.udp_sum ++ is.rtp) whole) in
+    let behind_tos = All-tail IsOctet moving.tos (moving.ttl ∷ word moving.id ++ flags) ip in
+    let behind_ttl = All-tail IsOctet moving.ttl (word moving.id ++ flags) behind_tos in
+    let behind = all_right is.ip (word moving.udp_sum ++ is.rtp) whole in
+    let first : ℕ = 128 + flag 32 moving.padding + flag 16 is.spells_rtp.rx in
+    let second : ℕ = flag 128 moving.marker + moving.payload_type in
+    let numbers : List ℕ = quad moving.ts ++ 0 ∷ is.spells_rtp.given in
+    let rtp = subst (λ (t : List ℕ). All IsOctet t) is.spells_rtp.whole (all_right (word moving.udp_sum) is.rtp behind) in
+    let behind_second = All-tail IsOctet second (word moving.sn ++ numbers) (All-tail IsOctet first (second ∷ word moving.sn ++ numbers) rtp) in
+    record {
+      tos = All-head IsOctet moving.tos (moving.ttl ∷ word moving.id ++ flags) ip;
+      ttl = All-head IsOctet moving.ttl (word moving.id ++ flags) behind_tos;
+      id = word_good moving.id (all_left (word moving.id) flags behind_ttl);
+      udp_sum = word_good moving.udp_sum (all_left (word moving.udp_sum) is.rtp behind);
+      payload_type = is.spells_rtp.seven_bits;
+      sn = word_good moving.sn (all_left (word moving.sn) numbers behind_second);
+      ts = quad_good moving.ts (all_left (quad moving.ts) (0 ∷ is.spells_rtp.given) (all_right (word moving.sn) numbers behind_second));
+      stride = given_good is.spells_rtp.rx kept moving.extension moving.stride is.spells_rtp.given good is.spells_rtp.spells_given;
+    }
+
+-- the octets behind the check octet
+behind_check : (rest : List ℕ) (profile octet : ℕ) (text : List ℕ) → All IsOctet rest → rest ≡ profile ∷ octet ∷ text → All IsOctet text
+behind_check rest profile octet text all e = All-tail IsOctet octet text (All-tail IsOctet profile (octet ∷ text) (subst (λ (t : List ℕ). All IsOctet t) e all))
+
+pub ir_good : (h : Header) (content : IrContent) → All IsOctet h.rest → IsIrText h content → IsGoodContent content
+ir_good h (Plain packet) all is = behind_check h.rest 0 _ packet all is.whole
+ir_good h (StaticOnly fixed) all is = static_good fixed is.chains (behind_check h.rest 1 _ is.chains all is.whole) is.spells_static
+ir_good h (Whole fixed moving payload) all is =
+    let text = behind_check h.rest 1 _ (is.static_chain ++ (is.dynamic_chain ++ payload)) all is.whole in
+    let behind = all_right is.static_chain (is.dynamic_chain ++ payload) text in (
+      static_good fixed is.static_chain (all_left is.static_chain (is.dynamic_chain ++ payload) text) is.spells_static,
+      dynamic_good nothing_kept moving is.dynamic_chain (all_left is.dynamic_chain payload behind) tt is.spells_dynamic,
+      all_right is.dynamic_chain payload behind,
+    )
+
+pub dyn_good : (h : Header) (profile : ℕ) (kept : Kept) (packet : DynContent) → All IsOctet h.rest → IsGoodStride kept.stride → IsIrDynText h profile kept packet →
+    IsGoodDynamic packet.moving × All IsOctet packet.payload
+dyn_good h profile kept packet all good is =
+    let text = behind_check h.rest 1 _ (is.chain ++ packet.payload) all is.whole in
+    (dynamic_good kept packet.moving is.chain (all_left is.chain packet.payload text) good is.spells_dynamic, all_right is.chain packet.payload text)
