@@ -3,17 +3,26 @@
 
     tools/cut_vectors.py DIR
 
-DIR holds checks.tsv, values.tsv, framing.tsv, fields.tsv, feedback.tsv, headers.tsv and chains.tsv, whose
-first lines name their columns; a line that begins with # is a comment. The questions go to crates/vectors/stdin, the
-wanted answers to crates/vectors/stdout. Of a long table the first 400 lines are kept, and each fifth of
-the others.
+DIR holds checks.tsv, values.tsv, framing.tsv, fields.tsv, feedback.tsv, headers.tsv, chains.tsv and
+forms.tsv, whose first lines name their columns; a line that begins with # is a comment. The questions go to
+crates/vectors/stdin, the wanted answers to crates/vectors/stdout. Of a long table the first 400 lines are
+kept, and each fifth of the others.
 """
 
 import pathlib
 import sys
 
 # The tables, and how many of the last columns are the answer.
-TABLES = {"checks": 1, "values": 2, "framing": 1, "fields": 1, "feedback": 1, "headers": 5, "chains": 1}
+TABLES = {
+    "checks": 1,
+    "values": 2,
+    "framing": 1,
+    "fields": 1,
+    "feedback": 1,
+    "headers": 5,
+    "chains": 1,
+    "forms": 1,
+}
 KEPT_WHOLE = 400
 KEPT_OF_THE_OTHERS = 5
 

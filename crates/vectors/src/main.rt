@@ -8,6 +8,7 @@ mod chains;
 mod checks;
 mod feedback;
 mod fields;
+mod forms;
 mod framing;
 mod headers;
 mod text;
@@ -27,6 +28,7 @@ enum Table {
     Feedback,
     Headers,
     Chains,
+    Forms,
 }
 
 impl Table {
@@ -40,6 +42,7 @@ impl Table {
             "# feedback" => Some(Table::Feedback),
             "# headers" => Some(Table::Headers),
             "# chains" => Some(Table::Chains),
+            "# forms" => Some(Table::Forms),
             _ => None,
         }
     }
@@ -55,6 +58,7 @@ impl Table {
             Table::Feedback => feedback::answer(alloc, &columns),
             Table::Headers => headers::answer(alloc, &columns),
             Table::Chains => chains::answer(alloc, &columns),
+            Table::Forms => forms::answer(alloc, &columns),
         }
     }
 }

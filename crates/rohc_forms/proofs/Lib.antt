@@ -1,0 +1,4 @@
+pub mod FormatLemmas
+pub mod FieldLemmas
+pub mod Exact
+pub mod SaysLemmas

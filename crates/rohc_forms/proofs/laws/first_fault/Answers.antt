@@ -1,0 +1,5 @@
+use Rattle.rohc_forms.proofs.FieldLemmas.{refuses}
+use Rattle.rohc_forms.proofs.laws.first_fault.Goals as goal
+
+pub returns : goal.returns
+returns c = refuses

@@ -1,0 +1,50 @@
+-- The format of a packet is the one that its octets fit.
+use Rattle.std.specs.Prelude.{◌≡◌, ℕ, ◌+◌, ◌*◌, ◌/◌, ◌<◌, ◌↔◌, List, [], ◌∷◌, take, Bool, true, false, ◌==◌, ◌&&◌, not, nat_lt, fold, if◌then◌else◌}
+use Rattle.rohc_forms.specs.declared.form.FormKind.{FormKind}
+use Rattle.rohc_forms.specs.declared.form.FormKind.TheVariants.{Uo0, Uo1, Uo1Id, Uo1Ts, Uor2, Uor2Id, Uor2Ts}
+use Rattle.rohc_forms.specs.declared.parts.Base.{Base}
+use Rattle.rohc_forms.specs.Octets.{slice}
+use Rattle.rohc_forms.specs.Table.{Field, Fixed, Sn, Ts, Id, Marker, Extended, Check, Layout, layout, width}
+use Rattle.rohc_forms.specs.Packets.{kind_of}
+
+-- the number that a field has in each packet of the format, where it has one, is the one that is found
+abbrev pub is_found : Field → ℕ → Bool
+is_found (Fixed n) found = found == n
+is_found Sn found = true
+is_found Ts found = true
+is_found Id found = true
+is_found Marker found = true
+is_found Extended found = true
+is_found Check found = true
+
+-- a number has the bits that each number under this format has
+abbrev pub fits : Layout → ℕ → Bool
+fits [] n = true
+fits ((field, bits) ∷ more) n = is_found field (slice n (width more) bits).value && fits more n
+
+-- the RND under which a format stands; UO-0 stands under both
+abbrev pub is_under : Bool → FormKind → Bool
+is_under rnd Uo0 = true
+is_under rnd Uo1 = rnd
+is_under rnd Uo1Id = not rnd
+is_under rnd Uo1Ts = not rnd
+is_under rnd Uor2 = rnd
+is_under rnd Uor2Id = not rnd
+is_under rnd Uor2Ts = not rnd
+
+-- octets as one number, most significant first
+abbrev pub number_of : List ℕ → ℕ
+number_of octets = fold (λ n octet. n * 256 + octet) 0 octets
+
+-- the first octets of a packet, as many as the format has, fit it under this RND
+abbrev pub has_format : FormKind → Bool → List ℕ → Bool
+has_format kind rnd octets = is_under rnd kind && fits (layout kind) (number_of (take (width (layout kind) / 8) octets))
+
+-- the octets before an extension, of three
+abbrev pub base_of : ℕ → ℕ → ℕ → Base
+base_of a b c = record { first = a; number = if nat_lt a 128 then a else if nat_lt a 192 then a * 256 + b else a * 65536 + (b * 256 + c) }
+
+-- Of a packet whose first octet is below E0 exactly one format fits: the one that is read.
+abbrev pub FitsOne : Type 0
+FitsOne = (rnd : Bool) (a b c : ℕ) → a < 224 → b < 256 → c < 256 → (kind : FormKind) →
+    (has_format kind rnd (a ∷ b ∷ c ∷ []) ≡ true) ↔ (kind ≡ kind_of (base_of a b c) rnd)

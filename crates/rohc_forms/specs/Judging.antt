@@ -1,0 +1,51 @@
+-- Why an octet or a value of an extension 3 is refused, where it is (RFC 3095 5.7.5).
+use Rattle.std.specs.Prelude.{ℕ, ◌/◌, Bool, true, false, ◌==◌, ◌&&◌, not, if◌then◌else◌, Option, Some, None, Result, Ok, Err}
+use Rattle.rohc_forms.specs.declared.form.FormKind.{FormKind}
+use Rattle.rohc_forms.specs.declared.form.FormKind.TheVariants.{Uo0, Uo1, Uo1Id, Uo1Ts, Uor2, Uor2Id, Uor2Ts}
+use Rattle.rohc_forms.specs.declared.refusal.FormRefusal.{FormRefusal}
+use Rattle.rohc_forms.specs.declared.refusal.FormRefusal.TheVariants.{Protocol, ExtensionList, Csrc, ZeroStride, ReliableMode, OuterHeader, NoStride, RndInUo1, IpIdTwice}
+use Rattle.rohc_forms.specs.Octets.{bit}
+
+-- what was read, or its refusal where there is one
+abbrev pub judged : {A : Type 0} → Option FormRefusal → A → Result A FormRefusal
+judged None x = Ok x
+judged (Some refusal) x = Err refusal
+
+-- the refusal, if the test holds
+abbrev pub refused_if : Bool → FormRefusal → Option FormRefusal
+refused_if holds refusal = if holds then Some refusal else None
+
+abbrev pub is_uo1_id : FormKind → Bool
+is_uo1_id Uo0 = false
+is_uo1_id Uo1 = false
+is_uo1_id Uo1Id = true
+is_uo1_id Uo1Ts = false
+is_uo1_id Uor2 = false
+is_uo1_id Uor2Id = false
+is_uo1_id Uor2Ts = false
+
+-- the ip octet: bit 3 is IPX, bit 1 RND, bit 0 ip2
+abbrev pub ip_fault : FormKind → ℕ → Option FormRefusal
+ip_fault kind octet =
+    if bit 3 octet then Some ExtensionList
+    else if is_uo1_id kind && bit 1 octet then Some RndInUo1
+    else refused_if (bit 0 octet) OuterHeader
+
+-- flag I, and the RND in force
+abbrev pub twice_fault : Bool → Bool → Option FormRefusal
+twice_fault offset rnd = refused_if (offset && rnd) IpIdTwice
+
+-- 17 is UDP
+abbrev pub protocol_fault : ℕ → Option FormRefusal
+protocol_fault octet = refused_if (not (octet == 17)) Protocol
+
+-- the rtp octet: its two high bits are the mode, bit 2 is CSRC
+abbrev pub rtp_fault : ℕ → Option FormRefusal
+rtp_fault octet = if octet / 64 == 3 then Some ReliableMode else refused_if (bit 2 octet) Csrc
+
+abbrev pub stride_fault : ℕ → Option FormRefusal
+stride_fault stride = refused_if (stride == 0) ZeroStride
+
+-- Tsc, and whether a stride is in force
+abbrev pub no_stride_fault : Bool → Bool → Option FormRefusal
+no_stride_fault scaled in_force = refused_if (scaled && not in_force) NoStride

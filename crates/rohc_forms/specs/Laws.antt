@@ -1,0 +1,20 @@
+use Rattle.std.specs.Prelude.{◌≡◌, ◌↔◌, Bool, Some, Ok, Err}
+use Rattle.rohc_frame.specs.Header.{Header}
+use Rattle.rohc_forms.specs.declared.refusal.FormRefusal.{FormRefusal}
+use Rattle.rohc_forms.specs.Packets.{Content, form_at}
+use Rattle.rohc_forms.specs.Fields.{form_fault}
+use Rattle.rohc_forms.specs.Says.{IsForm}
+
+-- a packet is refused exactly where that is the first fault among its fields
+abbrev pub RefusesForms : Type 0
+RefusesForms = (h : Header) (rnd udp_sum stride_known : Bool) (refusal : FormRefusal) →
+    (form_at h rnd udp_sum stride_known ≡ Err refusal) ↔ (form_fault h rnd udp_sum stride_known ≡ Some refusal)
+
+-- a packet is read exactly where its octets say what is read
+abbrev pub ReadsForms : Type 0
+ReadsForms = (h : Header) (rnd udp_sum stride_known : Bool) (c : Content) →
+    (form_at h rnd udp_sum stride_known ≡ Ok c) ↔ IsForm h rnd udp_sum stride_known c
+
+-- they say one thing at most
+abbrev pub SaysOne : Type 0
+SaysOne = (h : Header) (rnd udp_sum stride_known : Bool) (a b : Content) → IsForm h rnd udp_sum stride_known a → IsForm h rnd udp_sum stride_known b → a ≡ b

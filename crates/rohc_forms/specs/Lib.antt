@@ -1,0 +1,10 @@
+pub mod Octets
+pub mod Table
+pub mod Judging
+pub mod Extension
+pub mod Packets
+pub mod Formats
+pub mod Fields
+pub mod Pieces
+pub mod Says
+pub mod Laws

@@ -1,0 +1,53 @@
+-- Pieces of a text, and what they say. A piece is a relation between what is said and the octets that say it.
+use Rattle.std.specs.Prelude.{◌≡◌, ℕ, ◌+◌, ◌*◌, ◌%◌, ◌<◌, ◌≤◌, List, [], ◌∷◌, ◌++◌, Bool, true, false, Option, Some, None}
+use Rattle.rohc_forms.specs.declared.refusal.FormRefusal.{FormRefusal}
+use Rattle.rohc_forms.specs.Octets.{Digits}
+
+-- an octet
+abbrev pub IsOctet : ℕ → List ℕ → Type 0
+IsOctet n text = text ≡ n ∷ []
+
+-- a number of two octets, most significant first
+abbrev pub IsWord : ℕ → List ℕ → Type 0
+IsWord n text = (high : ℕ) × (low : ℕ) × (text ≡ high ∷ low ∷ []) × (n ≡ high * 256 + low)
+
+-- A self-describing value: its first bits 0, 10, 110 or 111 say that it has one, two, three or four octets, and
+-- its other bits count (RFC 3095 4.5.6).
+abbrev pub IsValue : Digits → List ℕ → Type 0
+IsValue d [] = ⊥
+IsValue d (a ∷ []) = (a < 128) × (d ≡ record { count = 7; value = a })
+IsValue d (a ∷ b ∷ []) = (128 ≤ a) × (a < 192) × (d ≡ record { count = 14; value = a % 64 * 256 + b })
+IsValue d (a ∷ b ∷ c ∷ []) = (192 ≤ a) × (a < 224) × (d ≡ record { count = 21; value = a % 32 * 65536 + (b * 256 + c) })
+IsValue d (a ∷ b ∷ c ∷ e ∷ []) = (224 ≤ a) × (d ≡ record { count = 29; value = (a % 32 * 256 + b) * 65536 + (c * 256 + e) })
+IsValue d (a ∷ b ∷ c ∷ e ∷ f ∷ more) = ⊥
+
+-- no octets: what is said is this
+abbrev pub Says : {A : Type 0} → A → A → List ℕ → Type 0
+Says x y text = (text ≡ []) × (y ≡ x)
+
+-- two pieces, one behind the other; what the second says depends on what the first says
+abbrev pub Then : {A B : Type 0} → (A → List ℕ → Type 0) → (A → B → List ℕ → Type 0) → B → List ℕ → Type 0
+Then {A} {B} First Second y text = (x : A) × (front : List ℕ) × (behind : List ℕ) × (text ≡ front ++ behind) × First x front × Second x y behind
+
+-- a piece that is there if a flag names it
+abbrev pub IfNamed : {A : Type 0} → Bool → (A → List ℕ → Type 0) → Option A → List ℕ → Type 0
+IfNamed false Piece x text = (text ≡ []) × (x ≡ None)
+IfNamed true Piece None text = ⊥
+IfNamed true Piece (Some x) text = Piece x text
+
+-- one of two pieces
+abbrev pub Which : {A : Type 0} → Bool → (A → List ℕ → Type 0) → (A → List ℕ → Type 0) → A → List ℕ → Type 0
+Which true First Second x text = First x text
+Which false First Second x text = Second x text
+
+-- a piece, and what is made of it
+abbrev pub As : {A B : Type 0} → (A → B) → (A → List ℕ → Type 0) → B → List ℕ → Type 0
+As {A} {B} f Piece y text = (x : A) × Piece x text × (y ≡ f x)
+
+-- a piece that isn't refused
+abbrev pub NotRefused : {A : Type 0} → (A → Option FormRefusal) → (A → List ℕ → Type 0) → A → List ℕ → Type 0
+NotRefused fault Piece x text = Piece x text × (fault x ≡ None)
+
+-- a piece, where nothing is refused before it
+abbrev pub Unless : {A : Type 0} → Option FormRefusal → (A → List ℕ → Type 0) → A → List ℕ → Type 0
+Unless fault Piece x text = (fault ≡ None) × Piece x text

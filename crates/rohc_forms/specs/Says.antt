@@ -1,0 +1,133 @@
+-- What the octets of a packet say (RFC 3095 5.7.1 to 5.7.5): its pieces stand one behind the other, and of the
+-- octets before an extension, and of extensions 0 to 2, each field says its bits under the format.
+use Rattle.std.specs.Prelude.{◌≡◌, ℕ, ◌*◌, List, ◌∷◌, length, Bool, ◌||◌, is_some, nat_lt, if◌then◌else◌, Option, Some, None, option_map}
+use Rattle.rohc_frame.specs.Header.{Header}
+use Rattle.rohc_forms.specs.declared.form.FormKind.{FormKind}
+use Rattle.rohc_forms.specs.declared.parts.Base.{Base}
+use Rattle.rohc_forms.specs.declared.parts.IpFlags.{IpFlags}
+use Rattle.rohc_forms.specs.declared.parts.IpGiven.{IpGiven}
+use Rattle.rohc_forms.specs.declared.parts.RtpFlags.{RtpFlags}
+use Rattle.rohc_forms.specs.declared.parts.RtpGiven.{RtpGiven}
+use Rattle.rohc_forms.specs.Octets.{Digits, bit}
+use Rattle.rohc_forms.specs.Table.{Said, Sn, Ts, Layout, and_said, width, under, layout_0, layout_1, layout_2, base_said}
+use Rattle.rohc_forms.specs.Formats.{number_of}
+use Rattle.rohc_forms.specs.Judging.{ip_fault, twice_fault, protocol_fault, rtp_fault, stride_fault, no_stride_fault}
+use Rattle.rohc_forms.specs.Extension.{ip_flags, rnd_in_force, with_offset_if, rtp_flags, padding_in, payload_type_in, ip_values, rtp_values, marker_in, Extended3}
+use Rattle.rohc_forms.specs.Packets.{Head, Content, kind_of, plain_head, whole_content}
+use Rattle.rohc_forms.specs.Pieces.{IsOctet, IsWord, IsValue, Says, Then, IfNamed, Which, As, NotRefused, Unless}
+
+-- The octets behind a first one say their fields under a format, behind what is said already.
+abbrev pub IsUnder : Layout → ℕ → Said → Said → List ℕ → Type 0
+IsUnder l first before after text = (length (first ∷ text) * 8 ≡ width l) × (after ≡ under l (number_of (first ∷ text)) before)
+
+-- how many octets stand before an extension
+abbrev pub base_length : ℕ → ℕ
+base_length first = if nat_lt first 128 then 1 else if nat_lt first 192 then 2 else 3
+
+abbrev pub IsBase : ℕ → Base → List ℕ → Type 0
+IsBase first base text = (length (first ∷ text) ≡ base_length first) × (base ≡ record { first = first; number = number_of (first ∷ text) })
+
+-- the format of an extension 0, 1 or 2, whose first octet begins with 00, 01 or 10
+abbrev pub short_layout : FormKind → ℕ → Layout
+short_layout kind first = if nat_lt first 64 then layout_0 kind else if nat_lt first 128 then layout_1 kind else layout_2 kind
+
+-- eight more bits of SN, if S
+abbrev pub with_sn : Said → Option ℕ → Said
+with_sn said None = said
+with_sn said (Some octet) = and_said Sn (record { count = 8; value = octet }) said
+
+-- more bits of TS, if R-TS
+abbrev pub with_ts : Said → Option Digits → Said
+with_ts said None = said
+with_ts said (Some value) = and_said Ts value said
+
+abbrev pub with_offset : Said → Option ℕ → Said
+with_offset said offset = with_offset_if offset said
+
+-- the ip octet, if ip
+abbrev pub IsIpOctet : Bool → FormKind → Option IpFlags → List ℕ → Type 0
+IsIpOctet named kind = As (option_map ip_flags) (IfNamed named (NotRefused (ip_fault kind) IsOctet))
+
+abbrev pub IsProtocol : Bool → Unit {0} → List ℕ → Type 0
+IsProtocol named = As (λ _. tt) (IfNamed named (NotRefused protocol_fault IsOctet))
+
+-- what the ip octet names: TOS, TTL, protocol
+abbrev pub IsIpGiven : Option IpFlags → Option IpGiven → List ℕ → Type 0
+IsIpGiven None = Says None
+IsIpGiven (Some ip) =
+    Then (IfNamed ip.tos IsOctet) (λ tos.
+    Then (IfNamed ip.ttl IsOctet) (λ ttl.
+    Then (IsProtocol ip.protocol) (λ _.
+    Says (Some (record { tos = tos; ttl = ttl; df = ip.df; nbo = ip.nbo; rnd = ip.rnd })))))
+
+-- the number of a value's bits doesn't matter to a stride
+abbrev pub value_of : Option Digits → Option ℕ
+value_of None = None
+value_of (Some d) = Some d.value
+
+abbrev pub IsStride : Bool → Option ℕ → List ℕ → Type 0
+IsStride named = As value_of (IfNamed named (NotRefused (λ d. stride_fault d.value) IsValue))
+
+-- a stride of time says nothing
+abbrev pub IsTimeStride : Bool → Unit {0} → List ℕ → Type 0
+IsTimeStride named = As (λ _. tt) (IfNamed named IsValue)
+
+-- what the rtp octet names: P and PT, strides
+abbrev pub IsRtpNamed : RtpFlags → RtpGiven → List ℕ → Type 0
+IsRtpNamed rtp =
+    Then (IfNamed rtp.payload_type IsOctet) (λ octet.
+    Then (IsStride rtp.stride) (λ stride.
+    Then (IsTimeStride rtp.time_stride) (λ _.
+    Says (record { marker = rtp.marker; extension = rtp.extension; padding = padding_in octet; payload_type = payload_type_in octet; stride = stride }))))
+
+-- the rtp octet, if rtp, and what it names
+abbrev pub IsRtpGiven : Bool → Option RtpGiven → List ℕ → Type 0
+IsRtpGiven named = IfNamed named (Then (NotRefused rtp_fault IsOctet) (λ octet. IsRtpNamed (rtp_flags octet)))
+
+-- Behind the ip octet: SN, TS, what the ip octet names, the offset of the Identification, the rtp octet and what
+-- it names; a stride is in force, if Tsc.
+abbrev pub IsBehindIp : ℕ → Bool → Option IpFlags → Said → Extended3 → List ℕ → Type 0
+IsBehindIp flags stride_known ip said =
+    Then (As (with_sn said) (IfNamed (bit 5 flags) IsOctet)) (λ said.
+    Then (As (with_ts said) (IfNamed (bit 4 flags) IsValue)) (λ said.
+    Then (IsIpGiven ip) (λ given.
+    Then (As (with_offset said) (IfNamed (bit 2 flags) IsWord)) (λ said.
+    Then (IsRtpGiven (bit 0 flags)) (λ rtp.
+    Unless (no_stride_fault (bit 3 flags) (stride_known || is_some (rtp_values rtp).stride)) (
+    Says (record { said = said; marker = marker_in said.marker rtp; values = ip_values given (rtp_values rtp) })))))))
+
+-- an extension 3 behind its first octet: the RND in force decides the format
+abbrev pub IsExtension3 : Base → Bool → Bool → ℕ → Head → List ℕ → Type 0
+IsExtension3 base kept_rnd stride_known flags =
+    Then (IsIpOctet (bit 1 flags) (kind_of base kept_rnd)) (λ ip.
+    Unless (twice_fault (bit 2 flags) (rnd_in_force kept_rnd ip)) (
+    Then (IsBehindIp flags stride_known ip (base_said (kind_of base (rnd_in_force kept_rnd ip)) base.number)) (λ extended.
+    Says (record { kind = kind_of base (rnd_in_force kept_rnd ip); rnd = rnd_in_force kept_rnd ip; said = extended.said; tsc = Some (bit 3 flags); marker = extended.marker; values = Some extended.values }))))
+
+-- an extension behind its first octet
+abbrev pub IsExtension : Base → Bool → Bool → ℕ → Head → List ℕ → Type 0
+IsExtension base rnd stride_known first =
+    Which (nat_lt first 192)
+    (As (plain_head (kind_of base rnd) rnd) (IsUnder (short_layout (kind_of base rnd) first) first (base_said (kind_of base rnd) base.number)))
+    (IsExtension3 base rnd stride_known first)
+
+-- The octets before an extension, behind the first; the extension, if their format says X.
+abbrev pub IsHead : ℕ → Bool → Bool → Head → List ℕ → Type 0
+IsHead first rnd stride_known =
+    Then (IsBase first) (λ base.
+    Which (base_said (kind_of base rnd) base.number).extended
+    (Then IsOctet (IsExtension base rnd stride_known))
+    (Says (plain_head (kind_of base rnd) rnd (base_said (kind_of base rnd) base.number))))
+
+-- the rest is the payload
+abbrev pub IsPayload : Head → Option ℕ → Option ℕ → Content → List ℕ → Type 0
+IsPayload head id udp_sum c text = c ≡ whole_content head id udp_sum text
+
+-- A packet of kind Other says this: behind the extension stand the Identification, if the RND in force is 1, the
+-- UDP checksum, if packets carry one, and the payload.
+abbrev pub IsForm : Header → Bool → Bool → Bool → Content → Type 0
+IsForm h rnd udp_sum stride_known c =
+    Then (IsHead h.first rnd stride_known) (λ head.
+    Then (IfNamed head.rnd IsWord) (λ id.
+    Then (IfNamed udp_sum IsWord) (λ sum.
+    IsPayload head id sum))) c h.rest

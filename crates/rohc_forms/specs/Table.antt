@@ -1,0 +1,99 @@
+-- The formats of packets and of extensions 0 to 2 (RFC 3095 5.7.1 to 5.7.5), and what bits under them say.
+use Rattle.std.specs.Prelude.{ℕ, ◌+◌, ◌/◌, ◌^◌, List, [], ◌∷◌, Bool, true, false, ◌==◌, ◌&&◌, nat_lt, if◌then◌else◌, Option, Some, None}
+use Rattle.rohc_forms.specs.declared.form.FormKind.{FormKind}
+use Rattle.rohc_forms.specs.declared.form.FormKind.TheVariants.{Uo0, Uo1, Uo1Id, Uo1Ts, Uor2, Uor2Id, Uor2Ts}
+use Rattle.rohc_forms.specs.Octets.{Digits, slice, and_digits}
+
+-- A field's name: a number that stands there in each packet of the format, SN, TS, IP-ID, M, X, CRC.
+pub data Field : Type 0 where
+  Fixed : ℕ → Field
+  Sn : Field
+  Ts : Field
+  Id : Field
+  Marker : Field
+  Extended : Field
+  Check : Field
+
+-- A format: its fields in order, and how many bits each has.
+abbrev pub Layout : Type 0
+Layout = List (Field × ℕ)
+
+-- The formats of packets.
+abbrev pub layout : FormKind → Layout
+layout Uo0 = (Fixed 0, 1) ∷ (Sn, 4) ∷ (Check, 3) ∷ []
+layout Uo1 = (Fixed 2, 2) ∷ (Ts, 6) ∷ (Marker, 1) ∷ (Sn, 4) ∷ (Check, 3) ∷ []
+layout Uo1Id = (Fixed 4, 3) ∷ (Id, 5) ∷ (Extended, 1) ∷ (Sn, 4) ∷ (Check, 3) ∷ []
+layout Uo1Ts = (Fixed 5, 3) ∷ (Ts, 5) ∷ (Marker, 1) ∷ (Sn, 4) ∷ (Check, 3) ∷ []
+layout Uor2 = (Fixed 6, 3) ∷ (Ts, 6) ∷ (Marker, 1) ∷ (Sn, 6) ∷ (Extended, 1) ∷ (Check, 7) ∷ []
+layout Uor2Id = (Fixed 6, 3) ∷ (Id, 5) ∷ (Fixed 0, 1) ∷ (Marker, 1) ∷ (Sn, 6) ∷ (Extended, 1) ∷ (Check, 7) ∷ []
+layout Uor2Ts = (Fixed 6, 3) ∷ (Ts, 5) ∷ (Fixed 1, 1) ∷ (Marker, 1) ∷ (Sn, 6) ∷ (Extended, 1) ∷ (Check, 7) ∷ []
+
+-- The fields that +T and -T of an extension are, by the format before it. UO-0, UO-1 and UO-1-TS have none.
+abbrev pub plus : FormKind → Field
+plus Uo0 = Ts
+plus Uo1 = Ts
+plus Uo1Id = Id
+plus Uo1Ts = Ts
+plus Uor2 = Ts
+plus Uor2Id = Id
+plus Uor2Ts = Ts
+
+abbrev pub minus : FormKind → Field
+minus Uo0 = Ts
+minus Uo1 = Ts
+minus Uo1Id = Ts
+minus Uo1Ts = Ts
+minus Uor2 = Ts
+minus Uor2Id = Ts
+minus Uor2Ts = Id
+
+-- The formats of extensions 0, 1 and 2.
+abbrev pub layout_0 : FormKind → Layout
+layout_0 kind = (Fixed 0, 2) ∷ (Sn, 3) ∷ (plus kind, 3) ∷ []
+
+abbrev pub layout_1 : FormKind → Layout
+layout_1 kind = (Fixed 1, 2) ∷ (Sn, 3) ∷ (plus kind, 3) ∷ (minus kind, 8) ∷ []
+
+abbrev pub layout_2 : FormKind → Layout
+layout_2 kind = (Fixed 2, 2) ∷ (Sn, 3) ∷ (plus kind, 3) ∷ (plus kind, 8) ∷ (minus kind, 8) ∷ []
+
+-- What is said of the fields: bits of numbers, two flags, the check.
+pub record Said : Type 0 where
+  pub sn : Option Digits
+  pub ts : Option Digits
+  pub id : Option Digits
+  pub marker : Bool
+  pub extended : Bool
+  pub check : ℕ
+
+abbrev pub nothing : Said
+nothing = record { sn = None; ts = None; id = None; marker = false; extended = false; check = 0 }
+
+-- more that is said: bits of a number stand behind those that are said already
+abbrev pub and_said : Field → Digits → Said → Said
+and_said (Fixed n) d s = s
+and_said Sn d s = record { sn = and_digits s.sn d; ts = s.ts; id = s.id; marker = s.marker; extended = s.extended; check = s.check }
+and_said Ts d s = record { sn = s.sn; ts = and_digits s.ts d; id = s.id; marker = s.marker; extended = s.extended; check = s.check }
+and_said Id d s = record { sn = s.sn; ts = s.ts; id = and_digits s.id d; marker = s.marker; extended = s.extended; check = s.check }
+and_said Marker d s = record { sn = s.sn; ts = s.ts; id = s.id; marker = d.value == 1; extended = s.extended; check = s.check }
+and_said Extended d s = record { sn = s.sn; ts = s.ts; id = s.id; marker = s.marker; extended = d.value == 1; check = s.check }
+and_said Check d s = record { sn = s.sn; ts = s.ts; id = s.id; marker = s.marker; extended = s.extended; check = d.value }
+
+-- how many bits a format has
+abbrev pub width : Layout → ℕ
+width [] = 0
+width ((field, bits) ∷ more) = bits + width more
+
+-- What a number says under a format, behind what is said already: each field is the bits that stand before
+-- those of the fields behind it.
+abbrev pub under : Layout → ℕ → Said → Said
+under [] n said = said
+under ((field, bits) ∷ more) n said = under more n (and_said field (slice n (width more) bits) said)
+
+-- what the octets before an extension say
+abbrev pub base_said : FormKind → ℕ → Said
+base_said kind n = under (layout kind) n nothing
+
+-- The same of each UOR-2, with its bits of TS or IP-ID.
+abbrev pub uor2_said : ℕ → Option Digits → Option Digits → Said
+uor2_said n ts id = record { sn = Some (slice n 8 6); ts = ts; id = id; marker = (slice n 14 1).value == 1; extended = (slice n 7 1).value == 1; check = (slice n 0 7).value }

@@ -1,0 +1,118 @@
+//! The octets before an extension, and their formats (RFC 3095 5.7.1 to 5.7.4).
+
+ghost use Rattle.std.specs.Prelude.{◌≡◌, option_map};
+ghost use Rattle.rohc_forms.specs.Octets.{Reads, digits, slice};
+ghost use Rattle.rohc_forms.specs.Table.{base_said, uor2_said};
+ghost use Rattle.rohc_forms.specs.Packets.{said_by, base_at, kind_of};
+
+use crate::form::FormKind;
+use crate::octets::{bits, is_set, octet, word};
+use crate::parts::{Base, Fields};
+use crate::refusal::FormRefusal;
+use rohc_bits::{Bits, Cursor};
+
+/// The octets before an extension; the first tells how many they are.
+#[tactic(auto, unfolding(crate::specs::Packets::base_at))]
+pub(crate) fn base(first: u8, cursor: &mut Cursor<'_>) -> Result<Base, FormRefusal>
+    ensures { Reads result cursor.new (base_at first cursor.old) }
+{
+    let number = if first < 0x80 {
+        u32::from(first)
+    } else if first < 0xc0 {
+        u32::from(first) * 256 + u32::from(octet(cursor)?)
+    } else {
+        u32::from(first) * 65_536 + u32::from(word(cursor)?)
+    };
+    Ok(Base { first, number })
+}
+
+/// The format of a packet, by the RND in force.
+pub(crate) fn kind(base: Base, rnd: bool) -> FormKind
+    ensures { result ≡ kind_of base rnd }
+{
+    if base.first < 0x80 {
+        return FormKind::Uo0;
+    }
+    if base.first < 0xc0 {
+        return match (rnd, is_set(u32::from(base.first), 5)) {
+            (true, _) => FormKind::Uo1,
+            (false, true) => FormKind::Uo1Ts,
+            (false, false) => FormKind::Uo1Id,
+        };
+    }
+    match (rnd, is_set(base.number, 15)) {
+        (true, _) => FormKind::Uor2,
+        (false, true) => FormKind::Uor2Ts,
+        (false, false) => FormKind::Uor2Id,
+    }
+}
+
+/// The check of the least significant bits.
+fn check_3(number: u32) -> u8
+    ensures { result ≡ (slice number 0 3).value }
+{
+    (number % 8) as u8
+}
+
+fn check_7(number: u32) -> u8
+    ensures { result ≡ (slice number 0 7).value }
+{
+    (number % 128) as u8
+}
+
+/// What the octets before an extension say under their format.
+pub(crate) fn base_fields(kind: FormKind, number: u32) -> Fields
+    ensures { said_by result ≡ base_said kind number }
+{
+    match kind {
+        FormKind::Uo0 => Fields {
+            sn: bits(number, 3, 4),
+            ts: None,
+            id: None,
+            marker: false,
+            extended: false,
+            check: check_3(number),
+        },
+        FormKind::Uo1 => Fields {
+            sn: bits(number, 3, 4),
+            ts: Some(bits(number, 8, 6)),
+            id: None,
+            marker: is_set(number, 7),
+            extended: false,
+            check: check_3(number),
+        },
+        FormKind::Uo1Id => Fields {
+            sn: bits(number, 3, 4),
+            ts: None,
+            id: Some(bits(number, 8, 5)),
+            marker: false,
+            extended: is_set(number, 7),
+            check: check_3(number),
+        },
+        FormKind::Uo1Ts => Fields {
+            sn: bits(number, 3, 4),
+            ts: Some(bits(number, 8, 5)),
+            id: None,
+            marker: is_set(number, 7),
+            extended: false,
+            check: check_3(number),
+        },
+        FormKind::Uor2 => uor2_fields(number, Some(bits(number, 15, 6)), None),
+        FormKind::Uor2Id => uor2_fields(number, None, Some(bits(number, 16, 5))),
+        FormKind::Uor2Ts => uor2_fields(number, Some(bits(number, 16, 5)), None),
+    }
+}
+
+/// What each UOR-2 says, with these bits of the timestamp or of the Identification.
+fn uor2_fields(number: u32, ts: Option<Bits>, id: Option<Bits>) -> Fields
+    ensures { said_by result ≡ uor2_said number (option_map digits ts) (option_map digits id) }
+{
+    Fields {
+        sn: bits(number, 8, 6),
+        ts,
+        id,
+        marker: is_set(number, 14),
+        extended: is_set(number, 7),
+        check: check_7(number),
+    }
+}

@@ -1,0 +1,299 @@
+//! Extension 3 (RFC 3095 5.7.5).
+
+ghost use Rattle.std.specs.Prelude.{◌≡◌, ◌<◌};
+ghost use Rattle.rohc_forms.specs.Octets.{Reads, ReadsAs};
+ghost use Rattle.rohc_forms.specs.Extension.{ip_octet_at, rnd_in_force, sn_at, ts_at, behind_protocol, ip_given_at, offset_at, stride_at, behind_time_stride, padding_in, payload_type_in, behind_rtp_octet, rtp_given_at, ip_values, rtp_values, marker_in, behind_ip_octet};
+ghost use Rattle.rohc_forms.specs.Packets.{said_by, extended_by};
+
+use crate::form::{FormKind, Values};
+use crate::octets::{is_set, octet, optional_octet, optional_word, value};
+use crate::parts::{Extension3, Fields, IpFlags, IpGiven, RtpFlags, RtpGiven};
+use crate::refusal::FormRefusal;
+use rohc_bits::{Bits, Cursor};
+
+/// The ip octet, if ip: TOS, TTL, DF, PR, IPX, NBO, RND, ip2.
+#[tactic(auto, unfolding(crate::specs::Extension::ip_octet_at))]
+pub(crate) fn ip_octet(
+    present: bool,
+    kind: FormKind,
+    cursor: &mut Cursor<'_>,
+) -> Result<Option<IpFlags>, FormRefusal>
+    ensures { Reads result cursor.new (ip_octet_at present kind cursor.old) }
+{
+    if !present {
+        return Ok(None);
+    }
+    let flags = u32::from(octet(cursor)?);
+    if is_set(flags, 3) {
+        return Err(FormRefusal::ExtensionList);
+    }
+    let rnd = is_set(flags, 1);
+    if rnd && matches!(kind, FormKind::Uo1Id) {
+        return Err(FormRefusal::RndInUo1);
+    }
+    if is_set(flags, 0) {
+        return Err(FormRefusal::OuterHeader);
+    }
+    Ok(Some(IpFlags {
+        tos: is_set(flags, 7),
+        ttl: is_set(flags, 6),
+        df: is_set(flags, 5),
+        protocol: is_set(flags, 4),
+        nbo: is_set(flags, 2),
+        rnd,
+    }))
+}
+
+/// The RND in force: the one that is given, else the one that is kept.
+pub(crate) fn rnd_of(kept: bool, ip: Option<IpFlags>) -> bool
+    ensures { result ≡ rnd_in_force kept ip }
+{
+    match ip {
+        Some(ip) => ip.rnd,
+        None => kept,
+    }
+}
+
+/// Eight more bits of the sequence number, if S.
+#[tactic(auto, unfolding(crate::specs::Extension::sn_at))]
+fn with_sn(present: bool, fields: Fields, cursor: &mut Cursor<'_>) -> Result<Fields, FormRefusal>
+    ensures { ReadsAs said_by result cursor.new (sn_at present (said_by fields) cursor.old) }
+{
+    if !present {
+        return Ok(fields);
+    }
+    let low = octet(cursor)?;
+    Ok(fields.and_sn(Bits::new(u32::from(low), 8)))
+}
+
+/// More bits of the timestamp, if R-TS.
+#[tactic(auto, unfolding(crate::specs::Extension::ts_at))]
+fn with_ts(present: bool, fields: Fields, cursor: &mut Cursor<'_>) -> Result<Fields, FormRefusal>
+    ensures { ReadsAs said_by result cursor.new (ts_at present (said_by fields) cursor.old) }
+{
+    if !present {
+        return Ok(fields);
+    }
+    let low = value(cursor)?;
+    Ok(fields.and_ts(low))
+}
+
+/// The protocol is UDP, if PR.
+#[tactic(auto, unfolding(crate::specs::Extension::behind_protocol))]
+fn skip_protocol(present: bool, cursor: &mut Cursor<'_>) -> Result<(), FormRefusal>
+    ensures { Reads result cursor.new (behind_protocol present cursor.old) }
+{
+    if present && octet(cursor)? != 17 {
+        return Err(FormRefusal::Protocol);
+    }
+    Ok(())
+}
+
+/// TOS, TTL and protocol, each if the ip octet names it.
+#[tactic(auto, unfolding(crate::specs::Extension::ip_given_at))]
+fn ip_given(ip: Option<IpFlags>, cursor: &mut Cursor<'_>) -> Result<Option<IpGiven>, FormRefusal>
+    ensures { Reads result cursor.new (ip_given_at ip cursor.old) }
+{
+    let Some(ip) = ip else {
+        return Ok(None);
+    };
+    let tos = optional_octet(ip.tos, cursor)?;
+    let ttl = optional_octet(ip.ttl, cursor)?;
+    skip_protocol(ip.protocol, cursor)?;
+    Ok(Some(IpGiven {
+        tos,
+        ttl,
+        df: ip.df,
+        nbo: ip.nbo,
+        rnd: ip.rnd,
+    }))
+}
+
+/// The whole offset of the Identification in place of its bits, if I.
+#[tactic(auto, unfolding(crate::specs::Extension::offset_at))]
+fn with_offset(
+    present: bool,
+    fields: Fields,
+    cursor: &mut Cursor<'_>,
+) -> Result<Fields, FormRefusal>
+    ensures { ReadsAs said_by result cursor.new (offset_at present (said_by fields) cursor.old) }
+{
+    match optional_word(present, cursor)? {
+        Some(offset) => Ok(Fields {
+            id: Some(Bits::new(u32::from(offset), 16)),
+            ..fields
+        }),
+        None => Ok(fields),
+    }
+}
+
+/// The stride of timestamps, if TSS.
+#[tactic(auto, unfolding(crate::specs::Extension::stride_at))]
+fn stride(present: bool, cursor: &mut Cursor<'_>) -> Result<Option<u32>, FormRefusal>
+    ensures { Reads result cursor.new (stride_at present cursor.old) }
+{
+    if !present {
+        return Ok(None);
+    }
+    let stride = value(cursor)?.value;
+    if stride == 0 {
+        return Err(FormRefusal::ZeroStride);
+    }
+    Ok(Some(stride))
+}
+
+/// A stride of time, if TIS, is dropped.
+#[tactic(auto, unfolding(crate::specs::Extension::behind_time_stride))]
+fn skip_time_stride(present: bool, cursor: &mut Cursor<'_>) -> Result<(), FormRefusal>
+    ensures { Reads result cursor.new (behind_time_stride present cursor.old) }
+{
+    if present {
+        value(cursor)?;
+    }
+    Ok(())
+}
+
+/// RTP's padding flag, in the octet that flag R-PT names.
+fn padding(octet: Option<u8>) -> Option<bool>
+    ensures { result ≡ padding_in octet }
+{
+    match octet {
+        Some(octet) => Some(is_set(u32::from(octet), 7)),
+        None => None,
+    }
+}
+
+/// RTP's payload type, in the same octet.
+fn payload_type(octet: Option<u8>) -> Option<u8>
+    ensures { result ≡ payload_type_in octet }
+{
+    match octet {
+        Some(octet) => Some(octet & 0x7f),
+        None => None,
+    }
+}
+
+/// What the rtp octet names: the octet of P and PT, and the strides.
+#[tactic(auto, unfolding(crate::specs::Extension::behind_rtp_octet))]
+fn named_by(rtp: RtpFlags, cursor: &mut Cursor<'_>) -> Result<RtpGiven, FormRefusal>
+    ensures { Reads result cursor.new (behind_rtp_octet rtp cursor.old) }
+{
+    let octet = optional_octet(rtp.payload_type, cursor)?;
+    let stride = stride(rtp.stride, cursor)?;
+    skip_time_stride(rtp.time_stride, cursor)?;
+    Ok(RtpGiven {
+        marker: rtp.marker,
+        extension: rtp.extension,
+        padding: padding(octet),
+        payload_type: payload_type(octet),
+        stride,
+    })
+}
+
+/// The rtp octet, if rtp, and what it names: Mode, R-PT, M, R-X, CSRC, TSS, TIS. Modes 0, 1 and 2 have no
+/// effect.
+#[tactic(auto, unfolding(crate::specs::Extension::rtp_given_at))]
+fn rtp_given(present: bool, cursor: &mut Cursor<'_>) -> Result<Option<RtpGiven>, FormRefusal>
+    ensures { Reads result cursor.new (rtp_given_at present cursor.old) }
+{
+    if !present {
+        return Ok(None);
+    }
+    let octet = octet(cursor)?;
+    if octet >> 6 == 3 {
+        return Err(FormRefusal::ReliableMode);
+    }
+    let flags = u32::from(octet);
+    if is_set(flags, 2) {
+        return Err(FormRefusal::Csrc);
+    }
+    let rtp = RtpFlags {
+        payload_type: is_set(flags, 5),
+        marker: is_set(flags, 4),
+        extension: is_set(flags, 3),
+        stride: is_set(flags, 1),
+        time_stride: is_set(flags, 0),
+    };
+    Ok(Some(named_by(rtp, cursor)?))
+}
+
+/// The values that RTP's octets give.
+fn values_of_rtp(rtp: Option<RtpGiven>) -> Values
+    ensures { result ≡ rtp_values rtp }
+{
+    let nothing = Values {
+        tos: None,
+        ttl: None,
+        payload_type: None,
+        stride: None,
+        padding: None,
+        df: None,
+        nbo: None,
+        rnd: None,
+        extension: None,
+    };
+    match rtp {
+        Some(rtp) => Values {
+            payload_type: rtp.payload_type,
+            stride: rtp.stride,
+            padding: rtp.padding,
+            extension: Some(rtp.extension),
+            ..nothing
+        },
+        None => nothing,
+    }
+}
+
+/// These values with those that IP's octets give.
+fn with_ip(ip: Option<IpGiven>, values: Values) -> Values
+    ensures { result ≡ ip_values ip values }
+{
+    match ip {
+        Some(ip) => Values {
+            tos: ip.tos,
+            ttl: ip.ttl,
+            df: Some(ip.df),
+            nbo: Some(ip.nbo),
+            rnd: Some(ip.rnd),
+            ..values
+        },
+        None => values,
+    }
+}
+
+/// The marker of the rtp octet alone, where there is one.
+fn marker(base: bool, rtp: Option<RtpGiven>) -> bool
+    ensures { result ≡ marker_in base rtp }
+{
+    match rtp {
+        Some(rtp) => rtp.marker,
+        None => base,
+    }
+}
+
+/// What stands behind the ip octet. The flags are the extension's first octet.
+#[tactic(auto, unfolding(crate::specs::Extension::behind_ip_octet))]
+pub(crate) fn behind_ip(
+    flags: u32,
+    stride_known: bool,
+    ip: Option<IpFlags>,
+    fields: Fields,
+    cursor: &mut Cursor<'_>,
+) -> Result<Extension3, FormRefusal>
+    ensures { ReadsAs extended_by result cursor.new (behind_ip_octet flags stride_known ip (said_by fields) cursor.old) }
+{
+    let fields = with_sn(is_set(flags, 5), fields, cursor)?;
+    let fields = with_ts(is_set(flags, 4), fields, cursor)?;
+    let ip = ip_given(ip, cursor)?;
+    let fields = with_offset(is_set(flags, 2), fields, cursor)?;
+    let rtp = rtp_given(is_set(flags, 0), cursor)?;
+    let given = values_of_rtp(rtp);
+    if is_set(flags, 3) && !stride_known && given.stride.is_none() {
+        return Err(FormRefusal::NoStride);
+    }
+    Ok(Extension3 {
+        fields,
+        marker: marker(fields.marker, rtp),
+        values: with_ip(ip, given),
+    })
+}

@@ -1,0 +1,66 @@
+//! Bits that extensions put behind those of the octets before them (RFC 3095 5.7.5).
+
+ghost use Rattle.std.specs.Prelude.{◌≡◌, option_map};
+ghost use Rattle.rohc_forms.specs.Octets.{digits, and_digits};
+ghost use Rattle.rohc_forms.specs.Table.{Sn, Ts, Id, and_said, plus, minus};
+ghost use Rattle.rohc_forms.specs.Packets.{said_by};
+
+use crate::form::FormKind;
+use crate::parts::Fields;
+use rohc_bits::Bits;
+
+/// Bits behind others, if there are any.
+fn behind(said: Option<Bits>, more: Bits) -> Option<Bits>
+    ensures { option_map digits result ≡ and_digits (option_map digits said) (digits more) }
+{
+    match said {
+        Some(said) => Some(said.append(more.value, more.count)),
+        None => Some(more),
+    }
+}
+
+impl Fields {
+    /// These fields with more bits of the sequence number.
+    pub(crate) fn and_sn(self, more: Bits) -> Fields
+        ensures { said_by result ≡ and_said Sn (digits more) (said_by self) }
+    {
+        let sn = self.sn.append(more.value, more.count);
+        Fields { sn, ..self }
+    }
+
+    /// These fields with more bits of the timestamp.
+    pub(crate) fn and_ts(self, more: Bits) -> Fields
+        ensures { said_by result ≡ and_said Ts (digits more) (said_by self) }
+    {
+        let ts = behind(self.ts, more);
+        Fields { ts, ..self }
+    }
+
+    /// These fields with more bits of the Identification's offset.
+    pub(crate) fn and_id(self, more: Bits) -> Fields
+        ensures { said_by result ≡ and_said Id (digits more) (said_by self) }
+    {
+        let id = behind(self.id, more);
+        Fields { id, ..self }
+    }
+
+    /// These fields with the bits +T of an extension.
+    pub(crate) fn and_plus(self, kind: FormKind, more: Bits) -> Fields
+        ensures { said_by result ≡ and_said (plus kind) (digits more) (said_by self) }
+    {
+        match kind {
+            FormKind::Uo1Id | FormKind::Uor2Id => self.and_id(more),
+            _ => self.and_ts(more),
+        }
+    }
+
+    /// These fields with the bits -T of an extension.
+    pub(crate) fn and_minus(self, kind: FormKind, more: Bits) -> Fields
+        ensures { said_by result ≡ and_said (minus kind) (digits more) (said_by self) }
+    {
+        match kind {
+            FormKind::Uor2Ts => self.and_id(more),
+            _ => self.and_ts(more),
+        }
+    }
+}

@@ -1,0 +1,21 @@
+//! Laws of the definitions, as contracts of functions that do nothing. The crates above know what a
+//! packet says by these.
+
+ghost use Rattle.rohc_forms.specs.Formats.{FitsOne};
+ghost use Rattle.rohc_forms.specs.Laws.{ReadsForms, SaysOne, RefusesForms};
+
+/// Exactly one format fits a packet whose first octet is below E0, under the RND in force.
+pub fn one_format()
+    ensures { FitsOne }
+{}
+
+/// A packet is read exactly where its octets say what is read. They say one thing at most.
+pub fn one_form()
+    ensures reads { ReadsForms }
+    ensures unique { SaysOne }
+{}
+
+/// A packet is refused exactly for the first fault among its fields.
+pub fn first_fault()
+    ensures { RefusesForms }
+{}

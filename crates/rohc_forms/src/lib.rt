@@ -1,0 +1,21 @@
+//! What a packet of kind Other says: UO-0, UO-1 and UOR-2 with their extensions (RFC 3095 5.7.1 to 5.7.5).
+//! Nothing allocates, and the payload is lent.
+#![tactic(auto)]
+
+mod base;
+mod extension;
+mod fields;
+pub mod form;
+pub mod laws;
+mod octets;
+mod packet;
+pub mod parts;
+mod reading;
+pub mod refusal;
+
+pub use form::{Form, FormKind, IdBits, Values};
+pub use reading::read_form;
+pub use refusal::FormRefusal;
+
+#[cfg(test)]
+mod tests;

@@ -1,0 +1,166 @@
+//! Packets through their extension (RFC 3095 5.7.1 to 5.7.5).
+
+ghost use Rattle.std.specs.Prelude.{◌≡◌};
+ghost use Rattle.rohc_forms.specs.Octets.{ReadsAs};
+ghost use Rattle.rohc_forms.specs.Table.{under, layout_0};
+ghost use Rattle.rohc_forms.specs.Packets.{said_by, head_by, extension_1_at, extension_2_at, short_extension_at, plain_head, extension_3_at, extension_at, head_at};
+
+use crate::base::{base, base_fields, kind};
+use crate::extension::{behind_ip, ip_octet, rnd_of};
+use crate::form::FormKind;
+use crate::octets::{bits, is_set, octet, word};
+use crate::parts::{Base, Fields, Head};
+use crate::refusal::FormRefusal;
+use rohc_bits::Cursor;
+
+/// What an extension 0 says behind these fields.
+fn extension_0(kind: FormKind, first: u8, fields: Fields) -> Fields
+    ensures { said_by result ≡ under (layout_0 kind) first (said_by fields) }
+{
+    let number = u32::from(first);
+    fields
+        .and_sn(bits(number, 3, 3))
+        .and_plus(kind, bits(number, 0, 3))
+}
+
+/// What an extension 1 says behind these fields.
+#[tactic(auto, unfolding(crate::specs::Packets::extension_1_at))]
+fn extension_1(
+    kind: FormKind,
+    first: u8,
+    fields: Fields,
+    cursor: &mut Cursor<'_>,
+) -> Result<Fields, FormRefusal>
+    ensures { ReadsAs said_by result cursor.new (extension_1_at kind first (said_by fields) cursor.old) }
+{
+    let number = u32::from(first) * 256 + u32::from(octet(cursor)?);
+    Ok(
+        fields
+            .and_sn(bits(number, 11, 3))
+            .and_plus(kind, bits(number, 8, 3))
+            .and_minus(kind, bits(number, 0, 8)),
+    )
+}
+
+/// What an extension 2 says behind these fields.
+#[tactic(auto, unfolding(crate::specs::Packets::extension_2_at))]
+fn extension_2(
+    kind: FormKind,
+    first: u8,
+    fields: Fields,
+    cursor: &mut Cursor<'_>,
+) -> Result<Fields, FormRefusal>
+    ensures { ReadsAs said_by result cursor.new (extension_2_at kind first (said_by fields) cursor.old) }
+{
+    let number = u32::from(first) * 65_536 + u32::from(word(cursor)?);
+    Ok(
+        fields
+            .and_sn(bits(number, 19, 3))
+            .and_plus(kind, bits(number, 16, 3))
+            .and_plus(kind, bits(number, 8, 8))
+            .and_minus(kind, bits(number, 0, 8)),
+    )
+}
+
+/// What an extension 0, 1 or 2 says behind these fields.
+#[tactic(auto, unfolding(crate::specs::Packets::short_extension_at))]
+fn short_extension(
+    kind: FormKind,
+    first: u8,
+    fields: Fields,
+    cursor: &mut Cursor<'_>,
+) -> Result<Fields, FormRefusal>
+    ensures { ReadsAs said_by result cursor.new (short_extension_at kind first (said_by fields) cursor.old) }
+{
+    if first < 0x40 {
+        Ok(extension_0(kind, first, fields))
+    } else if first < 0x80 {
+        extension_1(kind, first, fields, cursor)
+    } else {
+        extension_2(kind, first, fields, cursor)
+    }
+}
+
+/// What a packet with an extension 3 says: the RND in force decides its format.
+#[tactic(auto, unfolding(crate::specs::Packets::extension_3_at))]
+fn extension_3(
+    base: Base,
+    kept_rnd: bool,
+    stride_known: bool,
+    first: u8,
+    cursor: &mut Cursor<'_>,
+) -> Result<Head, FormRefusal>
+    ensures { ReadsAs head_by result cursor.new (extension_3_at base kept_rnd stride_known first cursor.old) }
+{
+    let flags = u32::from(first);
+    let ip = ip_octet(is_set(flags, 1), kind(base, kept_rnd), cursor)?;
+    let in_force = rnd_of(kept_rnd, ip);
+    if is_set(flags, 2) && in_force {
+        return Err(FormRefusal::IpIdTwice);
+    }
+    let kind = kind(base, in_force);
+    let fields = base_fields(kind, base.number);
+    let extended = behind_ip(flags, stride_known, ip, fields, cursor)?;
+    Ok(Head {
+        kind,
+        rnd: in_force,
+        fields: extended.fields,
+        tsc: Some(is_set(flags, 3)),
+        marker: extended.marker,
+        values: Some(extended.values),
+    })
+}
+
+/// What a packet says without an extension 3.
+fn plain(kind: FormKind, rnd: bool, fields: Fields) -> Head
+    ensures { head_by result ≡ plain_head kind rnd (said_by fields) }
+{
+    Head {
+        kind,
+        rnd,
+        fields,
+        tsc: None,
+        marker: fields.marker,
+        values: None,
+    }
+}
+
+/// What a packet says with its extension, behind the extension's first octet.
+#[tactic(auto, unfolding(crate::specs::Packets::extension_at))]
+fn extension(
+    base: Base,
+    rnd: bool,
+    stride_known: bool,
+    first: u8,
+    cursor: &mut Cursor<'_>,
+) -> Result<Head, FormRefusal>
+    ensures { ReadsAs head_by result cursor.new (extension_at base rnd stride_known first cursor.old) }
+{
+    if first >= 0xc0 {
+        return extension_3(base, rnd, stride_known, first, cursor);
+    }
+    let kind = kind(base, rnd);
+    let fields = base_fields(kind, base.number);
+    let fields = short_extension(kind, first, fields, cursor)?;
+    Ok(plain(kind, rnd, fields))
+}
+
+/// What a packet says through its extension.
+#[tactic(auto, unfolding(crate::specs::Packets::head_at))]
+pub(crate) fn head(
+    first: u8,
+    rnd: bool,
+    stride_known: bool,
+    cursor: &mut Cursor<'_>,
+) -> Result<Head, FormRefusal>
+    ensures { ReadsAs head_by result cursor.new (head_at first rnd stride_known cursor.old) }
+{
+    let base = base(first, cursor)?;
+    let kind = kind(base, rnd);
+    let fields = base_fields(kind, base.number);
+    if !fields.extended {
+        return Ok(plain(kind, rnd, fields));
+    }
+    let first = octet(cursor)?;
+    extension(base, rnd, stride_known, first, cursor)
+}

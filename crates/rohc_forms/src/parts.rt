@@ -1,0 +1,87 @@
+//! What single parts of a packet say.
+
+use crate::form::{FormKind, Values};
+use rohc_bits::Bits;
+
+/// The octets before an extension.
+#[derive(Clone, Copy, Debug)]
+pub(crate) struct Base {
+    /// The first of them.
+    pub first: u8,
+    /// All of them as one number, most significant first.
+    pub number: u32,
+}
+
+/// What is said of the fields that stand in the octets before an extension.
+#[derive(Clone, Copy, Debug)]
+pub(crate) struct Fields {
+    pub sn: Bits,
+    pub ts: Option<Bits>,
+    /// Bits of the Identification's offset.
+    pub id: Option<Bits>,
+    pub marker: bool,
+    /// Whether an extension follows.
+    pub extended: bool,
+    pub check: u8,
+}
+
+/// The octet of extension 3 that flag ip names: which octets it names, and what it gives.
+#[derive(Clone, Copy, Debug)]
+pub(crate) struct IpFlags {
+    pub tos: bool,
+    pub ttl: bool,
+    pub df: bool,
+    pub protocol: bool,
+    pub nbo: bool,
+    pub rnd: bool,
+}
+
+/// What extension 3 gives of IP.
+#[derive(Clone, Copy, Debug)]
+pub(crate) struct IpGiven {
+    pub tos: Option<u8>,
+    pub ttl: Option<u8>,
+    pub df: bool,
+    pub nbo: bool,
+    pub rnd: bool,
+}
+
+/// The octet of extension 3 that flag rtp names: which octets it names, and what it gives.
+#[derive(Clone, Copy, Debug)]
+pub(crate) struct RtpFlags {
+    pub payload_type: bool,
+    pub marker: bool,
+    pub extension: bool,
+    pub stride: bool,
+    pub time_stride: bool,
+}
+
+/// What extension 3 gives of RTP.
+#[derive(Clone, Copy, Debug)]
+pub(crate) struct RtpGiven {
+    pub marker: bool,
+    pub extension: bool,
+    pub padding: Option<bool>,
+    pub payload_type: Option<u8>,
+    pub stride: Option<u32>,
+}
+
+/// What a packet says with its extension 3.
+#[derive(Clone, Copy, Debug)]
+pub(crate) struct Extension3 {
+    pub fields: Fields,
+    pub marker: bool,
+    pub values: Values,
+}
+
+/// What a packet says through its extension.
+#[derive(Clone, Copy, Debug)]
+pub(crate) struct Head {
+    pub kind: FormKind,
+    /// The RND in force.
+    pub rnd: bool,
+    pub fields: Fields,
+    pub tsc: Option<bool>,
+    pub marker: bool,
+    pub values: Option<Values>,
+}

@@ -1,0 +1,75 @@
+//! Whole packets of kind Other.
+
+ghost use Rattle.std.specs.Prelude.{◌≡◌, Some, Ok, option_map, IfOk, IfErr};
+ghost use Rattle.std.specs.Result.{result_map_both};
+ghost use Rattle.rohc_frame.specs.Reading.{header_of};
+ghost use Rattle.rohc_forms.specs.Packets.{IsOther, Content, id_by, id_said, content, form_at};
+ghost use Rattle.rohc_forms.specs.Octets.{digits};
+ghost use Rattle.rohc_forms.specs.Fields.{form_fault};
+ghost use Rattle.rohc_forms.specs.Says.{IsForm};
+
+use crate::form::{Form, IdBits};
+use crate::octets::optional_word;
+use crate::packet::head;
+use crate::refusal::FormRefusal;
+use rohc_bits::{Bits, Cursor};
+use rohc_frame::Forward;
+
+/// What is said of the Identification: the whole, where it stands in the packet.
+fn id_bits(whole: Option<u16>, bits: Option<Bits>) -> IdBits
+    ensures { id_by result ≡ id_said whole (option_map digits bits) }
+{
+    match (whole, bits) {
+        (Some(id), _) => IdBits::Whole(id),
+        (None, Some(bits)) => IdBits::Offset(bits),
+        (None, None) => IdBits::Same,
+    }
+}
+
+/// Reads a packet from left to right.
+#[tactic(auto, unfolding(crate::specs::Packets::form_at))]
+fn in_order<'a>(
+    forward: &Forward<'a>,
+    rnd: bool,
+    udp_sum: bool,
+    stride_known: bool,
+) -> Result<Form<'a>, FormRefusal>
+    ensures { result_map_both content (λ e. e) result ≡ form_at (header_of forward.now) rnd udp_sum stride_known }
+{
+    let mut cursor = Cursor::new(forward.rest);
+    let head = head(forward.first, rnd, stride_known, &mut cursor)?;
+    let whole = optional_word(head.rnd, &mut cursor)?;
+    let udp_sum = optional_word(udp_sum, &mut cursor)?;
+    Ok(Form {
+        kind: head.kind,
+        sn: head.fields.sn,
+        ts: head.fields.ts,
+        tsc: head.tsc,
+        id: id_bits(whole, head.fields.id),
+        udp_sum,
+        marker: head.marker,
+        values: head.values,
+        check: head.fields.check,
+        payload: cursor.rest(),
+    })
+}
+
+/// What a packet of kind Other says of its header's fields.
+///
+/// `rnd`, `udp_sum` and `stride_known` are its context's: whether the Identification is random, packets
+/// carry the UDP checksum, and a stride of timestamps is in force. The refusals come in the order of the
+/// octets (RFC 3095 5.7.1 to 5.7.5).
+pub fn read_form<'a>(
+    forward: &Forward<'a>,
+    rnd: bool,
+    udp_sum: bool,
+    stride_known: bool,
+) -> Result<Form<'a>, FormRefusal>
+    requires kind { IsOther forward.now.kind }
+    ensures says { IfOk result (λ form. IsForm (header_of forward.now) rnd udp_sum stride_known (content form)) }
+    ensures only { (said : Content) → IsForm (header_of forward.now) rnd udp_sum stride_known said → result_map_both content (λ e. e) result ≡ Ok said }
+    ensures fault { IfErr result (λ e. form_fault (header_of forward.now) rnd udp_sum stride_known ≡ Some e) }
+    ensures reads { result_map_both content (λ e. e) result ≡ form_at (header_of forward.now) rnd udp_sum stride_known }
+{
+    in_order(forward, rnd, udp_sum, stride_known)
+}

@@ -1,0 +1,459 @@
+use crate::{Form, FormKind, FormRefusal, IdBits, Values, read_form};
+use rohc_bits::Bits;
+use rohc_frame::{CidKind, HeadKind, cut};
+
+// What a context says: RND, whether packets carry the UDP checksum, whether a stride is in force.
+type Context = (bool, bool, bool);
+
+// Bits of a number: how many, and their value.
+type Number = (u8, u32);
+
+// Bits of the offset of the Identification, and the whole.
+type Id = (Option<Number>, Option<u16>);
+
+// The format, SN, TS, Tsc, the Identification, the UDP checksum, M and the check.
+type Said = (
+    FormKind,
+    Number,
+    Option<Number>,
+    Option<bool>,
+    Id,
+    Option<u16>,
+    bool,
+    u8,
+);
+
+const IN_ORDER: Context = (false, false, true);
+
+const RANDOM: Context = (true, false, true);
+
+const WITH_SUM: Context = (false, true, true);
+
+const NO_STRIDE: Context = (false, false, false);
+
+const SAME: Id = (None, None);
+
+// TOS, NBO and RND of an ip octet.
+type Ip = (Option<u8>, bool, bool);
+
+// What a packet says; none where it isn't of kind Other.
+fn form_in(packet: &[u8], context: Context) -> Option<Result<Form<'_>, FormRefusal>> {
+    let forward = cut(CidKind::Small, 15, packet).ok()?.forward?;
+    let HeadKind::Other = forward.kind else {
+        return None;
+    };
+    Some(read_form(&forward, context.0, context.1, context.2))
+}
+
+fn number(bits: Bits) -> Number {
+    (bits.count, bits.value)
+}
+
+fn optional_number(bits: Option<Bits>) -> Option<Number> {
+    match bits {
+        Some(bits) => Some(number(bits)),
+        None => None,
+    }
+}
+
+fn id(bits: IdBits) -> Id {
+    match bits {
+        IdBits::Same => (None, None),
+        IdBits::Offset(bits) => (Some(number(bits)), None),
+        IdBits::Whole(id) => (None, Some(id)),
+    }
+}
+
+fn said(form: &Form<'_>) -> Said {
+    (
+        form.kind,
+        number(form.sn),
+        optional_number(form.ts),
+        form.tsc,
+        id(form.id),
+        form.udp_sum,
+        form.marker,
+        form.check,
+    )
+}
+
+// Packets without an extension 3, each with a payload of one octet.
+const PLAIN: [(&[u8], Context, Said); 16] = [
+    // First UO-0.
+    (
+        &[0x10, 0xac],
+        IN_ORDER,
+        (FormKind::Uo0, (4, 2), None, None, SAME, None, false, 0),
+    ),
+    // UOR-2-TS jump.
+    (
+        &[0xd4, 0xc3, 0x3e, 0xad],
+        IN_ORDER,
+        (
+            FormKind::Uor2Ts,
+            (6, 3),
+            Some((5, 20)),
+            None,
+            SAME,
+            None,
+            true,
+            62,
+        ),
+    ),
+    // RND turned on: the second packet.
+    (
+        &[0x25, 0x56, 0x78, 0xaf],
+        RANDOM,
+        (
+            FormKind::Uo0,
+            (4, 4),
+            None,
+            None,
+            (None, Some(0x5678)),
+            None,
+            false,
+            5,
+        ),
+    ),
+    // A UO-1 behind it.
+    (
+        &[0x94, 0xaf, 0x00, 0x11, 0xac],
+        RANDOM,
+        (
+            FormKind::Uo1,
+            (4, 5),
+            Some((6, 20)),
+            None,
+            (None, Some(0x0011)),
+            None,
+            true,
+            7,
+        ),
+    ),
+    // Wrapped SN repaired.
+    (
+        &[0x1f, 0xac],
+        IN_ORDER,
+        (FormKind::Uo0, (4, 3), None, None, SAME, None, false, 7),
+    ),
+    // Ends of types.
+    (
+        &[0x05, 0xac],
+        IN_ORDER,
+        (FormKind::Uo0, (4, 0), None, None, SAME, None, false, 5),
+    ),
+    (
+        &[0xd9, 0x80, 0x20, 0xac],
+        IN_ORDER,
+        (
+            FormKind::Uor2Ts,
+            (6, 0),
+            Some((5, 25)),
+            None,
+            SAME,
+            None,
+            false,
+            32,
+        ),
+    ),
+    // No stride.
+    (
+        &[0x11, 0xac],
+        NO_STRIDE,
+        (FormKind::Uo0, (4, 2), None, None, SAME, None, false, 1),
+    ),
+    (
+        &[0xa8, 0x18, 0xad],
+        NO_STRIDE,
+        (
+            FormKind::Uo1Ts,
+            (4, 3),
+            Some((5, 8)),
+            None,
+            SAME,
+            None,
+            false,
+            0,
+        ),
+    ),
+    // Offset bits.
+    (
+        &[0x84, 0x1f, 0xad],
+        IN_ORDER,
+        (
+            FormKind::Uo1Id,
+            (4, 3),
+            None,
+            None,
+            (Some((5, 4)), None),
+            None,
+            false,
+            7,
+        ),
+    ),
+    (
+        &[0xc0, 0x0c, 0xfa, 0x63, 0x64, 0xad],
+        IN_ORDER,
+        (
+            FormKind::Uor2Id,
+            (9, 100),
+            Some((8, 100)),
+            None,
+            (Some((8, 3)), None),
+            None,
+            false,
+            122,
+        ),
+    ),
+    // TOS for one packet: the second packet.
+    (
+        &[0x1c, 0xad],
+        IN_ORDER,
+        (FormKind::Uo0, (4, 3), None, None, SAME, None, false, 4),
+    ),
+    // UDP checksum.
+    (
+        &[0x10, 0xca, 0xfe, 0xac],
+        WITH_SUM,
+        (
+            FormKind::Uo0,
+            (4, 2),
+            None,
+            None,
+            SAME,
+            Some(0xcafe),
+            false,
+            0,
+        ),
+    ),
+    // Late packet.
+    (
+        &[0x0f, 0xab],
+        IN_ORDER,
+        (FormKind::Uo0, (4, 1), None, None, SAME, None, false, 7),
+    ),
+    // A whole Identification stands before the UDP checksum.
+    (
+        &[0x10, 0x12, 0x34, 0xca, 0xfe, 0xac],
+        (true, true, true),
+        (
+            FormKind::Uo0,
+            (4, 2),
+            None,
+            None,
+            (None, Some(0x1234)),
+            Some(0xcafe),
+            false,
+            0,
+        ),
+    ),
+    // Extension 2 of a UOR-2: +T, +T and -T in the order of their octets.
+    (
+        &[0xc0, 0x80, 0x80, 0x81, 0x02, 0x03, 0x00, 0x11, 0xac],
+        RANDOM,
+        (
+            FormKind::Uor2,
+            (9, 0),
+            Some((25, 0b1_001_0000_0010_0000_0011)),
+            None,
+            (None, Some(0x0011)),
+            None,
+            false,
+            0,
+        ),
+    ),
+];
+
+#[test]
+fn packets_without_extension_3(rt: HostRuntime) {
+    for (packet, context, expected) in PLAIN {
+        let Some(Ok(form)) = form_in(packet, context) else {
+            panic!(rt; "refused");
+        };
+        assert_eq!(rt; said(&form), expected);
+        assert!(rt; form.values.is_none());
+        assert_eq!(rt; form.payload.len(), 1);
+        assert_eq!(rt; form.payload.last(), packet.last());
+    }
+}
+
+// What an ip octet alone gives.
+fn of_ip((tos, nbo, rnd): Ip) -> Values {
+    Values {
+        tos,
+        ttl: None,
+        payload_type: None,
+        stride: None,
+        padding: None,
+        df: Some(false),
+        nbo: Some(nbo),
+        rnd: Some(rnd),
+        extension: None,
+    }
+}
+
+// Packets with an extension 3, each with a payload of one octet.
+const EXTENDED: [(&[u8], Context, Said, Ip); 3] = [
+    // RND turned on: the extension's RND decides the format.
+    (
+        &[0xc1, 0x83, 0xa4, 0xca, 0x06, 0x12, 0x34, 0xae],
+        IN_ORDER,
+        (
+            FormKind::Uor2,
+            (6, 3),
+            Some((6, 3)),
+            Some(true),
+            (None, Some(0x1234)),
+            None,
+            false,
+            36,
+        ),
+        (None, true, true),
+    ),
+    // RND turned off: the T bit decides, and no Identification follows.
+    (
+        &[0xc1, 0x83, 0xa4, 0xca, 0x04, 0xae],
+        RANDOM,
+        (
+            FormKind::Uor2Ts,
+            (6, 3),
+            Some((5, 1)),
+            Some(true),
+            SAME,
+            None,
+            false,
+            36,
+        ),
+        (None, true, false),
+    ),
+    // TOS for one packet.
+    (
+        &[0x80, 0x95, 0xc2, 0x84, 0xb8, 0xac],
+        IN_ORDER,
+        (
+            FormKind::Uo1Id,
+            (4, 2),
+            None,
+            Some(false),
+            (Some((5, 0)), None),
+            None,
+            false,
+            5,
+        ),
+        (Some(0xb8), true, false),
+    ),
+];
+
+#[test]
+fn packets_with_extension_3(rt: HostRuntime) {
+    for (packet, context, expected, ip) in EXTENDED {
+        let Some(Ok(form)) = form_in(packet, context) else {
+            panic!(rt; "refused");
+        };
+        assert_eq!(rt; said(&form), expected);
+        assert_eq!(rt; form.values, Some(of_ip(ip)));
+        assert_eq!(rt; form.payload.len(), 1);
+        assert_eq!(rt; form.payload.last(), packet.last());
+    }
+}
+
+// Refused extensions, example no stride and the cut-off UDP checksum.
+const REFUSED: [(&[u8], Context, FormRefusal); 12] = [
+    (&[0xc0, 0x03, 0x80, 0xc1, 0x04], IN_ORDER, FormRefusal::Csrc),
+    (
+        &[0xc0, 0x03, 0x80, 0xc2, 0x01],
+        IN_ORDER,
+        FormRefusal::OuterHeader,
+    ),
+    (
+        &[0xc0, 0x03, 0x80, 0xc2, 0x08],
+        IN_ORDER,
+        FormRefusal::ExtensionList,
+    ),
+    (
+        &[0xc0, 0x03, 0x80, 0xc1, 0xc0],
+        IN_ORDER,
+        FormRefusal::ReliableMode,
+    ),
+    (
+        &[0xc0, 0x03, 0x80, 0xc2, 0x10, 0x06],
+        IN_ORDER,
+        FormRefusal::Protocol,
+    ),
+    (
+        &[0xc0, 0x03, 0x80, 0xc1, 0x02, 0x00],
+        IN_ORDER,
+        FormRefusal::ZeroStride,
+    ),
+    (
+        &[0xc0, 0x03, 0x80, 0xc6, 0x02],
+        IN_ORDER,
+        FormRefusal::IpIdTwice,
+    ),
+    (&[0x80, 0x90, 0xc2, 0x02], IN_ORDER, FormRefusal::RndInUo1),
+    (&[0xc0, 0x03], IN_ORDER, FormRefusal::Truncated),
+    (&[0xc0, 0x03, 0x80, 0xc2], IN_ORDER, FormRefusal::Truncated),
+    (&[0xc0, 0x03, 0x80, 0xc8], NO_STRIDE, FormRefusal::NoStride),
+    (&[0x10, 0xca], WITH_SUM, FormRefusal::Truncated),
+];
+
+#[test]
+fn refused_packets(rt: HostRuntime) {
+    for (packet, context, expected) in REFUSED {
+        let Some(Err(refusal)) = form_in(packet, context) else {
+            panic!(rt; "not refused");
+        };
+        assert_eq!(rt; refusal, expected);
+    }
+}
+
+// Whether each front of a packet that ends inside its header is refused as cut off; one octet of payload
+// follows the header.
+fn is_cut_off_inside(packet: &[u8], context: Context) -> bool {
+    let Some((_payload, header)) = packet.split_last() else {
+        return false;
+    };
+    for end in 1..header.len() {
+        let Some(Err(FormRefusal::Truncated)) = form_in(&header[..end], context) else {
+            return false;
+        };
+    }
+    true
+}
+
+#[test]
+fn cut_at_each_octet(rt: HostRuntime) {
+    for (packet, context, _said) in PLAIN {
+        assert!(rt; is_cut_off_inside(packet, context));
+    }
+    for (packet, context, _said, _ip) in EXTENDED {
+        assert!(rt; is_cut_off_inside(packet, context));
+    }
+}
+
+// The first octets of each format: the RND, the T bit of a UOR-2, the first and the last of them.
+const FIRST_OCTETS: [(bool, u8, u8, u8, FormKind); 10] = [
+    (false, 0x00, 0x00, 0x7f, FormKind::Uo0),
+    (true, 0x00, 0x00, 0x7f, FormKind::Uo0),
+    (false, 0x00, 0x80, 0x9f, FormKind::Uo1Id),
+    (false, 0x00, 0xa0, 0xbf, FormKind::Uo1Ts),
+    (true, 0x00, 0x80, 0xbf, FormKind::Uo1),
+    (false, 0x00, 0xc0, 0xdf, FormKind::Uor2Id),
+    (false, 0x80, 0xc0, 0xdf, FormKind::Uor2Ts),
+    (true, 0x00, 0xc0, 0xdf, FormKind::Uor2),
+    (true, 0x80, 0xc0, 0xdf, FormKind::Uor2),
+    (false, 0x80, 0x00, 0x7f, FormKind::Uo0),
+];
+
+#[test]
+fn each_first_octet(rt: HostRuntime) {
+    for (rnd, second, low, high, expected) in FIRST_OCTETS {
+        for first in low..=high {
+            let packet = [first, second, 0, 0, 0];
+            let Some(Ok(form)) = form_in(&packet, (rnd, false, true)) else {
+                panic!(rt; "refused");
+            };
+            assert_eq!(rt; form.kind, expected);
+        }
+    }
+}
