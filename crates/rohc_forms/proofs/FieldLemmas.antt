@@ -1,5 +1,5 @@
 -- Reading a packet goes as far as its fields, and stops at the first fault among them.
-use Rattle.std.proofs.Common.{◌≡◌, ℕ, zero, suc, ◌+◌, ◌*◌, Bool, true, false, List, [], ◌∷◌, Option, Some, None, Result, Ok, Err, refl, sym, ap, ◌∙◌}
+use Rattle.std.proofs.Common.{◌≡◌, ℕ, ◌+◌, ◌*◌, Bool, true, false, List, [], ◌∷◌, Option, Some, None, Result, Ok, Err, refl, sym, ap, ◌∙◌}
 use Rattle.std.specs.Prelude.{◌||◌, is_some, IfErr, nat_lt, if◌then◌else◌}
 use Rattle.std.specs.Result.{result_map_both}
 use Rattle.rohc_frame.specs.Header.{Header}
@@ -8,7 +8,7 @@ use Rattle.rohc_forms.specs.declared.parts.Base.{Base}
 use Rattle.rohc_forms.specs.declared.parts.IpFlags.{IpFlags}
 use Rattle.rohc_forms.specs.declared.parts.RtpFlags.{RtpFlags}
 use Rattle.rohc_forms.specs.declared.refusal.FormRefusal.{FormRefusal}
-use Rattle.rohc_forms.specs.Octets.{◌>>=◌, Digits, octet_at, word_at, octet_if, word_if, value_at, bit}
+use Rattle.rohc_forms.specs.Octets.{◌>>=◌, octet_at, word_at, octet_if, word_if, value_at, bit}
 use Rattle.rohc_forms.specs.Table.{Said, base_said}
 use Rattle.rohc_forms.specs.Judging.{judged, ip_fault, twice_fault, protocol_fault, rtp_fault, stride_fault, no_stride_fault}
 use Rattle.rohc_forms.specs.Extension.{judged_octet, ip_flags, ip_octet_at, rnd_in_force, sn_at, ts_at, behind_protocol, ip_given_at, offset_at, rtp_flags, stride_at, behind_time_stride, behind_rtp_octet, rtp_given_at, rtp_values, behind_ip_octet}

@@ -1,6 +1,6 @@
 -- What is read is what the octets of a packet say.
-use Rattle.std.proofs.Common.{◌≡◌, ℕ, zero, suc, ◌+◌, ◌*◌, Bool, true, false, List, [], ◌∷◌, ◌++◌, length, Option, Some, None, Result, Ok, Err, refl, sym, ap, ◌∙◌, arith}
-use Rattle.std.specs.Prelude.{◌↔◌, ◌||◌, is_some, option_map, nat_lt, if◌then◌else◌, IfOk, MatchResult}
+use Rattle.std.proofs.Common.{◌≡◌, ℕ, ◌+◌, ◌*◌, Bool, true, false, List, [], ◌∷◌, length, Option, Some, None, Result, Ok, Err, refl, sym, ap, ◌∙◌, arith}
+use Rattle.std.specs.Prelude.{◌||◌, is_some, option_map, nat_lt, if◌then◌else◌, IfOk}
 use Rattle.std.specs.Result.{result_map_both}
 use Rattle.rohc_frame.specs.Header.{Header}
 use Rattle.rohc_forms.specs.declared.form.FormKind.{FormKind}
@@ -9,15 +9,15 @@ use Rattle.rohc_forms.specs.declared.parts.IpFlags.{IpFlags}
 use Rattle.rohc_forms.specs.declared.parts.RtpFlags.{RtpFlags}
 use Rattle.rohc_forms.specs.declared.refusal.FormRefusal.{FormRefusal}
 use Rattle.rohc_forms.specs.Octets.{◌>>=◌, Digits, bit, octet_at, word_at, octet_if, word_if, value_at}
-use Rattle.rohc_forms.specs.Table.{Said, Sn, Ts, Layout, and_said, width, under, layout_0, layout_1, layout_2, base_said}
+use Rattle.rohc_forms.specs.Table.{Said, Layout, width, under, layout_0, layout_1, layout_2, base_said}
 use Rattle.rohc_forms.specs.Formats.{number_of}
 use Rattle.rohc_forms.specs.Judging.{judged, ip_fault, twice_fault, protocol_fault, rtp_fault, stride_fault, no_stride_fault}
-use Rattle.rohc_forms.specs.Extension.{judged_octet, ip_flags, ip_octet_at, rnd_in_force, sn_at, ts_at, behind_protocol, ip_given_at, offset_at, rtp_flags, padding_in, payload_type_in, stride_at, behind_time_stride, behind_rtp_octet, rtp_given_at, rtp_values, ip_values, marker_in, Extended3, behind_ip_octet}
+use Rattle.rohc_forms.specs.Extension.{judged_octet, ip_flags, ip_octet_at, rnd_in_force, sn_at, ts_at, behind_protocol, ip_given_at, offset_at, rtp_flags, stride_at, behind_time_stride, behind_rtp_octet, rtp_given_at, rtp_values, behind_ip_octet}
 use Rattle.rohc_forms.specs.Packets.{Head, Content, kind_of, plain_head, base_at, extension_1_at, extension_2_at, short_extension_at, extension_3_at, extension_at, behind_base, head_at, whole_content, form_at}
-use Rattle.rohc_forms.specs.Pieces.{IsOctet, IsWord, IsValue, Says, Then, IfNamed, Which, As, NotRefused, Unless}
+use Rattle.rohc_forms.specs.Pieces.{IsOctet, IsWord, IsValue, Says, Then, IfNamed, Which, As, NotRefused}
 use Rattle.rohc_forms.specs.Says.{IsUnder, base_length, IsBase, short_layout, with_sn, with_ts, with_offset, IsIpOctet, IsProtocol, IsIpGiven, value_of, IsStride, IsTimeStride, IsRtpNamed, IsRtpGiven, IsBehindIp, IsExtension3, IsExtension, IsHead, IsPayload, IsForm}
 use Rattle.rohc_forms.specs.Laws.{ReadsForms, SaysOne}
-use Rattle.rohc_forms.proofs.Exact.{ok_is, ok_parts, bind_ok, Reader, Piece, Exact, same_reader, same_piece, exact_says, exact_then, exact_as, exact_not_refused, exact_unless, exact_which, exact_named, exact_if_named, exact_octet, exact_word, exact_octet_if, exact_word_if, exact_value}
+use Rattle.rohc_forms.proofs.Exact.{ok_is, bind_ok, Reader, Piece, Exact, same_reader, same_piece, exact_says, exact_then, exact_as, exact_not_refused, exact_unless, exact_which, exact_named, exact_if_named, exact_octet, exact_word, exact_octet_if, exact_word_if, exact_value}
 
 exact_sn : (named : Bool) (said : Said) → Exact (sn_at named said) (As (with_sn said) (IfNamed named IsOctet))
 unfolding sn_at
