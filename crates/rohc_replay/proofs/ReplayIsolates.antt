@@ -13,7 +13,7 @@ use Rattle.rohc_concentrator.specs.LoneRun.{LoneEvent, Arrival, Forget, LoneRun,
 use Rattle.rohc_replay.specs.declared.tally.Tally.{Tally}
 use Rattle.rohc_replay.specs.declared.fault.RunFault.{RunFault}
 use Rattle.rohc_replay.specs.AnswerLines.{response_lines, text_of}
-use Rattle.rohc_replay.specs.Isolation.{is_pair_line, is_own_line, own, own_line, own_marked, left, left_of, IsAnswered, IsTold, IsToldAlike, Isolates}
+use Rattle.rohc_replay.specs.Isolation.{is_pair_line, is_own_line, own, own_line, own_marked, left, left_of, IsToldAll, IsTold, IsToldAlike, Isolates}
 use Rattle.rohc_replay.specs.Lines.{has_newline}
 use Rattle.rohc_replay.specs.Run.{Replays, marked_of}
 use Rattle.rohc_replay.specs.Script.{Line, IsLine, AreLines, IsScript, lines_of}
@@ -52,7 +52,7 @@ runs_alone s l c before after ((Arrival m h, true) ∷ marked) (reply ∷ replie
 
 module _ (old new : Concentrator) (l c : ℕ) (s : LinkSetting) (written : List ℕ) where
   -- what is told of want of memory too is told without it
-  pub told_alone : (marked : List (Line × Bool)) → IsAnswered old new marked written l c s → IsTold old new (own s l c marked) written l c s
+  pub told_alone : (marked : List (Line × Bool)) → IsToldAll old new marked written l c s → IsTold old new (own s l c marked) written l c s
   told_alone marked a =
       let alone = runs_alone (settings_in s c) l c (record_at old l c) (record_at new l c) (own_marked s l c marked) a.replies a.run in
       record { replies = alone.0; run = alone.1; told = filter-within (is_pair_line l c) _ (lines_of written) ∙ ap (filter (is_own_line l c)) a.told ∙ alone.2 }
@@ -131,7 +131,7 @@ replay_isolates old text held holding t new r =
     let lines : lines_of written ≡ flat_map (λ a. a) r.answers = written_lines old r.lines r.answers new r.run fit in
     let marked = marked_of old r.lines r.answers new r.run in
     let script : IsScript text (map (λ (m : Line × Bool). m.0) marked) = subst (IsScript text) (sym (marked_lines old r.lines r.answers new r.run)) r.script in
-    let answered : (l c : ℕ) (s : LinkSetting) → l < 2 ^ 16 → c < 2 ^ 16 → setting_at old l ≡ Some s → IsAnswered old new marked written l c s =
+    let answered : (l c : ℕ) (s : LinkSetting) → l < 2 ^ 16 → c < 2 ^ 16 → setting_at old l ≡ Some s → IsToldAll old new marked written l c s =
     λ l c s lf cf set. let told = run_told s l c lf cf old r.lines r.answers new r.run fit set in record { replies = told.0; run = told.1; told = ap (filter (is_pair_line l c)) lines ∙ told.2 } in (
       written,
       r.written,

@@ -53,7 +53,7 @@ own_lines l c text = filter (is_own_line l c) (lines_of text)
 
 -- All that a replay told one pair, want of memory among it: the replies of one context machine over the pair's own events, each of
 -- which is marked exactly where its reply is `NoMemory`, and may be marked only where it is an accepted first IR.
-pub record IsAnswered (old new : Concentrator) (marked : List (Line × Bool)) (written : List ℕ) (l c : ℕ) (s : LinkSetting) : Type 0 where
+pub record IsToldAll (old new : Concentrator) (marked : List (Line × Bool)) (written : List ℕ) (l c : ℕ) (s : LinkSetting) : Type 0 where
   pub replies : List Response
   pub run : MarkedRun (settings_in s c) (record_at old l c) (own_marked s l c marked) replies (record_at new l c)
   pub told : pair_lines l c written ≡ flat_map (response_lines l c) replies
@@ -87,7 +87,7 @@ pub record IsToldAlike (old new : Concentrator) (text : List ℕ) (marked : List
 pub record IsIsolated (old : Concentrator) (text written : List ℕ) (new : Concentrator) : Type 0 where
   pub marked : List (Line × Bool)
   pub script : IsScript text (map (λ (m : Line × Bool). m.0) marked)
-  pub answered : (l c : ℕ) (s : LinkSetting) → l < 2 ^ 16 → c < 2 ^ 16 → setting_at old l ≡ Some s → IsAnswered old new marked written l c s
+  pub answered : (l c : ℕ) (s : LinkSetting) → l < 2 ^ 16 → c < 2 ^ 16 → setting_at old l ≡ Some s → IsToldAll old new marked written l c s
   pub alone : (l c : ℕ) (s : LinkSetting) → l < 2 ^ 16 → c < 2 ^ 16 → setting_at old l ≡ Some s → IsTold old new (own s l c marked) written l c s
   pub taken_out : (l c : ℕ) (s : LinkSetting) → l < 2 ^ 16 → c < 2 ^ 16 → setting_at old l ≡ Some s → IsToldAlike old new text marked written l c s
   pub absent : (l c : ℕ) → l < 2 ^ 16 → c < 2 ^ 16 → setting_at old l ≡ None → pair_lines l c written ≡ []
