@@ -38,13 +38,23 @@ feedback_port = 6005
 relay_port = 6006
 ";
 
-/// Three identifiers, each with a first IR and later packets.
+/// Each identifier has a first IR, and some later packets. Link 1 has so many that its table grows while records
+/// stand in it.
 const SCRIPT: &str = "arrive 1 0 fc00b745aa
-arrive 1 5 e1fc003045aa
+arrive 1 1 e1fc003045aa
+arrive 1 2 e2fc008145aa
+arrive 1 3 e3fc005145aa
+arrive 1 4 e4fc002245aa
+arrive 1 5 e5fc00f245aa
+arrive 1 6 e6fc004345aa
+arrive 1 7 e7fc009345aa
+arrive 1 8 e8fc00a545aa
+arrive 1 9 e9fc007545aa
 arrive 2 10 fc812c00e6450102
 oops
 arrive 1 20 45ab
 arrive 1 25 e145ac
+arrive 1 26 e945ac
 arrive 2 30 45812c0102
 arrive 1 40 45ad
 ";
