@@ -1,5 +1,6 @@
 -- Fields read off the front of a packet's octets, or why they can't be.
-use Rattle.std.specs.Prelude.{◌≡◌, ℕ, ◌+◌, ◌*◌, ◌/◌, ◌%◌, ◌^◌, List, [], ◌∷◌, Bool, ◌==◌, nat_lt, if◌then◌else◌, Result, Ok, Err, MatchResult}
+use Rattle.std.specs.Prelude.{◌≡◌, ℕ, ◌+◌, ◌*◌, ◌/◌, ◌%◌, ◌^◌, List, [], ◌∷◌, drop, Bool, ◌==◌, Option, Some, None, Result, Ok, Err, MatchResult}
+use Rattle.rohc_bits.specs.Fronts.{front_value}
 use Rattle.rohc_chain.specs.declared.refusal.ChainRefusal.{ChainRefusal}
 use Rattle.rohc_chain.specs.declared.refusal.ChainRefusal.TheVariants.{Truncated}
 
@@ -41,32 +42,14 @@ quad_at text = do
   (low, text) ← word_at text
   Ok (high * 65536 + low, text)
 
--- a self-describing value of two octets, behind its first
-abbrev pub two_at : ℕ → List ℕ → Result (ℕ × List ℕ) ChainRefusal
-two_at a [] = Err Truncated
-two_at a (b ∷ text) = Ok (a % 64 * 256 + b, text)
+-- the value at the front of a text, if one stands there, and the octets behind it
+abbrev pub value_of : List ℕ → Option (ℕ × ℕ) → Result (ℕ × List ℕ) ChainRefusal
+value_of text None = Err Truncated
+value_of text (Some (value, count)) = Ok (value, drop count text)
 
--- of three
-abbrev pub three_at : ℕ → List ℕ → Result (ℕ × List ℕ) ChainRefusal
-three_at a [] = Err Truncated
-three_at a (b ∷ []) = Err Truncated
-three_at a (b ∷ c ∷ text) = Ok ((a % 32 * 256 + b) * 256 + c, text)
-
--- of four
-abbrev pub four_at : ℕ → List ℕ → Result (ℕ × List ℕ) ChainRefusal
-four_at a [] = Err Truncated
-four_at a (b ∷ []) = Err Truncated
-four_at a (b ∷ c ∷ []) = Err Truncated
-four_at a (b ∷ c ∷ d ∷ text) = Ok (((a % 32 * 256 + b) * 256 + c) * 256 + d, text)
-
--- a self-describing value, whose first bits are 0, 10, 110 or 111 (RFC 3095 4.5.6)
+-- a self-describing value (RFC 3095 4.5.6)
 unfoldable pub value_at : List ℕ → Result (ℕ × List ℕ) ChainRefusal
-value_at [] = Err Truncated
-value_at (a ∷ text) =
-    if nat_lt a 128 then Ok (a, text)
-    else if nat_lt a 192 then two_at a text
-    else if nat_lt a 224 then three_at a text
-    else four_at a text
+value_at text = value_of text (front_value text)
 
 -- the bit of this place, counted from the least significant
 abbrev pub bit : ℕ → ℕ → Bool

@@ -1,9 +1,11 @@
 -- A reader reads exactly the texts of a piece.
-use Rattle.std.proofs.Common.{◌≡◌, ℕ, ◌+◌, ◌*◌, ◌%◌, ◌<◌, ◌≤◌, Bool, true, false, List, [], ◌∷◌, ◌++◌, Option, Some, None, Result, Ok, Err, refl, sym, ap, ◌∙◌, append_assoc, arith}
-use Rattle.std.specs.Prelude.{nat_lt, if◌then◌else◌}
-use Rattle.std.proofs.lemmas.Bool.Decides.{nat_tests}
+use Rattle.std.proofs.Common.{◌≡◌, ℕ, ◌+◌, ◌*◌, ◌%◌, ◌^◌, ◌<◌, ◌≤◌, Bool, true, false, List, [], ◌∷◌, ◌++◌, length, take, drop, Option, Some, None, Result, Ok, Err, refl, sym, ap, subst, ◌∙◌, append_assoc, get_or, Fits, w8, arith}
+use Rattle.std.specs.Prelude.{if◌then◌else◌, IfSome}
+use Rattle.rohc_bits.specs.Fronts.{front_value, value_bits}
+use Rattle.rohc_bits.specs.Spelling.{IsSpelled, Spells}
+use Rattle.rohc_bits.proofs.Fronts.{front_read, front_found, drop_front, read_is_front}
 use Rattle.rohc_forms.specs.declared.refusal.FormRefusal.{FormRefusal}
-use Rattle.rohc_forms.specs.Octets.{◌>>=◌, Digits, octet_at, word_at, octet_if, word_if, two_at, three_at, four_at, value_at}
+use Rattle.rohc_forms.specs.Octets.{◌>>=◌, Digits, octet_at, word_at, octet_if, word_if, value_of, value_at}
 use Rattle.rohc_forms.specs.Judging.{judged}
 use Rattle.rohc_forms.specs.Pieces.{IsOctet, IsWord, IsValue, Says, Then, IfNamed, Which, As, NotRefused, Unless}
 
@@ -167,73 +169,31 @@ pub exact_word_if : (named : Bool) → Exact (word_if named) (IfNamed named IsWo
 unfolding word_if
 exact_word_if named = exact_if_named named word_at IsWord exact_word
 
--- a self-describing value by its first octet
-abbrev pub Two : ℕ → Digits → List ℕ → Type 0
-Two a = As (λ b. record { count = 14; value = a % 64 * 256 + b }) IsOctet
+-- what was read of a value
+value_found_at : (text behind : List ℕ) (d : Digits) (found : Option (ℕ × ℕ)) → front_value text ≡ found → value_of text found ≡ Ok (d, behind) →
+    (front : List ℕ) × (text ≡ front ++ behind) × IsValue d front
+value_found_at text behind d None is e = cc
+value_found_at text behind d (Some (value, count)) is e =
+    let front = front_found text value count is in
+    let parts = ok_parts (record { count = value_bits count; value = value }) d (drop count text) behind e in
+    let left : drop count text ≡ front.rest = ap (λ n. drop n text) front.counted ∙ ap (drop (length front.spelling)) front.whole ∙ drop_front front.spelling front.rest in
+    (front.spelling, front.whole ∙ ap (λ (rest : List ℕ). front.spelling ++ rest) (sym left ∙ parts.1), (
+        subst (Spells front.spelling) (ap (λ (x : Digits). x.value) parts.0) front.spells,
+        sym (ap (λ (x : Digits). x.count) parts.0) ∙ ap value_bits front.counted))
 
-abbrev pub Three : ℕ → Digits → List ℕ → Type 0
-Three a = As (λ low. record { count = 21; value = a % 32 * 65536 + low }) IsWord
-
-abbrev pub Four : ℕ → Digits → List ℕ → Type 0
-Four a = Then IsOctet (λ b. As (λ low. record { count = 29; value = (a % 32 * 256 + b) * 65536 + low }) IsWord)
-
-abbrev pub ByFirst : ℕ → Digits → List ℕ → Type 0
-ByFirst a = Which (nat_lt a 128) (Says (record { count = 7; value = a })) (Which (nat_lt a 192) (Two a) (Which (nat_lt a 224) (Three a) (Four a)))
-
-exact_two : (a : ℕ) → Exact (two_at a) (Two a)
-unfolding two_at
-exact_two a = exact_as (λ b. record { count = 14; value = a % 64 * 256 + b }) octet_at IsOctet exact_octet
-
-exact_three : (a : ℕ) → Exact (three_at a) (Three a)
-unfolding three_at
-exact_three a = exact_as (λ low. record { count = 21; value = a % 32 * 65536 + low }) word_at IsWord exact_word
-
-exact_four : (a : ℕ) → Exact (four_at a) (Four a)
-unfolding four_at
-exact_four a = exact_then octet_at (λ b text. word_at text >>= λ x. Ok (record { count = 29; value = (a % 32 * 256 + b) * 65536 + x.0 }, x.1)) IsOctet _ exact_octet (λ b.
-    exact_as (λ low. record { count = 29; value = (a % 32 * 256 + b) * 65536 + low }) word_at IsWord exact_word)
-
-exact_by_first : Exact value_at (Then IsOctet ByFirst)
-unfolding value_at
-exact_by_first = exact_then octet_at (λ a text.
-    if nat_lt a 128 then Ok (record { count = 7; value = a }, text)
-    else if nat_lt a 192 then two_at a text
-    else if nat_lt a 224 then three_at a text
-    else four_at a text) IsOctet ByFirst exact_octet (λ a.
-    exact_which (nat_lt a 128) (λ text. Ok (record { count = 7; value = a }, text)) (λ text. if nat_lt a 192 then two_at a text else if nat_lt a 224 then three_at a text else four_at a text) _ _ (exact_says (record { count = 7; value = a }))
-    (exact_which (nat_lt a 192) (two_at a) (λ text. if nat_lt a 224 then three_at a text else four_at a text) _ _ (exact_two a)
-    (exact_which (nat_lt a 224) (three_at a) (four_at a) _ _ (exact_three a) (exact_four a))))
-
--- those of them that begin with an octet are the spellings of a value
-value_by : (d : Digits) (a : ℕ) (text : List ℕ) (one two three : Bool) → nat_lt a 128 ≡ one → nat_lt a 192 ≡ two → nat_lt a 224 ≡ three →
-    Which one (Says (record { count = 7; value = a })) (Which two (Two a) (Which three (Three a) (Four a))) d text → IsValue d (a ∷ text)
-value_by d a text true two three e f g n = rw n.0 (grind (arith, nat_tests), n.1)
-value_by d a text false true three e f g n = rw n.1 (grind (arith, nat_tests), grind (arith, nat_tests), n.2)
-value_by d a text false false true e f g n = rw n.1.2 (grind (arith, nat_tests), grind (arith, nat_tests), n.2 ∙ ap (λ low. record { count = 21; value = a % 32 * 65536 + low }) n.1.3)
-value_by d a text false false false e f g n =
-    rw (n.3, n.4, n.5.1.2) (grind (arith, nat_tests), n.5.2 ∙ ap (λ low. record { count = 29; value = (a % 32 * 256 + n.0) * 65536 + low }) n.5.1.3)
-
-value_to : (d : Digits) (text : List ℕ) → Then IsOctet ByFirst d text → IsValue d text
-value_to d text n = rw (n.3, n.4) (value_by d n.0 n.2 (nat_lt n.0 128) (nat_lt n.0 192) (nat_lt n.0 224) refl refl refl n.5)
-
-is_below : (a b : ℕ) → a < b → nat_lt a b ≡ true
-is_below a b l = grind (arith, nat_tests)
-
-is_not_below : (a b : ℕ) → b ≤ a → nat_lt a b ≡ false
-is_not_below a b l = grind (arith, nat_tests)
-
-value_from : (d : Digits) (text : List ℕ) → IsValue d text → Then IsOctet ByFirst d text
-value_from d [] n = absurd n
-value_from d (a ∷ []) n = (a, a ∷ [], [], refl, refl, rw (is_below a 128 n.0) (refl, n.1))
-value_from d (a ∷ b ∷ []) n = (a, a ∷ [], b ∷ [], refl, refl, rw (is_not_below a 128 n.0, is_below a 192 n.1) (b, refl, n.2))
-value_from d (a ∷ b ∷ c ∷ []) n =
-    let l : 128 ≤ a = omega arith in
-    (a, a ∷ [], b ∷ c ∷ [], refl, refl, rw (is_not_below a 128 l, is_not_below a 192 n.0, is_below a 224 n.1) (b * 256 + c, (b, c, refl, refl), n.2))
-value_from d (a ∷ b ∷ c ∷ e ∷ []) n =
-    let l : 128 ≤ a = omega arith in
-    let m : 192 ≤ a = omega arith in
-    (a, a ∷ [], b ∷ c ∷ e ∷ [], refl, refl, rw (is_not_below a 128 l, is_not_below a 192 m, is_not_below a 224 n.0) (b, b ∷ [], c ∷ e ∷ [], refl, refl, (c * 256 + e, (c, e, refl, refl), n.1)))
-value_from d (a ∷ b ∷ c ∷ e ∷ f ∷ text) n = absurd n
-
+-- a self-describing value
 pub exact_value : Exact value_at IsValue
-exact_value = same_piece value_at (Then IsOctet ByFirst) IsValue value_to value_from exact_by_first
+unfolding value_at
+exact_value = record {
+  found = λ text behind d e. value_found_at text behind d (front_value text) refl e;
+  gives = λ front behind d is.
+      let counted : record { count = value_bits (length front); value = d.value } ≡ d = ap (λ n. record { count = n; value = d.value }) (sym is.1) in
+      ap (value_of (front ++ behind)) (front_read front behind d.value is.0) ∙ (λ i. Ok (counted i, drop_front front behind i));
+}
+
+-- what answers the value that a front of octets spells, and misses none, reads it
+pub value_is : (text : List ℕ) (read : Option (ℕ × ℕ)) → ((i : ℕ) → Fits w8 (get_or text i 0)) →
+    IfSome read (λ r. r.1 ≤ length text) → IfSome read (λ r. IsSpelled (take r.1 text) r.0) →
+    ((t rest : List ℕ) (v : ℕ) → text ≡ t ++ rest → IsSpelled t v → read ≡ Some (v, length t)) → value_at text ≡ value_of text read
+unfolding value_at
+value_is text read fits within spelled every = ap (value_of text) (sym (read_is_front text read fits within spelled every))

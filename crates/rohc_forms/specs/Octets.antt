@@ -1,5 +1,6 @@
 -- Octets, numbers and self-describing values, read from left to right.
-use Rattle.std.specs.Prelude.{◌≡◌, ℕ, ◌+◌, ◌*◌, ◌/◌, ◌%◌, ◌^◌, List, [], ◌∷◌, Bool, ◌==◌, nat_lt, min, if◌then◌else◌, Option, Some, None, Result, Ok, Err, MatchResult}
+use Rattle.std.specs.Prelude.{◌≡◌, ℕ, ◌+◌, ◌*◌, ◌/◌, ◌%◌, ◌^◌, List, [], ◌∷◌, drop, Bool, ◌==◌, min, if◌then◌else◌, Option, Some, None, Result, Ok, Err, MatchResult}
+use Rattle.rohc_bits.specs.Fronts.{front_value, value_bits}
 use Rattle.rohc_bits.specs.declared.bits.Bits.{Bits}
 use Rattle.rohc_forms.specs.declared.refusal.FormRefusal.{FormRefusal}
 use Rattle.rohc_forms.specs.declared.refusal.FormRefusal.TheVariants.{Truncated}
@@ -62,27 +63,11 @@ octet_if present text = if present then (octet_at text >>= λ x. Ok (Some x.0, x
 unfoldable pub word_if : Bool → List ℕ → Result (Option ℕ × List ℕ) FormRefusal
 word_if present text = if present then (word_at text >>= λ x. Ok (Some x.0, x.1)) else Ok (None, text)
 
--- a self-describing value of two, three or four octets, behind its first
-unfoldable pub two_at : ℕ → List ℕ → Result (Digits × List ℕ) FormRefusal
-two_at a text = do
-  (b, text) ← octet_at text
-  Ok (record { count = 14; value = a % 64 * 256 + b }, text)
+-- the value at the front of a text, if one stands there, with as many bits as spell it, and the octets behind it
+abbrev pub value_of : List ℕ → Option (ℕ × ℕ) → Result (Digits × List ℕ) FormRefusal
+value_of text None = Err Truncated
+value_of text (Some (value, count)) = Ok (record { count = value_bits count; value = value }, drop count text)
 
-unfoldable pub three_at : ℕ → List ℕ → Result (Digits × List ℕ) FormRefusal
-three_at a text = do
-  (low, text) ← word_at text
-  Ok (record { count = 21; value = a % 32 * 65536 + low }, text)
-
-unfoldable pub four_at : ℕ → List ℕ → Result (Digits × List ℕ) FormRefusal
-four_at a text = do
-  (b, text) ← octet_at text
-  (low, text) ← word_at text
-  Ok (record { count = 29; value = (a % 32 * 256 + b) * 65536 + low }, text)
-
--- A self-describing value, whose first bits are 0, 10, 110 or 111 (RFC 3095 4.5.6); its other bits count.
+-- a self-describing value (RFC 3095 4.5.6)
 unfoldable pub value_at : List ℕ → Result (Digits × List ℕ) FormRefusal
-value_at text = octet_at text >>= λ x.
-    if nat_lt x.0 128 then Ok (record { count = 7; value = x.0 }, x.1)
-    else if nat_lt x.0 192 then two_at x.0 x.1
-    else if nat_lt x.0 224 then three_at x.0 x.1
-    else four_at x.0 x.1
+value_at text = value_of text (front_value text)

@@ -1,5 +1,7 @@
 -- Pieces of a text, and what they say. A piece is a relation between what is said and the octets that say it.
-use Rattle.std.specs.Prelude.{◌≡◌, ℕ, ◌+◌, ◌*◌, ◌%◌, ◌<◌, ◌≤◌, List, [], ◌∷◌, ◌++◌, Bool, true, false, Option, Some, None}
+use Rattle.std.specs.Prelude.{◌≡◌, ℕ, ◌+◌, ◌*◌, List, [], ◌∷◌, ◌++◌, length, Bool, true, false, Option, Some, None}
+use Rattle.rohc_bits.specs.Fronts.{value_bits}
+use Rattle.rohc_bits.specs.Spelling.{Spells}
 use Rattle.rohc_forms.specs.declared.refusal.FormRefusal.{FormRefusal}
 use Rattle.rohc_forms.specs.Octets.{Digits}
 
@@ -11,15 +13,9 @@ IsOctet n text = text ≡ n ∷ []
 abbrev pub IsWord : ℕ → List ℕ → Type 0
 IsWord n text = (high : ℕ) × (low : ℕ) × (text ≡ high ∷ low ∷ []) × (n ≡ high * 256 + low)
 
--- A self-describing value: its first bits 0, 10, 110 or 111 say that it has one, two, three or four octets, and
--- its other bits count (RFC 3095 4.5.6).
+-- a self-describing value, and as many bits as its octets leave to it (RFC 3095 4.5.6)
 abbrev pub IsValue : Digits → List ℕ → Type 0
-IsValue d [] = ⊥
-IsValue d (a ∷ []) = (a < 128) × (d ≡ record { count = 7; value = a })
-IsValue d (a ∷ b ∷ []) = (128 ≤ a) × (a < 192) × (d ≡ record { count = 14; value = a % 64 * 256 + b })
-IsValue d (a ∷ b ∷ c ∷ []) = (192 ≤ a) × (a < 224) × (d ≡ record { count = 21; value = a % 32 * 65536 + (b * 256 + c) })
-IsValue d (a ∷ b ∷ c ∷ e ∷ []) = (224 ≤ a) × (d ≡ record { count = 29; value = (a % 32 * 256 + b) * 65536 + (c * 256 + e) })
-IsValue d (a ∷ b ∷ c ∷ e ∷ f ∷ more) = ⊥
+IsValue d text = Spells text d.value × (d.count ≡ value_bits (length text))
 
 -- no octets: what is said is this
 abbrev pub Says : {A : Type 0} → A → A → List ℕ → Type 0

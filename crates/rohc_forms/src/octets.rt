@@ -1,10 +1,11 @@
 //! Octets, numbers and self-describing values off the front of a packet.
 
-ghost use Rattle.std.specs.Prelude.{◌≡◌, ◌<◌, ◌≤◌, ◌+◌, ◌^◌};
-ghost use Rattle.rohc_forms.specs.Octets.{Reads, ReadsAs, digits, slice, bit, octet_at, word_at, octet_if, word_if, two_at, three_at, four_at, value_at};
+ghost use Rattle.std.specs.Prelude.{◌≡◌, ◌<◌, ◌≤◌, ◌+◌, ◌^◌, length, drop, IfOk, MatchResult};
+ghost use Rattle.rohc_bits.specs.Fronts.{value_bits};
+ghost use Rattle.rohc_forms.specs.Octets.{Reads, ReadsAs, digits, slice, bit, octet_at, word_at, octet_if, word_if, value_at};
 
 use crate::refusal::FormRefusal;
-use rohc_bits::{Bits, Cursor};
+use rohc_bits::{Bits, Cursor, read_value};
 
 /// The bits of a number that stand before `places` others.
 pub(crate) fn bits(number: u32, places: u8, width: u8) -> Bits
@@ -71,48 +72,34 @@ pub(crate) fn optional_word(
     }
 }
 
-/// A self-describing value of two octets, behind the first.
-#[tactic(auto, unfolding(crate::specs::Octets::two_at))]
-fn value_of_two(first: u8, cursor: &mut Cursor<'_>) -> Result<Bits, FormRefusal>
-    ensures { ReadsAs digits result cursor.new (two_at first cursor.old) }
+/// How many bits of so many octets spell a value: the first 1, 2 or 3 bits say how many octets.
+fn value_width(octets: usize) -> u8
+    ensures { result ≡ value_bits octets }
 {
-    let low = octet(cursor)?;
-    Ok(Bits::new(u32::from(first & 0x3f) * 256 + u32::from(low), 14))
+    match octets {
+        1 => 7,
+        2 => 14,
+        3 => 21,
+        _ => 29,
+    }
 }
 
-/// A self-describing value of three octets, behind the first.
-#[tactic(auto, unfolding(crate::specs::Octets::three_at))]
-fn value_of_three(first: u8, cursor: &mut Cursor<'_>) -> Result<Bits, FormRefusal>
-    ensures { ReadsAs digits result cursor.new (three_at first cursor.old) }
+/// The self-describing value at the front of the octets, and how many of them spell it (RFC 3095 4.5.6).
+fn value_in(octets: &[u8]) -> Result<(Bits, usize), FormRefusal>
+    ensures within { IfOk result (λ read. read.1 ≤ length octets.now) }
+    ensures reads { MatchResult result (λ read. value_at octets.now ≡ Ok (digits read.0, drop read.1 octets.now)) (λ e. value_at octets.now ≡ Err e) }
 {
-    let low = word(cursor)?;
-    Ok(Bits::new(u32::from(first & 0x1f) * 65_536 + u32::from(low), 21))
+    match read_value(octets) {
+        Some((value, count)) => Ok((Bits::new(value, value_width(count)), count)),
+        None => Err(FormRefusal::Truncated),
+    }
 }
 
-/// A self-describing value of four octets, behind the first.
-#[tactic(auto, unfolding(crate::specs::Octets::four_at))]
-fn value_of_four(first: u8, cursor: &mut Cursor<'_>) -> Result<Bits, FormRefusal>
-    ensures { ReadsAs digits result cursor.new (four_at first cursor.old) }
-{
-    let second = octet(cursor)?;
-    let low = word(cursor)?;
-    let high = u32::from(first & 0x1f) * 256 + u32::from(second);
-    Ok(Bits::new(high * 65_536 + u32::from(low), 29))
-}
-
-/// The next self-describing value, and how many bits spell it (RFC 3095 4.5.6).
-#[tactic(auto, unfolding(crate::specs::Octets::value_at))]
+/// The next self-describing value, and how many bits spell it.
 pub(crate) fn value(cursor: &mut Cursor<'_>) -> Result<Bits, FormRefusal>
     ensures { ReadsAs digits result cursor.new (value_at cursor.old) }
 {
-    let first = octet(cursor)?;
-    if first < 0x80 {
-        Ok(Bits::new(u32::from(first), 7))
-    } else if first < 0xc0 {
-        value_of_two(first, cursor)
-    } else if first < 0xe0 {
-        value_of_three(first, cursor)
-    } else {
-        value_of_four(first, cursor)
-    }
+    let (value, count) = value_in(cursor.rest())?;
+    cursor.take(count).ok_or(FormRefusal::Truncated)?;
+    Ok(value)
 }
