@@ -89,6 +89,15 @@ unfolding front_value
 front_found [] v count e = cc
 front_found (a ∷ text) v count e = found_by (nat_lt a 128) (nat_lt a 192) (nat_lt a 224) (nat_lt a 256) a text v count refl refl refl refl e
 
+-- what stands behind a front
+pub drop_front : (t rest : List ℕ) → drop (length t) (t ++ rest) ≡ rest
+drop_front [] rest = refl
+drop_front (a ∷ t) rest = drop_front t rest
+
+-- behind a value that was read
+pub behind_value : (text : List ℕ) (v count : ℕ) → (front : FrontValue text v count) → drop count text ≡ front.rest
+behind_value text v count front = ap (λ n. drop n text) front.counted ∙ ap (drop (length front.spelling)) front.whole ∙ drop_front front.spelling front.rest
+
 all_octets : (text : List ℕ) → ((i : ℕ) → Fits w8 (get_or text i 0)) → All (λ octet. octet < 256) text
 all_octets text fits = All-from_get_or (λ octet. octet < 256) text 0 (λ i _. omega (arith, fits i))
 
@@ -113,8 +122,3 @@ read_is_front text None fits within spelled every = missed_nothing text (front_v
 read_is_front text (Some (v, count)) fits within spelled every =
     let counted : length (take count text) ≡ count = length-take-le count text within in
     sym (ap front_value (sym (take-append-drop count text)) ∙ front_read (take count text) (drop count text) v spelled.spells ∙ ap (λ n. Some (v, n)) counted)
-
--- what stands behind a front
-pub drop_front : (t rest : List ℕ) → drop (length t) (t ++ rest) ≡ rest
-drop_front [] rest = refl
-drop_front (a ∷ t) rest = drop_front t rest

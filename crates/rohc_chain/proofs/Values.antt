@@ -1,10 +1,10 @@
 -- Self-describing values: what stands at the front of a text is read, and what is read stands there.
-use Rattle.std.proofs.Common.{◌≡◌, ℕ, ◌<◌, ◌≤◌, List, ◌++◌, length, take, drop, Option, Some, None, Result, Ok, Err, refl, subst, sym, ap, ◌∙◌, get_or, Fits, w8, arith}
+use Rattle.std.proofs.Common.{◌≡◌, ℕ, ◌≤◌, List, ◌++◌, length, take, drop, Option, Some, None, Ok, refl, subst, sym, ap, ◌∙◌, get_or, Fits, w8, arith}
 use Rattle.std.specs.Prelude.{All, IfSome}
 use Rattle.std.proofs.lemmas.List.Elements.{All-from_get_or}
 use Rattle.rohc_bits.specs.Fronts.{front_value}
 use Rattle.rohc_bits.specs.Spelling.{IsSpelled, Spells}
-use Rattle.rohc_bits.proofs.Fronts.{front_read, front_found, all_front, drop_front, read_is_front}
+use Rattle.rohc_bits.proofs.Fronts.{front_read, front_found, all_front, drop_front, behind_value, read_is_front}
 pub use Rattle.rohc_frame.specs.Laws.{IsOctet}
 use Rattle.rohc_chain.specs.Octets.{value_of, value_at}
 use Rattle.rohc_chain.proofs.Steps.{ok_parts}
@@ -25,10 +25,9 @@ found_at text v rest None all is e = cc
 found_at text v rest (Some (value, count)) all is e =
     let front = front_found text value count is in
     let parts = ok_parts value v (drop count text) rest e in
-    let left : drop count text ≡ front.rest = ap (λ n. drop n text) front.counted ∙ ap (drop (length front.spelling)) front.whole ∙ drop_front front.spelling front.rest in
     record {
       spelling = front.spelling;
-      whole = front.whole ∙ ap (λ (behind : List ℕ). front.spelling ++ behind) (sym left ∙ parts.1);
+      whole = front.whole ∙ ap (λ (behind : List ℕ). front.spelling ++ behind) (sym (behind_value text value count front) ∙ parts.1);
       spelled = record {
         octets = all_front front.spelling front.rest (subst (All IsOctet) front.whole all);
         spells = subst (Spells front.spelling) parts.0 front.spells;

@@ -1,9 +1,9 @@
 -- A reader reads exactly the texts of a piece.
-use Rattle.std.proofs.Common.{◌≡◌, ℕ, ◌+◌, ◌*◌, ◌%◌, ◌^◌, ◌<◌, ◌≤◌, Bool, true, false, List, [], ◌∷◌, ◌++◌, length, take, drop, Option, Some, None, Result, Ok, Err, refl, sym, ap, subst, ◌∙◌, append_assoc, get_or, Fits, w8, arith}
+use Rattle.std.proofs.Common.{◌≡◌, ℕ, ◌+◌, ◌*◌, ◌≤◌, Bool, true, false, List, [], ◌∷◌, ◌++◌, length, take, drop, Option, Some, None, Result, Ok, Err, refl, sym, ap, subst, ◌∙◌, append_assoc, get_or, Fits, w8}
 use Rattle.std.specs.Prelude.{if◌then◌else◌, IfSome}
 use Rattle.rohc_bits.specs.Fronts.{front_value, value_bits}
 use Rattle.rohc_bits.specs.Spelling.{IsSpelled, Spells}
-use Rattle.rohc_bits.proofs.Fronts.{front_read, front_found, drop_front, read_is_front}
+use Rattle.rohc_bits.proofs.Fronts.{front_read, front_found, drop_front, behind_value, read_is_front}
 use Rattle.rohc_forms.specs.declared.refusal.FormRefusal.{FormRefusal}
 use Rattle.rohc_forms.specs.Octets.{◌>>=◌, Digits, octet_at, word_at, octet_if, word_if, value_of, value_at}
 use Rattle.rohc_forms.specs.Judging.{judged}
@@ -175,11 +175,14 @@ value_found_at : (text behind : List ℕ) (d : Digits) (found : Option (ℕ × �
 value_found_at text behind d None is e = cc
 value_found_at text behind d (Some (value, count)) is e =
     let front = front_found text value count is in
-    let parts = ok_parts (record { count = value_bits count; value = value }) d (drop count text) behind e in
-    let left : drop count text ≡ front.rest = ap (λ n. drop n text) front.counted ∙ ap (drop (length front.spelling)) front.whole ∙ drop_front front.spelling front.rest in
-    (front.spelling, front.whole ∙ ap (λ (rest : List ℕ). front.spelling ++ rest) (sym left ∙ parts.1), (
+    let parts = ok_parts (record { count = value_bits count; value = value }) d (drop count text) behind e in (
+      front.spelling,
+      front.whole ∙ ap (λ (rest : List ℕ). front.spelling ++ rest) (sym (behind_value text value count front) ∙ parts.1),
+      (
         subst (Spells front.spelling) (ap (λ (x : Digits). x.value) parts.0) front.spells,
-        sym (ap (λ (x : Digits). x.count) parts.0) ∙ ap value_bits front.counted))
+        sym (ap (λ (x : Digits). x.count) parts.0) ∙ ap value_bits front.counted,
+      ),
+    )
 
 -- a self-describing value
 pub exact_value : Exact value_at IsValue
