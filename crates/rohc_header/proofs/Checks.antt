@@ -1,12 +1,20 @@
 -- The checks of a header's ranges in turn are those of its static and of its dynamic octets.
-use Rattle.std.proofs.Common.{◌≡◌, ℕ, ◌<◌, Bool, List, ◌++◌, length, get_or, take, drop, bit_xor, ap, sym, ◌∙◌, arith}
+use Rattle.std.proofs.Common.{◌≡◌, ℕ, ◌<◌, Bool, List, ◌++◌, length, get_or, take, drop, bit_xor, refl, ap, sym, ◌∙◌, arith}
 use Rattle.std.proofs.lemmas.List.{length-take-le, length-drop}
 use Rattle.std.proofs.lemmas.List.Elements.{All-take, All-drop, All-from_get_or}
-use Rattle.rohc_checks.specs.Division.{check}
+use Rattle.rohc_checks.specs.Division.{check, poly3, poly7}
 use Rattle.rohc_checks.proofs.Division.{check-append, check-lt}
-use Rattle.rohc_header.specs.Check.{static_octets, dynamic_octets}
+use Rattle.rohc_header.specs.Check.{all_ones, static_octets, dynamic_octets}
 use Rattle.rohc_header.proofs.Split.{static_ranges, dynamic_ranges}
 use Rattle.rohc_header.proofs.SevenOctets.{IsOctet, HasPeriod, seven_octets}
+
+pub ones3 : all_ones poly3 ≡ 7
+unfolding poly3
+ones3 = refl
+
+pub ones7 : all_ones poly7 ≡ 127
+unfolding poly7
+ones7 = refl
 
 -- the check of four texts in turn is that of the whole
 four_checked : (poly : List Bool) (reg : ℕ) (a b c d : List ℕ)

@@ -9,4 +9,5 @@ returns c =
     let octets = c.args.self.now.octets in
     let forty : length octets ≡ 40 = search rules in
     let small : (k : ℕ) → get_or octets k 0 < 256 = search rules in
-    rw (c.crc7.ensures, c.crc7-reg-3.ensures, c.crc7-reg-2.ensures, c.crc7-reg.ensures) (dynamic_parted poly7 c.args.reg octets period7 forty small)
+    let parted = dynamic_parted poly7 c.args.reg octets period7 forty small in
+    search (rules, parted)
