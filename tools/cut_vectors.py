@@ -5,7 +5,7 @@
 
 DIR holds checks.tsv, values.tsv, framing.tsv, fields.tsv, feedback.tsv, headers.tsv, chains.tsv and
 forms.tsv, whose first lines name their columns; a line that begins with # is a comment. The questions go to
-crates/vectors/stdin, the wanted answers to crates/vectors/stdout. Of a long table the first 400 lines are
+crates/vectors/stdin, the wanted answers to crates/vectors/stdout. Of a long table the first 500 lines are
 kept, and each fifth of the others.
 """
 
@@ -23,7 +23,7 @@ TABLES = {
     "chains": 1,
     "forms": 1,
 }
-KEPT_WHOLE = 400
+KEPT_WHOLE = 500
 KEPT_OF_THE_OTHERS = 5
 
 

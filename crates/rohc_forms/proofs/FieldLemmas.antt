@@ -8,12 +8,12 @@ use Rattle.rohc_forms.specs.declared.parts.Base.{Base}
 use Rattle.rohc_forms.specs.declared.parts.IpFlags.{IpFlags}
 use Rattle.rohc_forms.specs.declared.parts.RtpFlags.{RtpFlags}
 use Rattle.rohc_forms.specs.declared.refusal.FormRefusal.{FormRefusal}
-use Rattle.rohc_forms.specs.Octets.{◌>>=◌, octet_at, word_at, octet_if, word_if, value_at, bit}
-use Rattle.rohc_forms.specs.Table.{Said, base_said}
+use Rattle.rohc_forms.specs.Octets.{◌>>=◌, octet_at, word_at, octet_if, word_if, value_at}
+use Rattle.rohc_forms.specs.Table.{Said, S, R-TS, Tsc, I, IP, RTP, has, base_said}
 use Rattle.rohc_forms.specs.Judging.{judged, ip_fault, twice_fault, protocol_fault, rtp_fault, stride_fault, no_stride_fault}
 use Rattle.rohc_forms.specs.Extension.{judged_octet, ip_flags, ip_octet_at, rnd_in_force, sn_at, ts_at, behind_protocol, ip_given_at, offset_at, rtp_flags, stride_at, behind_time_stride, behind_rtp_octet, rtp_given_at, rtp_values, behind_ip_octet}
 use Rattle.rohc_forms.specs.Packets.{Content, kind_of, base_at, extension_1_at, extension_2_at, short_extension_at, extension_3_at, extension_at, behind_base, head_at, form_at}
-use Rattle.rohc_forms.specs.Fields.{Fields, Payload, Octets, Octet, Value, Nothing, after_fields, any, if_named, last_fields, ip_fields, rtp_fields, rtp_octet_fields, later_fields, extension_3_fields, extension_fields, base_fields, behind_first, form_fields, fault_in, form_fault}
+use Rattle.rohc_forms.specs.Fields.{Fields, Payload, Octets, Octet, Value, Judged, after_fields, any, if_named, last_fields, ip_fields, rtp_fields, rtp_octet_fields, later_fields, extension_3_fields, extension_fields, behind_base_fields, behind_first, form_fields, fault_in, form_fault}
 use Rattle.rohc_forms.specs.Laws.{RefusesForms}
 
 -- Two steps and what follows them, where the second goes on as g does.
@@ -145,12 +145,12 @@ behind_ip_fields : (flags : ℕ) (known : Bool) (ip : Option IpFlags) (said : Sa
     after_fields (later_fields flags known (named_ip ip) more) text ≡ (behind_ip_octet flags known ip said text >>= λ x. after_fields more x.1)
 unfolding behind_ip_octet
 behind_ip_fields flags known ip said more text =
-    tied (sn_at (bit 5 flags) said text) _ _ _ _ (sn_fields (bit 5 flags) said _ text) (λ a.
-    tied (ts_at (bit 4 flags) a.0 a.1) _ _ _ _ (ts_fields (bit 4 flags) a.0 _ a.1) (λ b.
+    tied (sn_at (has S flags) said text) _ _ _ _ (sn_fields (has S flags) said _ text) (λ a.
+    tied (ts_at (has R-TS flags) a.0 a.1) _ _ _ _ (ts_fields (has R-TS flags) a.0 _ a.1) (λ b.
     tied (ip_given_at ip b.1) _ _ _ _ (ip_option_fields ip _ b.1) (λ c.
-    tied (offset_at (bit 2 flags) b.0 c.1) _ _ _ _ (offset_fields (bit 2 flags) b.0 _ c.1) (λ d.
-    tied (rtp_given_at (bit 0 flags) d.1) _ _ _ _ (rtp_given_fields (bit 0 flags) (λ given. Nothing (no_stride_fault (bit 3 flags) (known || given)) more) d.1) (λ e.
-    nothing_fields (no_stride_fault (bit 3 flags) (known || is_some (rtp_values e.0).stride)) e.1 e.1 _ _ _ refl)))))
+    tied (offset_at (has I flags) b.0 c.1) _ _ _ _ (offset_fields (has I flags) b.0 _ c.1) (λ d.
+    tied (rtp_given_at (has RTP flags) d.1) _ _ _ _ (rtp_given_fields (has RTP flags) (λ given. Judged (no_stride_fault (has Tsc flags) (known || given)) more) d.1) (λ e.
+    nothing_fields (no_stride_fault (has Tsc flags) (known || is_some (rtp_values e.0).stride)) e.1 e.1 _ _ _ refl)))))
 
 -- the ip octet, and what depends on it
 ip_octet_fields : (named : Bool) (kind : FormKind) (kept : Bool) (f : Bool → (Fields → Fields) → Fields) (text : List ℕ) →
@@ -166,9 +166,9 @@ extension_3_read : (base : Base) (kept udp_sum known : Bool) (flags : ℕ) (text
     ≡ (extension_3_at base kept known flags text >>= λ x. after_fields (last_fields x.0.rnd udp_sum) x.1)
 unfolding extension_3_at
 extension_3_read base kept udp_sum known flags text =
-    tied (ip_octet_at (bit 1 flags) (kind_of base kept) text) _ _ _ _
-    (ip_octet_fields (bit 1 flags) (kind_of base kept) kept (λ rnd ip. Nothing (twice_fault (bit 2 flags) rnd) (later_fields flags known ip (last_fields rnd udp_sum))) text) (λ a.
-    nothing_fields (twice_fault (bit 2 flags) (rnd_in_force kept a.0)) a.1 a.1 _ _ _ (
+    tied (ip_octet_at (has IP flags) (kind_of base kept) text) _ _ _ _
+    (ip_octet_fields (has IP flags) (kind_of base kept) kept (λ rnd ip. Judged (twice_fault (has I flags) rnd) (later_fields flags known ip (last_fields rnd udp_sum))) text) (λ a.
+    nothing_fields (twice_fault (has I flags) (rnd_in_force kept a.0)) a.1 a.1 _ _ _ (
     tied (behind_ip_octet flags known a.0 (base_said (kind_of base (rnd_in_force kept a.0)) base.number) a.1) _ _ _ _
     (behind_ip_fields flags known a.0 _ (last_fields (rnd_in_force kept a.0) udp_sum) a.1) (λ b. refl)))
 
@@ -191,7 +191,7 @@ extension_read base rnd udp_sum known first text false e = rw e (extension_3_rea
 
 -- behind the octets before an extension
 base_read : (base : Base) (rnd udp_sum known : Bool) (text : List ℕ) (extended : Bool) → (base_said (kind_of base rnd) base.number).extended ≡ extended →
-    after_fields (base_fields rnd udp_sum known base) text
+    after_fields (behind_base_fields rnd udp_sum known base) text
     ≡ (behind_base base rnd known text >>= λ x. after_fields (last_fields x.0.rnd udp_sum) x.1)
 base_read base rnd udp_sum known text true e = rw e (
     tied (octet_at text) _ _ _ _ (any_octet_fields (extension_fields (kind_of base rnd) rnd udp_sum known) text) (λ x.
@@ -212,7 +212,7 @@ head_read : (first : ℕ) (rnd udp_sum known : Bool) (text : List ℕ) →
     after_fields (form_fields first rnd udp_sum known) text ≡ (head_at first rnd known text >>= λ x. after_fields (last_fields x.0.rnd udp_sum) x.1)
 unfolding head_at
 head_read first rnd udp_sum known text =
-    tied (base_at first text) _ _ _ _ (first_read first (base_fields rnd udp_sum known) text (nat_lt first 128) (nat_lt first 192) refl refl) (λ x.
+    tied (base_at first text) _ _ _ _ (first_read first (behind_base_fields rnd udp_sum known) text (nat_lt first 128) (nat_lt first 192) refl refl) (λ x.
     base_read x.0 rnd udp_sum known x.1 (base_said (kind_of x.0 rnd) x.0.number).extended refl)
 
 pub form_read : (h : Header) (rnd udp_sum known : Bool) →

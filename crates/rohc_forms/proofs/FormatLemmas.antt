@@ -1,12 +1,13 @@
--- Of a packet whose first octet is below E0 exactly one format fits.
-use Rattle.std.proofs.Common.{◌≡◌, ℕ, ◌+◌, ◌*◌, ◌<◌, [], ◌∷◌, Bool, true, false, refl, arith}
-use Rattle.std.specs.Prelude.{nat_lt}
+-- Of a packet whose first octet is below E0 exactly one format fits, and of an extension 0, 1 or 2.
+use Rattle.std.proofs.Common.{◌≡◌, ℕ, ◌+◌, ◌*◌, ◌/◌, ◌%◌, ◌^◌, ◌<◌, [], ◌∷◌, length, Bool, true, false, ◌==◌, ◌&&◌, refl, sym, ap, ◌∙◌, arith}
+use Rattle.std.specs.Prelude.{◌↔◌, nat_lt, if◌then◌else◌}
 use Rattle.std.proofs.lemmas.Bool.Decides.{nat_tests}
 use Rattle.rohc_forms.specs.declared.form.FormKind.{FormKind}
 use Rattle.rohc_forms.specs.declared.form.FormKind.TheVariants.{Uo0, Uo1, Uo1Id, Uo1Ts, Uor2, Uor2Id, Uor2Ts}
-use Rattle.rohc_forms.specs.Octets.{bit}
+use Rattle.rohc_forms.specs.Octets.{slice, bit}
 use Rattle.rohc_forms.specs.Packets.{kind_of}
-use Rattle.rohc_forms.specs.Formats.{has_format, base_of, FitsOne}
+use Rattle.rohc_forms.specs.Formats.{is_found, number_of, begin_with, has_format, base_of, FitsOne, FitsOneExtension}
+use Rattle.rohc_forms.specs.Table.{plus, minus, layout_0, layout_1, layout_2, short_layout}
 
 -- the format that fits is the one that is read
 only : (kind : FormKind) (rnd : Bool) (a b c : ℕ) → a < 224 → b < 256 → c < 256 → has_format kind rnd (a ∷ b ∷ c ∷ []) ≡ true → kind ≡ kind_of (base_of a b c) rnd
@@ -38,3 +39,101 @@ read_by false false false t1 false a b c l m n e f g h = rw (e, f, h) (grind (ar
 
 pub fits_one : FitsOne
 fits_one = λ rnd a b c l m n kind. (only kind rnd a b c l m n, λ is. rw is (read_by rnd (nat_lt a 128) (nat_lt a 192) (bit 5 a) (bit 15 (a * 65536 + (b * 256 + c))) a b c l m n refl refl refl refl))
+
+-- the fields +T and -T have no number of their own
+plus_found : (kind : FormKind) (n : ℕ) → is_found (plus kind) n ≡ true
+plus_found Uo0 n = refl
+plus_found Uo1 n = refl
+plus_found Uo1Id n = refl
+plus_found Uo1Ts n = refl
+plus_found Uor2 n = refl
+plus_found Uor2Id n = refl
+plus_found Uor2Ts n = refl
+
+minus_found : (kind : FormKind) (n : ℕ) → is_found (minus kind) n ≡ true
+minus_found Uo0 n = refl
+minus_found Uo1 n = refl
+minus_found Uo1Id n = refl
+minus_found Uo1Ts n = refl
+minus_found Uor2 n = refl
+minus_found Uor2Id n = refl
+minus_found Uor2Ts n = refl
+
+-- so of an extension the two bits that it begins with decide
+and_true : (x : Bool) → (x && true) ≡ x
+and_true true = refl
+and_true false = refl
+
+begin_0 : (kind : FormKind) (a b c : ℕ) → begin_with (layout_0 kind) (a ∷ b ∷ c ∷ []) ≡ (number_of (a ∷ []) / 2 ^ 6 % 2 ^ 2 == 0)
+begin_0 kind a b c = (λ i. (number_of (a ∷ []) / 2 ^ 6 % 2 ^ 2 == 0) && (plus_found kind (slice (number_of (a ∷ [])) 0 3).value i && true)) ∙ and_true (number_of (a ∷ []) / 2 ^ 6 % 2 ^ 2 == 0)
+
+begin_1 : (kind : FormKind) (a b c : ℕ) → begin_with (layout_1 kind) (a ∷ b ∷ c ∷ []) ≡ (number_of (a ∷ b ∷ []) / 2 ^ 14 % 2 ^ 2 == 1)
+begin_1 kind a b c =
+    let n = number_of (a ∷ b ∷ []) in
+    (λ i. (n / 2 ^ 14 % 2 ^ 2 == 1) && (plus_found kind (slice n 8 3).value i && (minus_found kind (slice n 0 8).value i && true))) ∙ and_true (n / 2 ^ 14 % 2 ^ 2 == 1)
+
+begin_2 : (kind : FormKind) (a b c : ℕ) → begin_with (layout_2 kind) (a ∷ b ∷ c ∷ []) ≡ (number_of (a ∷ b ∷ c ∷ []) / 2 ^ 22 % 2 ^ 2 == 2)
+begin_2 kind a b c =
+    let n = number_of (a ∷ b ∷ c ∷ []) in
+    (λ i. (n / 2 ^ 22 % 2 ^ 2 == 2) && (plus_found kind (slice n 16 3).value i && (plus_found kind (slice n 8 8).value i && (minus_found kind (slice n 0 8).value i && true)))) ∙ and_true (n / 2 ^ 22 % 2 ^ 2 == 2)
+
+-- the format that is read tells what the first octet begins with
+read_0 : (kind : FormKind) (one two : Bool) → (if one then layout_0 kind else if two then layout_1 kind else layout_2 kind) ≡ layout_0 kind → one ≡ true
+read_0 kind true two e = refl
+read_0 kind false true e = let l : 4 ≡ 3 = ap length e in absurd (omega (arith, l))
+read_0 kind false false e = let l : 5 ≡ 3 = ap length e in absurd (omega (arith, l))
+
+read_1 : (kind : FormKind) (one two : Bool) → (if one then layout_0 kind else if two then layout_1 kind else layout_2 kind) ≡ layout_1 kind → (one ≡ false) × (two ≡ true)
+read_1 kind true two e = let l : 3 ≡ 4 = ap length e in absurd (omega (arith, l))
+read_1 kind false true e = (refl, refl)
+read_1 kind false false e = let l : 5 ≡ 4 = ap length e in absurd (omega (arith, l))
+
+read_2 : (kind : FormKind) (one two : Bool) → (if one then layout_0 kind else if two then layout_1 kind else layout_2 kind) ≡ layout_2 kind → (one ≡ false) × (two ≡ false)
+read_2 kind true two e = let l : 3 ≡ 5 = ap length e in absurd (omega (arith, l))
+read_2 kind false true e = let l : 4 ≡ 5 = ap length e in absurd (omega (arith, l))
+read_2 kind false false e = (refl, refl)
+
+fits_0 : (kind : FormKind) (a b c : ℕ) → a < 192 → (begin_with (layout_0 kind) (a ∷ b ∷ c ∷ []) ≡ true) ↔ (short_layout kind a ≡ layout_0 kind)
+fits_0 kind a b c l = (
+  (λ e.
+      let begins : (number_of (a ∷ []) / 2 ^ 6 % 2 ^ 2 == 0) ≡ true = sym (begin_0 kind a b c) ∙ e in
+      let low : nat_lt a 64 ≡ true = grind (arith, nat_tests) in
+      rw low refl),
+  (λ e.
+      let low : nat_lt a 64 ≡ true = read_0 kind (nat_lt a 64) (nat_lt a 128) e in
+      let begins : (number_of (a ∷ []) / 2 ^ 6 % 2 ^ 2 == 0) ≡ true = grind (arith, nat_tests) in
+      begin_0 kind a b c ∙ begins),
+)
+
+fits_1 : (kind : FormKind) (a b c : ℕ) → a < 192 → b < 256 → (begin_with (layout_1 kind) (a ∷ b ∷ c ∷ []) ≡ true) ↔ (short_layout kind a ≡ layout_1 kind)
+fits_1 kind a b c l m = (
+  (λ e.
+      let begins : (number_of (a ∷ b ∷ []) / 2 ^ 14 % 2 ^ 2 == 1) ≡ true = sym (begin_1 kind a b c) ∙ e in
+      let low : nat_lt a 64 ≡ false = grind (arith, nat_tests) in
+      let high : nat_lt a 128 ≡ true = grind (arith, nat_tests) in
+      rw (low, high) refl),
+  (λ e.
+      let is = read_1 kind (nat_lt a 64) (nat_lt a 128) e in
+      let low : nat_lt a 64 ≡ false = is.0 in
+      let high : nat_lt a 128 ≡ true = is.1 in
+      let begins : (number_of (a ∷ b ∷ []) / 2 ^ 14 % 2 ^ 2 == 1) ≡ true = grind (arith, nat_tests) in
+      begin_1 kind a b c ∙ begins),
+)
+
+fits_2 : (kind : FormKind) (a b c : ℕ) → a < 192 → b < 256 → c < 256 → (begin_with (layout_2 kind) (a ∷ b ∷ c ∷ []) ≡ true) ↔ (short_layout kind a ≡ layout_2 kind)
+fits_2 kind a b c l m n = (
+  (λ e.
+      let begins : (number_of (a ∷ b ∷ c ∷ []) / 2 ^ 22 % 2 ^ 2 == 2) ≡ true = sym (begin_2 kind a b c) ∙ e in
+      let low : nat_lt a 64 ≡ false = grind (arith, nat_tests) in
+      let high : nat_lt a 128 ≡ false = grind (arith, nat_tests) in
+      rw (low, high) refl),
+  (λ e.
+      let is = read_2 kind (nat_lt a 64) (nat_lt a 128) e in
+      let low : nat_lt a 64 ≡ false = is.0 in
+      let high : nat_lt a 128 ≡ false = is.1 in
+      let begins : (number_of (a ∷ b ∷ c ∷ []) / 2 ^ 22 % 2 ^ 2 == 2) ≡ true = grind (arith, nat_tests) in
+      begin_2 kind a b c ∙ begins),
+)
+
+pub fits_one_extension : FitsOneExtension
+fits_one_extension = λ kind a b c l m n. (fits_0 kind a b c l, fits_1 kind a b c l m, fits_2 kind a b c l m n)

@@ -8,14 +8,14 @@ use Rattle.rohc_forms.specs.declared.parts.Base.{Base}
 use Rattle.rohc_forms.specs.declared.parts.IpFlags.{IpFlags}
 use Rattle.rohc_forms.specs.declared.parts.RtpFlags.{RtpFlags}
 use Rattle.rohc_forms.specs.declared.refusal.FormRefusal.{FormRefusal}
-use Rattle.rohc_forms.specs.Octets.{◌>>=◌, Digits, bit, octet_at, word_at, octet_if, word_if, value_at}
-use Rattle.rohc_forms.specs.Table.{Said, Layout, width, under, layout_0, layout_1, layout_2, base_said}
+use Rattle.rohc_forms.specs.Octets.{◌>>=◌, Digits, octet_at, word_at, octet_if, word_if, value_at}
+use Rattle.rohc_forms.specs.Table.{Said, Layout, width, under, layout_0, layout_1, layout_2, short_layout, S, R-TS, Tsc, I, IP, RTP, has, base_said}
 use Rattle.rohc_forms.specs.Formats.{number_of}
 use Rattle.rohc_forms.specs.Judging.{judged, ip_fault, twice_fault, protocol_fault, rtp_fault, stride_fault, no_stride_fault}
 use Rattle.rohc_forms.specs.Extension.{judged_octet, ip_flags, ip_octet_at, rnd_in_force, sn_at, ts_at, behind_protocol, ip_given_at, offset_at, rtp_flags, stride_at, behind_time_stride, behind_rtp_octet, rtp_given_at, rtp_values, behind_ip_octet}
 use Rattle.rohc_forms.specs.Packets.{Head, Content, kind_of, plain_head, base_at, extension_1_at, extension_2_at, short_extension_at, extension_3_at, extension_at, behind_base, head_at, whole_content, form_at}
 use Rattle.rohc_forms.specs.Pieces.{IsOctet, IsWord, IsValue, Says, Then, IfNamed, Which, As, NotRefused}
-use Rattle.rohc_forms.specs.Says.{IsUnder, base_length, IsBase, short_layout, with_sn, with_ts, with_offset, IsIpOctet, IsProtocol, IsIpGiven, value_of, IsStride, IsTimeStride, IsRtpNamed, IsRtpGiven, IsBehindIp, IsExtension3, IsExtension, IsHead, IsPayload, IsForm}
+use Rattle.rohc_forms.specs.Says.{IsUnder, base_length, IsBase, with_sn, with_ts, and_offset, IsIpOctet, IsProtocol, IsIpGiven, stride_of, IsStride, IsTimeStride, IsRtpNamed, IsRtpGiven, IsBehindIp, IsExtension3, IsExtension, IsHead, IsPayload, IsForm}
 use Rattle.rohc_forms.specs.Laws.{ReadsForms, SaysOne}
 use Rattle.rohc_forms.proofs.Exact.{ok_is, bind_ok, Reader, Piece, Exact, same_reader, same_piece, exact_says, exact_then, exact_as, exact_not_refused, exact_unless, exact_which, exact_named, exact_if_named, exact_octet, exact_word, exact_octet_if, exact_word_if, exact_value}
 
@@ -27,9 +27,9 @@ exact_ts : (named : Bool) (said : Said) → Exact (ts_at named said) (As (with_t
 unfolding ts_at
 exact_ts named said = exact_named named (with_ts said) value_at IsValue exact_value
 
-exact_offset : (named : Bool) (said : Said) → Exact (offset_at named said) (As (with_offset said) (IfNamed named IsWord))
+exact_offset : (named : Bool) (said : Said) → Exact (offset_at named said) (As (and_offset said) (IfNamed named IsWord))
 unfolding offset_at
-exact_offset named said = exact_as (with_offset said) (word_if named) (IfNamed named IsWord) (exact_word_if named)
+exact_offset named said = exact_as (and_offset said) (word_if named) (IfNamed named IsWord) (exact_word_if named)
 
 exact_ip_octet : (named : Bool) (kind : FormKind) → Exact (ip_octet_at named kind) (IsIpOctet named kind)
 unfolding ip_octet_at
@@ -53,13 +53,13 @@ unfolding behind_time_stride
 exact_time named = exact_named named (λ _. tt) value_at IsValue exact_value
 
 judged_as : (fault : Option FormRefusal) (x : Digits × List ℕ) →
-    (judged fault x >>= λ y. Ok (value_of (Some y.0), y.1)) ≡ judged {A = Option ℕ × List ℕ} fault (Some x.0.value, x.1)
+    (judged fault x >>= λ y. Ok (stride_of (Some y.0), y.1)) ≡ judged {A = Option ℕ × List ℕ} fault (Some x.0.value, x.1)
 judged_as None x = refl
 judged_as (Some refusal) x = refl
 
 -- a value that is judged, and what is made of it
 judged_value : (r : Result (Digits × List ℕ) FormRefusal) →
-    ((r >>= λ x. judged (stride_fault x.0.value) x) >>= λ x. Ok (value_of (Some x.0), x.1))
+    ((r >>= λ x. judged (stride_fault x.0.value) x) >>= λ x. Ok (stride_of (Some x.0), x.1))
     ≡ (r >>= λ x. judged {A = Option ℕ × List ℕ} (stride_fault x.0.value) (Some x.0.value, x.1))
 judged_value (Ok x) = judged_as (stride_fault x.0.value) x
 judged_value (Err refusal) = refl
@@ -67,9 +67,9 @@ judged_value (Err refusal) = refl
 exact_stride : (named : Bool) → Exact (stride_at named) (IsStride named)
 unfolding stride_at
 exact_stride true = same_reader _ (stride_at true) (IsStride true) (λ text. judged_value (value_at text))
-    (exact_named true value_of (λ text. value_at text >>= λ x. judged (stride_fault x.0.value) x) (NotRefused (λ d. stride_fault d.value) IsValue)
+    (exact_named true stride_of (λ text. value_at text >>= λ x. judged (stride_fault x.0.value) x) (NotRefused (λ d. stride_fault d.value) IsValue)
     (exact_not_refused (λ d. stride_fault d.value) value_at IsValue exact_value))
-exact_stride false = exact_named false value_of (λ text. value_at text >>= λ x. judged (stride_fault x.0.value) x) (NotRefused (λ d. stride_fault d.value) IsValue)
+exact_stride false = exact_named false stride_of (λ text. value_at text >>= λ x. judged (stride_fault x.0.value) x) (NotRefused (λ d. stride_fault d.value) IsValue)
     (exact_not_refused (λ d. stride_fault d.value) value_at IsValue exact_value)
 
 exact_rtp_named : (rtp : RtpFlags) → Exact (behind_rtp_octet rtp) (IsRtpNamed rtp)
@@ -99,19 +99,19 @@ exact_rtp_given false = exact_if_named false _ _ exact_rtp_whole
 exact_behind_ip : (flags : ℕ) (known : Bool) (ip : Option IpFlags) (said : Said) → Exact (behind_ip_octet flags known ip said) (IsBehindIp flags known ip said)
 unfolding behind_ip_octet
 exact_behind_ip flags known ip said =
-    exact_then (sn_at (bit 5 flags) said) _ _ _ (exact_sn (bit 5 flags) said) (λ said.
-    exact_then (ts_at (bit 4 flags) said) _ _ _ (exact_ts (bit 4 flags) said) (λ said.
+    exact_then (sn_at (has S flags) said) _ _ _ (exact_sn (has S flags) said) (λ said.
+    exact_then (ts_at (has R-TS flags) said) _ _ _ (exact_ts (has R-TS flags) said) (λ said.
     exact_then (ip_given_at ip) _ _ _ (exact_ip_given ip) (λ given.
-    exact_then (offset_at (bit 2 flags) said) _ _ _ (exact_offset (bit 2 flags) said) (λ said.
-    exact_then (rtp_given_at (bit 0 flags)) _ _ _ (exact_rtp_given (bit 0 flags)) (λ rtp.
-    exact_unless (no_stride_fault (bit 3 flags) (known || is_some (rtp_values rtp).stride)) _ _ (
+    exact_then (offset_at (has I flags) said) _ _ _ (exact_offset (has I flags) said) (λ said.
+    exact_then (rtp_given_at (has RTP flags)) _ _ _ (exact_rtp_given (has RTP flags)) (λ rtp.
+    exact_unless (no_stride_fault (has Tsc flags) (known || is_some (rtp_values rtp).stride)) _ _ (
     exact_says _))))))
 
 exact_extension_3 : (base : Base) (kept known : Bool) (flags : ℕ) → Exact (extension_3_at base kept known flags) (IsExtension3 base kept known flags)
 unfolding extension_3_at
 exact_extension_3 base kept known flags =
-    exact_then (ip_octet_at (bit 1 flags) (kind_of base kept)) _ _ _ (exact_ip_octet (bit 1 flags) (kind_of base kept)) (λ ip.
-    exact_unless (twice_fault (bit 2 flags) (rnd_in_force kept ip)) _ _ (
+    exact_then (ip_octet_at (has IP flags) (kind_of base kept)) _ _ _ (exact_ip_octet (has IP flags) (kind_of base kept)) (λ ip.
+    exact_unless (twice_fault (has I flags) (rnd_in_force kept ip)) _ _ (
     exact_then (behind_ip_octet flags known ip (base_said (kind_of base (rnd_in_force kept ip)) base.number)) _ _ _
     (exact_behind_ip flags known ip (base_said (kind_of base (rnd_in_force kept ip)) base.number)) (λ extended.
     exact_says _)))
@@ -248,9 +248,9 @@ pub record ExactEnd {A : Type 0} (f : List ℕ → Result A FormRefusal) (R : Pi
   pub found : (text : List ℕ) (x : A) → f text ≡ Ok x → R x text
   pub gives : (text : List ℕ) (x : A) → R x text → f text ≡ Ok x
 
-end_then : {A B : Type 0} (f : Reader A) (g : A → List ℕ → Result B FormRefusal) (R : Piece A) (S : A → Piece B) → Exact f R → ((x : A) → ExactEnd (g x) (S x)) →
-    ExactEnd (λ text. f text >>= λ x. g x.0 x.1) (Then R S)
-end_then {A} {B} f g R S p q = record {
+end_then : {A B : Type 0} (f : Reader A) (g : A → List ℕ → Result B FormRefusal) (R : Piece A) (Q : A → Piece B) → Exact f R → ((x : A) → ExactEnd (g x) (Q x)) →
+    ExactEnd (λ text. f text >>= λ x. g x.0 x.1) (Then R Q)
+end_then {A} {B} f g R Q p q = record {
   found = λ text y e.
       let step = bind_ok (f text) (λ x. g x.0 x.1) y e in
       let a = p.found text step.0.1 step.0.0 step.1 in

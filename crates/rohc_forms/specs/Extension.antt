@@ -8,16 +8,15 @@ use Rattle.rohc_forms.specs.declared.parts.RtpFlags.{RtpFlags}
 use Rattle.rohc_forms.specs.declared.parts.RtpGiven.{RtpGiven}
 use Rattle.rohc_forms.specs.declared.refusal.FormRefusal.{FormRefusal}
 use Rattle.rohc_forms.specs.Octets.{◌>>=◌, bit, octet_at, octet_if, word_if, value_at}
-use Rattle.rohc_forms.specs.Table.{Said, Sn, Ts, and_said}
+use Rattle.rohc_forms.specs.Table.{Said, Sn, Ts, S, R-TS, Tsc, I, RTP, TOS, TTL, DF, PR, NBO, RND, R-PT, M, R-X, TSS, TIS, has, and_said}
 use Rattle.rohc_forms.specs.Judging.{judged, ip_fault, protocol_fault, rtp_fault, stride_fault, no_stride_fault}
 
 -- an octet, where it isn't refused
 abbrev pub judged_octet : (ℕ → Option FormRefusal) → List ℕ → Result (ℕ × List ℕ) FormRefusal
 judged_octet fault text = octet_at text >>= λ x. judged (fault x.0) x
 
--- TOS TTL DF PR IPX NBO RND ip2
 abbrev pub ip_flags : ℕ → IpFlags
-ip_flags octet = record { tos = bit 7 octet; ttl = bit 6 octet; df = bit 5 octet; protocol = bit 4 octet; nbo = bit 2 octet; rnd = bit 1 octet }
+ip_flags octet = record { tos = has TOS octet; ttl = has TTL octet; df = has DF octet; protocol = has PR octet; nbo = has NBO octet; rnd = has RND octet }
 
 -- the ip octet, if ip
 unfoldable pub ip_octet_at : Bool → FormKind → List ℕ → Result (Option IpFlags × List ℕ) FormRefusal
@@ -73,9 +72,8 @@ with_offset_if (Some offset) s = with_offset offset s
 unfoldable pub offset_at : Bool → Said → List ℕ → Result (Said × List ℕ) FormRefusal
 offset_at present said text = word_if present text >>= λ x. Ok (with_offset_if x.0 said, x.1)
 
--- Mode(2) R-PT M R-X CSRC TSS TIS
 abbrev pub rtp_flags : ℕ → RtpFlags
-rtp_flags octet = record { payload_type = bit 5 octet; marker = bit 4 octet; extension = bit 3 octet; stride = bit 1 octet; time_stride = bit 0 octet }
+rtp_flags octet = record { payload_type = has R-PT octet; marker = has M octet; extension = has R-X octet; stride = has TSS octet; time_stride = has TIS octet }
 
 -- the stride of timestamps, if TSS
 unfoldable pub stride_at : Bool → List ℕ → Result (Option ℕ × List ℕ) FormRefusal
@@ -145,13 +143,13 @@ pub record Extended3 : Type 0 where
   pub marker : Bool
   pub values : Values
 
--- What stands behind the ip octet. The flags are 11 S R-TS Tsc I ip rtp.
+-- What stands behind the ip octet. The flags are the extension's first octet.
 unfoldable pub behind_ip_octet : ℕ → Bool → Option IpFlags → Said → List ℕ → Result (Extended3 × List ℕ) FormRefusal
 behind_ip_octet flags stride_known ip said text = do
-  (said, text) ← sn_at (bit 5 flags) said text
-  (said, text) ← ts_at (bit 4 flags) said text
+  (said, text) ← sn_at (has S flags) said text
+  (said, text) ← ts_at (has R-TS flags) said text
   (given, text) ← ip_given_at ip text
-  (said, text) ← offset_at (bit 2 flags) said text
-  (rtp, text) ← rtp_given_at (bit 0 flags) text
-  _ ← judged (no_stride_fault (bit 3 flags) (stride_known || is_some (rtp_values rtp).stride)) text
+  (said, text) ← offset_at (has I flags) said text
+  (rtp, text) ← rtp_given_at (has RTP flags) text
+  _ ← judged (no_stride_fault (has Tsc flags) (stride_known || is_some (rtp_values rtp).stride)) text
   Ok (record { said = said; marker = marker_in said.marker rtp; values = ip_values given (rtp_values rtp) }, text)

@@ -7,8 +7,8 @@ use Rattle.rohc_forms.specs.declared.parts.IpFlags.{IpFlags}
 use Rattle.rohc_forms.specs.declared.parts.RtpFlags.{RtpFlags}
 use Rattle.rohc_forms.specs.declared.refusal.FormRefusal.{FormRefusal}
 use Rattle.rohc_forms.specs.declared.refusal.FormRefusal.TheVariants.{Truncated}
-use Rattle.rohc_forms.specs.Octets.{◌>>=◌, value_at, bit}
-use Rattle.rohc_forms.specs.Table.{base_said}
+use Rattle.rohc_forms.specs.Octets.{◌>>=◌, value_at}
+use Rattle.rohc_forms.specs.Table.{S, R-TS, Tsc, I, IP, RTP, has, base_said}
 use Rattle.rohc_forms.specs.Judging.{judged, ip_fault, twice_fault, protocol_fault, rtp_fault, stride_fault, no_stride_fault}
 use Rattle.rohc_forms.specs.Extension.{ip_flags, rtp_flags}
 use Rattle.rohc_forms.specs.Packets.{kind_of}
@@ -21,22 +21,22 @@ pub data Fields : Type 0 where
   Octets : ℕ → Fields → Fields
   Octet : (ℕ → Option FormRefusal) → (ℕ → Fields) → Fields
   Value : (ℕ → Option FormRefusal) → Fields → Fields
-  Nothing : Option FormRefusal → Fields → Fields
+  Judged : Option FormRefusal → Fields → Fields
 
 -- what stands behind so many octets
-abbrev pub behind : ℕ → List ℕ → Result (List ℕ) FormRefusal
-behind zero text = Ok text
-behind (suc count) [] = Err Truncated
-behind (suc count) (octet ∷ text) = behind count text
+abbrev pub behind_octets : ℕ → List ℕ → Result (List ℕ) FormRefusal
+behind_octets zero text = Ok text
+behind_octets (suc count) [] = Err Truncated
+behind_octets (suc count) (octet ∷ text) = behind_octets count text
 
 -- The payload, or the first fault: the first field that is cut off or refused.
 abbrev pub after_fields : Fields → List ℕ → Result (List ℕ) FormRefusal
 after_fields Payload text = Ok text
-after_fields (Octets count more) text = behind count text >>= after_fields more
+after_fields (Octets count more) text = behind_octets count text >>= after_fields more
 after_fields (Octet fault more) [] = Err Truncated
 after_fields (Octet fault more) (octet ∷ text) = judged (fault octet) text >>= after_fields (more octet)
 after_fields (Value fault more) text = value_at text >>= λ x. judged (fault x.0.value) x.1 >>= after_fields more
-after_fields (Nothing fault more) text = judged fault text >>= after_fields more
+after_fields (Judged fault more) text = judged fault text >>= after_fields more
 
 -- no refusal
 abbrev pub any : ℕ → Option FormRefusal
@@ -65,19 +65,19 @@ rtp_octet_fields named more = if named then Octet rtp_fault (λ octet. rtp_field
 -- S, R-TS, what the ip octet names, I, rtp, and whether a stride is in force if Tsc
 abbrev pub later_fields : ℕ → Bool → (Fields → Fields) → Fields → Fields
 later_fields flags stride_known ip more =
-    if_named (bit 5 flags) (Octets 1)
-    (if_named (bit 4 flags) (Value any)
+    if_named (has S flags) (Octets 1)
+    (if_named (has R-TS flags) (Value any)
     (ip
-    (if_named (bit 2 flags) (Octets 2)
-    (rtp_octet_fields (bit 0 flags) (λ given. Nothing (no_stride_fault (bit 3 flags) (stride_known || given)) more)))))
+    (if_named (has I flags) (Octets 2)
+    (rtp_octet_fields (has RTP flags) (λ given. Judged (no_stride_fault (has Tsc flags) (stride_known || given)) more)))))
 
 -- Behind the first octet of an extension 3: the ip octet, if ip; whether I and RND are both given; the others.
 abbrev pub extension_3_fields : FormKind → Bool → Bool → Bool → ℕ → Fields
 extension_3_fields kind rnd udp_sum stride_known flags =
-    if bit 1 flags
-    then Octet (ip_fault kind) (λ octet. Nothing (twice_fault (bit 2 flags) (ip_flags octet).rnd)
+    if has IP flags
+    then Octet (ip_fault kind) (λ octet. Judged (twice_fault (has I flags) (ip_flags octet).rnd)
     (later_fields flags stride_known (ip_fields (ip_flags octet)) (last_fields (ip_flags octet).rnd udp_sum)))
-    else Nothing (twice_fault (bit 2 flags) rnd) (later_fields flags stride_known (λ more. more) (last_fields rnd udp_sum))
+    else Judged (twice_fault (has I flags) rnd) (later_fields flags stride_known (λ more. more) (last_fields rnd udp_sum))
 
 -- behind the first octet of an extension
 abbrev pub extension_fields : FormKind → Bool → Bool → Bool → ℕ → Fields
@@ -87,8 +87,8 @@ extension_fields kind rnd udp_sum stride_known first =
     else extension_3_fields kind rnd udp_sum stride_known first
 
 -- behind the octets before an extension; the format says whether there is one
-abbrev pub base_fields : Bool → Bool → Bool → Base → Fields
-base_fields rnd udp_sum stride_known base =
+abbrev pub behind_base_fields : Bool → Bool → Bool → Base → Fields
+behind_base_fields rnd udp_sum stride_known base =
     if (base_said (kind_of base rnd) base.number).extended
     then Octet any (extension_fields (kind_of base rnd) rnd udp_sum stride_known)
     else last_fields rnd udp_sum
@@ -102,7 +102,7 @@ behind_first first more =
 
 -- Behind the first octet of a packet.
 abbrev pub form_fields : ℕ → Bool → Bool → Bool → Fields
-form_fields first rnd udp_sum stride_known = behind_first first (base_fields rnd udp_sum stride_known)
+form_fields first rnd udp_sum stride_known = behind_first first (behind_base_fields rnd udp_sum stride_known)
 
 -- why a packet is refused, if it is
 abbrev pub fault_in : Result (List ℕ) FormRefusal → Option FormRefusal

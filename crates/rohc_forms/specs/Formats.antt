@@ -4,7 +4,7 @@ use Rattle.rohc_forms.specs.declared.form.FormKind.{FormKind}
 use Rattle.rohc_forms.specs.declared.form.FormKind.TheVariants.{Uo0, Uo1, Uo1Id, Uo1Ts, Uor2, Uor2Id, Uor2Ts}
 use Rattle.rohc_forms.specs.declared.parts.Base.{Base}
 use Rattle.rohc_forms.specs.Octets.{slice}
-use Rattle.rohc_forms.specs.Table.{Field, Fixed, Sn, Ts, Id, Marker, Extended, Check, Layout, layout, width}
+use Rattle.rohc_forms.specs.Table.{Field, Fixed, Sn, Ts, Id, Marker, Extended, Check, Layout, layout, layout_0, layout_1, layout_2, short_layout, width}
 use Rattle.rohc_forms.specs.Packets.{kind_of}
 
 -- the number that a field has in each packet of the format, where it has one, is the one that is found
@@ -36,9 +36,13 @@ is_under rnd Uor2Ts = not rnd
 abbrev pub number_of : List ℕ → ℕ
 number_of octets = fold (λ n octet. n * 256 + octet) 0 octets
 
--- the first octets of a packet, as many as the format has, fit it under this RND
+-- octets begin with as many as a format has, which fit it
+abbrev pub begin_with : Layout → List ℕ → Bool
+begin_with l octets = fits l (number_of (take (width l / 8) octets))
+
+-- the first octets of a packet fit a format that stands under this RND
 abbrev pub has_format : FormKind → Bool → List ℕ → Bool
-has_format kind rnd octets = is_under rnd kind && fits (layout kind) (number_of (take (width (layout kind) / 8) octets))
+has_format kind rnd octets = is_under rnd kind && begin_with (layout kind) octets
 
 -- the octets before an extension, of three
 abbrev pub base_of : ℕ → ℕ → ℕ → Base
@@ -48,3 +52,10 @@ base_of a b c = record { first = a; number = if nat_lt a 128 then a else if nat_
 abbrev pub FitsOne : Type 0
 FitsOne = (rnd : Bool) (a b c : ℕ) → a < 224 → b < 256 → c < 256 → (kind : FormKind) →
     (has_format kind rnd (a ∷ b ∷ c ∷ []) ≡ true) ↔ (kind ≡ kind_of (base_of a b c) rnd)
+
+-- Of an extension whose first octet is below C0 exactly one of the formats 0, 1 and 2 fits: the one that is read.
+abbrev pub FitsOneExtension : Type 0
+FitsOneExtension = (kind : FormKind) (a b c : ℕ) → a < 192 → b < 256 → c < 256 →
+    ((begin_with (layout_0 kind) (a ∷ b ∷ c ∷ []) ≡ true) ↔ (short_layout kind a ≡ layout_0 kind))
+    × ((begin_with (layout_1 kind) (a ∷ b ∷ c ∷ []) ≡ true) ↔ (short_layout kind a ≡ layout_1 kind))
+    × ((begin_with (layout_2 kind) (a ∷ b ∷ c ∷ []) ≡ true) ↔ (short_layout kind a ≡ layout_2 kind))

@@ -4,7 +4,7 @@ use Rattle.rohc_forms.specs.declared.form.FormKind.{FormKind}
 use Rattle.rohc_forms.specs.declared.form.FormKind.TheVariants.{Uo0, Uo1, Uo1Id, Uo1Ts, Uor2, Uor2Id, Uor2Ts}
 use Rattle.rohc_forms.specs.declared.refusal.FormRefusal.{FormRefusal}
 use Rattle.rohc_forms.specs.declared.refusal.FormRefusal.TheVariants.{Protocol, ExtensionList, Csrc, ZeroStride, ReliableMode, OuterHeader, NoStride, RndInUo1, IpIdTwice}
-use Rattle.rohc_forms.specs.Octets.{bit}
+use Rattle.rohc_forms.specs.Table.{IPX, RND, IP2, CSRC, has}
 
 -- what was read, or its refusal where there is one
 abbrev pub judged : {A : Type 0} → Option FormRefusal → A → Result A FormRefusal
@@ -24,12 +24,12 @@ is_uo1_id Uor2 = false
 is_uo1_id Uor2Id = false
 is_uo1_id Uor2Ts = false
 
--- the ip octet: bit 3 is IPX, bit 1 RND, bit 0 ip2
+-- the ip octet
 abbrev pub ip_fault : FormKind → ℕ → Option FormRefusal
 ip_fault kind octet =
-    if bit 3 octet then Some ExtensionList
-    else if is_uo1_id kind && bit 1 octet then Some RndInUo1
-    else refused_if (bit 0 octet) OuterHeader
+    if has IPX octet then Some ExtensionList
+    else if is_uo1_id kind && has RND octet then Some RndInUo1
+    else refused_if (has IP2 octet) OuterHeader
 
 -- flag I, and the RND in force
 abbrev pub twice_fault : Bool → Bool → Option FormRefusal
@@ -39,9 +39,9 @@ twice_fault offset rnd = refused_if (offset && rnd) IpIdTwice
 abbrev pub protocol_fault : ℕ → Option FormRefusal
 protocol_fault octet = refused_if (not (octet == 17)) Protocol
 
--- the rtp octet: its two high bits are the mode, bit 2 is CSRC
+-- the rtp octet: its two high bits are the mode
 abbrev pub rtp_fault : ℕ → Option FormRefusal
-rtp_fault octet = if octet / 64 == 3 then Some ReliableMode else refused_if (bit 2 octet) Csrc
+rtp_fault octet = if octet / 64 == 3 then Some ReliableMode else refused_if (has CSRC octet) Csrc
 
 abbrev pub stride_fault : ℕ → Option FormRefusal
 stride_fault stride = refused_if (stride == 0) ZeroStride

@@ -15,7 +15,7 @@ use Rattle.rohc_forms.specs.declared.parts.Extension3 as parts
 use Rattle.rohc_forms.specs.declared.parts.Head as parts_head
 use Rattle.rohc_forms.specs.declared.refusal.FormRefusal.{FormRefusal}
 use Rattle.rohc_forms.specs.Octets.{◌>>=◌, Digits, digits, bit, octet_at, word_at, word_if}
-use Rattle.rohc_forms.specs.Table.{Said, under, layout_0, layout_1, layout_2, base_said}
+use Rattle.rohc_forms.specs.Table.{Said, Tsc, I, IP, has, under, layout_0, layout_1, layout_2, base_said}
 use Rattle.rohc_forms.specs.Judging.{judged, twice_fault}
 use Rattle.rohc_forms.specs.Extension.{ip_octet_at, rnd_in_force, Extended3, behind_ip_octet}
 
@@ -74,10 +74,10 @@ short_extension_at kind first said text =
 -- An extension 3, whose first octet begins with 11: the RND in force decides the format of the octets before it.
 unfoldable pub extension_3_at : Base → Bool → Bool → ℕ → List ℕ → Result (Head × List ℕ) FormRefusal
 extension_3_at base kept_rnd stride_known flags text = do
-  (ip, text) ← ip_octet_at (bit 1 flags) (kind_of base kept_rnd) text
-  _ ← judged (twice_fault (bit 2 flags) (rnd_in_force kept_rnd ip)) text
+  (ip, text) ← ip_octet_at (has IP flags) (kind_of base kept_rnd) text
+  _ ← judged (twice_fault (has I flags) (rnd_in_force kept_rnd ip)) text
   (extended, text) ← behind_ip_octet flags stride_known ip (base_said (kind_of base (rnd_in_force kept_rnd ip)) base.number) text
-  Ok (record { kind = kind_of base (rnd_in_force kept_rnd ip); rnd = rnd_in_force kept_rnd ip; said = extended.said; tsc = Some (bit 3 flags); marker = extended.marker; values = Some extended.values }, text)
+  Ok (record { kind = kind_of base (rnd_in_force kept_rnd ip); rnd = rnd_in_force kept_rnd ip; said = extended.said; tsc = Some (has Tsc flags); marker = extended.marker; values = Some extended.values }, text)
 
 -- what stands behind the first octet of an extension
 unfoldable pub extension_at : Base → Bool → Bool → ℕ → List ℕ → Result (Head × List ℕ) FormRefusal

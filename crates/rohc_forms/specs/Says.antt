@@ -8,8 +8,8 @@ use Rattle.rohc_forms.specs.declared.parts.IpFlags.{IpFlags}
 use Rattle.rohc_forms.specs.declared.parts.IpGiven.{IpGiven}
 use Rattle.rohc_forms.specs.declared.parts.RtpFlags.{RtpFlags}
 use Rattle.rohc_forms.specs.declared.parts.RtpGiven.{RtpGiven}
-use Rattle.rohc_forms.specs.Octets.{Digits, bit}
-use Rattle.rohc_forms.specs.Table.{Said, Sn, Ts, Layout, and_said, width, under, layout_0, layout_1, layout_2, base_said}
+use Rattle.rohc_forms.specs.Octets.{Digits}
+use Rattle.rohc_forms.specs.Table.{Said, Sn, Ts, Layout, and_said, width, under, short_layout, S, R-TS, Tsc, I, IP, RTP, has, base_said}
 use Rattle.rohc_forms.specs.Formats.{number_of}
 use Rattle.rohc_forms.specs.Judging.{ip_fault, twice_fault, protocol_fault, rtp_fault, stride_fault, no_stride_fault}
 use Rattle.rohc_forms.specs.Extension.{ip_flags, rnd_in_force, with_offset_if, rtp_flags, padding_in, payload_type_in, ip_values, rtp_values, marker_in, Extended3}
@@ -27,10 +27,6 @@ base_length first = if nat_lt first 128 then 1 else if nat_lt first 192 then 2 e
 abbrev pub IsBase : ℕ → Base → List ℕ → Type 0
 IsBase first base text = (length (first ∷ text) ≡ base_length first) × (base ≡ record { first = first; number = number_of (first ∷ text) })
 
--- the format of an extension 0, 1 or 2, whose first octet begins with 00, 01 or 10
-abbrev pub short_layout : FormKind → ℕ → Layout
-short_layout kind first = if nat_lt first 64 then layout_0 kind else if nat_lt first 128 then layout_1 kind else layout_2 kind
-
 -- eight more bits of SN, if S
 abbrev pub with_sn : Said → Option ℕ → Said
 with_sn said None = said
@@ -41,8 +37,8 @@ abbrev pub with_ts : Said → Option Digits → Said
 with_ts said None = said
 with_ts said (Some value) = and_said Ts value said
 
-abbrev pub with_offset : Said → Option ℕ → Said
-with_offset said offset = with_offset_if offset said
+abbrev pub and_offset : Said → Option ℕ → Said
+and_offset said offset = with_offset_if offset said
 
 -- the ip octet, if ip
 abbrev pub IsIpOctet : Bool → FormKind → Option IpFlags → List ℕ → Type 0
@@ -61,12 +57,12 @@ IsIpGiven (Some ip) =
     Says (Some (record { tos = tos; ttl = ttl; df = ip.df; nbo = ip.nbo; rnd = ip.rnd })))))
 
 -- the number of a value's bits doesn't matter to a stride
-abbrev pub value_of : Option Digits → Option ℕ
-value_of None = None
-value_of (Some d) = Some d.value
+abbrev pub stride_of : Option Digits → Option ℕ
+stride_of None = None
+stride_of (Some d) = Some d.value
 
 abbrev pub IsStride : Bool → Option ℕ → List ℕ → Type 0
-IsStride named = As value_of (IfNamed named (NotRefused (λ d. stride_fault d.value) IsValue))
+IsStride named = As stride_of (IfNamed named (NotRefused (λ d. stride_fault d.value) IsValue))
 
 -- a stride of time says nothing
 abbrev pub IsTimeStride : Bool → Unit {0} → List ℕ → Type 0
@@ -88,21 +84,21 @@ IsRtpGiven named = IfNamed named (Then (NotRefused rtp_fault IsOctet) (λ octet.
 -- it names; a stride is in force, if Tsc.
 abbrev pub IsBehindIp : ℕ → Bool → Option IpFlags → Said → Extended3 → List ℕ → Type 0
 IsBehindIp flags stride_known ip said =
-    Then (As (with_sn said) (IfNamed (bit 5 flags) IsOctet)) (λ said.
-    Then (As (with_ts said) (IfNamed (bit 4 flags) IsValue)) (λ said.
+    Then (As (with_sn said) (IfNamed (has S flags) IsOctet)) (λ said.
+    Then (As (with_ts said) (IfNamed (has R-TS flags) IsValue)) (λ said.
     Then (IsIpGiven ip) (λ given.
-    Then (As (with_offset said) (IfNamed (bit 2 flags) IsWord)) (λ said.
-    Then (IsRtpGiven (bit 0 flags)) (λ rtp.
-    Unless (no_stride_fault (bit 3 flags) (stride_known || is_some (rtp_values rtp).stride)) (
+    Then (As (and_offset said) (IfNamed (has I flags) IsWord)) (λ said.
+    Then (IsRtpGiven (has RTP flags)) (λ rtp.
+    Unless (no_stride_fault (has Tsc flags) (stride_known || is_some (rtp_values rtp).stride)) (
     Says (record { said = said; marker = marker_in said.marker rtp; values = ip_values given (rtp_values rtp) })))))))
 
 -- an extension 3 behind its first octet: the RND in force decides the format
 abbrev pub IsExtension3 : Base → Bool → Bool → ℕ → Head → List ℕ → Type 0
 IsExtension3 base kept_rnd stride_known flags =
-    Then (IsIpOctet (bit 1 flags) (kind_of base kept_rnd)) (λ ip.
-    Unless (twice_fault (bit 2 flags) (rnd_in_force kept_rnd ip)) (
+    Then (IsIpOctet (has IP flags) (kind_of base kept_rnd)) (λ ip.
+    Unless (twice_fault (has I flags) (rnd_in_force kept_rnd ip)) (
     Then (IsBehindIp flags stride_known ip (base_said (kind_of base (rnd_in_force kept_rnd ip)) base.number)) (λ extended.
-    Says (record { kind = kind_of base (rnd_in_force kept_rnd ip); rnd = rnd_in_force kept_rnd ip; said = extended.said; tsc = Some (bit 3 flags); marker = extended.marker; values = Some extended.values }))))
+    Says (record { kind = kind_of base (rnd_in_force kept_rnd ip); rnd = rnd_in_force kept_rnd ip; said = extended.said; tsc = Some (has Tsc flags); marker = extended.marker; values = Some extended.values }))))
 
 -- an extension behind its first octet
 abbrev pub IsExtension : Base → Bool → Bool → ℕ → Head → List ℕ → Type 0

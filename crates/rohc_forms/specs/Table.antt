@@ -1,8 +1,8 @@
 -- The formats of packets and of extensions 0 to 2 (RFC 3095 5.7.1 to 5.7.5), and what bits under them say.
-use Rattle.std.specs.Prelude.{ℕ, ◌+◌, List, [], ◌∷◌, Bool, false, ◌==◌, Option, Some, None}
+use Rattle.std.specs.Prelude.{ℕ, ◌+◌, List, [], ◌∷◌, Bool, false, ◌==◌, nat_lt, if◌then◌else◌, Option, Some, None}
 use Rattle.rohc_forms.specs.declared.form.FormKind.{FormKind}
 use Rattle.rohc_forms.specs.declared.form.FormKind.TheVariants.{Uo0, Uo1, Uo1Id, Uo1Ts, Uor2, Uor2Id, Uor2Ts}
-use Rattle.rohc_forms.specs.Octets.{Digits, slice, and_digits}
+use Rattle.rohc_forms.specs.Octets.{Digits, slice, bit, and_digits}
 
 -- A field's name: a number that stands there in each packet of the format, SN, TS, IP-ID, M, X, CRC.
 pub data Field : Type 0 where
@@ -56,6 +56,60 @@ layout_1 kind = (Fixed 1, 2) ∷ (Sn, 3) ∷ (plus kind, 3) ∷ (minus kind, 8) 
 
 abbrev pub layout_2 : FormKind → Layout
 layout_2 kind = (Fixed 2, 2) ∷ (Sn, 3) ∷ (plus kind, 3) ∷ (plus kind, 8) ∷ (minus kind, 8) ∷ []
+
+-- the one that an extension's first octet begins, which is below C0
+abbrev pub short_layout : FormKind → ℕ → Layout
+short_layout kind first = if nat_lt first 64 then layout_0 kind else if nat_lt first 128 then layout_1 kind else layout_2 kind
+
+-- The flags of the octets of an extension 3.
+pub data Flag : Type 0 where
+  S : Flag
+  R-TS : Flag
+  Tsc : Flag
+  I : Flag
+  IP : Flag
+  RTP : Flag
+  TOS : Flag
+  TTL : Flag
+  DF : Flag
+  PR : Flag
+  IPX : Flag
+  NBO : Flag
+  RND : Flag
+  IP2 : Flag
+  R-PT : Flag
+  M : Flag
+  R-X : Flag
+  CSRC : Flag
+  TSS : Flag
+  TIS : Flag
+
+-- The place of each in its octet, counted from the least significant: 11 S R-TS Tsc I ip rtp in the first octet,
+-- TOS TTL DF PR IPX NBO RND ip2 in the ip octet, Mode(2) R-PT M R-X CSRC TSS TIS in the rtp octet.
+abbrev pub place : Flag → ℕ
+place S = 5
+place R-TS = 4
+place Tsc = 3
+place I = 2
+place IP = 1
+place RTP = 0
+place TOS = 7
+place TTL = 6
+place DF = 5
+place PR = 4
+place IPX = 3
+place NBO = 2
+place RND = 1
+place IP2 = 0
+place R-PT = 5
+place M = 4
+place R-X = 3
+place CSRC = 2
+place TSS = 1
+place TIS = 0
+
+abbrev pub has : Flag → ℕ → Bool
+has flag octet = bit (place flag) octet
 
 -- What is said of the fields: bits of numbers, two flags, the check.
 pub record Said : Type 0 where

@@ -1,12 +1,14 @@
 //! Laws of the definitions, as contracts of functions that do nothing. The crates above know what a
 //! packet says by these.
 
-ghost use Rattle.rohc_forms.specs.Formats.{FitsOne};
+ghost use Rattle.rohc_forms.specs.Formats.{FitsOne, FitsOneExtension};
 ghost use Rattle.rohc_forms.specs.Laws.{ReadsForms, SaysOne, RefusesForms};
 
-/// Exactly one format fits a packet whose first octet is below E0, under the RND in force.
+/// Exactly one format fits a packet whose first octet is below E0, under the RND in force, and exactly one of
+/// the extensions 0, 1 and 2 an extension whose first octet is below C0.
 pub fn one_format()
-    ensures { FitsOne }
+    ensures packet { FitsOne }
+    ensures extension { FitsOneExtension }
 {}
 
 /// A packet is read exactly where its octets say what is read. They say one thing at most.

@@ -36,13 +36,22 @@ const SAME: Id = (None, None);
 // TOS, NBO and RND of an ip octet.
 type Ip = (Option<u8>, bool, bool);
 
-// What a packet says; none where it isn't of kind Other.
-fn form_in(packet: &[u8], context: Context) -> Option<Result<Form<'_>, FormRefusal>> {
-    let forward = cut(CidKind::Small, 15, packet).ok()?.forward?;
+// What a packet on a link of this kind says; none where it isn't of kind Other.
+fn form_on(
+    link: CidKind,
+    packet: &[u8],
+    context: Context,
+) -> Option<Result<Form<'_>, FormRefusal>> {
+    let forward = cut(link, 15, packet).ok()?.forward?;
     let HeadKind::Other = forward.kind else {
         return None;
     };
     Some(read_form(&forward, context.0, context.1, context.2))
+}
+
+// The same on a link of small identifiers.
+fn form_in(packet: &[u8], context: Context) -> Option<Result<Form<'_>, FormRefusal>> {
+    form_on(CidKind::Small, packet, context)
 }
 
 fn number(bits: Bits) -> Number {
@@ -357,8 +366,74 @@ fn packets_with_extension_3(rt: HostRuntime) {
     }
 }
 
+// More than 32 bits of TS: the low 32 count.
+#[test]
+fn ts_of_more_than_32_bits(rt: HostRuntime) {
+    let packet = [
+        0xdf, 0x80, 0x80, 0xd0, 0xe0, 0x00, 0x00, 0x02, 0x00, 0x11, 0xac,
+    ];
+    let Some(Ok(form)) = form_in(&packet, RANDOM) else {
+        panic!(rt; "refused");
+    };
+    let expected = (
+        FormKind::Uor2,
+        (6, 0),
+        Some((32, 0xe000_0002)),
+        Some(false),
+        (None, Some(0x0011)),
+        None,
+        false,
+        0,
+    );
+    assert_eq!(rt; said(&form), expected);
+    assert_eq!(rt; form.payload, [0xac].as_slice());
+}
+
+// Scaled bits count by a stride that the same packet gives.
+#[test]
+fn a_given_stride_is_in_force(rt: HostRuntime) {
+    let packet = [0xc0, 0x03, 0x80, 0xc9, 0x02, 0x05, 0xac];
+    let Some(Ok(form)) = form_in(&packet, NO_STRIDE) else {
+        panic!(rt; "refused");
+    };
+    assert_eq!(rt; form.tsc, Some(true));
+    let stride = match form.values {
+        Some(values) => values.stride,
+        None => None,
+    };
+    assert_eq!(rt; stride, Some(5));
+    assert_eq!(rt; form.payload, [0xac].as_slice());
+}
+
+// UOR-2-TS jump under a large identifier, which stands behind the first octet.
+#[test]
+fn a_large_identifier_is_no_part_of_it(rt: HostRuntime) {
+    let packet = [0xd4, 0x0c, 0xc3, 0x3e, 0xad];
+    let Some(Ok(large)) = form_on(CidKind::Large, &packet, IN_ORDER) else {
+        panic!(rt; "refused");
+    };
+    let Some(Ok(small)) = form_in(&[0xd4, 0xc3, 0x3e, 0xad], IN_ORDER) else {
+        panic!(rt; "refused");
+    };
+    assert_eq!(rt; said(&large), said(&small));
+    assert_eq!(rt; large.payload, small.payload);
+}
+
+// The longest packet of refused extensions: a payload that is too long for a header is read here.
+#[test]
+fn a_payload_of_any_length_is_read(rt: HostRuntime) {
+    let mut packet = [0; 65_497];
+    packet[0] = 0x10;
+    let Some(Ok(form)) = form_in(&packet, IN_ORDER) else {
+        panic!(rt; "refused");
+    };
+    assert_eq!(rt; form.kind, FormKind::Uo0);
+    assert_eq!(rt; number(form.sn), (4, 2));
+    assert_eq!(rt; form.payload.len(), 65_496);
+}
+
 // Refused extensions, example no stride and the cut-off UDP checksum.
-const REFUSED: [(&[u8], Context, FormRefusal); 12] = [
+const REFUSED: [(&[u8], Context, FormRefusal); 13] = [
     (&[0xc0, 0x03, 0x80, 0xc1, 0x04], IN_ORDER, FormRefusal::Csrc),
     (
         &[0xc0, 0x03, 0x80, 0xc2, 0x01],
@@ -390,6 +465,12 @@ const REFUSED: [(&[u8], Context, FormRefusal); 12] = [
         IN_ORDER,
         FormRefusal::IpIdTwice,
     ),
+    // The octet of S is cut off behind what is judged before it.
+    (
+        &[0xc0, 0x03, 0x80, 0xe6, 0x02],
+        IN_ORDER,
+        FormRefusal::IpIdTwice,
+    ),
     (&[0x80, 0x90, 0xc2, 0x02], IN_ORDER, FormRefusal::RndInUo1),
     (&[0xc0, 0x03], IN_ORDER, FormRefusal::Truncated),
     (&[0xc0, 0x03, 0x80, 0xc2], IN_ORDER, FormRefusal::Truncated),
@@ -407,26 +488,37 @@ fn refused_packets(rt: HostRuntime) {
     }
 }
 
-// Whether each front of a packet that ends inside its header is refused as cut off; one octet of payload
-// follows the header.
-fn is_cut_off_inside(packet: &[u8], context: Context) -> bool {
-    let Some((_payload, header)) = packet.split_last() else {
-        return false;
-    };
-    for end in 1..header.len() {
-        let Some(Err(FormRefusal::Truncated)) = form_in(&header[..end], context) else {
+// Whether each front of octets is refused as cut off.
+fn is_cut_off_inside(octets: &[u8], context: Context) -> bool {
+    for end in 1..octets.len() {
+        let Some(Err(FormRefusal::Truncated)) = form_in(&octets[..end], context) else {
             return false;
         };
     }
     true
 }
 
+// A packet with a payload of one octet is cut off within its header, and read without the payload.
+fn is_read_behind_its_header(packet: &[u8], context: Context) -> bool {
+    let Some((_payload, header)) = packet.split_last() else {
+        return false;
+    };
+    let Some(Ok(form)) = form_in(header, context) else {
+        return false;
+    };
+    form.payload.is_empty() && is_cut_off_inside(header, context)
+}
+
 #[test]
 fn cut_at_each_octet(rt: HostRuntime) {
     for (packet, context, _said) in PLAIN {
-        assert!(rt; is_cut_off_inside(packet, context));
+        assert!(rt; is_read_behind_its_header(packet, context));
     }
     for (packet, context, _said, _ip) in EXTENDED {
+        assert!(rt; is_read_behind_its_header(packet, context));
+    }
+    // What is refused is refused for its last octet or what isn't behind it.
+    for (packet, context, _refusal) in REFUSED {
         assert!(rt; is_cut_off_inside(packet, context));
     }
 }
