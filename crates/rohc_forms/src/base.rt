@@ -47,13 +47,14 @@ pub(crate) fn kind(base: Base, rnd: bool) -> FormKind
     }
 }
 
-/// The check of the least significant bits.
+/// The check of the three least significant bits.
 fn check_3(number: u32) -> u8
     ensures { result ≡ (slice number 0 3).value }
 {
     (number % 8) as u8
 }
 
+/// The check of the seven least significant bits.
 fn check_7(number: u32) -> u8
     ensures { result ≡ (slice number 0 7).value }
 {

@@ -70,7 +70,8 @@ pub struct Form<'a> {
     pub id: IdBits,
     /// The UDP checksum, where packets carry one.
     pub udp_sum: Option<u16>,
-    /// RTP's marker.
+    /// RTP's marker: the rtp octet's where an extension 3 has one, else the format's; `false` where
+    /// nothing carries it.
     pub marker: bool,
     /// What an extension 3 gives.
     pub values: Option<Values>,

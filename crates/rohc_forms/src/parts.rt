@@ -1,4 +1,4 @@
-//! What single parts of a packet say.
+//! What single parts of a packet say. The module is open for the definitions, which name its types.
 
 use crate::form::{FormKind, Values};
 use rohc_bits::Bits;
