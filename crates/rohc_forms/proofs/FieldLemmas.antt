@@ -11,8 +11,10 @@ use Rattle.rohc_forms.specs.declared.refusal.FormRefusal.{FormRefusal}
 use Rattle.rohc_forms.specs.Octets.{◌>>=◌, octet_at, word_at, octet_if, word_if, value_at}
 use Rattle.rohc_forms.specs.Table.{Said, S, R-TS, Tsc, I, IP, RTP, has, base_said}
 use Rattle.rohc_forms.specs.Judging.{judged, ip_fault, twice_fault, protocol_fault, rtp_fault, stride_fault, no_stride_fault}
-use Rattle.rohc_forms.specs.Extension.{judged_octet, ip_flags, ip_octet_at, rnd_in_force, sn_at, ts_at, behind_protocol, ip_given_at, offset_at, rtp_flags, stride_at, behind_time_stride, behind_rtp_octet, rtp_given_at, rtp_values, behind_ip_octet}
-use Rattle.rohc_forms.specs.Packets.{Content, kind_of, base_at, extension_1_at, extension_2_at, short_extension_at, extension_3_at, extension_at, behind_base, head_at, form_at}
+use Rattle.rohc_forms.specs.Given.{ip_flags, rnd_in_force, rtp_flags, rtp_values}
+use Rattle.rohc_forms.specs.Extension.{judged_octet, ip_octet_at, sn_at, ts_at, behind_protocol, ip_given_at, offset_at, stride_at, behind_time_stride, behind_rtp_octet, rtp_given_at, behind_ip_octet}
+use Rattle.rohc_forms.specs.Content.{Content, kind_of}
+use Rattle.rohc_forms.specs.Packets.{base_at, extension_1_at, extension_2_at, short_extension_at, extension_3_at, extension_at, behind_base, head_at, form_at}
 use Rattle.rohc_forms.specs.Fields.{Fields, Payload, Octets, Octet, Value, Judged, after_fields, any, if_named, last_fields, ip_fields, rtp_fields, rtp_octet_fields, later_fields, extension_3_fields, extension_fields, behind_base_fields, behind_first, form_fields, fault_in, form_fault}
 use Rattle.rohc_forms.specs.Laws.{RefusesForms}
 

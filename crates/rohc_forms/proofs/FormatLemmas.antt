@@ -5,7 +5,7 @@ use Rattle.std.proofs.lemmas.Bool.Decides.{nat_tests}
 use Rattle.rohc_forms.specs.declared.form.FormKind.{FormKind}
 use Rattle.rohc_forms.specs.declared.form.FormKind.TheVariants.{Uo0, Uo1, Uo1Id, Uo1Ts, Uor2, Uor2Id, Uor2Ts}
 use Rattle.rohc_forms.specs.Octets.{slice, bit}
-use Rattle.rohc_forms.specs.Packets.{kind_of}
+use Rattle.rohc_forms.specs.Content.{kind_of}
 use Rattle.rohc_forms.specs.Formats.{is_found, number_of, begin_with, has_format, base_of, FitsOne, FitsOneExtension}
 use Rattle.rohc_forms.specs.Table.{plus, minus, layout_0, layout_1, layout_2, short_layout}
 

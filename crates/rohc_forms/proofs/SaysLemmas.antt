@@ -12,8 +12,10 @@ use Rattle.rohc_forms.specs.Octets.{◌>>=◌, Digits, octet_at, word_at, octet_
 use Rattle.rohc_forms.specs.Table.{Said, Layout, width, under, layout_0, layout_1, layout_2, short_layout, S, R-TS, Tsc, I, IP, RTP, has, base_said}
 use Rattle.rohc_forms.specs.Formats.{number_of}
 use Rattle.rohc_forms.specs.Judging.{judged, ip_fault, twice_fault, protocol_fault, rtp_fault, stride_fault, no_stride_fault}
-use Rattle.rohc_forms.specs.Extension.{judged_octet, ip_flags, ip_octet_at, rnd_in_force, sn_at, ts_at, behind_protocol, ip_given_at, offset_at, rtp_flags, stride_at, behind_time_stride, behind_rtp_octet, rtp_given_at, rtp_values, behind_ip_octet}
-use Rattle.rohc_forms.specs.Packets.{Head, Content, kind_of, plain_head, base_at, extension_1_at, extension_2_at, short_extension_at, extension_3_at, extension_at, behind_base, head_at, whole_content, form_at}
+use Rattle.rohc_forms.specs.Given.{ip_flags, rnd_in_force, rtp_flags, rtp_values}
+use Rattle.rohc_forms.specs.Extension.{judged_octet, ip_octet_at, sn_at, ts_at, behind_protocol, ip_given_at, offset_at, stride_at, behind_time_stride, behind_rtp_octet, rtp_given_at, behind_ip_octet}
+use Rattle.rohc_forms.specs.Content.{Head, Content, kind_of, plain_head, whole_content}
+use Rattle.rohc_forms.specs.Packets.{base_at, extension_1_at, extension_2_at, short_extension_at, extension_3_at, extension_at, behind_base, head_at, form_at}
 use Rattle.rohc_forms.specs.Pieces.{IsOctet, IsWord, IsValue, Says, Then, IfNamed, Which, As, NotRefused}
 use Rattle.rohc_forms.specs.Says.{IsUnder, base_length, IsBase, with_sn, with_ts, and_offset, IsIpOctet, IsProtocol, IsIpGiven, stride_of, IsStride, IsTimeStride, IsRtpNamed, IsRtpGiven, IsBehindIp, IsExtension3, IsExtension, IsHead, IsPayload, IsForm}
 use Rattle.rohc_forms.specs.Laws.{ReadsForms, SaysOne}

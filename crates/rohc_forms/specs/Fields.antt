@@ -10,8 +10,8 @@ use Rattle.rohc_forms.specs.declared.refusal.FormRefusal.TheVariants.{Truncated}
 use Rattle.rohc_forms.specs.Octets.{◌>>=◌, value_at}
 use Rattle.rohc_forms.specs.Table.{S, R-TS, Tsc, I, IP, RTP, has, base_said}
 use Rattle.rohc_forms.specs.Judging.{judged, ip_fault, twice_fault, protocol_fault, rtp_fault, stride_fault, no_stride_fault}
-use Rattle.rohc_forms.specs.Extension.{ip_flags, rtp_flags}
-use Rattle.rohc_forms.specs.Packets.{kind_of}
+use Rattle.rohc_forms.specs.Given.{ip_flags, rtp_flags}
+use Rattle.rohc_forms.specs.Content.{kind_of}
 
 -- The fields that stand one behind the other: octets that are taken as they are; an octet with its refusal,
 -- which names the fields behind it; a self-describing value with its refusal; what takes no octets, with its

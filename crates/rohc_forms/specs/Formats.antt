@@ -5,7 +5,7 @@ use Rattle.rohc_forms.specs.declared.form.FormKind.TheVariants.{Uo0, Uo1, Uo1Id,
 use Rattle.rohc_forms.specs.declared.parts.Base.{Base}
 use Rattle.rohc_forms.specs.Octets.{slice}
 use Rattle.rohc_forms.specs.Table.{Field, Fixed, Sn, Ts, Id, Marker, Extended, Check, Layout, layout, layout_0, layout_1, layout_2, short_layout, width}
-use Rattle.rohc_forms.specs.Packets.{kind_of}
+use Rattle.rohc_forms.specs.Content.{kind_of}
 
 -- the number that a field has in each packet of the format, where it has one, is the one that is found
 abbrev pub is_found : Field → ℕ → Bool

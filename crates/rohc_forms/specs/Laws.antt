@@ -1,7 +1,8 @@
 use Rattle.std.specs.Prelude.{◌≡◌, ◌↔◌, Bool, Some, Ok, Err}
 use Rattle.rohc_frame.specs.Header.{Header}
 use Rattle.rohc_forms.specs.declared.refusal.FormRefusal.{FormRefusal}
-use Rattle.rohc_forms.specs.Packets.{Content, form_at}
+use Rattle.rohc_forms.specs.Content.{Content}
+use Rattle.rohc_forms.specs.Packets.{form_at}
 use Rattle.rohc_forms.specs.Fields.{form_fault}
 use Rattle.rohc_forms.specs.Says.{IsForm}
 

@@ -1,23 +1,23 @@
 -- Whole packets of kind Other (RFC 3095 5.7.1 to 5.7.5), read from left to right, with the first fault that is met.
-use Rattle.std.specs.Prelude.{ℕ, ◌+◌, ◌*◌, List, Bool, nat_lt, if◌then◌else◌, Option, Some, None, option_map, Result, Ok}
+use Rattle.std.specs.Prelude.{ℕ, ◌+◌, ◌*◌, List, Bool, nat_lt, if◌then◌else◌, Some, option_map, Result, Ok}
 use Rattle.rohc_frame.specs.declared.header.HeadKind.{HeadKind}
 use Rattle.rohc_frame.specs.declared.header.HeadKind.TheVariants.{Ir, IrDyn, Other}
 use Rattle.rohc_frame.specs.Header.{Header}
 use Rattle.rohc_forms.specs.declared.form.FormKind.{FormKind}
-use Rattle.rohc_forms.specs.declared.form.FormKind.TheVariants.{Uo0, Uo1, Uo1Id, Uo1Ts, Uor2, Uor2Id, Uor2Ts}
 use Rattle.rohc_forms.specs.declared.form.IdBits.{IdBits}
 use Rattle.rohc_forms.specs.declared.form.IdBits.TheVariants as code
-use Rattle.rohc_forms.specs.declared.form.Values.{Values}
 use Rattle.rohc_forms.specs.declared.form.Form.{Form}
 use Rattle.rohc_forms.specs.declared.parts.Fields.{Fields}
 use Rattle.rohc_forms.specs.declared.parts.Base.{Base}
 use Rattle.rohc_forms.specs.declared.parts.Extension3 as parts
 use Rattle.rohc_forms.specs.declared.parts.Head as parts_head
 use Rattle.rohc_forms.specs.declared.refusal.FormRefusal.{FormRefusal}
-use Rattle.rohc_forms.specs.Octets.{◌>>=◌, Digits, digits, bit, octet_at, word_at, word_if}
+use Rattle.rohc_forms.specs.Octets.{◌>>=◌, digits, octet_at, word_at, word_if}
 use Rattle.rohc_forms.specs.Table.{Said, Tsc, I, IP, has, under, layout_0, layout_1, layout_2, base_said}
 use Rattle.rohc_forms.specs.Judging.{judged, twice_fault}
-use Rattle.rohc_forms.specs.Extension.{ip_octet_at, rnd_in_force, Extended3, behind_ip_octet}
+use Rattle.rohc_forms.specs.Given.{rnd_in_force, Extended3}
+use Rattle.rohc_forms.specs.Content.{Content, Head, IdSaid, Offset, Same, Whole, kind_of, plain_head, whole_content}
+use Rattle.rohc_forms.specs.Extension.{ip_octet_at, behind_ip_octet}
 
 -- what a reader's fields say
 abbrev pub said_by : Fields → Said
@@ -33,29 +33,8 @@ base_at first text =
     else if nat_lt first 192 then (octet_at text >>= λ x. Ok (record { first = first; number = first * 256 + x.0 }, x.1))
     else (word_at text >>= λ x. Ok (record { first = first; number = first * 65536 + x.0 }, x.1))
 
--- The format of a packet, by the RND in force: the first octet begins with 0, 10 or 110; the T bit of UO-1 is
--- bit 5 of the first octet, that of UOR-2 bit 7 of the second.
-abbrev pub kind_of : Base → Bool → FormKind
-kind_of base rnd =
-    if nat_lt base.first 128 then Uo0
-    else if nat_lt base.first 192 then (if rnd then Uo1 else if bit 5 base.first then Uo1Ts else Uo1Id)
-    else (if rnd then Uor2 else if bit 15 base.number then Uor2Ts else Uor2Id)
-
--- What a packet says behind what an extension says, apart from where its payload lies in memory.
-pub record Head : Type 0 where
-  pub kind : FormKind
-  pub rnd : Bool
-  pub said : Said
-  pub tsc : Option Bool
-  pub marker : Bool
-  pub values : Option Values
-
 abbrev pub head_by : parts_head.Head → Head
 head_by h = record { kind = h.kind; rnd = h.rnd; said = said_by h.fields; tsc = h.tsc; marker = h.marker; values = h.values }
-
--- what is said without an extension 3
-abbrev pub plain_head : FormKind → Bool → Said → Head
-plain_head kind rnd said = record { kind = kind; rnd = rnd; said = said; tsc = None; marker = said.marker; values = None }
 
 -- extensions 1 and 2, behind their first octet
 unfoldable pub extension_1_at : FormKind → ℕ → Said → List ℕ → Result (Said × List ℕ) FormRefusal
@@ -97,35 +76,10 @@ behind_base base rnd stride_known text =
 unfoldable pub head_at : ℕ → Bool → Bool → List ℕ → Result (Head × List ℕ) FormRefusal
 head_at first rnd stride_known text = base_at first text >>= λ x. behind_base x.0 rnd stride_known x.1
 
--- What is said of the Identification: nothing, bits of its offset, or the whole.
-pub data IdSaid : Type 0 where
-  Same : IdSaid
-  Offset : Digits → IdSaid
-  Whole : ℕ → IdSaid
-
 abbrev pub id_by : IdBits → IdSaid
 id_by code.Same = Same
 id_by (code.Offset bits) = Offset (digits bits)
 id_by (code.Whole id) = Whole id
-
--- an Identification that stands in the packet is the whole
-abbrev pub id_said : Option ℕ → Option Digits → IdSaid
-id_said (Some id) bits = Whole id
-id_said None (Some bits) = Offset bits
-id_said None None = Same
-
--- What a packet of kind Other says.
-pub record Content : Type 0 where
-  pub kind : FormKind
-  pub sn : Option Digits
-  pub ts : Option Digits
-  pub tsc : Option Bool
-  pub id : IdSaid
-  pub udp_sum : Option ℕ
-  pub marker : Bool
-  pub values : Option Values
-  pub check : ℕ
-  pub payload : List ℕ
 
 abbrev pub content : Form → Content
 content f = record {
@@ -139,20 +93,6 @@ content f = record {
   values = f.values;
   check = f.check;
   payload = f.payload.now;
-}
-
-abbrev pub whole_content : Head → Option ℕ → Option ℕ → List ℕ → Content
-whole_content head id udp_sum payload = record {
-  kind = head.kind;
-  sn = head.said.sn;
-  ts = head.said.ts;
-  tsc = head.tsc;
-  id = id_said id head.said.id;
-  udp_sum = udp_sum;
-  marker = head.marker;
-  values = head.values;
-  check = head.said.check;
-  payload = payload;
 }
 
 abbrev pub IsOther : HeadKind → Type 0

@@ -12,8 +12,8 @@ use Rattle.rohc_forms.specs.Octets.{Digits}
 use Rattle.rohc_forms.specs.Table.{Said, Sn, Ts, Layout, and_said, width, under, short_layout, S, R-TS, Tsc, I, IP, RTP, has, base_said}
 use Rattle.rohc_forms.specs.Formats.{number_of}
 use Rattle.rohc_forms.specs.Judging.{ip_fault, twice_fault, protocol_fault, rtp_fault, stride_fault, no_stride_fault}
-use Rattle.rohc_forms.specs.Extension.{ip_flags, rnd_in_force, with_offset_if, rtp_flags, padding_in, payload_type_in, ip_values, rtp_values, marker_in, Extended3}
-use Rattle.rohc_forms.specs.Packets.{Head, Content, kind_of, plain_head, whole_content}
+use Rattle.rohc_forms.specs.Given.{ip_flags, rnd_in_force, with_offset_if, rtp_flags, padding_in, payload_type_in, ip_values, rtp_values, marker_in, Extended3}
+use Rattle.rohc_forms.specs.Content.{Head, Content, kind_of, plain_head, whole_content}
 use Rattle.rohc_forms.specs.Pieces.{IsOctet, IsWord, IsValue, Says, Then, IfNamed, Which, As, NotRefused, Unless}
 
 -- The octets behind a first one say their fields under a format, behind what is said already.

@@ -3,7 +3,8 @@
 ghost use Rattle.std.specs.Prelude.{◌≡◌, option_map};
 ghost use Rattle.rohc_forms.specs.Octets.{Reads, digits, slice};
 ghost use Rattle.rohc_forms.specs.Table.{base_said, uor2_said};
-ghost use Rattle.rohc_forms.specs.Packets.{said_by, base_at, kind_of};
+ghost use Rattle.rohc_forms.specs.Content.{kind_of};
+ghost use Rattle.rohc_forms.specs.Packets.{said_by, base_at};
 
 use crate::form::FormKind;
 use crate::octets::{bits, is_set, octet, word};

@@ -2,7 +2,8 @@
 
 ghost use Rattle.std.specs.Prelude.{◌≡◌, ◌<◌};
 ghost use Rattle.rohc_forms.specs.Octets.{Reads, ReadsAs};
-ghost use Rattle.rohc_forms.specs.Extension.{ip_octet_at, rnd_in_force, sn_at, ts_at, behind_protocol, ip_given_at, offset_at, stride_at, behind_time_stride, padding_in, payload_type_in, behind_rtp_octet, rtp_given_at, ip_values, rtp_values, marker_in, behind_ip_octet};
+ghost use Rattle.rohc_forms.specs.Given.{rnd_in_force, padding_in, payload_type_in, ip_values, rtp_values, marker_in};
+ghost use Rattle.rohc_forms.specs.Extension.{ip_octet_at, sn_at, ts_at, behind_protocol, ip_given_at, offset_at, stride_at, behind_time_stride, behind_rtp_octet, rtp_given_at, behind_ip_octet};
 ghost use Rattle.rohc_forms.specs.Packets.{said_by, extended_by};
 
 use crate::form::{FormKind, Values};

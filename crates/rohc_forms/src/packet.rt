@@ -3,7 +3,8 @@
 ghost use Rattle.std.specs.Prelude.{◌≡◌};
 ghost use Rattle.rohc_forms.specs.Octets.{ReadsAs};
 ghost use Rattle.rohc_forms.specs.Table.{under, layout_0};
-ghost use Rattle.rohc_forms.specs.Packets.{said_by, head_by, extension_1_at, extension_2_at, short_extension_at, plain_head, extension_3_at, extension_at, head_at};
+ghost use Rattle.rohc_forms.specs.Content.{plain_head};
+ghost use Rattle.rohc_forms.specs.Packets.{said_by, head_by, extension_1_at, extension_2_at, short_extension_at, extension_3_at, extension_at, head_at};
 
 use crate::base::{base, base_fields, kind};
 use crate::extension::{behind_ip, ip_octet, rnd_of};

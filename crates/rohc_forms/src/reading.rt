@@ -3,7 +3,8 @@
 ghost use Rattle.std.specs.Prelude.{◌≡◌, Some, Ok, option_map, IfOk, IfErr};
 ghost use Rattle.std.specs.Result.{result_map_both};
 ghost use Rattle.rohc_frame.specs.Reading.{header_of};
-ghost use Rattle.rohc_forms.specs.Packets.{IsOther, Content, id_by, id_said, content, form_at};
+ghost use Rattle.rohc_forms.specs.Content.{Content, id_said};
+ghost use Rattle.rohc_forms.specs.Packets.{IsOther, id_by, content, form_at};
 ghost use Rattle.rohc_forms.specs.Octets.{digits};
 ghost use Rattle.rohc_forms.specs.Fields.{form_fault};
 ghost use Rattle.rohc_forms.specs.Says.{IsForm};

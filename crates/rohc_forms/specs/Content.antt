@@ -1,0 +1,69 @@
+-- What a packet of kind Other says (RFC 3095 5.7.1 to 5.7.5).
+use Rattle.std.specs.Prelude.{ℕ, List, Bool, nat_lt, if◌then◌else◌, Option, Some, None}
+use Rattle.rohc_forms.specs.declared.form.FormKind.{FormKind}
+use Rattle.rohc_forms.specs.declared.form.FormKind.TheVariants.{Uo0, Uo1, Uo1Id, Uo1Ts, Uor2, Uor2Id, Uor2Ts}
+use Rattle.rohc_forms.specs.declared.form.Values.{Values}
+use Rattle.rohc_forms.specs.declared.parts.Base.{Base}
+use Rattle.rohc_forms.specs.Octets.{Digits, bit}
+use Rattle.rohc_forms.specs.Table.{Said}
+
+-- The format of a packet, by the RND in force: the first octet begins with 0, 10 or 110; the T bit of UO-1 is
+-- bit 5 of the first octet, that of UOR-2 bit 7 of the second.
+abbrev pub kind_of : Base → Bool → FormKind
+kind_of base rnd =
+    if nat_lt base.first 128 then Uo0
+    else if nat_lt base.first 192 then (if rnd then Uo1 else if bit 5 base.first then Uo1Ts else Uo1Id)
+    else (if rnd then Uor2 else if bit 15 base.number then Uor2Ts else Uor2Id)
+
+-- What a packet says behind what an extension says, apart from where its payload lies in memory.
+pub record Head : Type 0 where
+  pub kind : FormKind
+  pub rnd : Bool
+  pub said : Said
+  pub tsc : Option Bool
+  pub marker : Bool
+  pub values : Option Values
+
+-- what is said without an extension 3
+abbrev pub plain_head : FormKind → Bool → Said → Head
+plain_head kind rnd said = record { kind = kind; rnd = rnd; said = said; tsc = None; marker = said.marker; values = None }
+
+-- What is said of the Identification: nothing, bits of its offset, or the whole.
+pub data IdSaid : Type 0 where
+  Same : IdSaid
+  Offset : Digits → IdSaid
+  Whole : ℕ → IdSaid
+
+-- an Identification that stands in the packet is the whole
+abbrev pub id_said : Option ℕ → Option Digits → IdSaid
+id_said (Some id) bits = Whole id
+id_said None (Some bits) = Offset bits
+id_said None None = Same
+
+-- What a packet of kind Other says.
+pub record Content : Type 0 where
+  pub kind : FormKind
+  pub sn : Option Digits
+  pub ts : Option Digits
+  pub tsc : Option Bool
+  pub id : IdSaid
+  pub udp_sum : Option ℕ
+  pub marker : Bool
+  pub values : Option Values
+  pub check : ℕ
+  pub payload : List ℕ
+
+-- what is said behind an extension, of the Identification and the UDP checksum, and the payload
+abbrev pub whole_content : Head → Option ℕ → Option ℕ → List ℕ → Content
+whole_content head id udp_sum payload = record {
+  kind = head.kind;
+  sn = head.said.sn;
+  ts = head.said.ts;
+  tsc = head.tsc;
+  id = id_said id head.said.id;
+  udp_sum = udp_sum;
+  marker = head.marker;
+  values = head.values;
+  check = head.said.check;
+  payload = payload;
+}

@@ -1,0 +1,69 @@
+-- What an extension 3 gives (RFC 3095 5.7.5).
+use Rattle.std.specs.Prelude.{ℕ, ◌%◌, Bool, Option, Some, None}
+use Rattle.rohc_forms.specs.declared.form.Values.{Values}
+use Rattle.rohc_forms.specs.declared.parts.IpFlags.{IpFlags}
+use Rattle.rohc_forms.specs.declared.parts.IpGiven.{IpGiven}
+use Rattle.rohc_forms.specs.declared.parts.RtpFlags.{RtpFlags}
+use Rattle.rohc_forms.specs.declared.parts.RtpGiven.{RtpGiven}
+use Rattle.rohc_forms.specs.Octets.{bit}
+use Rattle.rohc_forms.specs.Table.{Said, TOS, TTL, DF, PR, NBO, RND, R-PT, M, R-X, TSS, TIS, has}
+
+-- the flags of the ip octet
+abbrev pub ip_flags : ℕ → IpFlags
+ip_flags octet = record { tos = has TOS octet; ttl = has TTL octet; df = has DF octet; protocol = has PR octet; nbo = has NBO octet; rnd = has RND octet }
+
+-- the RND in force: the one that is given, else the one that is kept
+abbrev pub rnd_in_force : Bool → Option IpFlags → Bool
+rnd_in_force kept None = kept
+rnd_in_force kept (Some ip) = ip.rnd
+
+-- an offset of 16 bits stands in place of those that are said already
+abbrev pub with_offset : ℕ → Said → Said
+with_offset offset s = record { sn = s.sn; ts = s.ts; id = Some (record { count = 16; value = offset }); marker = s.marker; extended = s.extended; check = s.check }
+
+abbrev pub with_offset_if : Option ℕ → Said → Said
+with_offset_if None s = s
+with_offset_if (Some offset) s = with_offset offset s
+
+-- the flags of the rtp octet
+abbrev pub rtp_flags : ℕ → RtpFlags
+rtp_flags octet = record { payload_type = has R-PT octet; marker = has M octet; extension = has R-X octet; stride = has TSS octet; time_stride = has TIS octet }
+
+-- the octet of P and PT
+abbrev pub padding_in : Option ℕ → Option Bool
+padding_in None = None
+padding_in (Some octet) = Some (bit 7 octet)
+
+abbrev pub payload_type_in : Option ℕ → Option ℕ
+payload_type_in None = None
+payload_type_in (Some octet) = Some (octet % 128)
+
+-- the values that are given
+abbrev pub ip_values : Option IpGiven → Values → Values
+ip_values None v = v
+ip_values (Some ip) v = record {
+  tos = ip.tos;
+  ttl = ip.ttl;
+  payload_type = v.payload_type;
+  stride = v.stride;
+  padding = v.padding;
+  df = Some ip.df;
+  nbo = Some ip.nbo;
+  rnd = Some ip.rnd;
+  extension = v.extension;
+}
+
+abbrev pub rtp_values : Option RtpGiven → Values
+rtp_values None = record { tos = None; ttl = None; payload_type = None; stride = None; padding = None; df = None; nbo = None; rnd = None; extension = None }
+rtp_values (Some rtp) = record { tos = None; ttl = None; payload_type = rtp.payload_type; stride = rtp.stride; padding = rtp.padding; df = None; nbo = None; rnd = None; extension = Some rtp.extension }
+
+-- the marker of the rtp octet alone, where there is one
+abbrev pub marker_in : Bool → Option RtpGiven → Bool
+marker_in base None = base
+marker_in base (Some rtp) = rtp.marker
+
+-- What an extension 3 says behind its first octets.
+pub record Extended3 : Type 0 where
+  pub said : Said
+  pub marker : Bool
+  pub values : Values
