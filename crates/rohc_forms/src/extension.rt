@@ -6,6 +6,7 @@ ghost use Rattle.rohc_forms.specs.Given.{rnd_in_force, padding_in, payload_type_
 ghost use Rattle.rohc_forms.specs.Extension.{ip_octet_at, sn_at, ts_at, behind_protocol, ip_given_at, offset_at, stride_at, behind_time_stride, behind_rtp_octet, rtp_given_at, behind_ip_octet};
 ghost use Rattle.rohc_forms.specs.Packets.{said_by, extended_by};
 
+use crate::flag;
 use crate::form::{FormKind, Values};
 use crate::octets::{is_set, octet, optional_octet, optional_word, value};
 use crate::parts::{Extension3, Fields, IpFlags, IpGiven, RtpFlags, RtpGiven};
@@ -25,22 +26,22 @@ pub(crate) fn ip_octet(
         return Ok(None);
     }
     let flags = u32::from(octet(cursor)?);
-    if is_set(flags, 3) {
+    if is_set(flags, flag::IPX) {
         return Err(FormRefusal::ExtensionList);
     }
-    let rnd = is_set(flags, 1);
+    let rnd = is_set(flags, flag::RND);
     if rnd && matches!(kind, FormKind::Uo1Id) {
         return Err(FormRefusal::RndInUo1);
     }
-    if is_set(flags, 0) {
+    if is_set(flags, flag::IP2) {
         return Err(FormRefusal::OuterHeader);
     }
     Ok(Some(IpFlags {
-        tos: is_set(flags, 7),
-        ttl: is_set(flags, 6),
-        df: is_set(flags, 5),
-        protocol: is_set(flags, 4),
-        nbo: is_set(flags, 2),
+        tos: is_set(flags, flag::TOS),
+        ttl: is_set(flags, flag::TTL),
+        df: is_set(flags, flag::DF),
+        protocol: is_set(flags, flag::PR),
+        nbo: is_set(flags, flag::NBO),
         rnd,
     }))
 }
@@ -205,15 +206,15 @@ fn rtp_given(present: bool, cursor: &mut Cursor<'_>) -> Result<Option<RtpGiven>,
         return Err(FormRefusal::ReliableMode);
     }
     let flags = u32::from(octet);
-    if is_set(flags, 2) {
+    if is_set(flags, flag::CSRC) {
         return Err(FormRefusal::Csrc);
     }
     let rtp = RtpFlags {
-        payload_type: is_set(flags, 5),
-        marker: is_set(flags, 4),
-        extension: is_set(flags, 3),
-        stride: is_set(flags, 1),
-        time_stride: is_set(flags, 0),
+        payload_type: is_set(flags, flag::R_PT),
+        marker: is_set(flags, flag::M),
+        extension: is_set(flags, flag::R_X),
+        stride: is_set(flags, flag::TSS),
+        time_stride: is_set(flags, flag::TIS),
     };
     Ok(Some(named_by(rtp, cursor)?))
 }
@@ -283,13 +284,13 @@ pub(crate) fn behind_ip(
 ) -> Result<Extension3, FormRefusal>
     ensures { ReadsAs extended_by result cursor.new (behind_ip_octet flags stride_known ip (said_by fields) cursor.old) }
 {
-    let fields = with_sn(is_set(flags, 5), fields, cursor)?;
-    let fields = with_ts(is_set(flags, 4), fields, cursor)?;
+    let fields = with_sn(is_set(flags, flag::S), fields, cursor)?;
+    let fields = with_ts(is_set(flags, flag::R_TS), fields, cursor)?;
     let ip = ip_given(ip, cursor)?;
-    let fields = with_offset(is_set(flags, 2), fields, cursor)?;
-    let rtp = rtp_given(is_set(flags, 0), cursor)?;
+    let fields = with_offset(is_set(flags, flag::I), fields, cursor)?;
+    let rtp = rtp_given(is_set(flags, flag::RTP), cursor)?;
     let given = values_of_rtp(rtp);
-    if is_set(flags, 3) && !stride_known && given.stride.is_none() {
+    if is_set(flags, flag::TSC) && !stride_known && given.stride.is_none() {
         return Err(FormRefusal::NoStride);
     }
     Ok(Extension3 {

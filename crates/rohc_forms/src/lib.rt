@@ -5,6 +5,7 @@
 mod base;
 mod extension;
 mod fields;
+mod flag;
 pub mod form;
 pub mod laws;
 mod octets;

@@ -8,6 +8,7 @@ ghost use Rattle.rohc_forms.specs.Packets.{said_by, head_by, extension_1_at, ext
 
 use crate::base::{base, base_fields, kind};
 use crate::extension::{behind_ip, ip_octet, rnd_of};
+use crate::flag;
 use crate::form::FormKind;
 use crate::octets::{bits, is_set, octet, word};
 use crate::parts::{Base, Fields, Head};
@@ -94,9 +95,9 @@ fn extension_3(
     ensures { ReadsAs head_by result cursor.new (extension_3_at base kept_rnd stride_known first cursor.old) }
 {
     let flags = u32::from(first);
-    let ip = ip_octet(is_set(flags, 1), kind(base, kept_rnd), cursor)?;
+    let ip = ip_octet(is_set(flags, flag::IP), kind(base, kept_rnd), cursor)?;
     let in_force = rnd_of(kept_rnd, ip);
-    if is_set(flags, 2) && in_force {
+    if is_set(flags, flag::I) && in_force {
         return Err(FormRefusal::IpIdTwice);
     }
     let kind = kind(base, in_force);
@@ -106,7 +107,7 @@ fn extension_3(
         kind,
         rnd: in_force,
         fields: extended.fields,
-        tsc: Some(is_set(flags, 3)),
+        tsc: Some(is_set(flags, flag::TSC)),
         marker: extended.marker,
         values: Some(extended.values),
     })
