@@ -4,7 +4,7 @@ use Rattle.std.specs.List.{flat_map, AllByRecursion}
 use Rattle.rohc_context.specs.declared.settings.Settings.{Settings}
 use Rattle.rohc_context.specs.Record.{Record}
 use Rattle.rohc_context.specs.Response.{Response}
-use Rattle.rohc_context.proofs.StepLemmas.{step_rich}
+use Rattle.rohc_context.proofs.StepLemmas.{never_poor}
 use Rattle.rohc_concentrator.specs.declared.concentrator.Concentrator.{Concentrator}
 use Rattle.rohc_concentrator.specs.declared.setting.LinkSetting.{LinkSetting}
 use Rattle.rohc_concentrator.specs.Setting.{settings_in}
@@ -39,7 +39,7 @@ runs_alone s l c before after ((Arrival m h, false) ∷ marked) (reply ∷ repli
       reply ∷ more.0,
       (run.0, run.1, more.1),
       filter-append (is_own_line l c) (response_lines l c reply) (flat_map (response_lines l c) replies)
-          ∙ rw (reply_kept l c reply (step_rich before s m h reply run.0 run.1), more.2) refl,
+          ∙ rw (reply_kept l c reply (never_poor before s m h reply run.0 run.1), more.2) refl,
     )
 runs_alone s l c before after ((Arrival m h, true) ∷ marked) (reply ∷ replies) run =
     let more = runs_alone s l c run.0 after marked replies run.2 in
