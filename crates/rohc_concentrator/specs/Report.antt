@@ -23,6 +23,7 @@ pub data Report : Type 0 where
   OnlyFront : List (List ℕ) → Report
   Refused : Refusal → Report
 
+-- the answer of the code as such a report
 abbrev pub report_of : Answer → Report
 report_of (answers.Arrived cid reply relayed) = Arrived cid (response_of reply) (elements_of relayed)
 report_of (answers.OnlyFront relayed) = OnlyFront (elements_of relayed)
@@ -73,6 +74,7 @@ abbrev pub borne : Option LinkSetting → List ℕ → Option ℕ
 borne None octets = None
 borne (Some s) octets = borne_in (parts_of s.settings.size s.settings.max_cid octets)
 
+-- the outcome is the refusal `NoMemory`
 abbrev pub is_no_memory : Outcome → Bool
 is_no_memory (outcomes.Refused refusals.NoMemory) = true
 is_no_memory outcome = false
@@ -83,6 +85,7 @@ wants_memory (Arrived cid response relayed) = is_no_memory response.outcome
 wants_memory (OnlyFront relayed) = false
 wants_memory (Refused refusal) = false
 
+-- the outcome is a refusal
 abbrev pub is_refusal : Outcome → Bool
 is_refusal (outcomes.Refused refusal) = true
 is_refusal outcomes.Delivered = false

@@ -57,6 +57,7 @@ abbrev pub KeepsPlace : List ℕ → List ℕ → ℕ → Option Record → Type
 KeepsPlace old new cid (Some r) = new ≡ old
 KeepsPlace old new cid None = (new ≡ old) ⊎ (new ≡ old ++ cid ∷ [])
 
+-- the identifiers of a link keep their places, where a packet bore this identifier, or none
 abbrev pub KeepsPlaces : List ℕ → List ℕ → Option ℕ → (ℕ → Option Record) → Type 0
 KeepsPlaces old new None before = new ≡ old
 KeepsPlaces old new (Some cid) before = KeepsPlace old new cid (before cid)
