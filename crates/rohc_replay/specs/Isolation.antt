@@ -1,6 +1,7 @@
 -- Isolation: what one link and identifier are told, whatever comes under the others.
 use Rattle.std.specs.Prelude.{◌≡◌, ℕ, ◌^◌, ◌<◌, List, [], ◌∷◌, ◌++◌, map, filter, Bool, true, false, not, ◌==◌, ◌&&◌, if◌then◌else◌, Option, Some, None, codes}
 use Rattle.std.specs.List.{flat_map}
+use Rattle.std.specs.Str.{bytes_eq}
 use Rattle.std.specs.Io.KnownBytes.{Appends}
 use Rattle.rohc_context.specs.Response.{Response}
 use Rattle.rohc_concentrator.specs.declared.concentrator.Concentrator.{Concentrator}
@@ -41,13 +42,15 @@ begins_with (o ∷ os) (p ∷ ps) = (o == p) && begins_with os ps
 abbrev pub is_pair_line : ℕ → ℕ → List ℕ → Bool
 is_pair_line l c line = begins_with (pair_text l c) line
 
+-- the lines of a pair in a text
 abbrev pub pair_lines : ℕ → ℕ → List ℕ → List (List ℕ)
 pair_lines l c text = filter (is_pair_line l c) (lines_of text)
 
--- a line of the pair that isn't want of memory
+-- a line of the pair, but for the one that tells want of memory
 abbrev pub is_own_line : ℕ → ℕ → List ℕ → Bool
-is_own_line l c line = is_pair_line l c line && not (begins_with (pair_text l c ++ codes "refused NoMemory") line)
+is_own_line l c line = is_pair_line l c line && not (bytes_eq (pair_text l c ++ codes "refused NoMemory") line)
 
+-- those of them that aren't want of memory
 abbrev pub own_lines : ℕ → ℕ → List ℕ → List (List ℕ)
 own_lines l c text = filter (is_own_line l c) (lines_of text)
 
