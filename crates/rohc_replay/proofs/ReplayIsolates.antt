@@ -20,7 +20,7 @@ use Rattle.rohc_replay.specs.Script.{Line, IsLine, AreLines, IsScript, lines_of}
 use Rattle.rohc_replay.proofs.IsolationLemmas.{with_mark}
 use Rattle.rohc_replay.proofs.OwnLines.{filter-append, filter-within, reply_kept, poor_left_out}
 use Rattle.rohc_replay.proofs.SplitLemmas.{lines_of-splits, lines_of-each}
-use Rattle.rohc_replay.proofs.ToldLemmas.{marked_lines, AreFit, lines_fit, run_told}
+use Rattle.rohc_replay.proofs.ToldLemmas.{marked_lines, AreFit, lines_fit, run_set, run_told}
 use Rattle.rohc_replay.proofs.WholeLemmas.{written_lines, absent_run}
 
 -- Without the marked events and their replies a marked run is a lone run.
@@ -141,6 +141,7 @@ replay_isolates old text held holding t new r =
         answered = answered;
         alone = λ l c s lf cf set. told_alone old new l c s written marked (answered l c s lf cf set);
         taken_out = λ l c s lf cf set. told_alike old new l c s text written marked script (told_alone old new l c s written marked (answered l c s lf cf set));
+        settings = λ l. run_set l old r.lines r.answers new r.run;
         absent = λ l c lf cf none. ap (filter (is_pair_line l c)) lines ∙ absent_run l c lf cf old r.lines r.answers new r.run fit none;
       },
     )

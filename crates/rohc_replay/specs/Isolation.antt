@@ -86,13 +86,15 @@ pub record IsToldAlike (old new : Concentrator) (text : List ℕ) (marked : List
   pub script : IsScript (text_of (left s l c (lines_of text) marked)) lines
   pub alike : IsTold old new (flat_map (own_line s l c) lines) written l c s
 
--- Isolation, for all links and identifiers at once: the script's lines, each with its mark, and what each pair was told.
+-- Isolation, for all links and identifiers at once: the script's lines, each with its mark, and what each pair was told. The
+-- settings of each link stay, and a pair of a link that isn't there is told nothing.
 pub record IsIsolated (old : Concentrator) (text written : List ℕ) (new : Concentrator) : Type 0 where
   pub marked : List (Line × Bool)
   pub script : IsScript text (map (λ (m : Line × Bool). m.0) marked)
   pub answered : (l c : ℕ) (s : LinkSetting) → l < 2 ^ 16 → c < 2 ^ 16 → setting_at old l ≡ Some s → IsToldAll old new marked written l c s
   pub alone : (l c : ℕ) (s : LinkSetting) → l < 2 ^ 16 → c < 2 ^ 16 → setting_at old l ≡ Some s → IsTold old new (own s l c marked) written l c s
   pub taken_out : (l c : ℕ) (s : LinkSetting) → l < 2 ^ 16 → c < 2 ^ 16 → setting_at old l ≡ Some s → IsToldAlike old new text marked written l c s
+  pub settings : (l : ℕ) → setting_at new l ≡ setting_at old l
   pub absent : (l c : ℕ) → l < 2 ^ 16 → c < 2 ^ 16 → setting_at old l ≡ None → pair_lines l c written ≡ []
 
 -- A replay isolates: what it writes tells each identifier of each link what one context machine run alone tells.
