@@ -13,7 +13,7 @@ use Rattle.rohc_concentrator.specs.LoneRun.{LoneEvent, Arrival, Forget, LoneRun,
 use Rattle.rohc_replay.specs.declared.tally.Tally.{Tally}
 use Rattle.rohc_replay.specs.declared.fault.RunFault.{RunFault}
 use Rattle.rohc_replay.specs.AnswerLines.{response_lines, text_of}
-use Rattle.rohc_replay.specs.Isolation.{is_pair_line, is_own_line, own, own_line, own_marked, left, left_of, IsToldAll, IsTold, IsToldAlike, Isolates}
+use Rattle.rohc_replay.specs.Isolation.{is_pair_line, is_own_line, own, own_line, own_marked, lines_left, left_of, IsToldAll, IsTold, IsToldAlike, Isolates}
 use Rattle.rohc_replay.specs.Lines.{has_newline}
 use Rattle.rohc_replay.specs.Run.{Replays, marked_of}
 use Rattle.rohc_replay.specs.Script.{Line, IsLine, AreLines, IsScript, lines_of}
@@ -69,32 +69,32 @@ module _ (s : LinkSetting) (l c : ℕ) where
   each_left octets (event ∷ events) true more one each = each
   each_left octets (event ∷ events) false more one each = (one, each)
 
-  left_each : (texts : List (List ℕ)) (marked : List (Line × Bool)) → AllByRecursion (λ (line : List ℕ). has_newline line ≡ false) texts → AllByRecursion (λ (line : List ℕ). has_newline line ≡ false) (left s l c texts marked)
+  left_each : (texts : List (List ℕ)) (marked : List (Line × Bool)) → AllByRecursion (λ (line : List ℕ). has_newline line ≡ false) texts → AllByRecursion (λ (line : List ℕ). has_newline line ≡ false) (lines_left s l c texts marked)
   left_each [] marked each = tt
   left_each (octets ∷ texts) [] each = tt
-  left_each (octets ∷ texts) ((line, mark) ∷ marked) each = each_left octets (own_line s l c line) mark (left s l c texts marked) each.0 (left_each texts marked each.1)
+  left_each (octets ∷ texts) ((line, mark) ∷ marked) each = each_left octets (own_line s l c line) mark (lines_left s l c texts marked) each.0 (left_each texts marked each.1)
 
   line_left : (octets : List ℕ) (line : Line) (events : List LoneEvent) (mark : Bool) (texts : List (List ℕ)) (lines : List Line) → IsLine octets line → AreLines texts lines → AreLines (left_of events mark octets ++ texts) (left_of events mark line ++ lines)
   line_left octets line [] mark texts lines is are = are
   line_left octets line (event ∷ events) true texts lines is are = are
   line_left octets line (event ∷ events) false texts lines is are = (is, are)
 
-  lines_left : (texts : List (List ℕ)) (marked : List (Line × Bool)) → AreLines texts (map (λ (m : Line × Bool). m.0) marked) → AreLines (left s l c texts marked) (left_lines marked)
-  lines_left [] [] are = tt
-  lines_left [] (m ∷ marked) are = absurd are
-  lines_left (octets ∷ texts) [] are = absurd are
-  lines_left (octets ∷ texts) ((line, mark) ∷ marked) are = line_left octets line (own_line s l c line) mark (left s l c texts marked) (left_lines marked) are.0 (lines_left texts marked are.1)
+  are_left : (texts : List (List ℕ)) (marked : List (Line × Bool)) → AreLines texts (map (λ (m : Line × Bool). m.0) marked) → AreLines (lines_left s l c texts marked) (left_lines marked)
+  are_left [] [] are = tt
+  are_left [] (m ∷ marked) are = absurd are
+  are_left (octets ∷ texts) [] are = absurd are
+  are_left (octets ∷ texts) ((line, mark) ∷ marked) are = line_left octets line (own_line s l c line) mark (lines_left s l c texts marked) (left_lines marked) are.0 (are_left texts marked are.1)
 
   -- cutting the text of the lines that are left into lines gives them back
-  pub script_left : (text : List ℕ) (marked : List (Line × Bool)) → IsScript text (map (λ (m : Line × Bool). m.0) marked) → IsScript (text_of (left s l c (lines_of text) marked)) (left_lines marked)
+  pub script_left : (text : List ℕ) (marked : List (Line × Bool)) → IsScript text (map (λ (m : Line × Bool). m.0) marked) → IsScript (text_of (lines_left s l c (lines_of text) marked)) (left_lines marked)
   script_left text marked script =
-      let texts = left s l c (lines_of text) marked in
+      let texts = lines_left s l c (lines_of text) marked in
       let cut : lines_of (text_of texts) ≡ texts = lines_of-splits (text_of texts) texts [] (record {
         whole = sym (append-nil (text_of texts));
         each = left_each (lines_of text) marked (lines_of-each text);
         unfinished = refl;
       }) ∙ append-nil texts in
-      subst (λ ts. AreLines ts (left_lines marked)) (sym cut) (lines_left (lines_of text) marked script)
+      subst (λ ts. AreLines ts (left_lines marked)) (sym cut) (are_left (lines_of text) marked script)
 
   pub unmarked_with : (mark : Bool) (events : List LoneEvent) (more : List (LoneEvent × Bool)) → unmarked (with_mark mark events ++ more) ≡ (if mark then [] else events) ++ unmarked more
   unmarked_with true [] more = refl

@@ -75,15 +75,15 @@ left_of (event ∷ events) true x = []
 left_of (event ∷ events) false x = x ∷ []
 
 -- The lines of a script without every other arrival, every other link's reset, every bad or long line and every marked arrival.
-abbrev pub left : LinkSetting → ℕ → ℕ → List (List ℕ) → List (Line × Bool) → List (List ℕ)
-left s l c [] marked = []
-left s l c (octets ∷ texts) [] = []
-left s l c (octets ∷ texts) ((line, mark) ∷ marked) = left_of (own_line s l c line) mark octets ++ left s l c texts marked
+abbrev pub lines_left : LinkSetting → ℕ → ℕ → List (List ℕ) → List (Line × Bool) → List (List ℕ)
+lines_left s l c [] marked = []
+lines_left s l c (octets ∷ texts) [] = []
+lines_left s l c (octets ∷ texts) ((line, mark) ∷ marked) = left_of (own_line s l c line) mark octets ++ lines_left s l c texts marked
 
 -- It was told what the script of the lines that are left tells, none of which is marked.
 pub record IsToldAlike (old new : Concentrator) (text : List ℕ) (marked : List (Line × Bool)) (written : List ℕ) (l c : ℕ) (s : LinkSetting) : Type 0 where
   pub lines : List Line
-  pub script : IsScript (text_of (left s l c (lines_of text) marked)) lines
+  pub script : IsScript (text_of (lines_left s l c (lines_of text) marked)) lines
   pub alike : IsTold old new (flat_map (own_line s l c) lines) written l c s
 
 -- Isolation, for all links and identifiers at once: the script's lines, each with its mark, and what each pair was told. The
