@@ -49,6 +49,7 @@ abbrev pub arrival_of : ℕ → ℕ → Option Header → List LoneEvent
 arrival_of cid moment None = []
 arrival_of cid moment (Some h) = if h.cid == cid then Arrival moment h ∷ [] else []
 
+-- by the reading of the packet, if it has one
 abbrev pub arrival_in : ℕ → ℕ → Result Reading FrameRefusal → List LoneEvent
 arrival_in cid moment (Ok reading) = arrival_of cid moment reading.header
 arrival_in cid moment (Err refusal) = []

@@ -23,6 +23,7 @@ pub data Report : Type 0 where
   OnlyFront : List (List ℕ) → Report
   Refused : Refusal → Report
 
+-- the answer of the code as such a report
 abbrev pub report_of : Answer → Report
 report_of (answers.Arrived cid reply relayed) = Arrived cid (response_of reply) (elements_of relayed)
 report_of (answers.OnlyFront relayed) = OnlyFront (elements_of relayed)
@@ -60,10 +61,12 @@ abbrev pub IsAnswered : Option LinkSetting → (ℕ → Option Record) → ℕ �
 IsAnswered None before moment octets report after = report ≡ Refused refusals.NoLink
 IsAnswered (Some s) before moment octets report after = IsRead s moment (parts_of s.settings.size s.settings.max_cid octets) before report after
 
+-- the identifier of a header, if there is one
 abbrev pub cid_in : Option Header → Option ℕ
 cid_in None = None
 cid_in (Some h) = Some h.cid
 
+-- the identifier that a reading bears, if it bears one
 abbrev pub borne_in : Result Reading FrameRefusal → Option ℕ
 borne_in (Ok reading) = cid_in reading.header
 borne_in (Err refusal) = None
@@ -73,6 +76,7 @@ abbrev pub borne : Option LinkSetting → List ℕ → Option ℕ
 borne None octets = None
 borne (Some s) octets = borne_in (parts_of s.settings.size s.settings.max_cid octets)
 
+-- the outcome is the refusal `NoMemory`
 abbrev pub is_no_memory : Outcome → Bool
 is_no_memory (outcomes.Refused refusals.NoMemory) = true
 is_no_memory outcome = false
@@ -83,6 +87,7 @@ wants_memory (Arrived cid response relayed) = is_no_memory response.outcome
 wants_memory (OnlyFront relayed) = false
 wants_memory (Refused refusal) = false
 
+-- the outcome is a refusal
 abbrev pub is_refusal : Outcome → Bool
 is_refusal (outcomes.Refused refusal) = true
 is_refusal outcomes.Delivered = false

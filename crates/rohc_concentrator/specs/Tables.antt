@@ -15,14 +15,17 @@ record_in (Some c) = Some (record_of c)
 abbrev pub record_among : LinkRecords → ℕ → Option Record
 record_among r cid = record_in (get nat_eq r.contexts cid)
 
+-- the setting of a link, if it is there
 abbrev pub setting_in : Option LinkRecords → Option LinkSetting
 setting_in None = None
 setting_in (Some r) = Some r.setting
 
+-- the record of an identifier, if the link is there and has one
 abbrev pub record_within : Option LinkRecords → ℕ → Option Record
 record_within None cid = None
 record_within (Some r) cid = record_among r cid
 
+-- the identifiers that have a record, none where the link isn't there
 abbrev pub identifiers_in : Option LinkRecords → List ℕ
 identifiers_in None = []
 identifiers_in (Some r) = keys r.contexts
@@ -57,6 +60,7 @@ abbrev pub KeepsPlace : List ℕ → List ℕ → ℕ → Option Record → Type
 KeepsPlace old new cid (Some r) = new ≡ old
 KeepsPlace old new cid None = (new ≡ old) ⊎ (new ≡ old ++ cid ∷ [])
 
+-- the identifiers of a link keep their places, where a packet bore this identifier, or none
 abbrev pub KeepsPlaces : List ℕ → List ℕ → Option ℕ → (ℕ → Option Record) → Type 0
 KeepsPlaces old new None before = new ≡ old
 KeepsPlaces old new (Some cid) before = KeepsPlace old new cid (before cid)

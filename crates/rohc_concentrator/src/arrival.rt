@@ -49,8 +49,8 @@ impl Concentrator {
     pub fn reset(&mut self, link: u16) -> Result<(), NoLink>
         ensures absent { IsErr result ↔ (setting_at self.old link ≡ None) }
         ensures forgotten { (cid : ℕ) → record_at self.new link cid ≡ None }
-        ensures settings { KeepsSettings self.old self.new }
         ensures others { (l cid : ℕ) → l ≢ link → record_at self.new l cid ≡ record_at self.old l cid }
+        ensures settings { KeepsSettings self.old self.new }
         ensures emptied { identifiers_at self.new link ≡ [] }
         ensures order { (l : ℕ) → l ≢ link → identifiers_at self.new l ≡ identifiers_at self.old l }
     {

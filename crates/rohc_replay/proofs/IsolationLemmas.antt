@@ -17,7 +17,7 @@ use Rattle.rohc_context.specs.declared.reply.Outcome.TheVariants as outcomes
 use Rattle.rohc_context.specs.declared.settings.Settings.{Settings}
 use Rattle.rohc_context.specs.Record.{Record}
 use Rattle.rohc_context.specs.Response.{Response, refused}
-use Rattle.rohc_context.proofs.StepLemmas.{step_rich}
+use Rattle.rohc_context.proofs.StepLemmas.{never_poor}
 use Rattle.rohc_concentrator.specs.declared.setting.LinkSetting.{LinkSetting}
 use Rattle.rohc_concentrator.specs.Setting.{settings_in, IsGoodSetting}
 use Rattle.rohc_concentrator.specs.Report.{Report, OwnStep, IsArrival, IsCut, IsRead, borne_in, cid_in, is_no_memory, wants_memory}
@@ -93,7 +93,7 @@ module _ (s : Settings) (l c : ℕ) (lf : l < 2 ^ 16) (cf : c < 2 ^ 16) where
   own_told : (m : ℕ) (h : Header) (relayed : List (List ℕ)) (before after : Option Record) (response : Response) → OwnStep s m h before response after →
       Tells s l c before ((Arrival m h, is_no_memory response.outcome) ∷ []) (map (relay_line l) relayed ++ response_lines l c response) after
   own_told m h relayed before after response (inl step) =
-      rw (is_no_memory-not response.outcome (step_rich before s m h response after step)) (response ∷ [], (after, step, refl), reply_lines relayed response)
+      rw (is_no_memory-not response.outcome (never_poor before s m h response after step)) (response ∷ [], (after, step, refl), reply_lines relayed response)
   own_told m h relayed before after response (inr poor) =
       rw poor.2 (refused refusals.NoMemory ∷ [], (after, (poor.0, poor.1, refl, poor.3), refl), reply_lines relayed (refused refusals.NoMemory))
 

@@ -1,13 +1,13 @@
 -- The names of the refusals in answer lines.
 use Rattle.std.proofs.Common.{◌≡◌, ◌≢◌, ◌++◌, false, codes, refl}
+use Rattle.std.specs.Str.{bytes_eq}
 use Rattle.rohc_context.specs.Refusal.{name_of}
 use Rattle.rohc_context.specs.declared.refusal.Refusal.{Refusal}
 use Rattle.rohc_context.specs.declared.refusal.Refusal.TheVariants.{Empty, FeedbackShort, AfterAddCid, Segment, ReservedType, AddCidOnLarge, LargeCid, CidRange, NoHeader, NoContext, Profile, ProfileChange, Truncated, IpVersion, Protocol, ExtensionList, RtpVersion, Csrc, ZeroStride, ReliableMode, OuterHeader, NoStride, RndInUo1, IpIdTwice, Trailing, TooLong, StateTooLow, Check, NoLink, NoMemory}
 use Rattle.rohc_replay.specs.Lines.{has_newline}
-use Rattle.rohc_replay.specs.Isolation.{begins_with}
 
 -- no other refusal has the name of want of memory
-pub refused_otherwise : (r : Refusal) → r ≢ NoMemory → begins_with (codes "refused NoMemory") (codes "refused " ++ name_of r) ≡ false
+pub refused_otherwise : (r : Refusal) → r ≢ NoMemory → bytes_eq (codes "refused NoMemory") (codes "refused " ++ name_of r) ≡ false
 refused_otherwise Empty other = refl
 refused_otherwise FeedbackShort other = refl
 refused_otherwise AfterAddCid other = refl

@@ -1,6 +1,7 @@
 -- Which lines of an answer are a pair's own.
 use Rattle.std.proofs.Common.{◌≡◌, ◌≢◌, ℕ, ◌<◌, ◌^◌, List, [], ◌∷◌, ◌++◌, map, filter, Bool, true, false, ◌&&◌, Option, Some, None, cond, codes, append_assoc, refl, ◌∙◌, ap}
 use Rattle.std.specs.Fmt.{decimal}
+use Rattle.std.specs.Str.{bytes_eq}
 use Rattle.rohc_context.specs.Refusal.{name_of}
 use Rattle.rohc_context.specs.declared.refusal.Refusal.{Refusal}
 use Rattle.rohc_context.specs.declared.refusal.Refusal.TheVariants.{NoMemory}
@@ -9,7 +10,7 @@ use Rattle.rohc_context.specs.declared.reply.Outcome.TheVariants as outcomes
 use Rattle.rohc_context.specs.Response.{Response, Packet, refused}
 use Rattle.rohc_replay.specs.Script.{hex_text}
 use Rattle.rohc_replay.specs.AnswerLines.{pair_text, relay_line, link_refusal, packet_lines, stored_lines, feedback_lines, refused_lines, response_lines}
-use Rattle.rohc_replay.specs.Isolation.{begins_with, is_pair_line, is_own_line}
+use Rattle.rohc_replay.specs.Isolation.{is_pair_line, is_own_line}
 use Rattle.rohc_replay.proofs.NameLemmas.{refused_otherwise}
 use Rattle.rohc_replay.proofs.PairLemmas.{no_pair, begins_whole, own_pair, poor_pair}
 
@@ -71,8 +72,8 @@ module _ (l c k d : ℕ) (apart : (rest : List ℕ) → is_pair_line l c (pair_t
       ∙ rw (out_packet r.packet, out_stored r.outcome, out_feedback r.feedback, out_refused r.outcome) refl
 
 -- Lines of the pair that a predicate keeps, but perhaps for want of memory.
-module _ (l c : ℕ) (p : List ℕ → Bool) (keep : (rest : List ℕ) → begins_with (codes "refused NoMemory") rest ≡ false → p (pair_text l c ++ rest) ≡ true) where
-  kept_three : (a b : List ℕ) → begins_with (codes "refused NoMemory") (a ++ b) ≡ false → filter p (((pair_text l c ++ a) ++ b) ∷ []) ≡ ((pair_text l c ++ a) ++ b) ∷ []
+module _ (l c : ℕ) (p : List ℕ → Bool) (keep : (rest : List ℕ) → bytes_eq (codes "refused NoMemory") rest ≡ false → p (pair_text l c ++ rest) ≡ true) where
+  kept_three : (a b : List ℕ) → bytes_eq (codes "refused NoMemory") (a ++ b) ≡ false → filter p (((pair_text l c ++ a) ++ b) ∷ []) ≡ ((pair_text l c ++ a) ++ b) ∷ []
   kept_three a b rich = filter-kept p ((pair_text l c ++ a) ++ b) [] (ap p (append_assoc (pair_text l c) a b) ∙ keep (a ++ b) rich)
 
   kept_packet : (q : Option Packet) → filter p (packet_lines l c q) ≡ packet_lines l c q

@@ -1,6 +1,7 @@
 -- Lemmas on which pair a line is of.
 use Rattle.std.proofs.Common.{◌≡◌, ℕ, ◌+◌, ◌%◌, ◌<◌, ◌≤◌, ◌^◌, List, [], ◌∷◌, ◌++◌, Bool, true, false, ◌&&◌, ◌==◌, codes, append_assoc, append-nil, eqb-true, eq-eqb, ne_eqb, arith, refl, sym, ◌∙◌, ap, subst}
 use Rattle.std.specs.Fmt.{decimal}
+use Rattle.std.specs.Str.{bytes_eq}
 use Rattle.rohc_replay.specs.Numeral.{IsNumberAt}
 use Rattle.rohc_replay.specs.AnswerLines.{pair_text}
 use Rattle.rohc_replay.specs.Isolation.{begins_with, is_pair_line, is_own_line}
@@ -30,6 +31,10 @@ begins_behind (o ∷ os) a b = let same : (o == o) ≡ true = eq-eqb o o refl in
 
 pub begins_whole : (front rest : List ℕ) → begins_with front (front ++ rest) ≡ true
 begins_whole front rest = ap (λ f. begins_with f (front ++ rest)) (sym (append-nil front)) ∙ begins_behind front [] rest
+
+pub same_behind : (front a b : List ℕ) → bytes_eq (front ++ a) (front ++ b) ≡ bytes_eq a b
+same_behind [] a b = refl
+same_behind (o ∷ os) a b = let same : (o == o) ≡ true = eq-eqb o o refl in rw same (same_behind os a b)
 
 -- the link, a space, the identifier, a space, and what follows
 pub pair_spelled : (l c : ℕ) (rest : List ℕ) → pair_text l c ++ rest ≡ decimal l ++ 32 ∷ (decimal c ++ 32 ∷ rest)
@@ -99,11 +104,11 @@ no_link l c rest lf = not_begun l c (45 ∷ rest) (λ e.
     no_dash l (32 ∷ (decimal c ++ 32 ∷ parts.0)) rest lf (sym (pair_spelled l c parts.0) ∙ sym parts.1))
 
 -- a line of the pair is its own, but for want of memory
-pub own_pair : (l c : ℕ) (rest : List ℕ) → begins_with (codes "refused NoMemory") rest ≡ false → is_own_line l c (pair_text l c ++ rest) ≡ true
-own_pair l c rest rich = rw (begins_whole (pair_text l c) rest, begins_behind (pair_text l c) (codes "refused NoMemory") rest, rich) refl
+pub own_pair : (l c : ℕ) (rest : List ℕ) → bytes_eq (codes "refused NoMemory") rest ≡ false → is_own_line l c (pair_text l c ++ rest) ≡ true
+own_pair l c rest rich = rw (begins_whole (pair_text l c) rest, same_behind (pair_text l c) (codes "refused NoMemory") rest, rich) refl
 
-pub poor_pair : (l c : ℕ) (rest : List ℕ) → begins_with (codes "refused NoMemory") rest ≡ true → is_own_line l c (pair_text l c ++ rest) ≡ false
-poor_pair l c rest poor = rw (begins_whole (pair_text l c) rest, begins_behind (pair_text l c) (codes "refused NoMemory") rest, poor) refl
+pub poor_pair : (l c : ℕ) (rest : List ℕ) → bytes_eq (codes "refused NoMemory") rest ≡ true → is_own_line l c (pair_text l c ++ rest) ≡ false
+poor_pair l c rest poor = rw (begins_whole (pair_text l c) rest, same_behind (pair_text l c) (codes "refused NoMemory") rest, poor) refl
 
 -- a line of another link isn't this pair's
 pub other_link : (l c k d : ℕ) (rest : List ℕ) → l < 2 ^ 16 → k < 2 ^ 16 → (l ≡ k → ⊥) → is_pair_line l c (pair_text k d ++ rest) ≡ false

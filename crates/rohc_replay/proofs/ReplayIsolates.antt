@@ -4,7 +4,7 @@ use Rattle.std.specs.List.{flat_map, AllByRecursion}
 use Rattle.rohc_context.specs.declared.settings.Settings.{Settings}
 use Rattle.rohc_context.specs.Record.{Record}
 use Rattle.rohc_context.specs.Response.{Response}
-use Rattle.rohc_context.proofs.StepLemmas.{step_rich}
+use Rattle.rohc_context.proofs.StepLemmas.{never_poor}
 use Rattle.rohc_concentrator.specs.declared.concentrator.Concentrator.{Concentrator}
 use Rattle.rohc_concentrator.specs.declared.setting.LinkSetting.{LinkSetting}
 use Rattle.rohc_concentrator.specs.Setting.{settings_in}
@@ -13,14 +13,14 @@ use Rattle.rohc_concentrator.specs.LoneRun.{LoneEvent, Arrival, Forget, LoneRun,
 use Rattle.rohc_replay.specs.declared.tally.Tally.{Tally}
 use Rattle.rohc_replay.specs.declared.fault.RunFault.{RunFault}
 use Rattle.rohc_replay.specs.AnswerLines.{response_lines, text_of}
-use Rattle.rohc_replay.specs.Isolation.{is_pair_line, is_own_line, own, own_line, own_marked, left, left_of, IsToldAll, IsTold, IsToldAlike, Isolates}
+use Rattle.rohc_replay.specs.Isolation.{is_pair_line, is_own_line, own, own_line, own_marked, lines_left, left_of, IsToldAll, IsTold, IsToldAlike, Isolates}
 use Rattle.rohc_replay.specs.Lines.{has_newline}
 use Rattle.rohc_replay.specs.Run.{Replays, marked_of}
 use Rattle.rohc_replay.specs.Script.{Line, IsLine, AreLines, IsScript, lines_of}
 use Rattle.rohc_replay.proofs.IsolationLemmas.{with_mark}
 use Rattle.rohc_replay.proofs.OwnLines.{filter-append, filter-within, reply_kept, poor_left_out}
 use Rattle.rohc_replay.proofs.SplitLemmas.{lines_of-splits, lines_of-each}
-use Rattle.rohc_replay.proofs.ToldLemmas.{marked_lines, AreFit, lines_fit, run_told}
+use Rattle.rohc_replay.proofs.ToldLemmas.{marked_lines, AreFit, lines_fit, run_set, run_told}
 use Rattle.rohc_replay.proofs.WholeLemmas.{written_lines, absent_run}
 
 -- Without the marked events and their replies a marked run is a lone run.
@@ -39,7 +39,7 @@ runs_alone s l c before after ((Arrival m h, false) ∷ marked) (reply ∷ repli
       reply ∷ more.0,
       (run.0, run.1, more.1),
       filter-append (is_own_line l c) (response_lines l c reply) (flat_map (response_lines l c) replies)
-          ∙ rw (reply_kept l c reply (step_rich before s m h reply run.0 run.1), more.2) refl,
+          ∙ rw (reply_kept l c reply (never_poor before s m h reply run.0 run.1), more.2) refl,
     )
 runs_alone s l c before after ((Arrival m h, true) ∷ marked) (reply ∷ replies) run =
     let more = runs_alone s l c run.0 after marked replies run.2 in
@@ -69,32 +69,32 @@ module _ (s : LinkSetting) (l c : ℕ) where
   each_left octets (event ∷ events) true more one each = each
   each_left octets (event ∷ events) false more one each = (one, each)
 
-  left_each : (texts : List (List ℕ)) (marked : List (Line × Bool)) → AllByRecursion (λ (line : List ℕ). has_newline line ≡ false) texts → AllByRecursion (λ (line : List ℕ). has_newline line ≡ false) (left s l c texts marked)
+  left_each : (texts : List (List ℕ)) (marked : List (Line × Bool)) → AllByRecursion (λ (line : List ℕ). has_newline line ≡ false) texts → AllByRecursion (λ (line : List ℕ). has_newline line ≡ false) (lines_left s l c texts marked)
   left_each [] marked each = tt
   left_each (octets ∷ texts) [] each = tt
-  left_each (octets ∷ texts) ((line, mark) ∷ marked) each = each_left octets (own_line s l c line) mark (left s l c texts marked) each.0 (left_each texts marked each.1)
+  left_each (octets ∷ texts) ((line, mark) ∷ marked) each = each_left octets (own_line s l c line) mark (lines_left s l c texts marked) each.0 (left_each texts marked each.1)
 
   line_left : (octets : List ℕ) (line : Line) (events : List LoneEvent) (mark : Bool) (texts : List (List ℕ)) (lines : List Line) → IsLine octets line → AreLines texts lines → AreLines (left_of events mark octets ++ texts) (left_of events mark line ++ lines)
   line_left octets line [] mark texts lines is are = are
   line_left octets line (event ∷ events) true texts lines is are = are
   line_left octets line (event ∷ events) false texts lines is are = (is, are)
 
-  lines_left : (texts : List (List ℕ)) (marked : List (Line × Bool)) → AreLines texts (map (λ (m : Line × Bool). m.0) marked) → AreLines (left s l c texts marked) (left_lines marked)
-  lines_left [] [] are = tt
-  lines_left [] (m ∷ marked) are = absurd are
-  lines_left (octets ∷ texts) [] are = absurd are
-  lines_left (octets ∷ texts) ((line, mark) ∷ marked) are = line_left octets line (own_line s l c line) mark (left s l c texts marked) (left_lines marked) are.0 (lines_left texts marked are.1)
+  are_left : (texts : List (List ℕ)) (marked : List (Line × Bool)) → AreLines texts (map (λ (m : Line × Bool). m.0) marked) → AreLines (lines_left s l c texts marked) (left_lines marked)
+  are_left [] [] are = tt
+  are_left [] (m ∷ marked) are = absurd are
+  are_left (octets ∷ texts) [] are = absurd are
+  are_left (octets ∷ texts) ((line, mark) ∷ marked) are = line_left octets line (own_line s l c line) mark (lines_left s l c texts marked) (left_lines marked) are.0 (are_left texts marked are.1)
 
   -- cutting the text of the lines that are left into lines gives them back
-  pub script_left : (text : List ℕ) (marked : List (Line × Bool)) → IsScript text (map (λ (m : Line × Bool). m.0) marked) → IsScript (text_of (left s l c (lines_of text) marked)) (left_lines marked)
+  pub script_left : (text : List ℕ) (marked : List (Line × Bool)) → IsScript text (map (λ (m : Line × Bool). m.0) marked) → IsScript (text_of (lines_left s l c (lines_of text) marked)) (left_lines marked)
   script_left text marked script =
-      let texts = left s l c (lines_of text) marked in
+      let texts = lines_left s l c (lines_of text) marked in
       let cut : lines_of (text_of texts) ≡ texts = lines_of-splits (text_of texts) texts [] (record {
         whole = sym (append-nil (text_of texts));
         each = left_each (lines_of text) marked (lines_of-each text);
         unfinished = refl;
       }) ∙ append-nil texts in
-      subst (λ ts. AreLines ts (left_lines marked)) (sym cut) (lines_left (lines_of text) marked script)
+      subst (λ ts. AreLines ts (left_lines marked)) (sym cut) (are_left (lines_of text) marked script)
 
   pub unmarked_with : (mark : Bool) (events : List LoneEvent) (more : List (LoneEvent × Bool)) → unmarked (with_mark mark events ++ more) ≡ (if mark then [] else events) ++ unmarked more
   unmarked_with true [] more = refl
@@ -141,6 +141,7 @@ replay_isolates old text held holding t new r =
         answered = answered;
         alone = λ l c s lf cf set. told_alone old new l c s written marked (answered l c s lf cf set);
         taken_out = λ l c s lf cf set. told_alike old new l c s text written marked script (told_alone old new l c s written marked (answered l c s lf cf set));
+        settings = λ l. run_set l old r.lines r.answers new r.run;
         absent = λ l c lf cf none. ap (filter (is_pair_line l c)) lines ∙ absent_run l c lf cf old r.lines r.answers new r.run fit none;
       },
     )

@@ -55,6 +55,14 @@ pub event_set : (l : ℕ) (old : Concentrator) (e : Event) (answers : List (List
 event_set l old (Arrive k m octets) answers new turn = turn.1.settings.each l
 event_set l old (Reset k) answers new turn = turn.0.settings.each l
 
+pub run_set : (l : ℕ) (old : Concentrator) (lines : List Line) (answers : List (List (List ℕ))) (new : Concentrator) → Runs old lines answers new → setting_at new l ≡ setting_at old l
+run_set l old [] [] new run = ap (λ k. setting_at k l) run
+run_set l old [] (a ∷ more) new run = absurd run
+run_set l old (line ∷ lines) [] new run = absurd run
+run_set l old (Good e ∷ lines) (a ∷ more) new run = run_set l run.0 lines more new run.2 ∙ event_set l old e a run.0 run.1
+run_set l old (Bad ∷ lines) (a ∷ more) new run = run_set l run.0 lines more new run.2 ∙ ap (λ k. setting_at k l) run.1.0
+run_set l old (Long ∷ lines) (a ∷ more) new run = run_set l run.0 lines more new run.2 ∙ ap (λ k. setting_at k l) run.1.0
+
 module _ (s : LinkSetting) (l c : ℕ) (lf : l < 2 ^ 16) (cf : c < 2 ^ 16) where
   -- one good line
   event_told : (old : Concentrator) (e : Event) (answers : List (List ℕ)) (new : Concentrator) (turn : Turns old (Good e) answers new) → IsEvent e → setting_at old l ≡ Some s →

@@ -24,19 +24,23 @@ relay_line link feedback = decimal link ++ codes " - relay " ++ hex_text feedbac
 abbrev pub link_refusal : ℕ → Refusal → List ℕ
 link_refusal link refusal = decimal link ++ codes " - refused " ++ name_of refusal
 
+-- the IP packet, where there is one
 abbrev pub packet_lines : ℕ → ℕ → Option Packet → List (List ℕ)
 packet_lines link cid None = []
 packet_lines link cid (Some p) = (pair_text link cid ++ codes "ip " ++ hex_text (p.head ++ p.payload)) ∷ []
 
+-- `stored`, where that is the outcome
 abbrev pub stored_lines : ℕ → ℕ → Outcome → List (List ℕ)
 stored_lines link cid outcomes.Stored = (pair_text link cid ++ codes "stored") ∷ []
 stored_lines link cid outcomes.Delivered = []
 stored_lines link cid (outcomes.Refused refusal) = []
 
+-- the feedback to be sent, where there is some
 abbrev pub feedback_lines : ℕ → ℕ → Option (List ℕ) → List (List ℕ)
 feedback_lines link cid None = []
 feedback_lines link cid (Some element) = (pair_text link cid ++ codes "feedback " ++ hex_text element) ∷ []
 
+-- the refusal, where there is one
 abbrev pub refused_lines : ℕ → ℕ → Outcome → List (List ℕ)
 refused_lines link cid (outcomes.Refused refusal) = (pair_text link cid ++ codes "refused " ++ name_of refusal) ∷ []
 refused_lines link cid outcomes.Delivered = []
@@ -57,9 +61,11 @@ abbrev pub reset_lines : ℕ → Option LinkSetting → List (List ℕ)
 reset_lines link (Some s) = []
 reset_lines link None = link_refusal link NoLink ∷ []
 
+-- the answer to a line that is no event
 abbrev pub bad_line : List ℕ
 bad_line = codes "- - refused BadLine"
 
+-- the answer to a line that is too long
 abbrev pub long_line : List ℕ
 long_line = codes "- - refused LongLine"
 

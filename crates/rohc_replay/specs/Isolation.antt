@@ -1,6 +1,7 @@
 -- Isolation: what one link and identifier are told, whatever comes under the others.
 use Rattle.std.specs.Prelude.{◌≡◌, ℕ, ◌^◌, ◌<◌, List, [], ◌∷◌, ◌++◌, map, filter, Bool, true, false, not, ◌==◌, ◌&&◌, if◌then◌else◌, Option, Some, None, codes}
 use Rattle.std.specs.List.{flat_map}
+use Rattle.std.specs.Str.{bytes_eq}
 use Rattle.std.specs.Io.KnownBytes.{Appends}
 use Rattle.rohc_context.specs.Response.{Response}
 use Rattle.rohc_concentrator.specs.declared.concentrator.Concentrator.{Concentrator}
@@ -41,13 +42,15 @@ begins_with (o ∷ os) (p ∷ ps) = (o == p) && begins_with os ps
 abbrev pub is_pair_line : ℕ → ℕ → List ℕ → Bool
 is_pair_line l c line = begins_with (pair_text l c) line
 
+-- the lines of a pair in a text
 abbrev pub pair_lines : ℕ → ℕ → List ℕ → List (List ℕ)
 pair_lines l c text = filter (is_pair_line l c) (lines_of text)
 
--- a line of the pair that isn't want of memory
+-- a line of the pair, but for the one that tells want of memory
 abbrev pub is_own_line : ℕ → ℕ → List ℕ → Bool
-is_own_line l c line = is_pair_line l c line && not (begins_with (pair_text l c ++ codes "refused NoMemory") line)
+is_own_line l c line = is_pair_line l c line && not (bytes_eq (pair_text l c ++ codes "refused NoMemory") line)
 
+-- those of them that aren't want of memory
 abbrev pub own_lines : ℕ → ℕ → List ℕ → List (List ℕ)
 own_lines l c text = filter (is_own_line l c) (lines_of text)
 
@@ -72,24 +75,26 @@ left_of (event ∷ events) true x = []
 left_of (event ∷ events) false x = x ∷ []
 
 -- The lines of a script without every other arrival, every other link's reset, every bad or long line and every marked arrival.
-abbrev pub left : LinkSetting → ℕ → ℕ → List (List ℕ) → List (Line × Bool) → List (List ℕ)
-left s l c [] marked = []
-left s l c (octets ∷ texts) [] = []
-left s l c (octets ∷ texts) ((line, mark) ∷ marked) = left_of (own_line s l c line) mark octets ++ left s l c texts marked
+abbrev pub lines_left : LinkSetting → ℕ → ℕ → List (List ℕ) → List (Line × Bool) → List (List ℕ)
+lines_left s l c [] marked = []
+lines_left s l c (octets ∷ texts) [] = []
+lines_left s l c (octets ∷ texts) ((line, mark) ∷ marked) = left_of (own_line s l c line) mark octets ++ lines_left s l c texts marked
 
 -- It was told what the script of the lines that are left tells, none of which is marked.
 pub record IsToldAlike (old new : Concentrator) (text : List ℕ) (marked : List (Line × Bool)) (written : List ℕ) (l c : ℕ) (s : LinkSetting) : Type 0 where
   pub lines : List Line
-  pub script : IsScript (text_of (left s l c (lines_of text) marked)) lines
+  pub script : IsScript (text_of (lines_left s l c (lines_of text) marked)) lines
   pub alike : IsTold old new (flat_map (own_line s l c) lines) written l c s
 
--- Isolation, for all links and identifiers at once: the script's lines, each with its mark, and what each pair was told.
+-- Isolation, for all links and identifiers at once: the script's lines, each with its mark, and what each pair was told. The
+-- settings of each link stay, and a pair of a link that isn't there is told nothing.
 pub record IsIsolated (old : Concentrator) (text written : List ℕ) (new : Concentrator) : Type 0 where
   pub marked : List (Line × Bool)
   pub script : IsScript text (map (λ (m : Line × Bool). m.0) marked)
   pub answered : (l c : ℕ) (s : LinkSetting) → l < 2 ^ 16 → c < 2 ^ 16 → setting_at old l ≡ Some s → IsToldAll old new marked written l c s
   pub alone : (l c : ℕ) (s : LinkSetting) → l < 2 ^ 16 → c < 2 ^ 16 → setting_at old l ≡ Some s → IsTold old new (own s l c marked) written l c s
   pub taken_out : (l c : ℕ) (s : LinkSetting) → l < 2 ^ 16 → c < 2 ^ 16 → setting_at old l ≡ Some s → IsToldAlike old new text marked written l c s
+  pub settings : (l : ℕ) → setting_at new l ≡ setting_at old l
   pub absent : (l c : ℕ) → l < 2 ^ 16 → c < 2 ^ 16 → setting_at old l ≡ None → pair_lines l c written ≡ []
 
 -- A replay isolates: what it writes tells each identifier of each link what one context machine run alone tells.

@@ -20,9 +20,9 @@ HasOneScript = (text : List ℕ) (a b : List Line) → IsScript text a → IsScr
 -- Two replays of scripts that agree there, in their own events, their settings and their records, tell an identifier of a link the
 -- same lines and leave it equal records, whatever else the scripts hold.
 abbrev pub SameLines : Type 0
-SameLines = (a b after_a after_b : Concentrator) (text other heard told : List ℕ) (p : IsIsolated a text heard after_a) (q : IsIsolated b other told after_b)
+SameLines = (a b after_a after_b : Concentrator) (text other written_a written_b : List ℕ) (p : IsIsolated a text written_a after_a) (q : IsIsolated b other written_b after_b)
     (l c : ℕ) (agree : Agree a b l c) → l < 2 ^ 16 → c < 2 ^ 16 → own agree.here l c p.marked ≡ own agree.there l c q.marked →
-    (own_lines l c heard ≡ own_lines l c told) × (record_at after_a l c ≡ record_at after_b l c)
+    (own_lines l c written_a ≡ own_lines l c written_b) × (record_at after_a l c ≡ record_at after_b l c)
 
 -- A whole run of a script begins with what a run of its first lines answers, where the same events want memory.
 abbrev pub BeginsAlike : Type 0
@@ -32,7 +32,7 @@ BeginsAlike = (a b after_a after_b : Concentrator) (text : List ℕ) (lines more
 
 -- What a failed read leaves written begins what a whole run of the text writes, where the same events want memory.
 abbrev pub ReadLeavesFront : Type 0
-ReadLeavesFront = (old new after : Concentrator) (text : List ℕ) (left held holding : Option (List ℕ)) (written : ℕ) (f : ReadFails old (Some text) left held holding written new)
+ReadLeavesFront = (old new after : Concentrator) (text : List ℕ) (unread held holding : Option (List ℕ)) (written : ℕ) (f : ReadFails old (Some text) unread held holding written new)
     (lines : List Line) (answers : List (List (List ℕ))) (whole : Runs old lines answers after) → IsScript text lines →
     IsFront (marked_of old f.lines f.answers new f.run) (marked_of old lines answers after whole) → IsFront (flat_map text_of f.answers) (flat_map text_of answers)
 

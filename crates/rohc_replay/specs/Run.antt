@@ -41,6 +41,7 @@ marked_of old (Good e ∷ lines) (a ∷ more) new run = (Good e, turn_mark old e
 marked_of old (Bad ∷ lines) (a ∷ more) new run = (Bad, false) ∷ marked_of run.0 lines more new run.2
 marked_of old (Long ∷ lines) (a ∷ more) new run = (Long, false) ∷ marked_of run.0 lines more new run.2
 
+-- the line is an event
 abbrev pub is_good_line : Line → Bool
 is_good_line (Good e) = true
 is_good_line Bad = false
