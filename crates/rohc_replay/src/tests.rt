@@ -72,8 +72,8 @@ const ANSWERS: [&str; 5] = [
 ];
 
 /// The concentrator of these links, with no record.
-fn concentrator(alloc: Global) -> Result<Concentrator, Fail> {
-    let links = read_links(alloc, LINKS)?;
+fn concentrator(alloc: Global, links: &str) -> Result<Concentrator, Fail> {
+    let links = read_links(alloc, links)?;
     Ok(Concentrator::new(alloc, links.settings())?)
 }
 
@@ -167,7 +167,7 @@ fn replayed(
     reader: &mut Pieces<'_>,
     writer: &mut Taker,
 ) -> Result<Result<Tally, RunFault>, Fail> {
-    let mut concentrator = concentrator(alloc)?;
+    let mut concentrator = concentrator(alloc, LINKS)?;
     Ok(replay(alloc, &mut concentrator, reader, writer))
 }
 
