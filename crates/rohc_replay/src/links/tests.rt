@@ -1,5 +1,5 @@
 use super::{Key, LinksFault, Ports, read_links};
-use rohc_concentrator::CidRange;
+use rohc_concentrator::{CidRange, Concentrator, SetupFault};
 use rohc_context::{Mode, Settings};
 use rohc_frame::CidKind;
 use std::alloc::{AllocError, Global};
@@ -243,6 +243,25 @@ fn takes_eight_ranges(rt: HostRuntime) -> Result<(), Fail> {
         line.push_str("]")?;
         let text = with_line(alloc, SECOND, 16, line.as_str())?;
         assert_eq!(rt; read_links(alloc, text.as_str()).err(), fault, "of {count}");
+    }
+    Ok(())
+}
+
+#[test]
+fn overlapping_ranges_are_a_bad_setting(rt: HostRuntime) -> Result<(), Fail> {
+    let alloc = rt.alloc();
+    let fault = SetupFault::BadSetting { place: 1 };
+    for (first, told) in [(7u16, Some(fault)), (8, None)] {
+        let line = format!(in alloc;
+            "range = [{{ first = 4, last = 7, mode = \"U\" }}, {{ first = {first}, last = 9, mode = \"U\" }}]"
+        )?;
+        let text = with_line(alloc, SECOND, 16, line.as_str())?;
+        let links = read_links(alloc, text.as_str())?;
+        assert_eq!(rt;
+            Concentrator::new(alloc, links.settings()).err(),
+            told,
+            "from {first} on"
+        );
     }
     Ok(())
 }
