@@ -38,8 +38,8 @@ feedback_port = 6005
 relay_port = 6006
 ";
 
-/// Each identifier has a first IR, and some later packets. Link 1 has so many that its table grows while records
-/// stand in it.
+/// Each identifier has a first IR and later packets. Link 1 has so many that its table grows while records stand
+/// in it.
 const SCRIPT: &str = "arrive 1 0 fc00b745aa
 arrive 1 1 e1fc003045aa
 arrive 1 2 e2fc008145aa
@@ -53,8 +53,15 @@ arrive 1 9 e9fc007545aa
 arrive 2 10 fc812c00e6450102
 oops
 arrive 1 20 45ab
-arrive 1 25 e145ac
-arrive 1 26 e945ac
+arrive 1 21 e145ac
+arrive 1 22 e245ac
+arrive 1 23 e345ac
+arrive 1 24 e445ac
+arrive 1 25 e545ac
+arrive 1 26 e645ac
+arrive 1 27 e745ac
+arrive 1 28 e845ac
+arrive 1 29 e945ac
 arrive 2 30 45812c0102
 arrive 1 40 45ad
 ";

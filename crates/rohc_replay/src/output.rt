@@ -267,6 +267,7 @@ mod tests {
     use rohc_frame::{CidKind, cut};
     use std::alloc::{AllocError, Global};
     use std::io::{self, Error, ErrorKind};
+    use std::process::Abort;
 
     /// A writer that takes a few octets at a call and fails at one.
     #[derive(Drop)]
@@ -339,61 +340,86 @@ mod tests {
         }
     }
 
+    /// A reply of an identifier of a link, and its lines.
+    #[derive(Clone, Copy)]
+    struct Told {
+        link: u16,
+        cid: u16,
+        head: &'static [u8],
+        payload: &'static [u8],
+        feedback: &'static [u8],
+        outcome: Outcome,
+        lines: &'static str,
+    }
+
+    /// A reply without octets and feedback.
+    const NOTHING: Told = Told {
+        link: 1,
+        cid: 0,
+        head: b"",
+        payload: b"",
+        feedback: b"",
+        outcome: Outcome::Delivered,
+        lines: "1 0 ip -\n",
+    };
+
+    const REPLIES: [Told; 6] = [
+        Told {
+            payload: b"\x45\xaa",
+            feedback: b"\xf1\x00",
+            lines: "1 0 ip 45aa\n1 0 feedback f100\n",
+            ..NOTHING
+        },
+        Told {
+            feedback: b"\xf1\x00",
+            outcome: Outcome::Stored,
+            lines: "1 0 stored\n1 0 feedback f100\n",
+            ..NOTHING
+        },
+        Told {
+            link: 2,
+            cid: 300,
+            head: b"\x45",
+            payload: b"\x01\x02",
+            lines: "2 300 ip 450102\n",
+            ..NOTHING
+        },
+        Told {
+            cid: 1,
+            outcome: Outcome::Refused(Refusal::NoContext),
+            lines: "1 1 refused NoContext\n",
+            ..NOTHING
+        },
+        Told {
+            feedback: b"\xf4\x60\x01\x11\x0d",
+            outcome: Outcome::Refused(Refusal::Check),
+            lines: "1 0 feedback f46001110d\n1 0 refused Check\n",
+            ..NOTHING
+        },
+        NOTHING,
+    ];
+
+    /// Offers an answer, and compares what was taken with these lines.
+    fn says(rt: &impl Abort, alloc: Global, link: u16, answer: Answer<'_>, lines: &str) {
+        let mut taker = taking(alloc, usize::MAX, 0);
+        let mut taken = 0;
+        assert!(rt;
+            offer_answer(&mut taker, &mut taken, link, &answer).is_ok(),
+            "{lines}"
+        );
+        assert_eq!(rt; taker.text.as_slice(), lines.as_bytes(), "{lines}");
+        assert_eq!(rt; taken, lines.len() as u64, "{lines}");
+    }
+
     #[test]
     fn answers_are_lines(rt: HostRuntime) -> Result<(), AllocError> {
-        for (link, answer, lines) in [
-            (
-                1,
-                arrived(0, reply(&[], b"\x45\xaa", b"\xf1\x00", Outcome::Delivered)),
-                "1 0 ip 45aa\n1 0 feedback f100\n",
-            ),
-            (
-                1,
-                arrived(0, reply(&[], &[], b"\xf1\x00", Outcome::Stored)),
-                "1 0 stored\n1 0 feedback f100\n",
-            ),
-            (
-                2,
-                arrived(300, reply(&[0x45], b"\x01\x02", &[], Outcome::Delivered)),
-                "2 300 ip 450102\n",
-            ),
-            (
-                1,
-                arrived(
-                    1,
-                    reply(&[], &[], &[], Outcome::Refused(Refusal::NoContext)),
-                ),
-                "1 1 refused NoContext\n",
-            ),
-            (
-                1,
-                arrived(
-                    0,
-                    reply(
-                        &[],
-                        &[],
-                        b"\xf4\x60\x01\x11\x0d",
-                        Outcome::Refused(Refusal::Check),
-                    ),
-                ),
-                "1 0 feedback f46001110d\n1 0 refused Check\n",
-            ),
-            (
-                1,
-                arrived(0, reply(&[], &[], &[], Outcome::Delivered)),
-                "1 0 ip -\n",
-            ),
-            (9, Answer::Refused(Refusal::NoLink), "9 - refused NoLink\n"),
-        ] {
-            let mut taker = taking(rt.alloc(), usize::MAX, 0);
-            let mut taken = 0;
-            assert!(rt;
-                offer_answer(&mut taker, &mut taken, link, &answer).is_ok(),
-                "{lines}"
-            );
-            assert_eq!(rt; taker.text.as_slice(), lines.as_bytes(), "{lines}");
-            assert_eq!(rt; taken, lines.len() as u64, "{lines}");
+        for told in REPLIES {
+            let reply = reply(told.head, told.payload, told.feedback, told.outcome);
+            let answer = arrived(told.cid, reply);
+            says(&rt, rt.alloc(), told.link, answer, told.lines);
         }
+        let refused = Answer::Refused(Refusal::NoLink);
+        says(&rt, rt.alloc(), 9, refused, "9 - refused NoLink\n");
         Ok(())
     }
 

@@ -72,8 +72,8 @@ const ANSWERS: [&str; 5] = [
 ];
 
 /// The concentrator of these links, with no record.
-fn concentrator(alloc: Global) -> Result<Concentrator, Fail> {
-    let links = read_links(alloc, LINKS)?;
+fn concentrator(alloc: Global, links: &str) -> Result<Concentrator, Fail> {
+    let links = read_links(alloc, links)?;
     Ok(Concentrator::new(alloc, links.settings())?)
 }
 
@@ -167,7 +167,7 @@ fn replayed(
     reader: &mut Pieces<'_>,
     writer: &mut Taker,
 ) -> Result<Result<Tally, RunFault>, Fail> {
-    let mut concentrator = concentrator(alloc)?;
+    let mut concentrator = concentrator(alloc, LINKS)?;
     Ok(replay(alloc, &mut concentrator, reader, writer))
 }
 
@@ -190,108 +190,125 @@ fn steady(text: &[u8], size: usize) -> Pieces<'_> {
     }
 }
 
+/// A worked example: its name, a script of its packets, the answers, and how many lines are good and how many bad.
+type Example = (&'static str, &'static str, &'static str, u64, u64);
+
+const EXAMPLES: [Example; 9] = [
+    (
+        "plain call",
+        "arrive 1 0 fc00b745aa\n",
+        "1 0 ip 45aa\n1 0 feedback f100\n",
+        1,
+        0,
+    ),
+    (
+        "plain call",
+        "arrive 1 0 fc00b7\n",
+        "1 0 stored\n1 0 feedback f100\n",
+        1,
+        0,
+    ),
+    (
+        "no context",
+        "arrive 1 0 10ac\narrive 1 0 fc00b845aa\narrive 1 0 10ac\n",
+        "1 0 refused NoContext\n1 0 refused Check\n1 0 refused NoContext\n",
+        3,
+        0,
+    ),
+    (
+        "no context",
+        "arrive 1 0 fc00b745aa\nreset 1\narrive 1 0 10ac\nreset 9\n",
+        "1 0 ip 45aa\n1 0 feedback f100\n1 0 refused NoContext\n9 - refused NoLink\n",
+        4,
+        0,
+    ),
+    (
+        "two calls and noise",
+        "arrive 1 999999999999 e110ac\narrive 2 5 fc812c00e6450102\noops\narrive 1 20 e2fc008145aa\narrive 1 0 e710ac\n",
+        "1 1 refused NoContext\n2 300 ip 450102\n2 300 feedback f3812c00\n- - refused BadLine\n1 2 ip 45aa\n1 2 feedback f2e200\n1 7 refused NoContext\n",
+        4,
+        1,
+    ),
+    ("script ends", "", "", 0, 0),
+    ("script ends", "\n", "- - refused BadLine\n", 0, 1),
+    (
+        "script ends",
+        "reset 01\narrive 1 0 FC\n",
+        "- - refused BadLine\n- - refused BadLine\n",
+        0,
+        2,
+    ),
+    ("script ends", "arrive 9 0 -", "9 - refused NoLink\n", 1, 0),
+];
+
+const EXAMPLES_OF_FRAMING: [Example; 6] = [
+    (
+        "plain call behind Add-CID",
+        "arrive 1 0 e1fc003045aa\n",
+        "1 1 ip 45aa\n1 1 feedback f2e100\n",
+        1,
+        0,
+    ),
+    (
+        "plain call on a large identifier",
+        "arrive 2 0 fc812c00e6450102\narrive 2 0 45812c0102\n",
+        "2 300 ip 450102\n2 300 feedback f3812c00\n2 300 ip 450102\n",
+        2,
+        0,
+    ),
+    (
+        "relayed feedback",
+        "arrive 1 0 e0e0f22007fc00b745aa\n",
+        "1 - relay 2007\n1 0 ip 45aa\n1 0 feedback f100\n",
+        1,
+        0,
+    ),
+    (
+        "relayed feedback",
+        "arrive 1 0 f00901\narrive 1 0 f0\narrive 1 0 f000\narrive 1 0 e0\n",
+        "1 - refused FeedbackShort\n1 - refused FeedbackShort\n1 - relay -\n",
+        4,
+        0,
+    ),
+    (
+        "framing refusals",
+        "arrive 1 0 e1f100\narrive 1 0 ff00\narrive 1 0 f9\narrive 1 0 e1e0\narrive 1 0 e1\narrive 1 0 -\n",
+        "1 - refused AfterAddCid\n1 - refused Segment\n1 - refused ReservedType\n1 - refused ReservedType\n1 - refused NoHeader\n1 - refused Empty\n",
+        6,
+        0,
+    ),
+    (
+        "framing refusals",
+        "arrive 2 0 fcc0\narrive 2 0 e1fc\narrive 2 0 fc81\narrive 3 0 e410ac\narrive 1 0 e710ac\narrive 9 0 10ac\n",
+        "2 - refused LargeCid\n2 - refused AddCidOnLarge\n2 - refused NoHeader\n3 - refused CidRange\n1 7 refused NoContext\n9 - refused NoLink\n",
+        6,
+        0,
+    ),
+];
+
 /// Runs each script, and compares its answers and its tally.
-fn agrees(rt: &impl Abort, alloc: Global, examples: &[(&str, &str, u64, u64)]) -> Result<(), Fail> {
-    for (script, answers, events, bad) in examples {
+fn agrees(rt: &impl Abort, alloc: Global, examples: &[Example]) -> Result<(), Fail> {
+    for (name, script, answers, events, bad) in examples {
         let mut writer = willing(alloc);
         let told = replayed(alloc, &mut steady(script.as_bytes(), 4096), &mut writer)?;
         let tally = Tally {
             events: *events,
             bad: *bad,
         };
-        assert_eq!(rt; told, Ok(tally));
-        assert_eq!(rt; writer.text.as_slice(), answers.as_bytes());
+        assert_eq!(rt; told, Ok(tally), "{name}");
+        assert_eq!(rt; writer.text.as_slice(), answers.as_bytes(), "{name}");
     }
     Ok(())
 }
 
 #[test]
 fn worked_examples(rt: HostRuntime) -> Result<(), Fail> {
-    let examples = [
-        (
-            "arrive 1 0 fc00b745aa\n",
-            "1 0 ip 45aa\n1 0 feedback f100\n",
-            1,
-            0,
-        ),
-        (
-            "arrive 1 0 fc00b7\n",
-            "1 0 stored\n1 0 feedback f100\n",
-            1,
-            0,
-        ),
-        (
-            "arrive 1 0 10ac\narrive 1 0 fc00b845aa\narrive 1 0 10ac\n",
-            "1 0 refused NoContext\n1 0 refused Check\n1 0 refused NoContext\n",
-            3,
-            0,
-        ),
-        (
-            "arrive 1 0 fc00b745aa\nreset 1\narrive 1 0 10ac\nreset 9\n",
-            "1 0 ip 45aa\n1 0 feedback f100\n1 0 refused NoContext\n9 - refused NoLink\n",
-            4,
-            0,
-        ),
-        (
-            "arrive 1 999999999999 e110ac\narrive 2 5 fc812c00e6450102\noops\narrive 1 20 e2fc008145aa\narrive 1 0 e710ac\n",
-            "1 1 refused NoContext\n2 300 ip 450102\n2 300 feedback f3812c00\n- - refused BadLine\n1 2 ip 45aa\n1 2 feedback f2e200\n1 7 refused NoContext\n",
-            4,
-            1,
-        ),
-        ("", "", 0, 0),
-        ("\n", "- - refused BadLine\n", 0, 1),
-        (
-            "reset 01\narrive 1 0 FC\n",
-            "- - refused BadLine\n- - refused BadLine\n",
-            0,
-            2,
-        ),
-        ("arrive 9 0 -", "9 - refused NoLink\n", 1, 0),
-    ];
-    agrees(&rt, rt.alloc(), &examples)
+    agrees(&rt, rt.alloc(), &EXAMPLES)
 }
 
 #[test]
 fn worked_examples_of_framing(rt: HostRuntime) -> Result<(), Fail> {
-    let examples = [
-        (
-            "arrive 1 0 e1fc003045aa\n",
-            "1 1 ip 45aa\n1 1 feedback f2e100\n",
-            1,
-            0,
-        ),
-        (
-            "arrive 2 0 fc812c00e6450102\narrive 2 0 45812c0102\n",
-            "2 300 ip 450102\n2 300 feedback f3812c00\n2 300 ip 450102\n",
-            2,
-            0,
-        ),
-        (
-            "arrive 1 0 e0e0f22007fc00b745aa\n",
-            "1 - relay 2007\n1 0 ip 45aa\n1 0 feedback f100\n",
-            1,
-            0,
-        ),
-        (
-            "arrive 1 0 f00901\narrive 1 0 f0\narrive 1 0 f000\narrive 1 0 e0\n",
-            "1 - refused FeedbackShort\n1 - refused FeedbackShort\n1 - relay -\n",
-            4,
-            0,
-        ),
-        (
-            "arrive 1 0 e1f100\narrive 1 0 ff00\narrive 1 0 f9\narrive 1 0 e1e0\narrive 1 0 e1\narrive 1 0 -\n",
-            "1 - refused AfterAddCid\n1 - refused Segment\n1 - refused ReservedType\n1 - refused ReservedType\n1 - refused NoHeader\n1 - refused Empty\n",
-            6,
-            0,
-        ),
-        (
-            "arrive 2 0 fcc0\narrive 2 0 e1fc\narrive 2 0 fc81\narrive 3 0 e410ac\narrive 1 0 e710ac\narrive 9 0 10ac\n",
-            "2 - refused LargeCid\n2 - refused AddCidOnLarge\n2 - refused NoHeader\n3 - refused CidRange\n1 7 refused NoContext\n9 - refused NoLink\n",
-            6,
-            0,
-        ),
-    ];
-    agrees(&rt, rt.alloc(), &examples)
+    agrees(&rt, rt.alloc(), &EXAMPLES_OF_FRAMING)
 }
 
 #[test]

@@ -1,5 +1,7 @@
+//! Links files of both versions, and the first fault of each.
+
 use super::{Key, LinksFault, Ports, read_links};
-use rohc_concentrator::CidRange;
+use rohc_concentrator::{CidRange, Concentrator, SetupFault};
 use rohc_context::{Mode, Settings};
 use rohc_frame::CidKind;
 use std::alloc::{AllocError, Global};
@@ -182,50 +184,55 @@ fn wants_each_key(rt: HostRuntime) -> Result<(), Fail> {
     Ok(())
 }
 
+/// Lines that take the place of one, each with the entry that has an unknown key by it.
+const UNKNOWN: [(usize, &str, usize); 3] = [
+    (2, "other = 1", 1),
+    (14, "relay_port = 6003\nidle_ms = 0", 1),
+    (14, "relay_port = 6003\n[[link]]\nother = 1", 2),
+];
+
+/// Lines that take the place of one of a text, each with the key whose value is wrong by it.
+const WRONG: [(&str, usize, &str, Key); 11] = [
+    (FIRST, 2, "number = 65536", Key::Number),
+    (FIRST, 2, "number = 1.0", Key::Number),
+    (FIRST, 2, "number = \"1\"", Key::Number),
+    (FIRST, 3, "cid = \"Small\"", Key::Cid),
+    (FIRST, 5, "mode = \"R\"", Key::Mode),
+    (FIRST, 6, "k1 = 256", Key::K1),
+    (FIRST, 10, "packet_ms = 4294967296", Key::PacketMs),
+    (FIRST, 12, "deliver_port = 0", Key::DeliverPort),
+    (FIRST, 14, "relay_port = 65536", Key::RelayPort),
+    (SECOND, 16, "range = [{ first = 4, last = 7 }]", Key::Range),
+    (
+        SECOND,
+        16,
+        "range = [{ first = 4, last = 7, mode = \"U\", cid = 5 }]",
+        Key::Range,
+    ),
+];
+
 #[test]
-fn refuses_wrong_lines(rt: HostRuntime) -> Result<(), Fail> {
+fn refuses_unknown_keys(rt: HostRuntime) -> Result<(), Fail> {
     let alloc = rt.alloc();
-    let lines = [
-        (FIRST, 2, "other = 1", LinksFault::UnknownKey { entry: 1 }),
-        (
-            FIRST,
-            14,
-            "relay_port = 6003\nidle_ms = 0",
-            LinksFault::UnknownKey { entry: 1 },
-        ),
-        (
-            FIRST,
-            14,
-            "relay_port = 6003\n[[link]]\nother = 1",
-            LinksFault::UnknownKey { entry: 2 },
-        ),
-        (FIRST, 2, "number = 65536", bad(Key::Number)),
-        (FIRST, 2, "number = 1.0", bad(Key::Number)),
-        (FIRST, 2, "number = \"1\"", bad(Key::Number)),
-        (FIRST, 3, "cid = \"Small\"", bad(Key::Cid)),
-        (FIRST, 5, "mode = \"R\"", bad(Key::Mode)),
-        (FIRST, 6, "k1 = 256", bad(Key::K1)),
-        (FIRST, 10, "packet_ms = 4294967296", bad(Key::PacketMs)),
-        (FIRST, 12, "deliver_port = 0", bad(Key::DeliverPort)),
-        (FIRST, 14, "relay_port = 65536", bad(Key::RelayPort)),
-        (
-            SECOND,
-            16,
-            "range = [{ first = 4, last = 7 }]",
-            bad(Key::Range),
-        ),
-        (
-            SECOND,
-            16,
-            "range = [{ first = 4, last = 7, mode = \"U\", cid = 5 }]",
-            bad(Key::Range),
-        ),
-    ];
-    for (text, place, line, fault) in lines {
+    for (place, line, entry) in UNKNOWN {
+        let text = with_line(alloc, FIRST, place, line)?;
+        assert_eq!(rt;
+            read_links(alloc, text.as_str()).err(),
+            Some(LinksFault::UnknownKey { entry }),
+            "at {line}"
+        );
+    }
+    Ok(())
+}
+
+#[test]
+fn refuses_wrong_values(rt: HostRuntime) -> Result<(), Fail> {
+    let alloc = rt.alloc();
+    for (text, place, line, key) in WRONG {
         let text = with_line(alloc, text, place, line)?;
         assert_eq!(rt;
             read_links(alloc, text.as_str()).err(),
-            Some(fault),
+            Some(bad(key)),
             "at {line}"
         );
     }
@@ -243,6 +250,25 @@ fn takes_eight_ranges(rt: HostRuntime) -> Result<(), Fail> {
         line.push_str("]")?;
         let text = with_line(alloc, SECOND, 16, line.as_str())?;
         assert_eq!(rt; read_links(alloc, text.as_str()).err(), fault, "of {count}");
+    }
+    Ok(())
+}
+
+#[test]
+fn overlapping_ranges_are_a_bad_setting(rt: HostRuntime) -> Result<(), Fail> {
+    let alloc = rt.alloc();
+    let fault = SetupFault::BadSetting { place: 1 };
+    for (first, told) in [(7u16, Some(fault)), (8, None)] {
+        let line = format!(in alloc;
+            "range = [{{ first = 4, last = 7, mode = \"U\" }}, {{ first = {first}, last = 9, mode = \"U\" }}]"
+        )?;
+        let text = with_line(alloc, SECOND, 16, line.as_str())?;
+        let links = read_links(alloc, text.as_str())?;
+        assert_eq!(rt;
+            Concentrator::new(alloc, links.settings()).err(),
+            told,
+            "from {first} on"
+        );
     }
     Ok(())
 }

@@ -1,6 +1,7 @@
 //! Each identifier of each link is told what its own lines alone would tell it.
 
-use super::{replayed, steady, willing};
+use super::{concentrator, steady, willing};
+use crate::run::replay;
 use std::alloc::{AllocError, Global};
 use std::test::Fail;
 
@@ -15,23 +16,60 @@ enum Whose {
     Nobody,
 }
 
+/// Two links, of small and of large identifiers, whose records count as none from 5,000 milliseconds after their
+/// last accepted arrival on.
+const LINKS: &str = "version = 2
+[[link]]
+number = 1
+cid = \"small\"
+max_cid = 15
+mode = \"O\"
+k1 = 2
+n1 = 3
+k2 = 2
+n2 = 3
+packet_ms = 20
+static_nack_ms = 1000
+deliver_port = 6001
+feedback_port = 6002
+relay_port = 6003
+idle_ms = 5000
+[[link]]
+number = 2
+cid = \"large\"
+max_cid = 16383
+mode = \"O\"
+k1 = 2
+n1 = 3
+k2 = 2
+n2 = 3
+packet_ms = 20
+static_nack_ms = 1000
+deliver_port = 6004
+feedback_port = 6005
+relay_port = 6006
+idle_ms = 5000
+";
+
 /// A line that stands for one of 131,201 octets.
 const LONG: &str = "long";
 
 /// The identifiers of the script.
-const PAIRS: [(u16, u16); 8] = [
+const PAIRS: [(u16, u16); 9] = [
     (1, 0),
     (1, 1),
     (1, 2),
     (1, 4),
     (1, 5),
+    (1, 7),
     (2, 0),
     (2, 5),
     (2, 300),
 ];
 
-/// Honest and damaged packets of these identifiers, resets, bad lines and a long one.
-const LINES: [(Whose, &str); 32] = [
+/// Honest and damaged packets of these identifiers, resets, bad lines and a long one. Identifier 0 of link 1 has an
+/// arrival 5,000 milliseconds after its last accepted one, and then one 4,999 after it.
+const LINES: [(Whose, &str); 34] = [
     (Whose::Call(1, 0), "arrive 1 0 fc00b745aa"),
     (Whose::Call(1, 1), "arrive 1 999999999999 e110ac"),
     (Whose::Call(2, 300), "arrive 2 5 fc812c00e6450102"),
@@ -47,9 +85,11 @@ const LINES: [(Whose, &str); 32] = [
     (Whose::Call(1, 0), "arrive 1 25 fc00b845aa"),
     (Whose::Nobody, "arrive 1 26 ff00"),
     (Whose::Call(2, 300), "arrive 2 30 45812c0102"),
+    (Whose::Call(1, 0), "arrive 1 5020 45ac"),
     (Whose::Call(1, 7), "arrive 1 31 e710ac"),
     (Whose::Nobody, "arrive 3 32 e410ac"),
     (Whose::Nobody, ""),
+    (Whose::Call(1, 0), "arrive 1 5019 45ad"),
     (Whose::Link(1), "reset 1"),
     (Whose::Call(1, 0), "arrive 1 40 45ac"),
     (Whose::Call(1, 2), "arrive 1 41 e245ac"),
@@ -66,9 +106,23 @@ const LINES: [(Whose, &str); 32] = [
     (Whose::Nobody, "arrive 2 54 fcc0"),
 ];
 
-/// Lines that no identifier of the script bears, and no reset.
-const HOSTILE: [&str; 16] = [
+/// What identifier 0 of link 1 is told. Its record was last accepted at 20.
+const FIRST_TOLD: &str = "1 0 ip 45aa
+1 0 feedback f100
+1 0 ip 45ab
+1 0 refused Check
+1 0 refused NoContext
+1 0 ip 45ad
+1 0 refused NoContext
+1 0 stored
+1 0 feedback f100
+";
+
+/// Lines that no identifier of the script bears, and no reset. Two records come of them on each link, at the latest
+/// moment and at the earliest.
+const HOSTILE: [&str; 18] = [
     "arrive 1 18446744073709551615 e9fc00758f",
+    "arrive 1 0 e945",
     "arrive 1 0 e9ffff",
     "arrive 1 0 e9fc00768f",
     "arrive 1 0 eefc0006de5b386a00",
@@ -76,7 +130,8 @@ const HOSTILE: [&str; 16] = [
     "arrive 1 0 f00901",
     "arrive 1 0 f3010203",
     "arrive 1 0 e1e0",
-    "arrive 2 18446744073709551615 fc812d00e6",
+    "arrive 2 18446744073709551615 fc812d008b",
+    "arrive 2 0 45812d01",
     "arrive 2 0 fcc0",
     "arrive 2 0 e1fc",
     "arrive 2 0 4580060000",
@@ -85,6 +140,9 @@ const HOSTILE: [&str; 16] = [
     "1 0 ip 45aa",
     "arrive 1 0 FC",
 ];
+
+/// What they are told, among other things.
+const HOSTILE_TOLD: [&str; 4] = ["1 9 ip 8f", "1 9 ip 45", "2 301 stored", "2 301 ip 4501"];
 
 /// How many of them stand between two lines, so that they are 10,000 in all.
 const BETWEEN: usize = 10_000 / LINES.len() + 1;
@@ -132,7 +190,12 @@ fn whole_script(alloc: Global, hostile: usize) -> Result<String, AllocError> {
 /// What a replay of the script writes.
 fn answers(alloc: Global, script: &str) -> Result<String, Fail> {
     let mut writer = willing(alloc);
-    replayed(alloc, &mut steady(script.as_bytes(), 4096), &mut writer)??;
+    replay(
+        alloc,
+        &mut concentrator(alloc, LINKS)?,
+        &mut steady(script.as_bytes(), 4096),
+        &mut writer,
+    )?;
     Ok(String::from_utf8(writer.text)?)
 }
 
@@ -161,10 +224,7 @@ fn each_pair_is_told_what_its_own_script_tells(rt: HostRuntime) -> Result<(), Fa
         assert_eq!(rt; told.as_str(), expected.as_str(), "of {link} {cid}");
     }
     let first = lines_of_pair(alloc, whole.as_str(), 1, 0)?;
-    assert_eq!(rt;
-        first.as_str(),
-        "1 0 ip 45aa\n1 0 feedback f100\n1 0 ip 45ab\n1 0 refused Check\n1 0 refused NoContext\n1 0 stored\n1 0 feedback f100\n"
-    );
+    assert_eq!(rt; first.as_str(), FIRST_TOLD);
     Ok(())
 }
 
@@ -174,10 +234,15 @@ fn ten_thousand_hostile_lines_change_nothing(rt: HostRuntime) -> Result<(), Fail
     let quiet = answers(alloc, whole_script(alloc, 0)?.as_str())?;
     let noisy = answers(alloc, whole_script(alloc, BETWEEN)?.as_str())?;
     assert!(rt; noisy.lines().count() > 10_000);
+    for told in HOSTILE_TOLD {
+        assert!(rt; noisy.lines().any(|line| line == told), "{told}");
+    }
     for (link, cid) in PAIRS {
         let told = lines_of_pair(alloc, noisy.as_str(), link, cid)?;
         let expected = lines_of_pair(alloc, quiet.as_str(), link, cid)?;
         assert_eq!(rt; told.as_str(), expected.as_str(), "of {link} {cid}");
     }
+    let first = lines_of_pair(alloc, noisy.as_str(), 1, 0)?;
+    assert_eq!(rt; first.as_str(), FIRST_TOLD);
     Ok(())
 }
