@@ -2,10 +2,10 @@
 use Rattle.std.proofs.Common.{◌≡◌, ℕ, ◌+◌, ◌*◌, ◌%◌, ◌<◌, ◌≤◌, Bool, true, false, List, [], ◌∷◌, ◌++◌, length, take, drop, Option, Some, None, refl, sym, ap, ◌∙◌, get_or, Fits, w8, arith, subst}
 use Rattle.std.specs.Prelude.{All, nat_lt, IfSome}
 use Rattle.std.proofs.lemmas.Bool.Decides.{nat_tests}
-use Rattle.std.proofs.lemmas.List.{take-append-drop, length-take-le}
+use Rattle.std.proofs.lemmas.List.{take-append-drop, length-take-le, length-append}
 use Rattle.std.proofs.lemmas.List.Elements.{All-nil, All-cons, All-head, All-tail, All-from_get_or}
 use Rattle.rohc_bits.specs.Spelling.{IsSpelled, Spells}
-use Rattle.rohc_bits.specs.Fronts.{front_value, two_octets, three_octets, four_octets}
+use Rattle.rohc_bits.specs.Fronts.{FrontIsSpelled, front_value, two_octets, three_octets, four_octets}
 
 -- a value that stands at the front is read
 pub front_read : (t rest : List ℕ) (v : ℕ) → Spells t v → front_value (t ++ rest) ≡ Some (v, length t)
@@ -105,6 +105,28 @@ pub all_front : (t rest : List ℕ) → All (λ octet. octet < 256) (t ++ rest) 
 all_front [] rest all = All-nil (λ octet. octet < 256)
 all_front (a ∷ t) rest all = All-cons (λ octet. octet < 256) a t (All-head (λ octet. octet < 256) a (t ++ rest) all) (all_front t rest (All-tail (λ octet. octet < 256) a (t ++ rest) all))
 
+-- the front of so many octets is the spelling
+take_front : (t rest : List ℕ) → take (length t) (t ++ rest) ≡ t
+take_front [] rest = refl
+take_front (a ∷ t) rest = ap (λ (more : List ℕ). a ∷ more) (take_front t rest)
+
+front_spelled : (text : List ℕ) (value count : ℕ) → All (λ octet. octet < 256) text → front_value text ≡ Some (value, count) → (count ≤ length text) × IsSpelled (take count text) value
+front_spelled text value count all is =
+    let front = front_found text value count is in
+    let octets = all_front front.spelling front.rest (subst (All (λ octet. octet < 256)) front.whole all) in
+    let spelling : take count text ≡ front.spelling = ap (λ n. take n text) front.counted ∙ ap (take (length front.spelling)) front.whole ∙ take_front front.spelling front.rest in
+    let whole : length text ≡ length front.spelling + length front.rest = ap length front.whole ∙ length-append front.spelling front.rest in
+    let counted : count ≡ length front.spelling = front.counted in
+    (omega (arith, whole, counted), subst (λ (t : List ℕ). IsSpelled t value) (sym spelling) (record { octets = octets; spells = front.spells }))
+
+spelled_front : (text : List ℕ) (value count : ℕ) → count ≤ length text → IsSpelled (take count text) value → front_value text ≡ Some (value, count)
+spelled_front text value count within spelled =
+    let counted : length (take count text) ≡ count = length-take-le count text within in
+    ap front_value (sym (take-append-drop count text)) ∙ front_read (take count text) (drop count text) value spelled.spells ∙ ap (λ n. Some (value, n)) counted
+
+pub front_is_spelled : FrontIsSpelled
+front_is_spelled = λ text value count all. (front_spelled text value count all, λ is. spelled_front text value count is.0 is.1)
+
 -- it can't have missed what stands there
 missed_nothing : (text : List ℕ) (found : Option (ℕ × ℕ)) → All (λ octet. octet < 256) text → front_value text ≡ found →
     ((t rest : List ℕ) (v : ℕ) → text ≡ t ++ rest → IsSpelled t v → ◌≡◌ {A = Option (ℕ × ℕ)} None (Some (v, length t))) → None ≡ found
@@ -120,5 +142,4 @@ pub read_is_front : (text : List ℕ) (read : Option (ℕ × ℕ)) → ((i : ℕ
     ((t rest : List ℕ) (v : ℕ) → text ≡ t ++ rest → IsSpelled t v → read ≡ Some (v, length t)) → read ≡ front_value text
 read_is_front text None fits within spelled every = missed_nothing text (front_value text) (all_octets text fits) refl every ∙ refl
 read_is_front text (Some (v, count)) fits within spelled every =
-    let counted : length (take count text) ≡ count = length-take-le count text within in
-    sym (ap front_value (sym (take-append-drop count text)) ∙ front_read (take count text) (drop count text) v spelled.spells ∙ ap (λ n. Some (v, n)) counted)
+    sym (spelled_front text v count within spelled)

@@ -1,5 +1,6 @@
 -- Self-describing values at the front of a text, read from left to right.
-use Rattle.std.specs.Prelude.{ℕ, ◌+◌, ◌*◌, ◌%◌, List, [], ◌∷◌, ◌==◌, nat_lt, if◌then◌else◌, Option, Some, None}
+use Rattle.std.specs.Prelude.{◌≡◌, ◌<◌, ◌≤◌, ◌↔◌, All, length, take, ℕ, ◌+◌, ◌*◌, ◌%◌, List, [], ◌∷◌, ◌==◌, nat_lt, if◌then◌else◌, Option, Some, None}
+use Rattle.rohc_bits.specs.Spelling.{IsSpelled}
 
 -- a value of two octets, behind its first
 abbrev pub two_octets : ℕ → List ℕ → Option (ℕ × ℕ)
@@ -20,7 +21,7 @@ four_octets a (b ∷ c ∷ []) = None
 four_octets a (b ∷ c ∷ d ∷ text) = Some (((a % 32 * 256 + b) * 256 + c) * 256 + d, 4)
 
 -- The value at the front of a text and how many octets spell it, where one stands there: its first bits 0, 10, 110
--- or 111 say how many (RFC 3095 4.5.6). It is the value that the front spells (`Spells`), by lemmas in both directions.
+-- or 111 say how many (RFC 3095 4.5.6). A law says that it is the value that a front of the text spells.
 unfoldable pub front_value : List ℕ → Option (ℕ × ℕ)
 front_value [] = None
 front_value (a ∷ text) =
@@ -29,6 +30,11 @@ front_value (a ∷ text) =
     else if nat_lt a 224 then three_octets a text
     else if nat_lt a 256 then four_octets a text
     else None
+
+-- what stands at the front of octets is exactly the value that a front of them spells
+abbrev pub FrontIsSpelled : Type 0
+FrontIsSpelled = (text : List ℕ) (value count : ℕ) → All (λ octet. octet < 256) text →
+    (front_value text ≡ Some (value, count)) ↔ ((count ≤ length text) × IsSpelled (take count text) value)
 
 -- how many bits of so many octets spell a value
 abbrev pub value_bits : ℕ → ℕ

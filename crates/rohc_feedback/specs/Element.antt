@@ -8,11 +8,11 @@ use Rattle.rohc_feedback.specs.declared.meaning.Word.{Word}
 use Rattle.rohc_feedback.specs.declared.meaning.Word.TheVariants.{Ack, Nack, StaticNack, Plain}
 use Rattle.rohc_feedback.specs.declared.meaning.Reading.{Reading}
 
--- a feedback element: the type octet, whose low three bits are the size of the data, and the data (RFC 5795 5.3.1.4)
+-- a feedback element: the type octet, whose low three bits are the size of the data, and the data (RFC 5795 5.2.4.1)
 abbrev pub element_octets : List ℕ → List ℕ
 element_octets octets = (240 + length octets) ∷ octets
 
--- The identifier's octets in front of feedback (RFC 5795 5.3.1.1): on a small link none for 0, else the
+-- The identifier's octets in front of feedback (RFC 5795 5.2.1.2): on a small link none for 0, else the
 -- Add-CID octet; on a large one the shortest spelling, one octet below 128 and two from there on.
 abbrev pub identifier_octets : CidKind → ℕ → List ℕ
 identifier_octets Small cid = if cid == 0 then [] else (224 + cid) ∷ []

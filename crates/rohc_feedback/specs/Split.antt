@@ -1,7 +1,7 @@
 use Rattle.std.specs.Prelude.{ℕ, ◌<◌, List, [], ◌∷◌, Option, Some, None}
 use Rattle.std.specs.Borrow.{Bor}
 
--- feedback begins with an octet below E0, which is no Add-CID octet (RFC 5795 5.3.1.1)
+-- feedback begins with an octet below E0, which is no Add-CID octet (RFC 5795 5.2.1.2)
 abbrev pub BeginsFeedback : List ℕ → Type 0
 BeginsFeedback [] = ⊥
 BeginsFeedback (first ∷ rest) = first < 224

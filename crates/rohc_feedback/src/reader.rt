@@ -13,7 +13,7 @@ use rohc_bits::read_value;
 use rohc_frame::CidKind;
 
 /// What a whole element says, its type octet included, or `None` for a text that `ack`, `nack`,
-/// `static_nack` and `plain_ack` never write on such a link (RFC 3095 5.7.6, RFC 5795 5.3.1.4).
+/// `static_nack` and `plain_ack` never write on such a link (RFC 3095 5.7.6, RFC 5795 5.2.4.1).
 ///
 /// The fields are read first. The size, the spelling of the identifier and the check are right where the
 /// element that says the same is this text.

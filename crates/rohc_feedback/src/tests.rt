@@ -57,6 +57,7 @@ fn written(rt: HostRuntime) {
         nack(Small, 0, None),
         static_nack(Small, 0),
     ];
+    assert_eq!(rt; elements.len(), EXAMPLES.len());
     for (element, (_, octets, _)) in elements.iter().zip(EXAMPLES) {
         assert_eq!(rt; element.as_slice(), octets);
     }
@@ -97,9 +98,17 @@ fn changed_elements_are_none(rt: HostRuntime) {
 
 #[test]
 fn other_texts_are_none(rt: HostRuntime) {
-    let texts: [(CidKind, &[u8]); 6] = [
+    let texts: [(CidKind, &[u8]); 12] = [
         (Small, &[]),
-        // Mode 3, data that is no feedback, and an element of a small link on a large one.
+        // Modes 3 and 1, Acktype 3, an ACK without a number, a STATIC-NACK without its option, and a Size octet, each with
+        // a check that fits.
+        (Small, &[0xf4, 0x30, 0x01, 0x11, 0x34]),
+        (Small, &[0xf4, 0x10, 0x01, 0x11, 0x2e]),
+        (Small, &[0xf4, 0xe0, 0x01, 0x11, 0x65]),
+        (Small, &[0xf5, 0x20, 0x00, 0x30, 0x11, 0x4a]),
+        (Small, &[0xf4, 0xa0, 0x00, 0x11, 0x81]),
+        (Small, &[0xf0, 0x04, 0x20, 0x01, 0x11, 0x39]),
+        // Data that is no feedback, twice, and an element of a small link on a large one.
         (Small, &[0xf4, 0x30, 0x00, 0xe1, 0x10]),
         (Small, &[0xf2, 0x20, 0x07]),
         (Large, &[0xf1, 0x00]),

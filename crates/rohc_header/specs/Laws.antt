@@ -1,4 +1,4 @@
-use Rattle.std.specs.Prelude.{◌≡◌, ℕ, ◌+◌, Bool, List, ◌++◌, length}
+use Rattle.std.specs.Prelude.{◌≡◌, ◌≤◌, ℕ, ◌+◌, Bool, List, ◌++◌, length}
 use Rattle.std.specs.List.Sorted.{IsPermutation}
 use Rattle.rohc_checks.specs.Division.{check}
 use Rattle.rohc_header.specs.declared.fields.Static.{Static}
@@ -10,6 +10,10 @@ use Rattle.rohc_header.specs.Check.{static_octets, dynamic_octets, all_ones, hea
 abbrev pub HasOneHeader : Type 0
 HasOneHeader = (fixed : Static) (moving : Dynamic) (payload_len : ℕ) (a b : List ℕ) →
     IsOriginal fixed moving payload_len a → IsOriginal fixed moving payload_len b → a ≡ b
+
+-- a header and its payload are a packet of 65,535 octets at most
+abbrev pub FitsPacket : Type 0
+FitsPacket = (fixed : Static) (moving : Dynamic) (payload_len : ℕ) (octets : List ℕ) → IsOriginal fixed moving payload_len octets → length octets + payload_len ≤ 65535
 
 -- the static and the dynamic octets are all forty, each of them once
 abbrev pub SplitsWhole : Type 0

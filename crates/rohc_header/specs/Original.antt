@@ -1,4 +1,4 @@
-use Rattle.std.specs.Prelude.{◌≡◌, ◌≤◌, ℕ, ◌+◌, ◌/◌, ◌%◌, Bool, if◌then◌else◌, List, [], ◌∷◌, ◌++◌}
+use Rattle.std.specs.Prelude.{◌≡◌, ◌≤◌, ℕ, ◌+◌, ◌/◌, ◌%◌, Bool, if◌then◌else◌, List, [], ◌∷◌, ◌++◌, length}
 use Rattle.rohc_checks.specs.Sum.{header_sum, words}
 use Rattle.rohc_header.specs.declared.fields.Static.{Static}
 use Rattle.rohc_header.specs.declared.fields.Dynamic.{Dynamic}
@@ -64,11 +64,12 @@ rtp_part fixed moving =
     ++ quad moving.ts
     ++ quad fixed.ssrc
 
--- The octets are the original header of these fields and of a payload of this length, which is no longer
+-- Forty octets are the original header of these fields and of a payload of this length, which is no longer
 -- than fits a packet of 65,535 octets: the three parts in a row, where the checksum of the IPv4 part is
 -- the header sum of its other nine words.
 pub record IsOriginal (fixed : Static) (moving : Dynamic) (payload_len : ℕ) (octets : List ℕ) : Type 0 where
   pub checksum : ℕ
   pub fits : payload_len ≤ 65495
+  pub forty : length octets ≡ 40
   pub summed : checksum ≡ ip_sum fixed moving payload_len
   pub whole : octets ≡ ip_part fixed moving payload_len checksum ++ udp_part fixed moving payload_len ++ rtp_part fixed moving

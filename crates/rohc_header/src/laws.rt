@@ -1,10 +1,15 @@
 //! Laws of the definitions, as contracts of functions that do nothing.
 
-ghost use Rattle.rohc_header.specs.Laws.{HasOneHeader, SplitsWhole, ChecksInParts, HasStaticFields};
+ghost use Rattle.rohc_header.specs.Laws.{HasOneHeader, FitsPacket, SplitsWhole, ChecksInParts, HasStaticFields};
 
 /// Fields and a payload's length have one original header at most.
 pub fn one_header()
     ensures { HasOneHeader }
+{}
+
+/// A header and its payload are a packet of 65,535 octets at most.
+pub fn fits_packet()
+    ensures { FitsPacket }
 {}
 
 /// The checks take each octet of a header once, as static or as dynamic.

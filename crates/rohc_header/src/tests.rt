@@ -52,7 +52,7 @@ use Carried::{Nothing, Seven, Three};
 /// delivers it.
 type Row = (u8, u16, u16, u16, u8, u16, u32, Carried);
 
-const ROWS: [Row; 16] = [
+const ROWS: [Row; 20] = [
     // *whole IR*
     (0x00, 0x0001, 0x66c1, 0, 0x00, 1, 0xa0, Nothing),
     // *first UO-0*, and the first packet of *wrong repair and ends of types*: 10ac
@@ -66,6 +66,9 @@ const ROWS: [Row; 16] = [
     (0x00, 0x0001, 0x66c1, 0, 0x00, 0xffff, 0xffff_ff60, Nothing),
     (0x00, 0x0002, 0x66c0, 0, 0x00, 0, 0, Three(5)),
     (0x00, 0x0002, 0x66c0, 0, 0x00, 0, 0, Seven(0x20)),
+    // *no stride*: 11ac, a818ad
+    (0x00, 0x0002, 0x66c0, 0, 0x00, 2, 0xa0, Three(1)),
+    (0x00, 0x0003, 0x66bf, 0, 0x00, 3, 0xa8, Three(0)),
     // *offset bits*: 841fad, c00cfa6364ad
     (0x00, 0x0007, 0x66bb, 0, 0x00, 3, 0x1e0, Three(7)),
     (0x00, 0x0067, 0x665b, 0, 0x00, 0x64, 0x3e80, Seven(0x7a)),
@@ -75,6 +78,10 @@ const ROWS: [Row; 16] = [
     // *UDP checksum*: its IR, 10cafeac
     (0x00, 0x0001, 0x66c1, 0xbeef, 0x00, 1, 0xa0, Nothing),
     (0x00, 0x0002, 0x66c0, 0xcafe, 0x00, 2, 0x140, Three(0)),
+    // *wrapped SN repaired*: 1fac
+    (0x00, 0x0013, 0x66af, 0, 0x00, 0x13, 0xbe0, Three(7)),
+    // *late packet*: 0fab
+    (0x00, 0x0001, 0x66c1, 0, 0x00, 1, 0xa0, Three(7)),
     // *swapped IP-ID*: its IR, 12ac
     (0x00, 0x0100, 0x65c2, 0, 0x00, 1, 0xa0, Nothing),
     (0x00, 0x0200, 0x64c2, 0, 0x00, 2, 0x140, Three(2)),
@@ -131,4 +138,7 @@ fn longest_payload(rt: HostRuntime) {
         let header = Header::build(&FIXED, &MOVING, payload_len);
         assert_eq!(rt; header.is_some(), fits);
     }
+    let longest = Header::build(&FIXED, &MOVING, 65_495).expect(&rt, "a payload that fits");
+    assert_eq!(rt; &longest.octets[2..4], [0xff, 0xff].as_slice());
+    assert_eq!(rt; &longest.octets[24..26], [0xff, 0xeb].as_slice());
 }
