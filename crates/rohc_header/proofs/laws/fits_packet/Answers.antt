@@ -1,4 +1,4 @@
-use Rattle.std.proofs.Common.{◌+◌, ◌≤◌, arith}
+use Rattle.std.proofs.Common.{arith}
 use Rattle.rohc_header.proofs.laws.fits_packet.Goals as goal
 
 pub returns : goal.returns
