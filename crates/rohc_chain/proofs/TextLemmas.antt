@@ -19,7 +19,7 @@ use Rattle.rohc_chain.specs.declared.refusal.ChainRefusal.TheVariants.{Profile, 
 use Rattle.rohc_chain.specs.Octets.{octet_at}
 use Rattle.rohc_chain.specs.Faults.{ir_profile_fault, dyn_profile_fault}
 use Rattle.rohc_chain.specs.Chains.{judged, judged_octet, static_at, dynamic_at}
-use Rattle.rohc_chain.specs.Packets.{IrContent, Plain, StaticOnly, Whole, ir_content, DynContent, dyn_content, IsIr, is_dynamic, plain_cover, cover, fits, before, nothing_kept, length_fault, check_fault, ended, plain_at, static_only_at, whole_at, chains_at, ir_at, ir_dyn_at}
+use Rattle.rohc_chain.specs.Packets.{IrContent, Plain, StaticOnly, Whole, ir_content, DynContent, dyn_content, IsIr, IsIrDyn, is_dynamic, plain_cover, cover, fits, before, nothing_kept, length_fault, check_fault, ended, plain_at, static_only_at, whole_at, chains_at, ir_at, ir_dyn_at}
 use Rattle.rohc_chain.specs.ChainText.{SpellsStatic, SpellsDynamic}
 use Rattle.rohc_chain.specs.Texts.{check_of, IsPlainText, IsStaticText, IsWholeText, IsIrText, IsIrDynText, IsShort, ir_fault, ir_dyn_fault}
 use Rattle.rohc_chain.proofs.Steps.{ok_parts, bind_ok, octet_found, judged_ok, judged_found}
@@ -172,10 +172,15 @@ dyn_profiles true true profile octet l o p e = let none : ◌≡◌ {A = Option 
 dyn_profiles true false profile octet l o p e = (eqb-true _ _ o, grind (arith, nat_tests))
 dyn_profiles false known profile octet l o p e = let none : ◌≡◌ {A = Option ChainRefusal} (Some Profile) None = rw o at e in cc
 
-pub dyn_text : (h : Header) (profile : ℕ) (kept : Kept) (packet : DynContent) → profile ≤ 1 → All IsOctet h.rest → ir_dyn_at h profile kept ≡ Ok packet →
+ir_dyn_kind : (kind : HeadKind) → IsIrDyn kind → kind ≡ IrDyn
+ir_dyn_kind (Ir dynamic) is = absurd is
+ir_dyn_kind IrDyn is = refl
+ir_dyn_kind Other is = absurd is
+
+pub dyn_text : (h : Header) (profile : ℕ) (kept : Kept) (packet : DynContent) → IsIrDyn h.kind → profile ≤ 1 → All IsOctet h.rest → ir_dyn_at h profile kept ≡ Ok packet →
     IsIrDynText h profile kept packet × (length packet.payload ≤ 65495)
 unfolding ir_dyn_at
-dyn_text h profile kept packet low all e =
+dyn_text h profile kept packet is low all e =
     let a = bind_ok (judged_octet (dyn_profile_fault profile) h.rest) _ packet e in
     let b = bind_ok (octet_at a.0.1) _ packet a.2 in
     let d = bind_ok (dynamic_at kept b.0.1) _ packet b.2 in
@@ -194,6 +199,7 @@ dyn_text h profile kept packet low all e =
     subst (λ (p : DynContent). IsIrDynText h profile kept p × (length p.payload ≤ 65495)) j.1 (
       record {
         chain = fd.0;
+        kind = ir_dyn_kind h.kind is;
         for_profile_1 = profiles.1;
         spells_dynamic = fd.2;
         whole = first.0 ∙ ap (λ (t : List ℕ). a.0.0 ∷ t) second ∙ ap (λ (o : ℕ). o ∷ b.0.0 ∷ b.0.1) profiles.0 ∙ ap (λ (o : ℕ). 1 ∷ o ∷ b.0.1) place
@@ -282,11 +288,11 @@ module _ (h : Header) (r : Result lent.Ir ChainRefusal) (e : result_map_both ir_
 
 -- of an IR-DYN
 module _ (h : Header) (profile : ℕ) (kept : Kept) (r : Result lent_dyn.IrDyn ChainRefusal) (e : result_map_both dyn_content (λ e. e) r ≡ ir_dyn_at h profile kept) where
-  pub dyn_said : profile ≤ 1 → All IsOctet h.rest → IfOk r (λ packet. IsIrDynText h profile kept (dyn_content packet))
-  dyn_said low all = ok_said dyn_content r (ir_dyn_at h profile kept) (IsIrDynText h profile kept) e (λ packet read. (dyn_text h profile kept packet low all read).0)
+  pub dyn_said : IsIrDyn h.kind → profile ≤ 1 → All IsOctet h.rest → IfOk r (λ packet. IsIrDynText h profile kept (dyn_content packet))
+  dyn_said is low all = ok_said dyn_content r (ir_dyn_at h profile kept) (IsIrDynText h profile kept) e (λ packet read. (dyn_text h profile kept packet is low all read).0)
 
-  pub dyn_short : profile ≤ 1 → All IsOctet h.rest → IfOk r (λ packet. length packet.payload.now ≤ 65495)
-  dyn_short low all = ok_said dyn_content r (ir_dyn_at h profile kept) (λ packet. length packet.payload ≤ 65495) e (λ packet read. (dyn_text h profile kept packet low all read).1)
+  pub dyn_short : IsIrDyn h.kind → profile ≤ 1 → All IsOctet h.rest → IfOk r (λ packet. length packet.payload.now ≤ 65495)
+  dyn_short is low all = ok_said dyn_content r (ir_dyn_at h profile kept) (λ packet. length packet.payload ≤ 65495) e (λ packet read. (dyn_text h profile kept packet is low all read).1)
 
   pub dyn_only : (packet : DynContent) → IsIrDynText h profile kept packet → length packet.payload ≤ 65495 → result_map_both dyn_content (λ e. e) r ≡ Ok packet
   dyn_only packet is l = e ∙ dyn_from_text h profile kept packet is l

@@ -4,7 +4,7 @@ use Rattle.rohc_frame.specs.Header.{Header}
 use Rattle.rohc_frame.specs.Laws.{IsOctet}
 use Rattle.rohc_chain.specs.declared.parts.Kept.{Kept}
 use Rattle.rohc_chain.specs.declared.refusal.ChainRefusal.{ChainRefusal}
-use Rattle.rohc_chain.specs.Packets.{IrContent, DynContent, IsIr, ir_at, ir_dyn_at}
+use Rattle.rohc_chain.specs.Packets.{IrContent, DynContent, IsIr, IsIrDyn, ir_at, ir_dyn_at}
 use Rattle.rohc_chain.specs.Good.{IsGoodStride, IsGoodDynamic, IsGoodContent}
 use Rattle.rohc_chain.specs.Texts.{IsIrText, IsIrDynText, IsShort, ir_fault, ir_dyn_fault}
 
@@ -23,7 +23,7 @@ SaysOne = (h : Header) (a b : IrContent) → IsIrText h a → IsIrText h b → a
 
 -- the same of an IR-DYN for a context of profile 0 or 1
 abbrev pub ReadsIrDyns : Type 0
-ReadsIrDyns = (h : Header) (profile : ℕ) (kept : Kept) (packet : DynContent) → profile ≤ 1 → All IsOctet h.rest →
+ReadsIrDyns = (h : Header) (profile : ℕ) (kept : Kept) (packet : DynContent) → IsIrDyn h.kind → profile ≤ 1 → All IsOctet h.rest →
     (ir_dyn_at h profile kept ≡ Ok packet) ↔ (IsIrDynText h profile kept packet × (length packet.payload ≤ 65495))
 
 -- and it is refused exactly where that is its first fault

@@ -1,7 +1,7 @@
 -- The octets of whole IR and IR-DYN packets, and why others are refused (RFC 3095 5.7.7 and 5.10.1).
 use Rattle.std.specs.Prelude.{◌≡◌, ℕ, ◌≤◌, List, ◌∷◌, ◌++◌, length, drop, get_or, true, false, ◌==◌, if◌then◌else◌, Option, Some, None, Result, Ok, Err}
 use Rattle.rohc_checks.specs.Division.{check, poly8}
-use Rattle.rohc_frame.specs.declared.header.HeadKind.TheVariants.{Ir}
+use Rattle.rohc_frame.specs.declared.header.HeadKind.TheVariants.{Ir, IrDyn}
 use Rattle.rohc_frame.specs.Header.{Header}
 use Rattle.rohc_header.specs.declared.fields.Static.{Static}
 use Rattle.rohc_header.specs.declared.fields.Dynamic.{Dynamic}
@@ -46,6 +46,7 @@ IsIrText h (Whole fixed moving payload) = IsWholeText h fixed moving payload
 -- chain, the payload.
 pub record IsIrDynText (h : Header) (profile : ℕ) (kept : Kept) (packet : DynContent) : Type 0 where
   pub chain : List ℕ
+  pub kind : h.kind ≡ IrDyn
   pub for_profile_1 : profile ≡ 1
   pub spells_dynamic : SpellsDynamic kept packet.moving chain
   pub whole : h.rest ≡ 1 ∷ check_of (cover h chain) ∷ chain ++ packet.payload

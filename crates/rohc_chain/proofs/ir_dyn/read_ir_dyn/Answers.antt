@@ -4,10 +4,10 @@ use Rattle.rohc_chain.proofs.TextLemmas.{dyn_said, dyn_short, dyn_only, dyn_refu
 use Rattle.rohc_chain.proofs.ir_dyn.read_ir_dyn.Goals as goal
 
 pub returns-clause-text : goal.returns-clause-text
-returns-clause-text c = dyn_said (header_of c.args.forward.now) c.args.profile (kept_values c.args.extension c.args.stride) c.in_order.result c.in_order.ensures.reads c.requires.profile c.in_order.ensures.octets
+returns-clause-text c = dyn_said (header_of c.args.forward.now) c.args.profile (kept_values c.args.extension c.args.stride) c.in_order.result c.in_order.ensures.reads c.requires.kind c.requires.profile c.in_order.ensures.octets
 
 pub returns-clause-short : goal.returns-clause-short
-returns-clause-short c = dyn_short (header_of c.args.forward.now) c.args.profile (kept_values c.args.extension c.args.stride) c.in_order.result c.in_order.ensures.reads c.requires.profile c.in_order.ensures.octets
+returns-clause-short c = dyn_short (header_of c.args.forward.now) c.args.profile (kept_values c.args.extension c.args.stride) c.in_order.result c.in_order.ensures.reads c.requires.kind c.requires.profile c.in_order.ensures.octets
 
 pub returns-clause-only : goal.returns-clause-only
 returns-clause-only c = dyn_only (header_of c.args.forward.now) c.args.profile (kept_values c.args.extension c.args.stride) c.in_order.result c.in_order.ensures.reads
