@@ -303,7 +303,7 @@ fn refused_irs(rt: HostRuntime) -> Result<(), Fail> {
 
 // The IR-DYNs of example refused chains, and the profiles of the context: the profile, the packet, and
 // its refusal.
-const REFUSED_IR_DYNS: [(u8, &[u8], ChainRefusal); 12] = [
+const REFUSED_IR_DYNS: [(u8, &[u8], ChainRefusal); 13] = [
     (
         1,
         &[0xf8, 0x01, 0, 0, 0x40, 0, 0x01, 0x20, 0x01],
@@ -323,6 +323,13 @@ const REFUSED_IR_DYNS: [(u8, &[u8], ChainRefusal); 12] = [
         1,
         &[0xf8, 0x01, 0, 0, 0x40, 0, 0x01, 0x20, 0, 0, 0, 0x51],
         ChainRefusal::RtpVersion,
+    ),
+    (
+        1,
+        &[
+            0xf8, 0x01, 0, 0, 0x40, 0, 0x01, 0x20, 0, 0, 0, 0x90, 0, 0, 0x01, 0, 0, 0, 0xa0, 0x01,
+        ],
+        ChainRefusal::Csrc,
     ),
     (
         1,

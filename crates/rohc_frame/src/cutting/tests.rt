@@ -24,6 +24,11 @@ const FEW: Link = Link {
     max_cid: 3,
 };
 
+const FEW_LARGE: Link = Link {
+    size: CidKind::Large,
+    max_cid: 299,
+};
+
 // What three calls of `next` give.
 type Given = [Option<&'static [u8]>; 3];
 
@@ -136,13 +141,15 @@ fn readings(rt: HostRuntime) {
     }
 }
 
-const REFUSALS: [(Link, &[u8], FrameRefusal); 16] = [
+const REFUSALS: [(Link, &[u8], FrameRefusal); 20] = [
     (SMALL, &[0xf0, 0x09, 0x01], FrameRefusal::FeedbackShort),
     (SMALL, &[0xf0], FrameRefusal::FeedbackShort),
     (SMALL, &[0xe1, 0xf1, 0x00], FrameRefusal::AfterAddCid),
     (SMALL, &[0xff, 0x00], FrameRefusal::Segment),
     (SMALL, &[0xf9], FrameRefusal::ReservedType),
     (SMALL, &[0xe1, 0xe0], FrameRefusal::ReservedType),
+    (SMALL, &[0xe1, 0xe2], FrameRefusal::ReservedType),
+    (SMALL, &[0xe1, 0xf9], FrameRefusal::ReservedType),
     (SMALL, &[0xe1, 0xff], FrameRefusal::Segment),
     (SMALL, &[0xe1], FrameRefusal::NoHeader),
     (SMALL, &[], FrameRefusal::Empty),
@@ -153,6 +160,8 @@ const REFUSALS: [(Link, &[u8], FrameRefusal); 16] = [
     (LARGE, &[0xfe], FrameRefusal::Segment),
     (FEW, &[0xe4, 0x10, 0xac], FrameRefusal::CidRange),
     (FEW, &[0xe4], FrameRefusal::CidRange),
+    (FEW_LARGE, &[0xfc, 0x81, 0x2c], FrameRefusal::CidRange),
+    (FEW_LARGE, &[0xfc, 0x81], FrameRefusal::NoHeader),
 ];
 
 #[test]
