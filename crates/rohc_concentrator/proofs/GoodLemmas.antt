@@ -9,7 +9,7 @@ use Rattle.rohc_frame.proofs.LawLemmas.{header_is_good}
 use Rattle.rohc_context.specs.declared.record.Context.{Context}
 use Rattle.rohc_context.specs.Good.{AreGoodValues, IsGoodRecord, IsGoodHeader}
 use Rattle.rohc_context.specs.Settings.{AreGood}
-use Rattle.rohc_context.proofs.StepLemmas.{kept_good}
+use Rattle.rohc_context.proofs.StepLaws.{keeps_good}
 use Rattle.rohc_concentrator.specs.declared.concentrator.Concentrator.{Concentrator}
 use Rattle.rohc_concentrator.specs.declared.records.LinkRecords.{LinkRecords}
 use Rattle.rohc_concentrator.specs.declared.setting.LinkSetting.{LinkSetting}
@@ -37,7 +37,7 @@ good_settings_in s c good = record {
 
 good_in : (context : Option Context) → IfSome (record_in context) IsGoodRecord
 good_in None = tt
-good_in (Some c) = kept_good c
+good_in (Some c) = keeps_good c
 
 good_record_within : (records : Option LinkRecords) (c : ℕ) → IfSome (record_within records c) IsGoodRecord
 good_record_within None c = tt

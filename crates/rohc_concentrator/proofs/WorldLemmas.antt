@@ -17,7 +17,7 @@ use Rattle.rohc_context.specs.Settings.{AreGood}
 use Rattle.rohc_context.specs.Record.{Record}
 use Rattle.rohc_context.specs.Response.{Response}
 use Rattle.rohc_context.specs.Step.{LoneStep}
-use Rattle.rohc_context.proofs.StepLemmas.{has_no_other, leaves_good, leaves_none, never_poor}
+use Rattle.rohc_context.proofs.StepLaws.{has_no_other, leaves_good, leaves_none, never_poor}
 use Rattle.rohc_concentrator.specs.declared.concentrator.Concentrator.{Concentrator}
 use Rattle.rohc_concentrator.specs.declared.setting.LinkSetting.{LinkSetting}
 use Rattle.rohc_concentrator.specs.Setting.{settings_in}

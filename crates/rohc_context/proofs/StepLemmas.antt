@@ -5,16 +5,14 @@ use Rattle.rohc_frame.specs.Header.{Header}
 use Rattle.rohc_context.specs.declared.refusal.Refusal.{Refusal}
 use Rattle.rohc_context.specs.declared.refusal.Refusal.TheVariants.{NoContext, Profile, NoMemory}
 use Rattle.rohc_context.specs.declared.reply.Outcome.TheVariants.{Refused}
-use Rattle.rohc_context.specs.declared.record.Context.{Context}
 use Rattle.rohc_context.specs.declared.settings.Settings.{Settings}
-use Rattle.rohc_context.specs.Laws.{HasNoOther, LeavesGood, LeavesNone, NeverPoor}
 use Rattle.rohc_context.specs.Good.{IsGoodRecord}
 use Rattle.rohc_chain.specs.declared.refusal.ChainRefusal.{ChainRefusal}
 use Rattle.rohc_chain.specs.declared.refusal.ChainRefusal.TheVariants as chains
 use Rattle.rohc_chain.specs.Packets.{IrContent, Plain, StaticOnly, Whole, ir_at}
 use Rattle.rohc_context.specs.Chains.{refusal_of_chain}
 use Rattle.rohc_context.specs.PlainIr.{plain_ir, plain_content, names_other_profile}
-use Rattle.rohc_context.specs.Record.{Record, record_of}
+use Rattle.rohc_context.specs.Record.{Record}
 use Rattle.rohc_context.specs.Response.{Response, delivered, refused}
 use Rattle.rohc_context.specs.Step.{renewed, Turn, Renews, LoneStep, standing, acknowledgement}
 
@@ -146,21 +144,3 @@ turn_rich s m h Other (Some r) before response next step e = let f = ap (λ (r :
 pub step_rich : (before : Option Record) (s : Settings) (m : ℕ) (h : Header) (response : Response) (next : Option Record) → LoneStep before s m h response next → response.outcome ≢ Refused NoMemory
 unfolding LoneStep
 step_rich before s m h response next step e = turn_rich s m h h.kind (standing s m before) before response next step e
-
--- The laws of a step, for the proofs of the crates above.
-
-pub has_no_other : HasNoOther
-has_no_other before s m h good a b x y p q = step_one before s m h a b x y p q
-
-pub leaves_good : LeavesGood
-leaves_good before s m h good response next step = step_good before s m h good.record_before good.moment_fits response next step
-
-pub leaves_none : LeavesNone
-leaves_none s m h response next refusal step e = step_none s m h response next refusal step e
-
-pub never_poor : NeverPoor
-never_poor before s m h response next step = step_rich before s m h response next step
-
--- a record that is kept is good
-pub kept_good : (c : Context) → IsGoodRecord (record_of c)
-kept_good c = c.in_range

@@ -6,7 +6,8 @@ use Rattle.rohc_context.specs.declared.refusal.Refusal.TheVariants.{NoMemory}
 use Rattle.rohc_context.specs.declared.reply.Outcome.TheVariants.{Refused}
 use Rattle.rohc_context.specs.declared.settings.Settings.{Settings}
 use Rattle.rohc_context.specs.Good.{AreGoodValues, IsGoodRecord}
-use Rattle.rohc_context.specs.Record.{Record}
+use Rattle.rohc_context.specs.declared.record.Context.{Context}
+use Rattle.rohc_context.specs.Record.{Record, record_of}
 use Rattle.rohc_context.specs.Response.{Response}
 use Rattle.rohc_context.specs.Step.{LoneStep}
 
@@ -39,3 +40,7 @@ LeavesNone = (s : Settings) (moment : ℕ) (h : Header) (response : Response) (n
 abbrev pub NeverPoor : Type 0
 NeverPoor = (before : Option Record) (s : Settings) (moment : ℕ) (h : Header) (response : Response) (next : Option Record) →
     LoneStep before s moment h response next → response.outcome ≢ Refused NoMemory
+
+-- every context that a program holds has a good record
+abbrev pub KeepsGood : Type 0
+KeepsGood = (c : Context) → IsGoodRecord (record_of c)

@@ -5,5 +5,6 @@ use Rattle.rohc_context.specs.declared.record.Context.{Context}
 pub record Record : Type 0 where
   pub accepted : ℕ
 
-abbrev pub record_of : Context → Record
+-- what clauses see of a context
+unfoldable pub record_of : Context → Record
 record_of c = record { accepted = c.accepted }

@@ -1,6 +1,6 @@
 //! Laws of one step, as contracts of functions that do nothing. The crates above know a step by these.
 
-ghost use Rattle.rohc_context.specs.Laws.{HasAnswer, HasNoOther, LeavesGood, BeginsByIr, LeavesNone, NeverPoor};
+ghost use Rattle.rohc_context.specs.Laws.{HasAnswer, HasNoOther, LeavesGood, BeginsByIr, LeavesNone, NeverPoor, KeepsGood};
 
 /// A step from good values has exactly one answer and one record, or none, after it.
 pub fn one_answer()
@@ -26,4 +26,9 @@ pub fn refusal_leaves_none()
 /// No step answers `NoMemory`.
 pub fn never_poor()
     ensures { NeverPoor }
+{}
+
+/// Every context that a program holds has a good record.
+pub fn kept_record()
+    ensures { KeepsGood }
 {}

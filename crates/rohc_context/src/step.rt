@@ -63,7 +63,7 @@ impl Context {
     ///
     /// The settings are good, and the header is of their size and within their `max_cid`. An `Err` is the
     /// refusal, and no record is made.
-    #[tactic(auto, unfolding(crate::specs::Step::LoneStep))]
+    #[tactic(auto, unfolding(crate::specs::Step::LoneStep, crate::specs::Record::record_of))]
     pub fn first<'a>(
         settings: &Settings,
         moment: u64,
@@ -91,7 +91,7 @@ impl Context {
     /// An arrival for an identifier that has this record, which it changes as it answers.
     ///
     /// The settings are good, and the header is of their size and within their `max_cid`.
-    #[tactic(auto, unfolding(crate::specs::Step::LoneStep))]
+    #[tactic(auto, unfolding(crate::specs::Step::LoneStep, crate::specs::Record::record_of))]
     pub fn arrive<'a>(
         &mut self,
         settings: &Settings,
@@ -114,6 +114,7 @@ impl Context {
 
     /// Whether the record counts: fewer than `idle_ms` milliseconds passed since its last accepted
     /// arrival, or there is no such limit.
+    #[tactic(auto, unfolding(crate::specs::Record::record_of))]
     fn counts(&self, settings: &Settings, moment: u64) -> bool
         ensures { result ≡ counts settings.now moment (record_of self.now) }
     {
@@ -121,6 +122,7 @@ impl Context {
     }
 
     /// The answer where the arrival is taken, or its refusal.
+    #[tactic(auto, unfolding(crate::specs::Record::record_of))]
     fn answer<'a>(
         &self,
         settings: &Settings,

@@ -17,7 +17,7 @@ use Rattle.rohc_context.specs.declared.reply.Outcome.TheVariants as outcomes
 use Rattle.rohc_context.specs.declared.settings.Settings.{Settings}
 use Rattle.rohc_context.specs.Record.{Record}
 use Rattle.rohc_context.specs.Response.{Response, refused}
-use Rattle.rohc_context.proofs.StepLemmas.{never_poor}
+use Rattle.rohc_context.proofs.StepLaws.{never_poor}
 use Rattle.rohc_concentrator.specs.declared.setting.LinkSetting.{LinkSetting}
 use Rattle.rohc_concentrator.specs.Setting.{settings_in, IsGoodSetting}
 use Rattle.rohc_concentrator.specs.Report.{Report, OwnStep, IsArrival, IsCut, IsRead, borne_in, cid_in, is_no_memory, wants_memory}

@@ -1,5 +1,5 @@
-use Rattle.rohc_context.proofs.StepLemmas.{step_begins}
+use Rattle.rohc_context.proofs.StepLaws.{begins_by_ir}
 use Rattle.rohc_context.proofs.laws.begins_by_ir.Goals as goal
 
 pub returns : goal.returns
-returns c = λ s m h response r. step_begins s m h response r
+returns c = begins_by_ir

@@ -1,5 +1,5 @@
-use Rattle.rohc_context.proofs.StepLemmas.{step_rich}
+use Rattle.rohc_context.proofs.StepLaws.{never_poor}
 use Rattle.rohc_context.proofs.laws.never_poor.Goals as goal
 
 pub returns : goal.returns
-returns c = step_rich
+returns c = never_poor
