@@ -1,24 +1,37 @@
-use Rattle.std.specs.Prelude.{◌≡◌, ℕ, ◌<◌, ◌≤◌, ◌^◌, All, Option, IfSome, true}
-use Rattle.rohc_frame.specs.Header.{Header, is_header}
+-- Good values: each number lies in the range of its field.
+-- Words: IsGoodReference, IsGoodRecord, IsGoodHeader, AreGoodValues.
+use Rattle.std.specs.Prelude.{◌≡◌, ℕ, ◌<◌, ◌≤◌, ◌^◌, List, length, Bool, false, Option, IfSome}
+use Rattle.rohc_frame.specs.Header.{Header}
+use Rattle.rohc_frame.specs.Laws.{IsGood}
+use Rattle.rohc_chain.specs.Good.{IsGoodStatic, IsGoodDynamic}
 use Rattle.rohc_context.specs.declared.settings.Settings.{Settings}
 use Rattle.rohc_context.specs.Settings.{AreGood}
-use Rattle.rohc_context.specs.Record.{Record}
+use Rattle.rohc_context.specs.Record.{Reference, State, Plain, NoContext, StaticContext, FullContext, Record}
 
--- every number of the record is in the range of its field
-abbrev pub IsGoodRecord : Record → Type 0
-IsGoodRecord r = r.accepted < 2 ^ 64
+-- the fields of a header without a marker
+pub record IsGoodReference (r : Reference) : Type 0 where
+  pub moving : IsGoodDynamic r.moving
+  pub unmarked : r.moving.marker ≡ false
 
-abbrev pub IsOctet : ℕ → Type 0
-IsOctet n = n < 256
+-- at most 64 outcomes
+abbrev pub IsGoodWindow : List Bool → Type 0
+IsGoodWindow window = length window ≤ 64
+
+abbrev pub IsGoodState : State → Type 0
+IsGoodState Plain = Unit {0}
+IsGoodState (NoContext nacked) = nacked < 2 ^ 64
+IsGoodState (StaticContext fixed reference first second) =
+    IsGoodStatic fixed × IfSome reference IsGoodReference × IsGoodWindow first × IsGoodWindow second
+IsGoodState (FullContext fixed reference previous window) =
+    IsGoodStatic fixed × IsGoodReference reference × IfSome previous IsGoodReference × IsGoodWindow window
+
+pub record IsGoodRecord (r : Record) : Type 0 where
+  pub accepted : r.accepted < 2 ^ 64
+  pub state : IsGoodState r.state
 
 -- a header of these settings' size, within their greatest identifier, of octets
-pub record IsGoodHeader (s : Settings) (h : Header) : Type 0 where
-  pub sized : h.size ≡ s.size
-  pub within : h.cid ≤ s.max_cid
-  pub spelled : is_header h.size h.cid h.kind h.first h.cid_octets ≡ true
-  pub first : h.first < 256
-  pub cid_octets : All IsOctet h.cid_octets
-  pub rest : All IsOctet h.rest
+abbrev pub IsGoodHeader : Settings → Header → Type 0
+IsGoodHeader s h = IsGood s.size s.max_cid h
 
 -- what a step is said of: a good record or none, good settings, a moment and a good header
 pub record AreGoodValues (before : Option Record) (s : Settings) (moment : ℕ) (h : Header) : Type 0 where

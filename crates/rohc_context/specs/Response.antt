@@ -36,6 +36,10 @@ delivered head payload feedback = record {
 abbrev pub stored : Option (List ℕ) → Response
 stored feedback = record { packet = None; feedback = feedback; outcome = outcomes.Stored }
 
--- nothing is delivered, stored or sent
+-- nothing is delivered or stored
+abbrev pub failed : Refusal → Option (List ℕ) → Response
+failed refusal feedback = record { packet = None; feedback = feedback; outcome = outcomes.Refused refusal }
+
+-- and nothing is sent
 abbrev pub refused : Refusal → Response
-refused refusal = record { packet = None; feedback = None; outcome = outcomes.Refused refusal }
+refused refusal = failed refusal None

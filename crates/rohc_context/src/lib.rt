@@ -1,15 +1,30 @@
 //! One context: what an arrival answers, and the record that it leaves (RFC 3095 5.3).
+//!
+//! Nothing allocates, and payloads are lent from the arrival.
 #![tactic(auto)]
 
+mod due;
+mod explain;
+mod failures;
+mod fault;
+mod full;
+mod ir;
+mod ir_dyn;
 pub mod laws;
-pub mod plain;
+mod next;
+mod other;
 pub mod record;
+mod reference;
 pub mod refusal;
 pub mod reply;
 pub mod settings;
-pub mod step;
+mod state;
+mod step;
+mod tries;
+pub mod window;
 
 pub use record::Context;
 pub use refusal::Refusal;
 pub use reply::{Delivered, Outcome, Reply};
 pub use settings::{Mode, Settings};
+pub use window::Window;

@@ -1,6 +1,5 @@
 //! The thirty refusals, and their names and numbers.
 
-use rohc_chain::ChainRefusal;
 use rohc_frame::FrameRefusal;
 
 /// Why a packet delivers and stores nothing.
@@ -167,32 +166,6 @@ impl From<FrameRefusal> for Refusal {
             FrameRefusal::LargeCid => Refusal::LargeCid,
             FrameRefusal::CidRange => Refusal::CidRange,
             FrameRefusal::NoHeader => Refusal::NoHeader,
-        }
-    }
-}
-
-impl From<ChainRefusal> for Refusal {
-    ghost use Rattle.std.specs.Prelude.{◌≡◌};
-    ghost use Rattle.rohc_context.specs.Chains.{refusal_of_chain};
-
-    ghost from_gives = { λ chain refusal. refusal ≡ refusal_of_chain chain };
-
-    /// A refusal of an IR or IR-DYN, under the same name.
-    fn from(chain: ChainRefusal) -> Refusal {
-        match chain {
-            ChainRefusal::Profile => Refusal::Profile,
-            ChainRefusal::ProfileChange => Refusal::ProfileChange,
-            ChainRefusal::Truncated => Refusal::Truncated,
-            ChainRefusal::IpVersion => Refusal::IpVersion,
-            ChainRefusal::Protocol => Refusal::Protocol,
-            ChainRefusal::ExtensionList => Refusal::ExtensionList,
-            ChainRefusal::RtpVersion => Refusal::RtpVersion,
-            ChainRefusal::Csrc => Refusal::Csrc,
-            ChainRefusal::ZeroStride => Refusal::ZeroStride,
-            ChainRefusal::ReliableMode => Refusal::ReliableMode,
-            ChainRefusal::Trailing => Refusal::Trailing,
-            ChainRefusal::TooLong => Refusal::TooLong,
-            ChainRefusal::Check => Refusal::Check,
         }
     }
 }

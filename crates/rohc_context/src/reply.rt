@@ -37,7 +37,45 @@ pub struct Reply<'a> {
 
 impl<'a> Reply<'a> {
     ghost use Rattle.std.specs.Prelude.{◌≡◌};
-    ghost use Rattle.rohc_context.specs.Response.{response_of, refused};
+    ghost use Rattle.rohc_feedback.specs.Element.{octets_of};
+    ghost use Rattle.rohc_context.specs.Response.{response_of, delivered, stored, failed, refused};
+
+    /// A packet is delivered, with this feedback or none: its head, and the payload behind it.
+    pub(crate) fn delivered(
+        head: ArrayVec<u8, 40>,
+        payload: &'a [u8],
+        feedback: Option<Element>,
+    ) -> Self
+        ensures { response_of result ≡ delivered head.items payload.entry.now (octets_of feedback) }
+    {
+        Reply {
+            packet: Some(Delivered { head, payload }),
+            feedback,
+            outcome: Outcome::Delivered,
+        }
+    }
+
+    /// The context was made or renewed without a packet.
+    pub(crate) fn stored(feedback: Option<Element>) -> Self
+        ensures { response_of result ≡ stored (octets_of feedback) }
+    {
+        Reply {
+            packet: None,
+            feedback,
+            outcome: Outcome::Stored,
+        }
+    }
+
+    /// An arrival is refused, with this feedback or none.
+    pub(crate) fn failed(refusal: Refusal, feedback: Option<Element>) -> Self
+        ensures { response_of result ≡ failed refusal (octets_of feedback) }
+    {
+        Reply {
+            packet: None,
+            feedback,
+            outcome: Outcome::Refused(refusal),
+        }
+    }
 
     /// The answer to an arrival that is refused: no packet and no feedback.
     pub fn refused(refusal: Refusal) -> Self

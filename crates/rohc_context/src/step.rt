@@ -1,64 +1,48 @@
 //! One event of one context.
 
-ghost use Rattle.std.specs.Prelude.{◌≡◌, ◌≤◌, ◌==◌, Some, None, IfOk, IfErr, IsTrue, ◌↔◌, true, [], ◌∷◌, MatchResult};
-ghost use Rattle.rohc_frame.specs.Header.{is_header};
-ghost use Rattle.rohc_frame.specs.Reading.{header_of};
-ghost use Rattle.rohc_context.specs.Settings.{AreGood};
-ghost use Rattle.rohc_context.specs.Record.{record_of};
-ghost use Rattle.rohc_context.specs.Response.{response_of, refused, delivered};
-ghost use Rattle.rohc_context.specs.Step.{Steps, LoneStep, counts, renewed, acknowledgement};
+ghost use Rattle.std.specs.Prelude.{◌≡◌, [], ◌∷◌};
 
-use crate::plain::plain_ir_packet;
+use crate::due::Due;
+use crate::fault::Fault;
+use crate::ir::{full_window, renewal};
+use crate::ir_dyn::{plain_refusal, refresh};
 use crate::record::Context;
 use crate::refusal::Refusal;
-use crate::reply::{Delivered, Outcome, Reply};
-use crate::settings::{Mode, Settings};
+use crate::reply::{Delivered, Reply};
+use crate::settings::Settings;
+use crate::state::State;
+use crate::window::Window;
 use arrayvec::ArrayVec;
-use rohc_feedback::plain_ack;
 use rohc_frame::{Forward, HeadKind};
 
-/// The answer to an IR that is taken, with this IP packet.
-fn renewal<'a>(settings: &Settings, forward: &Forward<'a>, packet: &'a [u8]) -> Reply<'a>
-    ensures { response_of result ≡ renewed packet.entry.now (acknowledgement settings.now.mode (header_of forward.now)) }
-{
-    let feedback = match settings.mode {
-        Mode::U => None,
-        Mode::O => Some(plain_ack(forward.size, forward.cid)),
-    };
-    if packet.is_empty() {
-        return Reply {
-            packet: None,
-            feedback,
-            outcome: Outcome::Stored,
-        };
-    }
-    Reply {
-        packet: Some(Delivered {
-            head: ArrayVec::new(),
-            payload: packet,
-        }),
-        feedback,
-        outcome: Outcome::Delivered,
-    }
-}
-
-/// The answer to a Normal packet: its octets without the identifier's (RFC 3095 5.10.2).
-fn normal<'a>(forward: &Forward<'a>) -> Reply<'a>
-    ensures { response_of result ≡ delivered (forward.now.first ∷ []) forward.now.rest.now None }
+/// A Normal packet of profile 0x0000: its octets without the identifier's (RFC 3095 5.10.2).
+fn normal_packet<'a>(forward: &Forward<'a>) -> Delivered<'a>
+    ensures head { result.head.items ≡ forward.now.first ∷ [] }
+    ensures payload { result.payload.now ≡ forward.now.rest.now }
 {
     let mut head = ArrayVec::new();
     head.push(forward.first);
-    Reply {
-        packet: Some(Delivered {
-            head,
-            payload: forward.rest,
-        }),
-        feedback: None,
-        outcome: Outcome::Delivered,
+    Delivered {
+        head,
+        payload: forward.rest,
     }
 }
 
 impl Context {
+    ghost use Rattle.std.specs.Prelude.{◌≡◌, ◌≤◌, Some, None, true, IfOk, IfErr, if◌then◌else◌};
+    ghost use Rattle.rohc_frame.specs.Reading.{header_of};
+    ghost use Rattle.rohc_frame.specs.declared.header.HeadKind.TheVariants.{IrDyn as KindIrDyn, Other as KindOther};
+    ghost use Rattle.rohc_chain.specs.Packets.{IsIr, IsIrDyn, ir_at};
+    ghost use Rattle.rohc_forms.specs.Packets.{IsOther};
+    ghost use Rattle.rohc_context.specs.declared.refusal.Refusal.TheVariants.{StateTooLow as IsStateTooLow};
+    ghost use Rattle.rohc_context.specs.Settings.{AreGood};
+    ghost use Rattle.rohc_context.specs.Record.{record_of, is_static};
+    ghost use Rattle.rohc_context.specs.Response.{response_of, refused};
+    ghost use Rattle.rohc_context.specs.Failures.{after_low_state};
+    ghost use Rattle.rohc_context.specs.Outcomes.{Fails, Ends};
+    ghost use Rattle.rohc_context.specs.Renewal.{Renews};
+    ghost use Rattle.rohc_context.specs.Step.{LoneStep, Turn, counts};
+
     /// The first arrival for an identifier without a record: an IR makes one, and nothing else does.
     ///
     /// The settings are good, and the header is of their size and within their `max_cid`. An `Err` is the
@@ -75,23 +59,26 @@ impl Context {
         ensures made { IfOk result (λ made. LoneStep None settings.now moment (header_of forward.now) (response_of made.1) (Some (record_of made.0))) }
         ensures refusal { IfErr result (λ e. LoneStep None settings.now moment (header_of forward.now) (refused e) None) }
     {
-        let HeadKind::Ir { dynamic } = forward.kind else {
+        let HeadKind::Ir { .. } = forward.kind else {
             return Err(Refusal::NoContext);
         };
-        if dynamic {
-            return Err(Refusal::Profile);
+        match renewal(settings, forward, None) {
+            Ok((state, reply)) => {
+                let context = Context {
+                    accepted: moment,
+                    state,
+                };
+                Ok((context, reply))
+            }
+            Err(Fault::Unfit) => Err(Refusal::Check),
+            Err(Fault::Refused(refusal)) => Err(refusal),
         }
-        let packet = plain_ir_packet(forward)?;
-        Ok((
-            Context { accepted: moment },
-            renewal(settings, forward, packet),
-        ))
     }
 
     /// An arrival for an identifier that has this record, which it changes as it answers.
     ///
     /// The settings are good, and the header is of their size and within their `max_cid`.
-    #[tactic(auto, unfolding(crate::specs::Step::LoneStep, crate::specs::Record::record_of))]
+    #[tactic(auto, unfolding(crate::specs::Step::LoneStep))]
     pub fn arrive<'a>(
         &mut self,
         settings: &Settings,
@@ -103,12 +90,12 @@ impl Context {
         requires within { forward.now.cid ≤ settings.now.max_cid }
         ensures { LoneStep (Some (record_of self.old)) settings.now moment (header_of forward.now) (response_of result) (Some (record_of self.new)) }
     {
-        match self.answer(settings, moment, forward) {
-            Ok(reply) => {
-                self.accepted = moment;
-                reply
-            }
-            Err(refusal) => Reply::refused(refusal),
+        let counts = self.counts(settings, moment);
+        match forward.kind {
+            HeadKind::Ir { .. } => self.renew(settings, moment, forward, counts),
+            HeadKind::IrDyn | HeadKind::Other if !counts => Reply::refused(Refusal::NoContext),
+            HeadKind::IrDyn => self.refresh(settings, moment, forward),
+            HeadKind::Other => self.update(settings, moment, forward),
         }
     }
 
@@ -121,31 +108,173 @@ impl Context {
         settings.idle_ms == 0 || moment.saturating_sub(self.accepted) < u64::from(settings.idle_ms)
     }
 
-    /// The answer where the arrival is taken, or its refusal.
+    /// An IR, for a record that counts or doesn't.
     #[tactic(auto, unfolding(crate::specs::Record::record_of))]
-    fn answer<'a>(
-        &self,
+    fn renew<'a>(
+        &mut self,
         settings: &Settings,
         moment: u64,
         forward: &Forward<'a>,
-    ) -> Result<Reply<'a>, Refusal>
+        counts: bool,
+    ) -> Reply<'a>
+        requires kind { IsIr forward.now.kind }
         requires good { AreGood settings.now }
-        requires sized { forward.now.size ≡ settings.now.size }
-        requires within { forward.now.cid ≤ settings.now.max_cid }
-        ensures taken { IfOk result (λ reply. Steps (Some (record_of self.now)) settings.now moment (header_of forward.now) (response_of reply) (Some (record { accepted = moment }))) }
-        ensures refused { IfErr result (λ e. Steps (Some (record_of self.now)) settings.now moment (header_of forward.now) (refused e) (Some (record_of self.now))) }
+        ensures { Renews settings.now moment (header_of forward.now) (if counts then Some (record_of self.old) else None) (Some (record_of self.old))
+            (ir_at (header_of forward.now)) (response_of result) (Some (record_of self.new)) }
     {
-        match forward.kind {
-            HeadKind::Ir { dynamic: true } => Err(Refusal::Profile),
-            HeadKind::Ir { dynamic: false } => {
-                let packet = plain_ir_packet(forward)?;
-                Ok(renewal(settings, forward, packet))
+        let counting = if counts { Some(&self.state) } else { None };
+        match renewal(settings, forward, counting) {
+            Ok((state, reply)) => {
+                self.state = state;
+                self.accepted = moment;
+                reply
             }
-            HeadKind::IrDyn | HeadKind::Other if !self.counts(settings, moment) => {
-                Err(Refusal::NoContext)
+            Err(fault) if counts => self.end(settings, moment, forward, fault),
+            Err(Fault::Unfit) => Reply::refused(Refusal::Check),
+            Err(Fault::Refused(refusal)) => Reply::refused(refusal),
+        }
+    }
+
+    /// An IR-DYN, for a record that counts.
+    #[tactic(auto, unfolding(crate::specs::Record::record_of))]
+    fn refresh<'a>(
+        &mut self,
+        settings: &Settings,
+        moment: u64,
+        forward: &Forward<'a>,
+    ) -> Reply<'a>
+        requires kind { IsIrDyn forward.now.kind }
+        requires good { AreGood settings.now }
+        ensures { Turn settings.now moment (header_of forward.now) KindIrDyn (Some (record_of self.old)) (Some (record_of self.old)) (response_of result) (Some (record_of self.new)) }
+    {
+        let refreshed = match &self.state {
+            State::NoContext(_) => return self.refuse_low(settings, moment, forward),
+            State::Plain => Err(plain_refusal(forward)),
+            State::Static(context) => refresh(
+                settings,
+                forward,
+                context.fixed,
+                context.reference.as_ref(),
+                Window::empty(),
+            ),
+            State::Full(context) => refresh(
+                settings,
+                forward,
+                context.fixed,
+                Some(&context.reference),
+                full_window(Some(&self.state)),
+            ),
+        };
+        match refreshed {
+            Ok((state, reply)) => {
+                self.state = state;
+                self.accepted = moment;
+                reply
             }
-            HeadKind::IrDyn => Err(Refusal::Profile),
-            HeadKind::Other => Ok(normal(forward)),
+            Err(refusal) => self.end(settings, moment, forward, Fault::from(refusal)),
+        }
+    }
+
+    /// A packet of kind Other, for a record that counts.
+    #[tactic(auto, unfolding(crate::specs::Record::record_of))]
+    fn update<'a>(
+        &mut self,
+        settings: &Settings,
+        moment: u64,
+        forward: &Forward<'a>,
+    ) -> Reply<'a>
+        requires kind { IsOther forward.now.kind }
+        requires good { AreGood settings.now }
+        ensures { Turn settings.now moment (header_of forward.now) KindOther (Some (record_of self.old)) (Some (record_of self.old)) (response_of result) (Some (record_of self.new)) }
+    {
+        let passed = moment.saturating_sub(self.accepted);
+        let updated = match &mut self.state {
+            State::Plain => Ok(normal_packet(forward)),
+            State::NoContext(_) => return self.refuse_low(settings, moment, forward),
+            State::Static(_) => return self.promote(settings, moment, forward),
+            State::Full(context) => context.update(settings, passed, forward),
+        };
+        match updated {
+            Ok(packet) => {
+                self.accepted = moment;
+                Reply::delivered(packet.head, packet.payload, None)
+            }
+            Err(fault) => self.end(settings, moment, forward, fault),
+        }
+    }
+
+    /// A packet of kind Other in Static Context: a UOR-2 kind is taken against the reference, if there is one.
+    #[tactic(auto, unfolding(crate::specs::Record::record_of))]
+    fn promote<'a>(
+        &mut self,
+        settings: &Settings,
+        moment: u64,
+        forward: &Forward<'a>,
+    ) -> Reply<'a>
+        requires kind { IsOther forward.now.kind }
+        requires good { AreGood settings.now }
+        requires state { is_static self.old.state ≡ true }
+        ensures { Turn settings.now moment (header_of forward.now) KindOther (Some (record_of self.old)) (Some (record_of self.old)) (response_of result) (Some (record_of self.new)) }
+    {
+        let promoted = match &self.state {
+            State::Static(context) => match &context.reference {
+                Some(reference) if forward.first >= 0xc0 => context.promote(reference, forward),
+                _ => return self.refuse_low(settings, moment, forward),
+            },
+            _ => return self.refuse_low(settings, moment, forward),
+        };
+        match promoted {
+            Ok((context, packet)) => {
+                let due = Due::Ack(context.reference.moving.sn);
+                let feedback = due.feedback(settings.mode, forward);
+                self.state = State::Full(context);
+                self.accepted = moment;
+                Reply::delivered(packet.head, packet.payload, feedback)
+            }
+            Err(fault) => self.end(settings, moment, forward, fault),
+        }
+    }
+
+    /// A packet that the state doesn't take.
+    #[tactic(auto, unfolding(crate::specs::Record::record_of))]
+    fn refuse_low<'a>(
+        &mut self,
+        settings: &Settings,
+        moment: u64,
+        forward: &Forward<'a>,
+    ) -> Reply<'a>
+        requires good { AreGood settings.now }
+        ensures { Fails settings.now (header_of forward.now) (record_of self.old) IsStateTooLow
+            (after_low_state settings.now moment (record_of self.old).state) (response_of result) (Some (record_of self.new)) }
+    {
+        let (state, due) = self.state.after_low_state(settings, moment);
+        self.state = state;
+        Reply::failed(
+            Refusal::StateTooLow,
+            due.feedback(settings.mode, forward),
+        )
+    }
+
+    /// A fault of an arrival, for a record that counts.
+    #[tactic(auto, unfolding(crate::specs::Record::record_of))]
+    fn end<'a>(
+        &mut self,
+        settings: &Settings,
+        moment: u64,
+        forward: &Forward<'a>,
+        fault: Fault,
+    ) -> Reply<'a>
+        requires good { AreGood settings.now }
+        ensures { Ends settings.now moment (header_of forward.now) (Some (record_of self.old)) (Some (record_of self.old)) fault
+            (response_of result) (Some (record_of self.new)) }
+    {
+        match fault {
+            Fault::Refused(refusal) => Reply::refused(refusal),
+            Fault::Unfit => {
+                let (state, due) = self.state.after_check(settings, moment);
+                self.state = state;
+                Reply::failed(Refusal::Check, due.feedback(settings.mode, forward))
+            }
         }
     }
 }

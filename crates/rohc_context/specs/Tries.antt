@@ -1,0 +1,82 @@
+-- Which headers a packet may mean, in the order that they are tried, and the one that is accepted.
+-- Words: Try, full_tries, static_tries, Fits, Misses, Acceptance, Verdict.
+use Rattle.std.specs.Prelude.{◌≡◌, ◌≢◌, ℕ, ◌*◌, ◌^◌, List, [], ◌∷◌, ◌++◌, ◌⊎◌, Bool, true, false, ◌&&◌, nat_le, if◌then◌else◌, Option, Some, None, Result, Ok, Err}
+use Rattle.rohc_checks.specs.Division.{poly3, poly7}
+use Rattle.rohc_header.specs.declared.fields.Static.{Static}
+use Rattle.rohc_header.specs.Check.{header_check}
+use Rattle.rohc_forms.specs.declared.form.FormKind.{FormKind}
+use Rattle.rohc_forms.specs.declared.form.FormKind.TheVariants.{Uo0, Uo1, Uo1Id, Uo1Ts, Uor2, Uor2Id, Uor2Ts}
+use Rattle.rohc_forms.specs.Content.{Content}
+use Rattle.rohc_context.specs.declared.fault.Fault.{Fault}
+use Rattle.rohc_context.specs.declared.fault.Fault.TheVariants.{Unfit}
+use Rattle.rohc_context.specs.declared.settings.Settings.{Settings}
+use Rattle.rohc_context.specs.Record.{Reference}
+use Rattle.rohc_context.specs.Explains.{Explained, Explains}
+
+-- UO-0 and the UO-1 kinds carry a check of 3 bits, the UOR-2 kinds one of 7 (RFC 3095 5.7.1 to 5.7.4).
+abbrev pub has_short_check : FormKind → Bool
+has_short_check Uo0 = true
+has_short_check Uo1 = true
+has_short_check Uo1Id = true
+has_short_check Uo1Ts = true
+has_short_check Uor2 = false
+has_short_check Uor2Id = false
+has_short_check Uor2Ts = false
+
+-- the header's check that a packet of this kind carries
+abbrev pub check_for : FormKind → List ℕ → ℕ
+check_for kind octets = if has_short_check kind then header_check poly3 octets else header_check poly7 octets
+
+-- the reference to explain a packet against, and how far its SN is moved on
+pub record Try : Type 0 where
+  pub reference : Reference
+  pub shift : ℕ
+
+abbrev pub unshifted : Reference → Try
+unshifted reference = record { reference = reference; shift = 0 }
+
+-- The second try takes it that the SN wrapped around once, where enough time passed for it: with k SN bits in the
+-- packet, `packet_ms * 2^k` milliseconds or more since the last accepted arrival. It is for short checks alone.
+abbrev pub second_tries : Settings → (passed : ℕ) → Reference → Content → List Try
+second_tries s passed reference c =
+    if has_short_check c.kind && nat_le (s.packet_ms * 2 ^ c.sn.count) passed
+    then record { reference = reference; shift = 2 ^ c.sn.count } ∷ []
+    else []
+
+-- the third try takes it that the last packet was accepted wrongly; it is for short checks alone
+abbrev pub third_tries : Option Reference → Content → List Try
+third_tries None c = []
+third_tries (Some previous) c = if has_short_check c.kind then unshifted previous ∷ [] else []
+
+-- in Full Context
+abbrev pub full_tries : Settings → (passed : ℕ) → Reference → (previous : Option Reference) → Content → List Try
+full_tries s passed reference previous c =
+    unshifted reference ∷ second_tries s passed reference c ++ third_tries previous c
+
+-- in Static Context
+abbrev pub static_tries : Reference → List Try
+static_tries reference = unshifted reference ∷ []
+
+-- the packet means this header by the try, and the header's check is the packet's
+pub record Fits (fixed : Static) (t : Try) (c : Content) (h : Explained) : Type 0 where
+  pub explained : Explains fixed t.reference t.shift c h
+  pub checked : check_for c.kind h.octets ≡ c.check
+
+-- or is not
+pub record Misses (fixed : Static) (t : Try) (c : Content) : Type 0 where
+  pub header : Explained
+  pub explained : Explains fixed t.reference t.shift c header
+  pub unchecked : check_for c.kind header.octets ≢ c.check
+
+-- What is accepted: what the packet says, the reference against which it was explained, and its header.
+pub record Acceptance : Type 0 where
+  pub content : Content
+  pub reference : Reference
+  pub header : Explained
+
+-- the header of the first try that fits; the packet is unfit where there is none
+abbrev pub Verdict : Static → Content → List Try → Result Acceptance Fault → Type 0
+Verdict fixed c [] verdict = verdict ≡ Err Unfit
+Verdict fixed c (t ∷ more) verdict =
+    ((h : Explained) × Fits fixed t c h × (verdict ≡ Ok (record { content = c; reference = t.reference; header = h })))
+    ⊎ (Misses fixed t c × Verdict fixed c more verdict)

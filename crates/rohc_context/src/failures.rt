@@ -1,0 +1,154 @@
+//! Which state takes which packet, and what a packet that isn't accepted leads to (RFC 3095 5.3.2.2).
+
+ghost use Rattle.std.specs.Prelude.{◌≡◌, option_map};
+ghost use Rattle.rohc_context.specs.Record.{reference_of};
+ghost use Rattle.rohc_context.specs.Failures.{sn_of};
+
+use crate::due::Due;
+use crate::reference::Reference;
+use crate::settings::Settings;
+use crate::state::{FullContext, NoContext, State, StaticContext};
+use crate::window::Window;
+use rohc_frame::HeadKind;
+
+/// The sequence number of a reference, if there is one.
+fn sn_of(reference: &Option<Reference>) -> Option<u16>
+    ensures { result ≡ sn_of (option_map reference_of reference.now) }
+{
+    match reference {
+        Some(reference) => Some(reference.moving.sn),
+        None => None,
+    }
+}
+
+impl State {
+    ghost use Rattle.std.specs.Prelude.{◌≡◌, ◌<◌, ◌^◌};
+    ghost use Rattle.rohc_context.specs.Settings.{AreGood};
+    ghost use Rattle.rohc_context.specs.Record.{state_of};
+    ghost use Rattle.rohc_context.specs.Failures.{takes, leads_to, after_check, after_low_state};
+
+    /// Whether the state takes a packet of this kind, whose header has this first octet.
+    pub(crate) fn takes(&self, kind: HeadKind, first: u8) -> bool
+        ensures { result ≡ takes (state_of self.now) kind first }
+    {
+        match (self, kind) {
+            (_, HeadKind::Ir { .. }) | (State::Plain | State::Full(_), _) => true,
+            (State::NoContext(_), _) => false,
+            (State::Static(_), HeadKind::IrDyn) => true,
+            (State::Static(context), HeadKind::Other) => {
+                context.reference.is_some() && first >= 0xc0
+            }
+        }
+    }
+
+    /// The state after a packet whose check doesn't fit, and the feedback that is due.
+    pub(crate) fn after_check(&self, settings: &Settings, moment: u64) -> (State, Due)
+        requires { AreGood settings.now }
+        ensures { leads_to (state_of result.0) result.1 ≡ after_check settings.now moment (state_of self.now) }
+    {
+        match self {
+            State::Plain | State::NoContext(_) => (*self, Due::Nothing),
+            State::Static(context) => context.after_check(settings, moment),
+            State::Full(context) => context.after_check(settings),
+        }
+    }
+
+    /// The state after a packet that it doesn't take, and the feedback that is due.
+    pub(crate) fn after_low_state(&self, settings: &Settings, moment: u64) -> (State, Due)
+        requires { AreGood settings.now }
+        ensures { leads_to (state_of result.0) result.1 ≡ after_low_state settings.now moment (state_of self.now) }
+    {
+        match self {
+            State::Plain | State::Full(_) => (*self, Due::Nothing),
+            State::Static(context) => context.after_low_state(settings),
+            State::NoContext(context) => {
+                if moment.saturating_sub(context.nacked) >= u64::from(settings.static_nack_ms) {
+                    let state = State::NoContext(NoContext { nacked: moment });
+                    (state, Due::StaticNack)
+                } else {
+                    (*self, Due::Nothing)
+                }
+            }
+        }
+    }
+}
+
+impl StaticContext {
+    ghost use Rattle.std.specs.Prelude.{◌≡◌};
+    ghost use Rattle.rohc_context.specs.declared.state.State.TheVariants.{Static as Level};
+    ghost use Rattle.rohc_context.specs.Settings.{AreGood};
+    ghost use Rattle.rohc_context.specs.Record.{state_of};
+    ghost use Rattle.rohc_context.specs.Failures.{leads_to, after_check, after_low_state};
+
+    /// This context with other windows.
+    fn with(&self, first: Window, second: Window) -> State
+        ensures { result ≡ Level (record self.now { windows = (first, second) }) }
+    {
+        State::Static(StaticContext {
+            fixed: self.fixed,
+            reference: self.reference,
+            windows: (first, second),
+        })
+    }
+
+    fn after_check(&self, settings: &Settings, moment: u64) -> (State, Due)
+        requires { AreGood settings.now }
+        ensures { leads_to (state_of result.0) result.1 ≡ after_check settings.now moment (state_of (Level self.now)) }
+    {
+        let first = self.windows.0.and(true);
+        let second = self.windows.1.and(true);
+        if second.is_filled(settings.k2, settings.n2) {
+            let state = State::NoContext(NoContext { nacked: moment });
+            return (state, Due::StaticNack);
+        }
+        if first.is_filled(settings.k1, settings.n1) {
+            let due = Due::Nack(sn_of(&self.reference));
+            return (self.with(Window::empty(), second), due);
+        }
+        (self.with(first, second), Due::Nothing)
+    }
+
+    fn after_low_state(&self, settings: &Settings) -> (State, Due)
+        requires { AreGood settings.now }
+        ensures { (moment : ℕ) → leads_to (state_of result.0) result.1 ≡ after_low_state settings.now moment (state_of (Level self.now)) }
+    {
+        let first = self.windows.0.and(true);
+        let second = self.windows.1;
+        if first.is_filled(settings.k1, settings.n1) {
+            let due = Due::Nack(sn_of(&self.reference));
+            return (self.with(Window::empty(), second), due);
+        }
+        (self.with(first, second), Due::Nothing)
+    }
+}
+
+impl FullContext {
+    ghost use Rattle.std.specs.Prelude.{◌≡◌};
+    ghost use Rattle.rohc_context.specs.declared.state.State.TheVariants.{Full as Level};
+    ghost use Rattle.rohc_context.specs.Settings.{AreGood};
+    ghost use Rattle.rohc_context.specs.Record.{state_of};
+    ghost use Rattle.rohc_context.specs.Failures.{leads_to, after_check};
+
+    fn after_check(&self, settings: &Settings) -> (State, Due)
+        requires { AreGood settings.now }
+        ensures { (moment : ℕ) → leads_to (state_of result.0) result.1 ≡ after_check settings.now moment (state_of (Level self.now)) }
+    {
+        let window = self.windows.0.and(true);
+        if window.is_filled(settings.k1, settings.n1) {
+            let fallen = StaticContext {
+                fixed: self.fixed,
+                reference: Some(self.reference),
+                windows: (Window::empty(), Window::empty()),
+            };
+            let due = Due::Nack(Some(self.reference.moving.sn));
+            return (State::Static(fallen), due);
+        }
+        let stays = FullContext {
+            fixed: self.fixed,
+            reference: self.reference,
+            previous: self.previous,
+            windows: (window, self.windows.1),
+        };
+        (State::Full(stays), Due::Nothing)
+    }
+}

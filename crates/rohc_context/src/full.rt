@@ -1,0 +1,53 @@
+//! Full Context, as an IR or an IR-DYN makes it (RFC 3095 5.7.7).
+
+use crate::due::Due;
+use crate::next::first;
+use crate::reply::Reply;
+use crate::settings::Settings;
+use crate::state::{FullContext, State};
+use crate::window::Window;
+use arrayvec::ArrayVec;
+use rohc_frame::Forward;
+use rohc_header::{Dynamic, Header, Static};
+
+impl FullContext {
+    ghost use Rattle.std.specs.Prelude.{◌≡◌, ◌≤◌, ℕ, Some, length};
+    ghost use Rattle.rohc_frame.specs.Reading.{header_of};
+    ghost use Rattle.rohc_chain.specs.Good.{IsGoodStatic, IsGoodDynamic};
+    ghost use Rattle.rohc_context.specs.Window.{outcomes};
+    ghost use Rattle.rohc_context.specs.Record.{state_of};
+    ghost use Rattle.rohc_context.specs.Response.{response_of};
+    ghost use Rattle.rohc_context.specs.Renewal.{Delivers};
+
+    /// The context after an IR or IR-DYN with these fields, and the answer: the packet, acknowledged.
+    ///
+    /// The payload is at most 65,495 octets.
+    pub(crate) fn begin<'a>(
+        settings: &Settings,
+        forward: &Forward<'a>,
+        fixed: Static,
+        moving: Dynamic,
+        payload: &'a [u8],
+        window: Window,
+    ) -> (State, Reply<'a>)
+        requires fixed { IsGoodStatic fixed }
+        requires moving { IsGoodDynamic moving }
+        requires payload { length payload.entry.now ≤ 65495 }
+        ensures { (moment : ℕ) → Delivers settings.now moment (header_of forward.now) fixed moving payload.entry.now (outcomes window)
+            (response_of result.1) (Some (record { accepted = moment; state = state_of result.0 })) }
+    {
+        let header = Header::build(&fixed, &moving, payload.len()).unwrap();
+        let context = FullContext {
+            fixed,
+            reference: first(&moving, header.registers()),
+            previous: None,
+            windows: (window, Window::empty()),
+        };
+        let feedback = Due::Ack(moving.sn).feedback(settings.mode, forward);
+        let head = ArrayVec::from(header.octets);
+        (
+            State::Full(context),
+            Reply::delivered(head, payload, feedback),
+        )
+    }
+}

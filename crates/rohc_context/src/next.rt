@@ -1,0 +1,99 @@
+//! The reference after an accepted packet, and the previous reference.
+
+ghost use Rattle.std.specs.Prelude.{◌≡◌, option_map};
+ghost use Rattle.rohc_header.specs.declared.fields.Static.{Static as StaticFields};
+ghost use Rattle.rohc_chain.specs.Good.{IsGoodDynamic};
+ghost use Rattle.rohc_forms.specs.Packets.{content};
+ghost use Rattle.rohc_context.specs.Record.{reference_of};
+ghost use Rattle.rohc_context.specs.Saved.{AreRegisters, IsKept};
+ghost use Rattle.rohc_context.specs.NextReference.{first_reference, counts_once, next_reference, kept_previous, same_numbering, same_stride};
+ghost use Rattle.rohc_context.specs.Read.{acceptance_of, IsSound};
+
+use crate::reference::Reference;
+use crate::tries::Accepted;
+use rohc_forms::{Form, FormKind};
+use rohc_header::Dynamic;
+
+/// The reference after an IR or IR-DYN with these fields: whose UDP checksum says whether packets carry one.
+pub(crate) fn first(moving: &Dynamic, saved: (u8, u8)) -> Reference
+    ghost fixed: { StaticFields }
+    requires good { IsGoodDynamic moving.now }
+    requires registers { AreRegisters fixed moving.now saved }
+    ensures reference { reference_of result ≡ first_reference moving.now }
+    ensures kept { IsKept fixed result.moving result.saved }
+{
+    Reference {
+        moving: Dynamic {
+            marker: false,
+            ..*moving
+        },
+        carries_sum: moving.udp_sum != 0,
+        saved,
+    }
+}
+
+/// Whether the values of the packet's extension 3 count for that packet alone: a UO-1-ID's do.
+fn is_for_one_packet(form: &Form<'_>) -> bool
+    ensures { result ≡ counts_once (content form.now) }
+{
+    matches!(form.kind, FormKind::Uo1Id) && form.values.is_some()
+}
+
+/// The reference after an accepted packet.
+pub(crate) fn next(form: &Form<'_>, accepted: &Accepted) -> Reference
+    ghost fixed: { StaticFields }
+    requires { IsSound fixed accepted.now }
+    ensures reference { reference_of result ≡ next_reference (acceptance_of (content form.now) accepted.now) }
+    ensures kept { IsKept fixed result.moving result.saved }
+{
+    let kept = &accepted.reference;
+    let header = &accepted.header.moving;
+    if is_for_one_packet(form) {
+        let moving = Dynamic {
+            sn: header.sn,
+            ts: header.ts,
+            id: header.id,
+            udp_sum: header.udp_sum,
+            ..kept.moving
+        };
+        return Reference { moving, ..*kept };
+    }
+    let moving = Dynamic {
+        marker: false,
+        ..*header
+    };
+    Reference {
+        moving,
+        carries_sum: kept.carries_sum,
+        saved: accepted.header.saved,
+    }
+}
+
+/// Whether RND, NBO and stride are the same.
+fn is_same_numbering(a: &Dynamic, b: &Dynamic) -> bool
+    ensures { result ≡ same_numbering a.now b.now }
+{
+    a.rnd == b.rnd && a.nbo == b.nbo && is_same_stride(a.stride, b.stride)
+}
+
+fn is_same_stride(a: Option<u32>, b: Option<u32>) -> bool
+    ensures { result ≡ same_stride a b }
+{
+    match (a, b) {
+        (None, None) => true,
+        (Some(a), Some(b)) => a == b,
+        _ => false,
+    }
+}
+
+/// The previous reference after an accepted packet: the one against which it was explained, where RND, NBO and
+/// stride stay as the held reference has them.
+pub(crate) fn previous(held: &Reference, next: &Reference, accepted: &Accepted) -> Option<Reference>
+    ensures { option_map reference_of result ≡ kept_previous (reference_of held.now) next.now.moving (reference_of accepted.now.reference) }
+{
+    if is_same_numbering(&held.moving, &next.moving) {
+        Some(accepted.reference)
+    } else {
+        None
+    }
+}

@@ -1,0 +1,134 @@
+//! A packet of kind Other in profile 0x0001 (RFC 3095 5.7.1 to 5.7.5).
+
+ghost use Rattle.std.specs.Prelude.{◌≡◌, ◌≤◌, List, IfOk, IfErr, Ok, Err, length};
+ghost use Rattle.rohc_frame.specs.Reading.{header_of};
+ghost use Rattle.rohc_header.specs.declared.fields.Static.{Static};
+ghost use Rattle.rohc_forms.specs.Content.{Content};
+ghost use Rattle.rohc_forms.specs.Packets.{IsOther, content};
+ghost use Rattle.rohc_context.specs.Record.{reference_of};
+ghost use Rattle.rohc_context.specs.Tries.{Try};
+ghost use Rattle.rohc_context.specs.Update.{said_under, Judges};
+
+use crate::fault::Fault;
+use crate::next::{next, previous};
+use crate::reference::Reference;
+use crate::refusal::Refusal;
+use crate::reply::Delivered;
+use crate::settings::Settings;
+use crate::state::{FullContext, StaticContext};
+use crate::tries::{Accepted, attempt};
+use crate::window::Window;
+use arrayvec::ArrayVec;
+use rohc_forms::{Form, read_form};
+use rohc_frame::Forward;
+
+/// The longest payload of a packet: 65,535 octets hold it behind its header.
+const LONGEST_PAYLOAD: usize = 65_495;
+
+/// What a packet of kind Other says under a reference's RND, UDP checksum and stride, where a packet can hold its
+/// header and payload; or its fault.
+fn read<'a>(forward: &Forward<'a>, reference: &Reference) -> Result<Form<'a>, Fault>
+    requires { IsOther forward.now.kind }
+    ensures read { IfOk result (λ form. said_under (header_of forward.now) (reference_of reference.now) ≡ Ok (content form)) }
+    ensures short { IfOk result (λ form. length form.payload.now ≤ 65495) }
+    ensures fault { IfErr result (λ e. (fixed : Static) (tries : Content → List Try) → Judges fixed tries (said_under (header_of forward.now) (reference_of reference.now)) (Err e)) }
+{
+    let kept = &reference.moving;
+    let form = read_form(forward, kept.rnd, reference.carries_sum, kept.stride.is_some())?;
+    if form.payload.len() > LONGEST_PAYLOAD {
+        return Err(Fault::Refused(Refusal::TooLong));
+    }
+    Ok(form)
+}
+
+/// The packet with this header.
+fn packet<'a>(accepted: &Accepted, form: &Form<'a>) -> Delivered<'a>
+    ensures head { result.head.items ≡ accepted.now.header.header.octets }
+    ensures payload { result.payload.now ≡ form.now.payload.now }
+{
+    Delivered {
+        head: ArrayVec::from(accepted.header.header.octets),
+        payload: form.payload,
+    }
+}
+
+impl FullContext {
+    ghost use Rattle.std.specs.Prelude.{◌≡◌, option_map, IfOk, IfErr, Ok, Err};
+    ghost use Rattle.rohc_frame.specs.Reading.{header_of};
+    ghost use Rattle.rohc_forms.specs.Packets.{IsOther};
+    ghost use Rattle.rohc_context.specs.declared.state.State.TheVariants.{Full as Level};
+    ghost use Rattle.rohc_context.specs.Settings.{AreGood};
+    ghost use Rattle.rohc_context.specs.Window.{outcomes};
+    ghost use Rattle.rohc_context.specs.Record.{reference_of, state_of};
+    ghost use Rattle.rohc_context.specs.Tries.{Acceptance, full_tries};
+    ghost use Rattle.rohc_context.specs.Update.{said_under, Judges, updated};
+
+    /// Takes a packet of kind Other, with so many milliseconds since the last accepted arrival: the packet as it was
+    /// before compression, or its fault, and then nothing changes.
+    pub(crate) fn update<'a>(
+        &mut self,
+        settings: &Settings,
+        passed: u64,
+        forward: &Forward<'a>,
+    ) -> Result<Delivered<'a>, Fault>
+        requires kind { IsOther forward.now.kind }
+        requires good { AreGood settings.now }
+        ensures taken { IfOk result (λ d. (a : Acceptance)
+            × Judges self.old.fixed (full_tries settings.now passed (reference_of self.old.reference) (option_map reference_of self.old.previous))
+                (said_under (header_of forward.now) (reference_of self.old.reference)) (Ok a)
+            × (d.head.items ≡ a.header.octets) × (d.payload.now ≡ a.content.payload)
+            × (state_of (Level self.new) ≡ updated self.old.fixed (reference_of self.old.reference) (outcomes self.old.windows.0) a)) }
+        ensures fault { IfErr result (λ e.
+            Judges self.old.fixed (full_tries settings.now passed (reference_of self.old.reference) (option_map reference_of self.old.previous))
+                (said_under (header_of forward.now) (reference_of self.old.reference)) (Err e)) }
+        ensures stays { IfErr result (λ e. self.new ≡ self.old) }
+    {
+        let form = read(forward, &self.reference)?;
+        let accepted = self.accepted(settings, passed, &form).ok_or(Fault::Unfit)?;
+        let next = next(&form, &accepted);
+        self.previous = previous(&self.reference, &next, &accepted);
+        self.reference = next;
+        self.windows.0 = self.windows.0.and(false);
+        Ok(packet(&accepted, &form))
+    }
+}
+
+impl StaticContext {
+    ghost use Rattle.std.specs.Prelude.{◌≡◌, IfOk, IfErr, Ok, Err};
+    ghost use Rattle.rohc_frame.specs.Reading.{header_of};
+    ghost use Rattle.rohc_forms.specs.Packets.{IsOther};
+    ghost use Rattle.rohc_context.specs.declared.state.State.TheVariants.{Full as Level};
+    ghost use Rattle.rohc_context.specs.Record.{reference_of, state_of};
+    ghost use Rattle.rohc_context.specs.Saved.{IsKept};
+    ghost use Rattle.rohc_context.specs.Tries.{Acceptance, static_tries};
+    ghost use Rattle.rohc_context.specs.Update.{said_under, Judges, promoted};
+
+    /// Takes a packet of kind Other against the reference that is held: the Full Context that it leads to, and the
+    /// packet as it was before compression; or its fault.
+    pub(crate) fn promote<'a>(
+        &self,
+        reference: &Reference,
+        forward: &Forward<'a>,
+    ) -> Result<(FullContext, Delivered<'a>), Fault>
+        requires kind { IsOther forward.now.kind }
+        requires kept { IsKept self.now.fixed reference.now.moving reference.now.saved }
+        ensures taken { IfOk result (λ x. (a : Acceptance)
+            × Judges self.now.fixed (λ c. static_tries (reference_of reference.now))
+                (said_under (header_of forward.now) (reference_of reference.now)) (Ok a)
+            × (x.1.head.items ≡ a.header.octets) × (x.1.payload.now ≡ a.content.payload)
+            × (state_of (Level x.0) ≡ promoted self.now.fixed a)) }
+        ensures fault { IfErr result (λ e.
+            Judges self.now.fixed (λ c. static_tries (reference_of reference.now))
+                (said_under (header_of forward.now) (reference_of reference.now)) (Err e)) }
+    {
+        let form = read(forward, reference)?;
+        let accepted = attempt(&self.fixed, reference, 0, &form).ok_or(Fault::Unfit)?;
+        let context = FullContext {
+            fixed: self.fixed,
+            reference: next(&form, &accepted),
+            previous: None,
+            windows: (Window::empty(), Window::empty()),
+        };
+        Ok((context, packet(&accepted, &form)))
+    }
+}

@@ -1,0 +1,60 @@
+//! The states of a context (RFC 3095 4.3.2).
+
+ghost use Rattle.std.specs.Prelude.{◌≡◌, ◌<◌, ◌^◌, IfSome};
+ghost use Rattle.rohc_chain.specs.Good.{IsGoodStatic, IsGoodDynamic};
+ghost use Rattle.rohc_context.specs.Saved.{IsKept};
+
+use crate::reference::Reference;
+use crate::window::Window;
+use rohc_header::Static;
+
+/// What is known of a context of profile 0x0001 in No Context.
+#[derive(Clone, Copy, Debug)]
+pub(crate) struct NoContext {
+    /// The moment of the last STATIC-NACK, in milliseconds.
+    pub nacked: u64,
+    ghost in_range: { nacked < 2 ^ 64 },
+}
+
+/// What is known of one in Static Context.
+#[derive(Clone, Copy, Debug)]
+pub(crate) struct StaticContext {
+    /// The static part.
+    pub fixed: Static,
+    /// The reference that a fall from Full Context left, if it was there.
+    pub reference: Option<Reference>,
+    /// The outcomes that lead to a NACK, and those that lead to No Context.
+    pub windows: (Window, Window),
+    ghost good: { IsGoodStatic fixed },
+    ghost kept: { IfSome reference (λ r. IsKept fixed r.moving r.saved) },
+}
+
+/// What is known of one in Full Context.
+#[derive(Clone, Copy, Debug)]
+pub(crate) struct FullContext {
+    /// The static part.
+    pub fixed: Static,
+    /// What packets are explained against.
+    pub reference: Reference,
+    /// The reference before it, where the last packet left RND, NBO and stride as they were.
+    pub previous: Option<Reference>,
+    /// The outcomes that lead to Static Context, and an empty window.
+    pub windows: (Window, Window),
+    ghost good: { IsGoodStatic fixed },
+    ghost kept: { IsKept fixed reference.moving reference.saved },
+    ghost kept_before: { IfSome previous (λ r. IsKept fixed r.moving r.saved) },
+    ghost one_window: { windows.1.length ≡ 0 },
+}
+
+/// The state of a context.
+#[derive(Clone, Copy, Debug)]
+pub(crate) enum State {
+    /// Profile 0x0000.
+    Plain,
+    /// Profile 0x0001 in No Context.
+    NoContext(NoContext),
+    /// Profile 0x0001 in Static Context.
+    Static(StaticContext),
+    /// Profile 0x0001 in Full Context.
+    Full(FullContext),
+}

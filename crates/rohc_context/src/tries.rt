@@ -1,0 +1,133 @@
+//! Which header a packet means: the tries in their order, and the one that fits.
+
+ghost use Rattle.std.specs.Prelude.{◌≡◌, ◌≤◌, length, IfSome, IfNone};
+ghost use Rattle.rohc_checks.specs.Division.{check, poly3, poly7};
+ghost use Rattle.rohc_header.specs.Check.{all_ones, static_octets};
+ghost use Rattle.rohc_chain.specs.Good.{IsGoodStatic};
+ghost use Rattle.rohc_forms.specs.Packets.{content};
+ghost use Rattle.rohc_context.specs.Saved.{IsKept};
+ghost use Rattle.rohc_context.specs.Tries.{has_short_check, check_for, Fits, Misses};
+ghost use Rattle.rohc_context.specs.Read.{explained_of, try_of, IsSound};
+
+use crate::explain::{Explained, explain};
+use crate::reference::Reference;
+use crate::settings::Settings;
+use crate::state::FullContext;
+use rohc_forms::{Form, FormKind};
+use rohc_header::{Header, Static};
+
+/// A header that was accepted, and the reference against which it was explained.
+#[derive(Clone, Copy, Debug)]
+pub(crate) struct Accepted {
+    pub reference: Reference,
+    pub header: Explained,
+}
+
+/// Whether packets of this kind carry a check of 3 bits: UO-0 and the UO-1 kinds.
+fn is_short(kind: FormKind) -> bool
+    ensures { result ≡ has_short_check kind }
+{
+    match kind {
+        FormKind::Uo0 | FormKind::Uo1 | FormKind::Uo1Id | FormKind::Uo1Ts => true,
+        FormKind::Uor2 | FormKind::Uor2Id | FormKind::Uor2Ts => false,
+    }
+}
+
+/// The check of a header for packets of this kind, from the registers of its static octets.
+fn check_from(header: &Header, saved: (u8, u8), kind: FormKind) -> u8
+    requires three { saved.0 ≡ check poly3 (all_ones poly3) (static_octets header.now.octets) }
+    requires seven { saved.1 ≡ check poly7 (all_ones poly7) (static_octets header.now.octets) }
+    ensures { result ≡ check_for kind header.now.octets }
+{
+    if is_short(kind) {
+        header.check3_from(saved.0)
+    } else {
+        header.check7_from(saved.1)
+    }
+}
+
+/// The header that the packet means by one try, if its check is the packet's.
+///
+/// The payload is at most 65,495 octets.
+pub(crate) fn attempt(
+    fixed: &Static,
+    reference: &Reference,
+    shift: u32,
+    form: &Form<'_>,
+) -> Option<Accepted>
+    requires payload { length form.now.payload.now ≤ 65495 }
+    requires shift { shift ≤ 65536 }
+    requires good { IsGoodStatic fixed.now }
+    requires kept { IsKept fixed.now reference.now.moving reference.now.saved }
+    ensures fits { IfSome result (λ a. Fits fixed.now (try_of reference.now shift) (content form.now) (explained_of a.header)) }
+    ensures reference { IfSome result (λ a. a.reference ≡ reference.now) }
+    ensures sound { IfSome result (λ a. IsSound fixed.now a) }
+    ensures misses { IfNone result (Misses fixed.now (try_of reference.now shift) (content form.now)) }
+{
+    let explained = explain(fixed, reference, shift, form);
+    if check_from(&explained.header, explained.saved, form.kind) != form.check {
+        return None;
+    }
+    Some(Accepted {
+        reference: *reference,
+        header: explained,
+    })
+}
+
+impl FullContext {
+    ghost use Rattle.std.specs.Prelude.{◌≡◌, ◌≤◌, ◌++◌, length, option_map, IfSome};
+    ghost use Rattle.rohc_forms.specs.Packets.{content};
+    ghost use Rattle.rohc_context.specs.Settings.{AreGood};
+    ghost use Rattle.rohc_context.specs.Record.{reference_of};
+    ghost use Rattle.rohc_context.specs.Tries.{Verdict, second_tries, third_tries, full_tries};
+    ghost use Rattle.rohc_context.specs.Read.{verdict_of, IsSound};
+
+    /// The third try: against the previous reference.
+    fn third_try(&self, form: &Form<'_>) -> Option<Accepted>
+        requires payload { length form.now.payload.now ≤ 65495 }
+        ensures verdict { Verdict self.now.fixed (content form.now)
+            (third_tries (option_map reference_of self.now.previous) (content form.now))
+            (verdict_of (content form.now) result) }
+        ensures sound { IfSome result (λ a. IsSound self.now.fixed a) }
+    {
+        match &self.previous {
+            Some(previous) if is_short(form.kind) => attempt(&self.fixed, previous, 0, form),
+            _ => None,
+        }
+    }
+
+    /// The second try, if enough time passed for it, and the third.
+    fn later_tries(&self, settings: &Settings, passed: u64, form: &Form<'_>) -> Option<Accepted>
+        requires good { AreGood settings.now }
+        requires payload { length form.now.payload.now ≤ 65495 }
+        ensures verdict { Verdict self.now.fixed (content form.now)
+            (second_tries settings.now passed (reference_of self.now.reference) (content form.now)
+                ++ third_tries (option_map reference_of self.now.previous) (content form.now))
+            (verdict_of (content form.now) result) }
+        ensures sound { IfSome result (λ a. IsSound self.now.fixed a) }
+    {
+        let wraps_after = u64::from(settings.packet_ms) << form.sn.count;
+        if !is_short(form.kind) || passed < wraps_after {
+            return self.third_try(form);
+        }
+        match attempt(&self.fixed, &self.reference, 1 << form.sn.count, form) {
+            Some(accepted) => Some(accepted),
+            None => self.third_try(form),
+        }
+    }
+
+    /// The header of the first try that fits.
+    pub(crate) fn accepted(&self, settings: &Settings, passed: u64, form: &Form<'_>) -> Option<Accepted>
+        requires good { AreGood settings.now }
+        requires payload { length form.now.payload.now ≤ 65495 }
+        ensures verdict { Verdict self.now.fixed (content form.now)
+            (full_tries settings.now passed (reference_of self.now.reference) (option_map reference_of self.now.previous) (content form.now))
+            (verdict_of (content form.now) result) }
+        ensures sound { IfSome result (λ a. IsSound self.now.fixed a) }
+    {
+        match attempt(&self.fixed, &self.reference, 0, form) {
+            Some(accepted) => Some(accepted),
+            None => self.later_tries(settings, passed, form),
+        }
+    }
+}

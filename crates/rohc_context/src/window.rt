@@ -1,0 +1,62 @@
+//! Windows of recent outcomes: which of the last arrivals failed.
+
+ghost use Rattle.std.specs.Prelude.{◌≤◌, ◌<◌, ◌^◌};
+
+/// The outcomes of at most 64 arrivals.
+#[derive(Clone, Copy, Debug, PartialEq, Eq)]
+pub struct Window {
+    /// A bit for each outcome, the newest lowest, 1 a failure.
+    pub word: u64,
+    /// How many outcomes there are.
+    pub length: u8,
+    ghost few: { length ≤ 64 },
+    ghost none_above: { word < 2 ^ length },
+}
+
+impl Window {
+    ghost use Rattle.std.specs.Prelude.{◌≡◌, ◌≤◌, [], take, count_by};
+    ghost use Rattle.rohc_context.specs.Window.{and_outcome, is_filled, outcomes};
+
+    /// A window without outcomes.
+    #[tactic(auto, unfolding(crate::specs::Window::outcomes))]
+    pub(crate) fn empty() -> Window
+        ensures { outcomes result ≡ [] }
+    {
+        Window { word: 0, length: 0 }
+    }
+
+    /// This window with one more outcome; the last 64 are kept.
+    #[tactic(auto, unfolding(crate::specs::Window::outcomes, crate::specs::Window::and_outcome))]
+    pub(crate) fn and(self, failure: bool) -> Window
+        ensures { outcomes result ≡ and_outcome failure (outcomes self) }
+    {
+        let word = (self.word << 1) | u64::from(failure);
+        Window {
+            word,
+            length: (self.length + 1).min(64),
+        }
+    }
+
+    /// Whether at least `k` of the last `n` outcomes are failures. `n` is at most 64.
+    #[tactic(auto, unfolding(crate::specs::Window::is_filled))]
+    pub(crate) fn is_filled(self, k: u8, n: u8) -> bool
+        requires { n ≤ 64 }
+        ensures { result ≡ is_filled k n (outcomes self) }
+    {
+        self.failures(n) >= u32::from(k)
+    }
+
+    /// How many of the last `n` outcomes are failures.
+    #[tactic(auto, unfolding(crate::specs::Window::outcomes))]
+    fn failures(self, n: u8) -> u32
+        requires { n ≤ 64 }
+        ensures { result ≡ count_by (λ failure. failure) (take n (outcomes self)) }
+    {
+        let newest = if n == 64 {
+            self.word
+        } else {
+            self.word % (1 << n)
+        };
+        newest.count_ones()
+    }
+}
