@@ -2,6 +2,7 @@ use Rattle.std.proofs.Common.{◌≡◌, ℕ, suc, ◌+◌, ◌-◌, ◌*◌, �
 use Rattle.std.proofs.lemmas.Nat.{mod_below, pow_pos, mod-mul-add}
 use Rattle.std.proofs.Math.Nat.{add-mod-mod}
 use Rattle.std.proofs.lemmas.Int.{ints}
+use Rattle.rohc_bits.specs.LowBits.{LowBits}
 use Rattle.rohc_lsb.specs.Interval.{LiesInInterval, modulo, OneValue, WindowAgrees}
 use Rattle.rohc_lsb.proofs.Residues.{modulo_is, raised, remainder_once}
 
@@ -24,31 +25,31 @@ reached a b m below =
     let (r, n, far) = raised (pos b -ℤ a) m some in
     reached_from a b m q r l n below low far
 
-modulo_below : (v : ℤ) (m : ℕ) → 0 < m → modulo v m < m
+pub modulo_below : (v : ℤ) (m : ℕ) → 0 < m → modulo v m < m
 modulo_below v m some =
     let (q, n, e) = raised v m some in
     rw (modulo_is v m n q some e) (mod_below n m some)
 
 -- The value that the bits mean lies as far above the interval's least number as they do modulo 2^k.
-pub meant_there : (reference : ℤ) (k p bits : ℕ) → bits < 2 ^ k →
-    LiesInInterval reference k p bits ((reference -ℤ pos p) +ℤ pos (modulo (pos bits -ℤ (reference -ℤ pos p)) (2 ^ k)))
-meant_there reference k p bits fits =
-    let over = modulo_below (pos bits -ℤ (reference -ℤ pos p)) (2 ^ k) (pow_pos k) in
-    record { least = omega (arith, ints); greatest = omega (arith, ints); low = reached (reference -ℤ pos p) bits (2 ^ k) fits }
+pub meant_there : (reference : ℤ) (bits : LowBits) (p : ℕ) → bits.value < 2 ^ bits.count →
+    LiesInInterval reference bits p ((reference -ℤ pos p) +ℤ pos (modulo (pos bits.value -ℤ (reference -ℤ pos p)) (2 ^ bits.count)))
+meant_there reference bits p fits =
+    let over = modulo_below (pos bits.value -ℤ (reference -ℤ pos p)) (2 ^ bits.count) (pow_pos bits.count) in
+    record { least = omega (arith, ints); greatest = omega (arith, ints); low = reached (reference -ℤ pos p) bits.value (2 ^ bits.count) fits }
 
 -- the same value in other words
-pub meant_as : (reference : ℤ) (k p bits : ℕ) (v w : ℤ) → LiesInInterval reference k p bits v → v ≡ w → LiesInInterval reference k p bits w
-meant_as reference k p bits v w lies e = let P : ℤ → Type 0 = λ x. LiesInInterval reference k p bits x in subst P e lies
+pub meant_as : (reference : ℤ) (bits : LowBits) (p : ℕ) (v w : ℤ) → LiesInInterval reference bits p v → v ≡ w → LiesInInterval reference bits p w
+meant_as reference bits p v w lies e = let P : ℤ → Type 0 = λ x. LiesInInterval reference bits p x in subst P e lies
 
 -- the value by its distance from the least number
-pub meant_from : (reference : ℤ) (k p bits : ℕ) (gap v : ℤ) (above : ℕ) → bits < 2 ^ k →
-    above ≡ modulo gap (2 ^ k) →
-    gap ≡ pos bits -ℤ (reference -ℤ pos p) →
+pub meant_from : (reference : ℤ) (bits : LowBits) (p : ℕ) (gap v : ℤ) (above : ℕ) → bits.value < 2 ^ bits.count →
+    above ≡ modulo gap (2 ^ bits.count) →
+    gap ≡ pos bits.value -ℤ (reference -ℤ pos p) →
     v ≡ (reference -ℤ pos p) +ℤ pos above →
-    LiesInInterval reference k p bits v
-meant_from reference k p bits gap v above fits above_is gap_is v_is =
-    let e = above_is ∙ ap (λ g. modulo g (2 ^ k)) gap_is in
-    meant_as reference k p bits _ v (meant_there reference k p bits fits) (sym (v_is ∙ ap (λ n. (reference -ℤ pos p) +ℤ pos n) e))
+    LiesInInterval reference bits p v
+meant_from reference bits p gap v above fits above_is gap_is v_is =
+    let e = above_is ∙ ap (λ g. modulo g (2 ^ bits.count)) gap_is in
+    meant_as reference bits p _ v (meant_there reference bits p fits) (sym (v_is ∙ ap (λ n. (reference -ℤ pos p) +ℤ pos n) e))
 
 -- how far b is above a
 distance : (a b : ℤ) → a ≤ℤ b → (d : ℕ) × (b ≡ a +ℤ pos d)
@@ -58,36 +59,36 @@ distance (negsuc a) (pos b) h = (b + suc a, omega (arith, ints))
 distance (negsuc a) (negsuc b) h = (a - b, omega (arith, ints))
 
 -- two values that the same bits mean are one
-meant_twice : (reference : ℤ) (k p bits : ℕ) (v w : ℤ) (q l d e : ℕ) →
-    (reference -ℤ pos p) +ℤ pos (q * 2 ^ k) ≡ pos l →
+meant_twice : (reference : ℤ) (bits : LowBits) (p : ℕ) (v w : ℤ) (q l d e : ℕ) →
+    (reference -ℤ pos p) +ℤ pos (q * 2 ^ bits.count) ≡ pos l →
     v ≡ (reference -ℤ pos p) +ℤ pos d →
     w ≡ (reference -ℤ pos p) +ℤ pos e →
-    LiesInInterval reference k p bits v →
-    LiesInInterval reference k p bits w →
+    LiesInInterval reference bits p v →
+    LiesInInterval reference bits p w →
     w ≡ v
-meant_twice reference k p bits v w q l d e low at_d at_e lies_v lies_w =
-    let some : 0 < 2 ^ k = pow_pos k in
-    let v_rest : modulo v (2 ^ k) ≡ (l + d) % 2 ^ k = modulo_is v (2 ^ k) (l + d) q some (omega (arith, ints)) in
-    let w_rest : modulo w (2 ^ k) ≡ (l + e) % 2 ^ k = modulo_is w (2 ^ k) (l + e) q some (omega (arith, ints)) in
-    let rests : (l + e) % 2 ^ k ≡ (l + d) % 2 ^ k = sym w_rest ∙ lies_w.low ∙ sym lies_v.low ∙ v_rest in
-    let one : e ≡ d = remainder_once l (2 ^ k) e d (omega (arith, ints)) (omega (arith, ints)) rests in
+meant_twice reference bits p v w q l d e low at_d at_e lies_v lies_w =
+    let some : 0 < 2 ^ bits.count = pow_pos bits.count in
+    let v_rest : modulo v (2 ^ bits.count) ≡ (l + d) % 2 ^ bits.count = modulo_is v (2 ^ bits.count) (l + d) q some (omega (arith, ints)) in
+    let w_rest : modulo w (2 ^ bits.count) ≡ (l + e) % 2 ^ bits.count = modulo_is w (2 ^ bits.count) (l + e) q some (omega (arith, ints)) in
+    let rests : (l + e) % 2 ^ bits.count ≡ (l + d) % 2 ^ bits.count = sym w_rest ∙ lies_w.low ∙ sym lies_v.low ∙ v_rest in
+    let one : e ≡ d = remainder_once l (2 ^ bits.count) e d (omega (arith, ints)) (omega (arith, ints)) rests in
     omega (arith, ints)
 
-pub meant_once : (reference : ℤ) (k p bits : ℕ) (v w : ℤ) → LiesInInterval reference k p bits v → LiesInInterval reference k p bits w → w ≡ v
-meant_once reference k p bits v w lies_v lies_w =
-    let (q, l, low) = raised (reference -ℤ pos p) (2 ^ k) (pow_pos k) in
+pub meant_once : (reference : ℤ) (bits : LowBits) (p : ℕ) (v w : ℤ) → LiesInInterval reference bits p v → LiesInInterval reference bits p w → w ≡ v
+meant_once reference bits p v w lies_v lies_w =
+    let (q, l, low) = raised (reference -ℤ pos p) (2 ^ bits.count) (pow_pos bits.count) in
     let (d, at_d) = distance (reference -ℤ pos p) v lies_v.least in
     let (e, at_e) = distance (reference -ℤ pos p) w lies_w.least in
-    meant_twice reference k p bits v w q l d e low at_d at_e lies_v lies_w
+    meant_twice reference bits p v w q l d e low at_d at_e lies_v lies_w
 
 pub one_value : OneValue
-one_value reference k p bits fits =
-    let there = meant_there reference k p bits fits in
-    (_, there, λ w lies_w. meant_once reference k p bits _ w there lies_w)
+one_value reference bits p fits =
+    let there = meant_there reference bits p fits in
+    (_, there, λ w lies_w. meant_once reference bits p _ w there lies_w)
 
 -- the window's other references lie between its ends
 pub window_agrees : WindowAgrees
-window_agrees references least greatest k p bits v from to at_least at_greatest i d within =
+window_agrees references least greatest bits p v from to at_least at_greatest i d within =
     let above = from i d within in
     let below = to i d within in
     record { least = omega (arith, ints); greatest = omega (arith, ints); low = at_least.low }

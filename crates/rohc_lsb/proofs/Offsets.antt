@@ -1,4 +1,4 @@
-use Rattle.std.proofs.Common.{◌≡◌, ℕ, ◌+◌, ◌-◌, ◌%◌, ◌^◌, ◌<◌, Bool, true, false, pos, ◌-ℤ◌, ap, ◌∙◌, refl, arith}
+use Rattle.std.proofs.Common.{◌≡◌, ℕ, ◌+◌, ◌-◌, ◌*◌, ◌%◌, ◌^◌, ◌<◌, Bool, true, false, pos, ◌-ℤ◌, ap, ◌∙◌, refl, sym, arith}
 use Rattle.std.proofs.lemmas.Int.{ints}
 use Rattle.std.proofs.lemmas.Nat.{mod_below}
 use Rattle.std.proofs.Math.Nat.{mod-add-mod, add-mod_right, mod-eq_of_lt}
@@ -26,3 +26,29 @@ offset_back nbo sn offset sn_range range =
     ∙ ap (λ x. x % 2 ^ 16) e
     ∙ add-mod_right offset (2 ^ 16)
     ∙ mod-eq_of_lt range
+
+-- Offset by a sum, whatever the sequence number
+offset_sum : (nbo : Bool) (sn id : ℕ) → offset_of nbo sn id ≡ (in_network_order nbo id + sn * 65535) % 2 ^ 16
+offset_sum nbo sn id = modulo_is (pos (in_network_order nbo id) -ℤ pos sn) (2 ^ 16) (in_network_order nbo id + sn * 65535) sn (omega arith) (omega (arith, ints))
+
+pub offset_below : (nbo : Bool) (sn id : ℕ) → offset_of nbo sn id < 2 ^ 16
+offset_below nbo sn id = rw (offset_sum nbo sn id) (mod_below (in_network_order nbo id + sn * 65535) (2 ^ 16) (omega arith))
+
+turned_below : (nbo : Bool) (x : ℕ) → x < 2 ^ 16 → in_network_order nbo x < 2 ^ 16
+turned_below true x range = range
+turned_below false x range = omega arith
+
+-- some Identification has this offset
+pub offset_there : (nbo : Bool) (sn offset : ℕ) → offset < 2 ^ 16 → (id : ℕ) × (id < 2 ^ 16) × (offset_of nbo sn id ≡ offset)
+offset_there nbo sn offset range =
+    let sum = (sn + offset) % 2 ^ 16 in
+    let small : sum < 2 ^ 16 = mod_below (sn + offset) (2 ^ 16) (omega arith) in
+    let back : in_network_order nbo (in_network_order nbo sum) ≡ sum = turned_twice nbo sum small in
+    (in_network_order nbo sum, turned_below nbo sum small, offset_sum nbo sn (in_network_order nbo sum) ∙ omega (arith, back))
+
+-- and only one
+pub offset_once : (nbo : Bool) (sn a b : ℕ) → a < 2 ^ 16 → b < 2 ^ 16 → offset_of nbo sn a ≡ offset_of nbo sn b → a ≡ b
+offset_once nbo sn a b a_range b_range same =
+    let sums : (in_network_order nbo a + sn * 65535) % 2 ^ 16 ≡ (in_network_order nbo b + sn * 65535) % 2 ^ 16 = sym (offset_sum nbo sn a) ∙ same ∙ offset_sum nbo sn b in
+    let orders : in_network_order nbo a ≡ in_network_order nbo b = omega (arith, turned_below nbo a a_range, turned_below nbo b b_range, sums) in
+    sym (turned_twice nbo a a_range) ∙ ap (in_network_order nbo) orders ∙ turned_twice nbo b b_range

@@ -1,6 +1,7 @@
 //! Low bits and the interval that they are read in (RFC 3095 4.5.1).
 
 ghost use Rattle.std.specs.Prelude.{◌≡◌, ℤ, ◌^◌, ◌<◌, ◌≤◌, pos};
+ghost use Rattle.rohc_bits.specs.LowBits.{low_bits};
 ghost use Rattle.rohc_lsb.specs.Interval.{LiesInInterval, modulo};
 
 use rohc_bits::Bits;
@@ -8,29 +9,30 @@ use rohc_bits::Bits;
 /// The value that the bits mean against a reference, modulo 2^`width` (RFC 3095 4.5.1).
 ///
 /// Before that it is the one whole number from `reference - p` to `reference + 2^k - 1 - p` that has
-/// these k low bits; it can lie below zero and past the field's end.
+/// these k low bits; it can lie below zero and past the field's end. There are 1 to `width` bits, the
+/// width is at most 32, and p is below 2^k.
 pub fn interval_value(reference: u32, bits: Bits, p: u32, width: u8) -> u32
     requires some { 1 ≤ bits.count }
     requires narrow { bits.count ≤ width }
     requires within { width ≤ 32 }
-    requires margin { p < 2 ^ bits.count }
-    ensures { (v : ℤ) × LiesInInterval (pos reference) bits.count p bits.value v ×
+    requires below { p < 2 ^ bits.count }
+    ensures { (v : ℤ) × LiesInInterval (pos reference) (low_bits bits) p v ×
         (result ≡ modulo v (2 ^ width)) }
 {
-    low_bits(value_meant(reference, bits, p), width)
+    remainder(value_meant(reference, bits, p), width)
 }
 
 /// The whole number that the bits mean against a reference.
 pub(crate) fn value_meant(reference: u32, bits: Bits, p: u32) -> i64
-    ensures { LiesInInterval (pos reference) bits.count p bits.value result }
+    ensures { LiesInInterval (pos reference) (low_bits bits) p result }
 {
     let least = i64::from(reference) - i64::from(p);
-    let above_least = low_bits(i64::from(bits.value) - least, bits.count);
+    let above_least = remainder(i64::from(bits.value) - least, bits.count);
     least + i64::from(above_least)
 }
 
 /// A whole number modulo 2^`width`.
-pub(crate) fn low_bits(value: i64, width: u8) -> u32
+pub(crate) fn remainder(value: i64, width: u8) -> u32
     requires { width ≤ 32 }
     ensures { result ≡ modulo value (2 ^ width) }
 {

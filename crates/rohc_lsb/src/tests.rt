@@ -37,13 +37,13 @@ fn intervals_at_each_end(rt: HostRuntime) {
 }
 
 #[test]
-fn margins(rt: HostRuntime) {
+fn p_of_each_field(rt: HostRuntime) {
     let sequence = [
         1, 1, 1, 1, 0, 1, 3, 7, 15, 31, 63, 127, 255, 511, 1023, 2047,
     ];
     for (k, p) in (1..=16u8).zip(sequence) {
         assert!(rt; 1 <= k && k <= 16);
-        assert_eq!(rt; sn_shift(k), p);
+        assert_eq!(rt; sn_p(k), p);
     }
     for (k, p) in [
         (2, 0),
@@ -54,7 +54,7 @@ fn margins(rt: HostRuntime) {
         (32, 1_073_741_823),
     ] {
         assert!(rt; 2 <= k && k <= 32);
-        assert_eq!(rt; ts_shift(k), p);
+        assert_eq!(rt; ts_p(k), p);
     }
 }
 

@@ -1,38 +1,42 @@
 //! Timestamps, from low bits or from the steps of the sequence number (RFC 3095 4.5.3, 5.7).
 
 ghost use Rattle.std.specs.Prelude.{◌≡◌, ◌^◌, ◌<◌, ◌≤◌, pos, ◌+ℤ◌, ◌*ℤ◌};
-ghost use Rattle.rohc_lsb.specs.Interval.{modulo, ts_margin};
+ghost use Rattle.rohc_bits.specs.LowBits.{low_bits};
+ghost use Rattle.rohc_lsb.specs.Interval.{modulo, p_of_ts};
 ghost use Rattle.rohc_lsb.specs.Fields.{AgreesWithoutBits, AgreesByScaledBits, AgreesByUnscaledBits};
 
-use crate::interval::{low_bits, value_meant};
+use crate::interval::{remainder, value_meant};
 use rohc_bits::Bits;
 
-/// How far the interval of `k` bits of a timestamp reaches below the reference: p of RFC 3095 5.7.
-pub fn ts_shift(k: u8) -> u32
+/// p for `k` bits of a timestamp, from 2 to 32 of them: how far their interval reaches below the
+/// reference (RFC 3095 4.5.1, 5.7).
+pub fn ts_p(k: u8) -> u32
     requires least { 2 ≤ k }
     requires greatest { k ≤ 32 }
-    ensures { result ≡ ts_margin k }
+    ensures { result ≡ p_of_ts k }
 {
     (1 << (k - 2)) - 1
 }
 
 /// The timestamp whose TS_SCALED the bits mean against the reference's (RFC 3095 4.5.3).
+///
+/// There are at least 2 bits, and the stride is from 1 to 536,870,911 (29 bits).
 pub fn scaled(reference: u32, stride: u32, bits: Bits) -> u32
     requires least_stride { 1 ≤ stride }
     requires greatest_stride { stride ≤ 536870911 }
     requires some { 2 ≤ bits.count }
-    ensures { AgreesByScaledBits reference stride bits.count bits.value result }
+    ensures { AgreesByScaledBits reference stride (low_bits bits) result }
 {
-    let value = value_meant(reference / stride, bits, ts_shift(bits.count));
+    let value = value_meant(reference / stride, bits, ts_p(bits.count));
     strides_after(reference % stride, stride, value)
 }
 
-/// The timestamp that the bits mean against the reference's (RFC 3095 4.5.1).
+/// The timestamp that the bits mean against the reference's (RFC 3095 4.5.1). There are at least 2 bits.
 pub fn unscaled(reference: u32, bits: Bits) -> u32
     requires { 2 ≤ bits.count }
-    ensures { AgreesByUnscaledBits reference bits.count bits.value result }
+    ensures { AgreesByUnscaledBits reference (low_bits bits) result }
 {
-    low_bits(value_meant(reference, bits, ts_shift(bits.count)), 32)
+    remainder(value_meant(reference, bits, ts_p(bits.count)), 32)
 }
 
 /// The timestamp of a header without bits of it: the reference's and one stride for each step of the
@@ -50,5 +54,5 @@ pub fn inferred_ts(reference: u32, stride: Option<u32>, steps: i32) -> u32
 fn strides_after(start: u32, stride: u32, count: i64) -> u32
     ensures { result ≡ modulo (pos start +ℤ count *ℤ pos stride) (2 ^ 32) }
 {
-    start.wrapping_add(low_bits(count, 32).wrapping_mul(stride))
+    start.wrapping_add(remainder(count, 32).wrapping_mul(stride))
 }

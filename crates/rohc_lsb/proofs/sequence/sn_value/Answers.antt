@@ -2,19 +2,15 @@ use Rattle.std.proofs.Common.{arith, ℤ, ◌^◌, ◌<◌, ◌≤◌, ◌∙◌
 use Rattle.std.proofs.lemmas.Int.{ints}
 use Rattle.std.proofs.Math.Nat.{pow-le-pow_right}
 use Rattle.rohc_lsb.specs.Interval.{modulo}
-use Rattle.rohc_lsb.proofs.Margins.{sn_margin_below}
+use Rattle.rohc_lsb.proofs.Reach.{p_of_sn_below}
 use Rattle.rohc_lsb.proofs.Meant.{meant_as}
 use Rattle.rohc_lsb.proofs.sequence.sn_value.Goals as goal
 
-pub returns-clause-steps : goal.returns-clause-steps
-returns-clause-steps c =
+pub returns : goal.returns
+returns c =
     let size : 2 ^ c.args.bits.count ≤ 2 ^ 16 = pow-le-pow_right {n = 2} (omega arith) c.requires.narrow in
-    let below : c.sn_shift.result < 2 ^ c.args.bits.count = rw c.sn_shift.ensures (sn_margin_below c.args.bits.count c.requires.some) in
-    rw (← c.sn_shift.ensures, ← c.from.ensures)
-    (meant_as _ _ _ _ c.value_meant-value.result _ c.value_meant-value.ensures (omega (arith, ints)))
-
-pub returns-clause-number : goal.returns-clause-number
-returns-clause-number c =
-    let size : 2 ^ c.args.bits.count ≤ 2 ^ 16 = pow-le-pow_right {n = 2} (omega arith) c.requires.narrow in
-    let below : c.sn_shift.result < 2 ^ c.args.bits.count = rw c.sn_shift.ensures (sn_margin_below c.args.bits.count c.requires.some) in
-    c.low_bits.ensures ∙ ap (λ (v : ℤ). modulo v (2 ^ 16)) (omega (arith, ints))
+    let below : c.sn_p.result < 2 ^ c.args.bits.count = rw c.sn_p.ensures (p_of_sn_below c.args.bits.count c.requires.some) in (
+      rw (← c.sn_p.ensures, ← c.from.ensures)
+          (meant_as _ _ _ c.value_meant-value.result _ c.value_meant-value.ensures (omega (arith, ints))),
+      c.remainder.ensures ∙ ap (λ (v : ℤ). modulo v (2 ^ 16)) (omega (arith, ints)),
+    )

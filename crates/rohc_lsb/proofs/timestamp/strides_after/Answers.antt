@@ -6,5 +6,5 @@ use Rattle.rohc_lsb.proofs.timestamp.strides_after.Goals as goal
 
 pub returns : goal.returns
 returns c =
-    let low : c.low_bits.result ≡ modulo c.args.count (2 ^ 32) = c.low_bits.ensures ∙ ap (λ (v : ℤ). modulo v (2 ^ 32)) (to_z-of_z w64 c.args.count c.ranges.count) in
+    let low : c.remainder.result ≡ modulo c.args.count (2 ^ 32) = c.remainder.ensures ∙ ap (λ (v : ℤ). modulo v (2 ^ 32)) (to_z-of_z w64 c.args.count c.ranges.count) in
     rw low (sym (strides_modulo c.args.start c.args.stride (2 ^ 32) c.args.count (omega arith)))
