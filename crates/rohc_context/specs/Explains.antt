@@ -1,9 +1,8 @@
 -- The header that a packet means against a reference (RFC 3095 4.5, 5.7).
 -- Words: Explained, AgreesInTs, AgreesInId, Means, Explains.
-use Rattle.std.specs.Prelude.{◌≡◌, ℕ, ◌+◌, ◌<◌, ◌^◌, List, length, Bool, true, false, Option, Some, None, unwrap_or, ℤ, pos, ◌+ℤ◌}
+use Rattle.std.specs.Prelude.{◌≡◌, ℕ, ◌<◌, ◌^◌, List, length, Bool, true, false, Option, Some, None, unwrap_or, ℤ}
 use Rattle.rohc_bits.specs.LowBits.{LowBits}
-use Rattle.rohc_lsb.specs.Interval.{LiesInInterval, modulo, sn_margin}
-use Rattle.rohc_lsb.specs.Fields.{AgreesWithoutBits, AgreesByScaledBits, AgreesByUnscaledBits, offset_of, AgreesInOffset}
+use Rattle.rohc_lsb.specs.Fields.{AgreesInSn, AgreesWithoutBits, AgreesByScaledBits, AgreesByUnscaledBits, offset_of, AgreesInOffset}
 use Rattle.rohc_header.specs.declared.fields.Static.{Static}
 use Rattle.rohc_header.specs.declared.fields.Dynamic.{Dynamic}
 use Rattle.rohc_header.specs.Original.{IsOriginal}
@@ -24,8 +23,8 @@ scale (Some true) stride = stride
 scale (Some false) stride = None
 
 abbrev pub AgreesByBits : (reference : ℕ) (scale : Option ℕ) (bits : LowBits) (ts : ℕ) → Type 0
-AgreesByBits reference None bits ts = AgreesByUnscaledBits reference bits.count bits.value ts
-AgreesByBits reference (Some stride) bits ts = AgreesByScaledBits reference stride bits.count bits.value ts
+AgreesByBits reference None bits ts = AgreesByUnscaledBits reference bits ts
+AgreesByBits reference (Some stride) bits ts = AgreesByScaledBits reference stride bits ts
 
 -- the timestamp agrees with the reference's, the stride in force, the steps of the sequence number and the bits
 abbrev pub AgreesInTs : (reference : ℕ) (stride : Option ℕ) (steps : ℤ) (tsc : Option Bool) (bits : Option LowBits) (ts : ℕ) → Type 0
@@ -44,9 +43,7 @@ AgreesInId nbo reference (Offset bits) sn id =
 -- that its bits mean; the steps count from the reference's own SN. All else is in force, or the packet's.
 pub record Means (reference : Reference) (shift : ℕ) (c : Content) (moving : Dynamic) : Type 0 where
   pub steps : ℤ
-  pub interval : LiesInInterval (pos (reference.moving.sn + shift)) c.sn.count (sn_margin c.sn.count) c.sn.value
-    (pos reference.moving.sn +ℤ steps)
-  pub sn : moving.sn ≡ modulo (pos reference.moving.sn +ℤ steps) (2 ^ 16)
+  pub sn : AgreesInSn reference.moving.sn shift c.sn moving.sn steps
   pub ts : AgreesInTs reference.moving.ts (in_force reference.moving c.values).stride steps c.tsc c.ts moving.ts
   pub id : AgreesInId (in_force reference.moving c.values).nbo reference.moving c.id moving.sn moving.id
   pub others : moving ≡ record (in_force reference.moving c.values) {

@@ -10,7 +10,7 @@ use rohc_bits::Bits;
 
 /// p for `k` bits of a sequence number, from 1 to 16 of them: how far their interval reaches below the
 /// reference (RFC 3095 4.5.1, 5.7).
-pub fn sn_p(k: u8) -> u32
+pub fn sn_shift(k: u8) -> u32
     requires least { 1 ≤ k }
     requires greatest { k ≤ 16 }
     ensures { result ≡ p_of_sn k }
@@ -29,7 +29,7 @@ pub fn sn_value(reference: u16, shift: u32, bits: Bits) -> (u16, i32)
     requires shift { shift ≤ 65536 }
     ensures { AgreesInSn reference shift (low_bits bits) result.0 result.1 }
 {
-    let value = value_meant(u32::from(reference) + shift, bits, sn_p(bits.count));
+    let value = value_meant(u32::from(reference) + shift, bits, sn_shift(bits.count));
     let steps = value - i64::from(reference);
     (remainder(value, 16) as u16, steps as i32)
 }

@@ -43,7 +43,7 @@ fn p_of_each_field(rt: HostRuntime) {
     ];
     for (k, p) in (1..=16u8).zip(sequence) {
         assert!(rt; 1 <= k && k <= 16);
-        assert_eq!(rt; sn_p(k), p);
+        assert_eq!(rt; sn_shift(k), p);
     }
     for (k, p) in [
         (2, 0),
@@ -54,7 +54,7 @@ fn p_of_each_field(rt: HostRuntime) {
         (32, 1_073_741_823),
     ] {
         assert!(rt; 2 <= k && k <= 32);
-        assert_eq!(rt; ts_p(k), p);
+        assert_eq!(rt; ts_shift(k), p);
     }
 }
 

@@ -10,7 +10,7 @@ use rohc_bits::Bits;
 
 /// p for `k` bits of a timestamp, from 2 to 32 of them: how far their interval reaches below the
 /// reference (RFC 3095 4.5.1, 5.7).
-pub fn ts_p(k: u8) -> u32
+pub fn ts_shift(k: u8) -> u32
     requires least { 2 ≤ k }
     requires greatest { k ≤ 32 }
     ensures { result ≡ p_of_ts k }
@@ -27,7 +27,7 @@ pub fn scaled(reference: u32, stride: u32, bits: Bits) -> u32
     requires some { 2 ≤ bits.count }
     ensures { AgreesByScaledBits reference stride (low_bits bits) result }
 {
-    let value = value_meant(reference / stride, bits, ts_p(bits.count));
+    let value = value_meant(reference / stride, bits, ts_shift(bits.count));
     strides_after(reference % stride, stride, value)
 }
 
@@ -36,7 +36,7 @@ pub fn unscaled(reference: u32, bits: Bits) -> u32
     requires { 2 ≤ bits.count }
     ensures { AgreesByUnscaledBits reference (low_bits bits) result }
 {
-    remainder(value_meant(reference, bits, ts_p(bits.count)), 32)
+    remainder(value_meant(reference, bits, ts_shift(bits.count)), 32)
 }
 
 /// The timestamp of a header without bits of it: the reference's and one stride for each step of the

@@ -3,7 +3,7 @@
 
 use crate::text::NoAnswer;
 use rohc_bits::Bits;
-use rohc_lsb::{inferred_ts, interval_value, ip_id, scaled, sn_p, sn_value, ts_p, unscaled};
+use rohc_lsb::{inferred_ts, interval_value, ip_id, scaled, sn_shift, sn_value, ts_shift, unscaled};
 use std::alloc::Global;
 use std::str::SplitWhitespace;
 
@@ -111,7 +111,7 @@ fn in_interval(arguments: &mut Arguments<'_>) -> Result<u32, NoAnswer> {
 fn sequence_shift(arguments: &mut Arguments<'_>) -> Result<u32, NoAnswer> {
     let k = arguments.octet("k")?;
     if 1 <= k && k <= 16 {
-        Ok(sn_p(k))
+        Ok(sn_shift(k))
     } else {
         Err(NoAnswer::OutsideConditions)
     }
@@ -120,7 +120,7 @@ fn sequence_shift(arguments: &mut Arguments<'_>) -> Result<u32, NoAnswer> {
 fn timestamp_shift(arguments: &mut Arguments<'_>) -> Result<u32, NoAnswer> {
     let k = arguments.octet("k")?;
     if 2 <= k && k <= 32 {
-        Ok(ts_p(k))
+        Ok(ts_shift(k))
     } else {
         Err(NoAnswer::OutsideConditions)
     }

@@ -9,8 +9,8 @@ use Rattle.rohc_lsb.proofs.sequence.sn_value.Goals as goal
 pub returns : goal.returns
 returns c =
     let size : 2 ^ c.args.bits.count ≤ 2 ^ 16 = pow-le-pow_right {n = 2} (omega arith) c.requires.narrow in
-    let below : c.sn_p.result < 2 ^ c.args.bits.count = rw c.sn_p.ensures (p_of_sn_below c.args.bits.count c.requires.some) in (
-      rw (← c.sn_p.ensures, ← c.from.ensures)
+    let below : c.sn_shift.result < 2 ^ c.args.bits.count = rw c.sn_shift.ensures (p_of_sn_below c.args.bits.count c.requires.some) in (
+      rw (← c.sn_shift.ensures, ← c.from.ensures)
           (meant_as _ _ _ c.value_meant-value.result _ c.value_meant-value.ensures (omega (arith, ints))),
       c.remainder.ensures ∙ ap (λ (v : ℤ). modulo v (2 ^ 16)) (omega (arith, ints)),
     )
