@@ -2,14 +2,14 @@
 -- Words: in_force.
 use Rattle.std.specs.Prelude.{ℕ, Option, Some, None, unwrap_or}
 use Rattle.rohc_header.specs.declared.fields.Dynamic.{Dynamic}
-use Rattle.rohc_forms.specs.declared.form.Values.{Values}
+use Rattle.rohc_forms.specs.Given.{ValuesSaid}
 
 -- a stride that is given, else the one that is kept, if there is one
 abbrev pub given_stride : Option ℕ → Option ℕ → Option ℕ
 given_stride None kept = kept
 given_stride (Some stride) kept = Some stride
 
-abbrev pub in_force : Dynamic → Option Values → Dynamic
+abbrev pub in_force : Dynamic → Option ValuesSaid → Dynamic
 in_force kept None = kept
 in_force kept (Some v) = record kept {
   tos = unwrap_or v.tos kept.tos;

@@ -1,10 +1,9 @@
 -- An IR-DYN (RFC 3095 5.7.7.2).
 -- Words: Refreshes.
-use Rattle.std.specs.Prelude.{ℕ, false, Option, Some, None, Result, Ok, Err}
+use Rattle.std.specs.Prelude.{ℕ, [], Bool, false, Option, Some, None, Result, Ok, Err}
 use Rattle.rohc_frame.specs.Header.{Header}
-use Rattle.rohc_chain.specs.declared.parts.Kept.{Kept}
 use Rattle.rohc_chain.specs.declared.refusal.ChainRefusal.{ChainRefusal}
-use Rattle.rohc_chain.specs.Packets.{DynContent, kept_values, nothing_kept, ir_dyn_at}
+use Rattle.rohc_chain.specs.Packets.{DynContent, kept_values, ir_dyn_at}
 use Rattle.rohc_context.specs.declared.settings.Settings.{Settings}
 use Rattle.rohc_context.specs.Record.{Reference, State, Plain, NoContext, StaticContext, FullContext, Record}
 use Rattle.rohc_context.specs.Response.{Response}
@@ -20,15 +19,19 @@ profile_of (StaticContext fixed reference first second) = 1
 profile_of (FullContext fixed reference previous window) = 1
 
 -- X and the stride, which an IR-DYN keeps where it doesn't give them: the held reference's
-abbrev pub kept_by : Option Reference → Kept
-kept_by None = nothing_kept
-kept_by (Some r) = kept_values r.moving.extension r.moving.stride
+abbrev pub kept_by : Option Reference → Bool × Option ℕ
+kept_by None = (false, None)
+kept_by (Some r) = (r.moving.extension, r.moving.stride)
 
-abbrev pub kept_in : State → Kept
-kept_in Plain = nothing_kept
-kept_in (NoContext nacked) = nothing_kept
+abbrev pub kept_in : State → Bool × Option ℕ
+kept_in Plain = (false, None)
+kept_in (NoContext nacked) = (false, None)
 kept_in (StaticContext fixed reference first second) = kept_by reference
 kept_in (FullContext fixed reference previous window) = kept_by (Some reference)
+
+-- what an IR-DYN says to a record of this profile that keeps these values
+abbrev pub dyn_said : Header → (profile : ℕ) → (kept : Bool × Option ℕ) → Result DynContent ChainRefusal
+dyn_said h profile kept = ir_dyn_at h profile (kept_values kept.0 kept.1)
 
 -- An IR-DYN leads to Full Context. One for profile 0x0000 says nothing, and No Context doesn't take it.
 abbrev pub RefreshesBy : Settings → (moment : ℕ) → Header → Record → State → Result DynContent ChainRefusal → Response → Option Record → Type 0
@@ -43,4 +46,4 @@ RefreshesBy s moment h r (FullContext fixed reference previous window) (Ok d) re
 
 abbrev pub Refreshes : Settings → (moment : ℕ) → Header → Record → Response → Option Record → Type 0
 Refreshes s moment h r response next =
-    RefreshesBy s moment h r r.state (ir_dyn_at h (profile_of r.state) (kept_in r.state)) response next
+    RefreshesBy s moment h r r.state (dyn_said h (profile_of r.state) (kept_in r.state)) response next

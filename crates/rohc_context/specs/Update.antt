@@ -1,6 +1,6 @@
 -- A packet of kind Other (RFC 3095 5.7.1 to 5.7.5, 5.10.2).
 -- Words: Updates.
-use Rattle.std.specs.Prelude.{◌≡◌, ℕ, ◌-◌, List, [], ◌∷◌, length, false, nat_lt, is_some, Option, Some, None, Result, Ok, Err}
+use Rattle.std.specs.Prelude.{◌≡◌, ℕ, ◌-◌, List, [], ◌∷◌, length, Bool, true, false, nat_lt, is_some, Option, Some, None, Result, Ok, Err}
 use Rattle.rohc_frame.specs.Header.{Header}
 use Rattle.rohc_header.specs.declared.fields.Static.{Static}
 use Rattle.rohc_forms.specs.declared.refusal.FormRefusal.{FormRefusal}

@@ -3,7 +3,7 @@
 ghost use Rattle.std.specs.Prelude.{◌≡◌, ◌≤◌, length, option_map, IfSome};
 ghost use Rattle.std.specs.Option.{ForSome};
 ghost use Rattle.rohc_bits.specs.LowBits.{low_bits};
-ghost use Rattle.rohc_forms.specs.Packets.{content, id_by};
+ghost use Rattle.rohc_forms.specs.Packets.{content, id_by, values_by};
 ghost use Rattle.rohc_chain.specs.Good.{IsGoodStride, IsGoodStatic, IsGoodDynamic};
 ghost use Rattle.rohc_context.specs.InForce.{in_force, given_stride};
 ghost use Rattle.rohc_context.specs.Record.{reference_of};
@@ -41,7 +41,7 @@ fn stride_of(given: Option<u32>, kept: Option<u32>) -> Option<u32>
 /// The fields in force: those that an extension 3 gives, else the reference's (RFC 3095 5.7.5).
 fn fields_in_force(kept: &Dynamic, values: Option<Values>) -> Dynamic
     requires { IsGoodDynamic kept.now }
-    ensures fields { result ≡ in_force kept.now values }
+    ensures fields { result ≡ in_force kept.now (option_map values_by values) }
     ensures good { IsGoodDynamic result }
 {
     let Some(values) = values else {

@@ -74,7 +74,7 @@ impl State {
 }
 
 impl StaticContext {
-    ghost use Rattle.std.specs.Prelude.{◌≡◌};
+    ghost use Rattle.std.specs.Prelude.{◌≡◌, ℕ};
     ghost use Rattle.rohc_context.specs.declared.state.State.TheVariants.{Static as Level};
     ghost use Rattle.rohc_context.specs.Settings.{AreGood};
     ghost use Rattle.rohc_context.specs.Record.{state_of};
@@ -123,7 +123,7 @@ impl StaticContext {
 }
 
 impl FullContext {
-    ghost use Rattle.std.specs.Prelude.{◌≡◌};
+    ghost use Rattle.std.specs.Prelude.{◌≡◌, ℕ};
     ghost use Rattle.rohc_context.specs.declared.state.State.TheVariants.{Full as Level};
     ghost use Rattle.rohc_context.specs.Settings.{AreGood};
     ghost use Rattle.rohc_context.specs.Record.{state_of};

@@ -32,7 +32,7 @@ impl FullContext {
     ) -> (State, Reply<'a>)
         requires fixed { IsGoodStatic fixed }
         requires moving { IsGoodDynamic moving }
-        requires payload { length payload.entry.now ≤ 65495 }
+        requires payload { length payload.now ≤ 65495 }
         ensures { (moment : ℕ) → Delivers settings.now moment (header_of forward.now) fixed moving payload.entry.now (outcomes window)
             (response_of result.1) (Some (record { accepted = moment; state = state_of result.0 })) }
     {

@@ -35,8 +35,8 @@ fn plain_reply<'a>(settings: &Settings, forward: &Forward<'a>, packet: &'a [u8])
 }
 
 /// The window of Full Context behind an IR, with a success, or an empty one from every other state.
-pub(crate) fn full_window(counting: Option<&State>) -> Window
-    ensures { outcomes result ≡ full_window_of (option_map (λ s. state_of s.now) counting) }
+fn full_window(counting: Option<State>) -> Window
+    ensures { outcomes result ≡ full_window_of (option_map state_of counting) }
 {
     match counting {
         Some(State::Full(context)) => context.windows.0.and(false),
@@ -45,8 +45,8 @@ pub(crate) fn full_window(counting: Option<&State>) -> Window
 }
 
 /// The windows of Static Context behind an IR, with a success each, or empty ones from every other state.
-fn static_windows(counting: Option<&State>) -> (Window, Window)
-    ensures { (outcomes result.0, outcomes result.1) ≡ static_windows_of (option_map (λ s. state_of s.now) counting) }
+fn static_windows(counting: Option<State>) -> (Window, Window)
+    ensures { (outcomes result.0, outcomes result.1) ≡ static_windows_of (option_map state_of counting) }
 {
     match counting {
         Some(State::Static(context)) => (
@@ -63,11 +63,11 @@ fn static_windows(counting: Option<&State>) -> (Window, Window)
 pub(crate) fn renewal<'a>(
     settings: &Settings,
     forward: &Forward<'a>,
-    counting: Option<&State>,
+    counting: Option<State>,
 ) -> Result<(State, Reply<'a>), Fault>
     requires { IsIr forward.now.kind }
     ensures taken { IfOk result (λ x. (content : IrContent) × (ir_at (header_of forward.now) ≡ Ok content)
-        × ((moment : ℕ) → Renewed settings.now moment (header_of forward.now) (option_map (λ s. state_of s.now) counting) content
+        × ((moment : ℕ) → Renewed settings.now moment (header_of forward.now) (option_map state_of counting) content
             (response_of x.1) (Some (record { accepted = moment; state = state_of x.0 })))) }
     ensures fault { IfErr result (λ e. (refusal : ChainRefusal) × (ir_at (header_of forward.now) ≡ Err refusal) × (e ≡ fault_of_chain refusal)) }
 {

@@ -1,17 +1,16 @@
 //! An IR-DYN (RFC 3095 5.7.7.2).
 
-ghost use Rattle.std.specs.Prelude.{◌≡◌, ℕ, IfOk, IfErr, Ok, Err, Some, option_map};
+ghost use Rattle.std.specs.Prelude.{◌≡◌, ℕ, false, IfOk, IfErr, Ok, Err, Some, None, option_map};
 ghost use Rattle.std.specs.Option.{ForSome};
 ghost use Rattle.rohc_frame.specs.Reading.{header_of};
 ghost use Rattle.rohc_chain.specs.Good.{IsGoodStatic};
-ghost use Rattle.rohc_chain.specs.Packets.{IsIrDyn, DynContent, nothing_kept, kept_values, ir_dyn_at};
-ghost use Rattle.rohc_chain.specs.declared.refusal.ChainRefusal.{ChainRefusal as Refused};
+ghost use Rattle.rohc_chain.specs.Packets.{IsIrDyn, DynContent};
 ghost use Rattle.rohc_context.specs.Window.{outcomes};
 ghost use Rattle.rohc_context.specs.Record.{reference_of, state_of};
 ghost use Rattle.rohc_context.specs.Response.{response_of};
 ghost use Rattle.rohc_context.specs.Saved.{IsKept};
 ghost use Rattle.rohc_context.specs.Renewal.{Delivers};
-ghost use Rattle.rohc_context.specs.Refresh.{kept_by};
+ghost use Rattle.rohc_context.specs.Refresh.{kept_by, dyn_said};
 
 use crate::reference::Reference;
 use crate::reply::Reply;
@@ -27,7 +26,7 @@ use rohc_header::Static;
 /// The header is an IR-DYN's.
 pub(crate) fn plain_refusal(forward: &Forward<'_>) -> ChainRefusal
     requires { IsIrDyn forward.now.kind }
-    ensures { ir_dyn_at (header_of forward.now) 0 nothing_kept ≡ Err result }
+    ensures { dyn_said (header_of forward.now) 0 (false, None) ≡ Err result }
 {
     match read_ir_dyn(forward, 0, false, None) {
         Err(refusal) => refusal,
@@ -36,8 +35,8 @@ pub(crate) fn plain_refusal(forward: &Forward<'_>) -> ChainRefusal
 }
 
 /// What an IR-DYN keeps where it doesn't give it: X and the stride of the reference, if there is one.
-fn kept(reference: Option<&Reference>) -> (bool, Option<u32>)
-    ensures { kept_values result.0 result.1 ≡ kept_by (option_map (λ r. reference_of r.now) reference) }
+fn kept(reference: Option<Reference>) -> (bool, Option<u32>)
+    ensures { result ≡ kept_by (option_map reference_of reference) }
 {
     match reference {
         Some(reference) => (reference.moving.extension, reference.moving.stride),
@@ -52,17 +51,17 @@ pub(crate) fn refresh<'a>(
     settings: &Settings,
     forward: &Forward<'a>,
     fixed: Static,
-    reference: Option<&Reference>,
+    reference: Option<Reference>,
     window: Window,
 ) -> Result<(State, Reply<'a>), ChainRefusal>
     requires kind { IsIrDyn forward.now.kind }
     requires fixed { IsGoodStatic fixed }
-    requires kept { ForSome reference (λ r. IsKept fixed r.now.moving r.now.saved) }
+    requires kept { ForSome reference (λ r. IsKept fixed r.moving r.saved) }
     ensures taken { IfOk result (λ x. (d : DynContent)
-        × (ir_dyn_at (header_of forward.now) 1 (kept_by (option_map (λ r. reference_of r.now) reference)) ≡ Ok d)
+        × (dyn_said (header_of forward.now) 1 (kept_by (option_map reference_of reference)) ≡ Ok d)
         × ((moment : ℕ) → Delivers settings.now moment (header_of forward.now) fixed d.moving d.payload (outcomes window)
             (response_of x.1) (Some (record { accepted = moment; state = state_of x.0 })))) }
-    ensures fault { IfErr result (λ e. ir_dyn_at (header_of forward.now) 1 (kept_by (option_map (λ r. reference_of r.now) reference)) ≡ Err e) }
+    ensures fault { IfErr result (λ e. dyn_said (header_of forward.now) 1 (kept_by (option_map reference_of reference)) ≡ Err e) }
 {
     let (extension, stride) = kept(reference);
     let packet = read_ir_dyn(forward, 1, extension, stride)?;

@@ -1,7 +1,7 @@
 //! The reference after an accepted packet, and the previous reference.
 
 ghost use Rattle.std.specs.Prelude.{◌≡◌, option_map};
-ghost use Rattle.rohc_header.specs.declared.fields.Static.{Static as StaticFields};
+ghost use Rattle.rohc_header.specs.declared.fields.Static.{Static};
 ghost use Rattle.rohc_chain.specs.Good.{IsGoodDynamic};
 ghost use Rattle.rohc_forms.specs.Packets.{content};
 ghost use Rattle.rohc_context.specs.Record.{reference_of};
@@ -16,11 +16,8 @@ use rohc_header::Dynamic;
 
 /// The reference after an IR or IR-DYN with these fields: whose UDP checksum says whether packets carry one.
 pub(crate) fn first(moving: &Dynamic, saved: (u8, u8)) -> Reference
-    ghost fixed: { StaticFields }
-    requires good { IsGoodDynamic moving.now }
-    requires registers { AreRegisters fixed moving.now saved }
     ensures reference { reference_of result ≡ first_reference moving.now }
-    ensures kept { IsKept fixed result.moving result.saved }
+    ensures kept { (fixed : Static) → IsGoodDynamic moving.now → AreRegisters fixed moving.now saved → IsKept fixed result.moving result.saved }
 {
     Reference {
         moving: Dynamic {
@@ -41,10 +38,8 @@ fn is_for_one_packet(form: &Form<'_>) -> bool
 
 /// The reference after an accepted packet.
 pub(crate) fn next(form: &Form<'_>, accepted: &Accepted) -> Reference
-    ghost fixed: { StaticFields }
-    requires { IsSound fixed accepted.now }
     ensures reference { reference_of result ≡ next_reference (acceptance_of (content form.now) accepted.now) }
-    ensures kept { IsKept fixed result.moving result.saved }
+    ensures kept { (fixed : Static) → IsSound fixed accepted.now → IsKept fixed result.moving result.saved }
 {
     let kept = &accepted.reference;
     let header = &accepted.header.moving;

@@ -1,6 +1,8 @@
 //! The states of a context (RFC 3095 4.3.2).
 
-ghost use Rattle.std.specs.Prelude.{◌≡◌, ◌<◌, ◌^◌, IfSome};
+ghost use Rattle.std.specs.Prelude.{◌≡◌, ◌<◌, ◌^◌};
+ghost use Rattle.std.specs.Option.{ForSome};
+ghost use Rattle.std.proofs.Props.{props};
 ghost use Rattle.rohc_chain.specs.Good.{IsGoodStatic, IsGoodDynamic};
 ghost use Rattle.rohc_context.specs.Saved.{IsKept};
 
@@ -26,7 +28,7 @@ pub(crate) struct StaticContext {
     /// The outcomes that lead to a NACK, and those that lead to No Context.
     pub windows: (Window, Window),
     ghost good: { IsGoodStatic fixed },
-    ghost kept: { IfSome reference (λ r. IsKept fixed r.moving r.saved) },
+    ghost kept: { ForSome reference (λ r. IsKept fixed r.moving r.saved) } by { Prim.hlevel props },
 }
 
 /// What is known of one in Full Context.
@@ -41,8 +43,8 @@ pub(crate) struct FullContext {
     /// The outcomes that lead to Static Context, and an empty window.
     pub windows: (Window, Window),
     ghost good: { IsGoodStatic fixed },
-    ghost kept: { IsKept fixed reference.moving reference.saved },
-    ghost kept_before: { IfSome previous (λ r. IsKept fixed r.moving r.saved) },
+    ghost kept: { IsKept fixed reference.moving reference.saved } by { Prim.hlevel props },
+    ghost kept_before: { ForSome previous (λ r. IsKept fixed r.moving r.saved) } by { Prim.hlevel props },
     ghost one_window: { windows.1.length ≡ 0 },
 }
 

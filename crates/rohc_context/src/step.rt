@@ -4,7 +4,7 @@ ghost use Rattle.std.specs.Prelude.{◌≡◌, [], ◌∷◌};
 
 use crate::due::Due;
 use crate::fault::Fault;
-use crate::ir::{full_window, renewal};
+use crate::ir::renewal;
 use crate::ir_dyn::{plain_refusal, refresh};
 use crate::record::Context;
 use crate::refusal::Refusal;
@@ -122,7 +122,7 @@ impl Context {
         ensures { Renews settings.now moment (header_of forward.now) (if counts then Some (record_of self.old) else None) (Some (record_of self.old))
             (ir_at (header_of forward.now)) (response_of result) (Some (record_of self.new)) }
     {
-        let counting = if counts { Some(&self.state) } else { None };
+        let counting = if counts { Some(self.state) } else { None };
         match renewal(settings, forward, counting) {
             Ok((state, reply)) => {
                 self.state = state;
@@ -154,15 +154,15 @@ impl Context {
                 settings,
                 forward,
                 context.fixed,
-                context.reference.as_ref(),
+                context.reference,
                 Window::empty(),
             ),
             State::Full(context) => refresh(
                 settings,
                 forward,
                 context.fixed,
-                Some(&context.reference),
-                full_window(Some(&self.state)),
+                Some(context.reference),
+                context.windows.0.and(false),
             ),
         };
         match refreshed {
