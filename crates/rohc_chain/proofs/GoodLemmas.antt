@@ -1,6 +1,6 @@
 -- What octets spell lies in the ranges of its fields.
 use Rattle.std.proofs.Common.{◌≡◌, ℕ, ◌+◌, ◌/◌, ◌%◌, ◌<◌, ◌≤◌, Bool, true, false, List, [], ◌∷◌, ◌++◌, length, Option, Some, None, sym, subst, arith}
-use Rattle.std.specs.Prelude.{All}
+use Rattle.std.specs.Prelude.{All, Result, Ok, Err, IfOk}
 use Rattle.std.proofs.Math.Seq.{take-append_seam}
 use Rattle.std.proofs.lemmas.List.Elements.{All-head, All-tail, All-take}
 use Rattle.rohc_bits.specs.Spelling.{Spells}
@@ -8,10 +8,13 @@ use Rattle.rohc_frame.specs.Header.{Header}
 use Rattle.rohc_frame.specs.Laws.{IsOctet}
 use Rattle.rohc_header.specs.declared.fields.Static.{Static}
 use Rattle.rohc_header.specs.declared.fields.Dynamic.{Dynamic}
+use Rattle.rohc_chain.specs.declared.packet.Ir as lent
+use Rattle.rohc_chain.specs.declared.packet.IrDyn as lent_dyn
 use Rattle.rohc_chain.specs.declared.parts.Kept.{Kept}
+use Rattle.rohc_chain.specs.declared.refusal.ChainRefusal.{ChainRefusal}
 use Rattle.rohc_chain.specs.ChainText.{word, quad, flag, SpellsStatic, SpellsStride, SpellsGiven, SpellsDynamic}
 use Rattle.rohc_chain.specs.Good.{IsGoodStatic, IsGoodStride, IsGoodDynamic, IsGoodContent}
-use Rattle.rohc_chain.specs.Packets.{IrContent, Plain, StaticOnly, Whole, DynContent, nothing_kept}
+use Rattle.rohc_chain.specs.Packets.{IrContent, Plain, StaticOnly, Whole, ir_content, DynContent, dyn_content, nothing_kept}
 use Rattle.rohc_chain.specs.Texts.{IsIrText, IsIrDynText}
 use Rattle.rohc_chain.proofs.FoundLemmas.{all_right}
 
@@ -113,3 +116,13 @@ pub dyn_good : (h : Header) (profile : ℕ) (kept : Kept) (packet : DynContent) 
 dyn_good h profile kept packet all good is =
     let text = behind_check h.rest 1 _ (is.chain ++ packet.payload) all is.whole in
     (dynamic_good kept packet.moving is.chain (all_left is.chain packet.payload text) good is.spells_dynamic, all_right is.chain packet.payload text)
+
+-- what the code reads from octets is good
+pub ir_good_said : (h : Header) (r : Result lent.Ir ChainRefusal) → All IsOctet h.rest → IfOk r (λ ir. IsIrText h (ir_content ir)) → IfOk r (λ ir. IsGoodContent (ir_content ir))
+ir_good_said h (Ok ir) all text = ir_good h (ir_content ir) all text
+ir_good_said h (Err e) all text = tt
+
+pub dyn_good_said : (h : Header) (profile : ℕ) (kept : Kept) (r : Result lent_dyn.IrDyn ChainRefusal) → All IsOctet h.rest
+    → IfOk r (λ packet. IsIrDynText h profile kept (dyn_content packet)) → IfOk r (λ packet. IsGoodStride kept.stride → IsGoodDynamic packet.moving)
+dyn_good_said h profile kept (Ok packet) all text = λ good. (dyn_good h profile kept (dyn_content packet) all good text).0
+dyn_good_said h profile kept (Err e) all text = tt

@@ -5,6 +5,7 @@ ghost use Rattle.std.specs.Result.{result_map_both};
 ghost use Rattle.rohc_frame.specs.Laws.{IsOctet};
 ghost use Rattle.rohc_frame.specs.Reading.{header_of};
 ghost use Rattle.rohc_chain.specs.Packets.{IsIr, IrContent, ir_content, plain_at, static_only_at, whole_at, ir_at};
+ghost use Rattle.rohc_chain.specs.Good.{IsGoodContent};
 ghost use Rattle.rohc_chain.specs.Texts.{IsIrText, IsShort, ir_fault};
 
 use crate::cover::{fits_chains, fits_plain};
@@ -103,6 +104,7 @@ pub fn read_ir<'a>(forward: &Forward<'a>) -> Result<Ir<'a>, ChainRefusal>
     requires { IsIr forward.now.kind }
     ensures text { IfOk result (λ ir. IsIrText (header_of forward.now) (ir_content ir)) }
     ensures short { IfOk result (λ ir. IsShort (ir_content ir)) }
+    ensures good { IfOk result (λ ir. IsGoodContent (ir_content ir)) }
     ensures only { (content : IrContent) → IsIrText (header_of forward.now) content → IsShort content → result_map_both ir_content (λ e. e) result ≡ Ok content }
     ensures fault { IfErr result (λ e. ir_fault (header_of forward.now) ≡ Some e) }
     ensures reads { result_map_both ir_content (λ e. e) result ≡ ir_at (header_of forward.now) }

@@ -5,6 +5,7 @@ ghost use Rattle.std.specs.Result.{result_map_both};
 ghost use Rattle.rohc_frame.specs.Laws.{IsOctet};
 ghost use Rattle.rohc_frame.specs.Reading.{header_of};
 ghost use Rattle.rohc_chain.specs.Packets.{IsIrDyn, DynContent, dyn_content, kept_values, ir_dyn_at};
+ghost use Rattle.rohc_chain.specs.Good.{IsGoodStride, IsGoodDynamic};
 ghost use Rattle.rohc_chain.specs.Texts.{IsIrDynText, ir_dyn_fault};
 
 use crate::cover::fits_chains;
@@ -56,6 +57,7 @@ pub fn read_ir_dyn<'a>(
     requires profile { profile ≤ 1 }
     ensures text { IfOk result (λ packet. IsIrDynText (header_of forward.now) profile (kept_values extension stride) (dyn_content packet)) }
     ensures short { IfOk result (λ packet. length packet.payload.now ≤ 65495) }
+    ensures good { IfOk result (λ packet. IsGoodStride stride → IsGoodDynamic packet.moving) }
     ensures only { (content : DynContent) → IsIrDynText (header_of forward.now) profile (kept_values extension stride) content → length content.payload ≤ 65495
         → result_map_both dyn_content (λ e. e) result ≡ Ok content }
     ensures fault { IfErr result (λ e. ir_dyn_fault (header_of forward.now) profile ≡ Some e) }

@@ -27,8 +27,13 @@ Fails s h r refusal consequence response next =
     (response ≡ failed refusal (sent s.mode h consequence.due))
     × (next ≡ Some (record { accepted = r.accepted; state = consequence.state }))
 
--- A fault: a check that doesn't fit is a failure of the record that counts; all else changes nothing.
+-- a fault as a refusal
+abbrev pub refusal_of : Fault → Refusal
+refusal_of Unfit = Check
+refusal_of (Refused refusal) = refusal
+
+-- A fault: a check that doesn't fit is a failure of the record that counts, if there is one; all else changes nothing.
 abbrev pub Ends : Settings → (moment : ℕ) → Header → (counting before : Option Record) → Fault → Response → Option Record → Type 0
-Ends s moment h counting before (Refused refusal) response next = Refuses refusal before response next
-Ends s moment h None before Unfit response next = Refuses Check before response next
+Ends s moment h None before fault response next = Refuses (refusal_of fault) before response next
+Ends s moment h (Some r) before (Refused refusal) response next = Refuses refusal before response next
 Ends s moment h (Some r) before Unfit response next = Fails s h r Check (after_check s moment r.state) response next

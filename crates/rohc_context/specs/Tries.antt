@@ -1,11 +1,11 @@
 -- Which headers a packet may mean, in the order that they are tried, and the one that is accepted.
 -- Words: Try, full_tries, static_tries, Fits, Misses, Acceptance, Verdict.
-use Rattle.std.specs.Prelude.{◌≡◌, ◌≢◌, ℕ, ◌*◌, ◌^◌, List, [], ◌∷◌, ◌++◌, ◌⊎◌, Bool, true, false, ◌&&◌, nat_le, if◌then◌else◌, Option, Some, None, Result, Ok, Err}
+use Rattle.std.specs.Prelude.{◌≡◌, ◌≢◌, ℕ, ◌*◌, ◌^◌, List, [], ◌∷◌, ◌++◌, ◌⊎◌, Bool, not, ◌&&◌, nat_le, if◌then◌else◌, Option, Some, None, Result, Ok, Err}
 use Rattle.rohc_checks.specs.Division.{poly3, poly7}
 use Rattle.rohc_header.specs.declared.fields.Static.{Static}
 use Rattle.rohc_header.specs.Check.{header_check}
 use Rattle.rohc_forms.specs.declared.form.FormKind.{FormKind}
-use Rattle.rohc_forms.specs.declared.form.FormKind.TheVariants.{Uo0, Uo1, Uo1Id, Uo1Ts, Uor2, Uor2Id, Uor2Ts}
+use Rattle.rohc_forms.specs.Kinds.{is_uor2}
 use Rattle.rohc_forms.specs.Content.{Content}
 use Rattle.rohc_context.specs.declared.fault.Fault.{Fault}
 use Rattle.rohc_context.specs.declared.fault.Fault.TheVariants.{Unfit}
@@ -15,13 +15,7 @@ use Rattle.rohc_context.specs.Explains.{Explained, Explains}
 
 -- UO-0 and the UO-1 kinds carry a check of 3 bits, the UOR-2 kinds one of 7 (RFC 3095 5.7.1 to 5.7.4).
 abbrev pub has_short_check : FormKind → Bool
-has_short_check Uo0 = true
-has_short_check Uo1 = true
-has_short_check Uo1Id = true
-has_short_check Uo1Ts = true
-has_short_check Uor2 = false
-has_short_check Uor2Id = false
-has_short_check Uor2Ts = false
+has_short_check kind = not (is_uor2 kind)
 
 -- the header's check that a packet of this kind carries
 abbrev pub check_for : FormKind → List ℕ → ℕ

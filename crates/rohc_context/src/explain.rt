@@ -3,6 +3,7 @@
 ghost use Rattle.std.specs.Prelude.{◌≡◌, ◌≤◌, length, option_map, IfSome};
 ghost use Rattle.std.specs.Option.{ForSome};
 ghost use Rattle.rohc_bits.specs.LowBits.{low_bits};
+ghost use Rattle.rohc_forms.specs.Kinds.{offset_in};
 ghost use Rattle.rohc_forms.specs.Packets.{content, id_by, values_by};
 ghost use Rattle.rohc_chain.specs.Good.{IsGoodStride, IsGoodStatic, IsGoodDynamic};
 ghost use Rattle.rohc_context.specs.InForce.{in_force, given_stride};
@@ -84,6 +85,8 @@ fn timestamp(
 
 /// The Identification that the packet holds, or that its bits mean (RFC 3095 4.5.5).
 fn identification(reference: &Dynamic, nbo: bool, said: IdBits, sn: u16) -> u16
+    requires some { ForSome (offset_in said) (λ bits. 1 ≤ bits.count) }
+    requires narrow { ForSome (offset_in said) (λ bits. bits.count ≤ 16) }
     ensures { AgreesInId nbo reference.now (id_by said) sn result }
 {
     match said {

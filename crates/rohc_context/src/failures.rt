@@ -74,15 +74,16 @@ impl State {
 }
 
 impl StaticContext {
-    ghost use Rattle.std.specs.Prelude.{◌≡◌, ℕ};
+    ghost use Rattle.std.specs.Prelude.{◌≡◌, ℕ, option_map};
+    ghost use Rattle.rohc_context.specs.Window.{outcomes};
     ghost use Rattle.rohc_context.specs.declared.state.State.TheVariants.{Static as Level};
     ghost use Rattle.rohc_context.specs.Settings.{AreGood};
-    ghost use Rattle.rohc_context.specs.Record.{state_of};
+    ghost use Rattle.rohc_context.specs.Record.{reference_of, state_of, StaticContext as Seen};
     ghost use Rattle.rohc_context.specs.Failures.{leads_to, after_check, after_low_state};
 
     /// This context with other windows.
     fn with(&self, first: Window, second: Window) -> State
-        ensures { result ≡ Level (record self.now { windows = (first, second) }) }
+        ensures { state_of result ≡ Seen self.now.fixed (option_map reference_of self.now.reference) (outcomes first) (outcomes second) }
     {
         State::Static(StaticContext {
             fixed: self.fixed,

@@ -13,6 +13,21 @@ pub(crate) enum Fault {
     Refused(Refusal),
 }
 
+impl Fault {
+    ghost use Rattle.std.specs.Prelude.{◌≡◌};
+    ghost use Rattle.rohc_context.specs.Outcomes.{refusal_of};
+
+    /// The refusal that answers it.
+    pub(crate) fn refusal(self) -> Refusal
+        ensures { result ≡ refusal_of self }
+    {
+        match self {
+            Fault::Unfit => Refusal::Check,
+            Fault::Refused(refusal) => refusal,
+        }
+    }
+}
+
 impl From<ChainRefusal> for Fault {
     ghost use Rattle.std.specs.Prelude.{◌≡◌};
     ghost use Rattle.rohc_context.specs.Faults.{fault_of_chain};

@@ -1,6 +1,7 @@
 //! The reference after an accepted packet, and the previous reference.
 
 ghost use Rattle.std.specs.Prelude.{◌≡◌, option_map};
+ghost use Rattle.std.specs.Option.{ForSome};
 ghost use Rattle.rohc_header.specs.declared.fields.Static.{Static};
 ghost use Rattle.rohc_chain.specs.Good.{IsGoodDynamic};
 ghost use Rattle.rohc_forms.specs.Packets.{content};
@@ -84,7 +85,8 @@ fn is_same_stride(a: Option<u32>, b: Option<u32>) -> bool
 /// The previous reference after an accepted packet: the one against which it was explained, where RND, NBO and
 /// stride stay as the held reference has them.
 pub(crate) fn previous(held: &Reference, next: &Reference, accepted: &Accepted) -> Option<Reference>
-    ensures { option_map reference_of result ≡ kept_previous (reference_of held.now) next.now.moving (reference_of accepted.now.reference) }
+    ensures is { ForSome result (λ r. r ≡ accepted.now.reference) }
+    ensures reference { option_map reference_of result ≡ kept_previous (reference_of held.now) next.now.moving (reference_of accepted.now.reference) }
 {
     if is_same_numbering(&held.moving, &next.moving) {
         Some(accepted.reference)

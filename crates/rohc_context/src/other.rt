@@ -84,7 +84,9 @@ impl FullContext {
         ensures stays { IfErr result (λ e. self.new ≡ self.old) }
     {
         let form = read(forward, &self.reference)?;
-        let accepted = self.accepted(settings, passed, &form).ok_or(Fault::Unfit)?;
+        let Some(accepted) = self.accepted(settings, passed, &form) else {
+            return Err(Fault::Unfit);
+        };
         let next = next(&form, &accepted);
         self.previous = previous(&self.reference, &next, &accepted);
         self.reference = next;
@@ -101,6 +103,7 @@ impl StaticContext {
     ghost use Rattle.rohc_context.specs.Record.{reference_of, state_of};
     ghost use Rattle.rohc_context.specs.Saved.{IsKept};
     ghost use Rattle.rohc_context.specs.Tries.{Acceptance, static_tries};
+    ghost use Rattle.rohc_context.specs.NextReference.{next_reference};
     ghost use Rattle.rohc_context.specs.Update.{said_under, Judges, promoted};
 
     /// Takes a packet of kind Other against the reference that is held: the Full Context that it leads to, and the
@@ -116,13 +119,15 @@ impl StaticContext {
             × Judges self.now.fixed (λ c. static_tries (reference_of reference.now))
                 (said_under (header_of forward.now) (reference_of reference.now)) (Ok a)
             × (x.1.head.items ≡ a.header.octets) × (x.1.payload.now ≡ a.content.payload)
-            × (state_of (Level x.0) ≡ promoted self.now.fixed a)) }
+            × (state_of (Level x.0) ≡ promoted self.now.fixed a) × (reference_of x.0.reference ≡ next_reference a)) }
         ensures fault { IfErr result (λ e.
             Judges self.now.fixed (λ c. static_tries (reference_of reference.now))
                 (said_under (header_of forward.now) (reference_of reference.now)) (Err e)) }
     {
         let form = read(forward, reference)?;
-        let accepted = attempt(&self.fixed, reference, 0, &form).ok_or(Fault::Unfit)?;
+        let Some(accepted) = attempt(&self.fixed, reference, 0, &form) else {
+            return Err(Fault::Unfit);
+        };
         let context = FullContext {
             fixed: self.fixed,
             reference: next(&form, &accepted),

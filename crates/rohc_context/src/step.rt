@@ -13,6 +13,7 @@ use crate::settings::Settings;
 use crate::state::State;
 use crate::window::Window;
 use arrayvec::ArrayVec;
+use rohc_chain::ChainRefusal;
 use rohc_frame::{Forward, HeadKind};
 
 /// A Normal packet of profile 0x0000: its octets without the identifier's (RFC 3095 5.10.2).
@@ -29,16 +30,17 @@ fn normal_packet<'a>(forward: &Forward<'a>) -> Delivered<'a>
 }
 
 impl Context {
-    ghost use Rattle.std.specs.Prelude.{◌≡◌, ◌≤◌, Some, None, true, IfOk, IfErr, if◌then◌else◌};
+    ghost use Rattle.std.specs.Prelude.{◌≡◌, ◌≤◌, Some, None, option_map, true, IfOk, IfErr, if◌then◌else◌};
     ghost use Rattle.rohc_frame.specs.Reading.{header_of};
     ghost use Rattle.rohc_frame.specs.declared.header.HeadKind.TheVariants.{IrDyn as KindIrDyn, Other as KindOther};
     ghost use Rattle.rohc_chain.specs.Packets.{IsIr, IsIrDyn, ir_at};
     ghost use Rattle.rohc_forms.specs.Packets.{IsOther};
     ghost use Rattle.rohc_context.specs.declared.refusal.Refusal.TheVariants.{StateTooLow as IsStateTooLow};
     ghost use Rattle.rohc_context.specs.Settings.{AreGood};
-    ghost use Rattle.rohc_context.specs.Record.{record_of, is_static};
+    ghost use Rattle.rohc_context.specs.Record.{record_of, state_of, is_static};
     ghost use Rattle.rohc_context.specs.Response.{response_of, refused};
     ghost use Rattle.rohc_context.specs.Failures.{after_low_state};
+    ghost use Rattle.rohc_context.specs.Faults.{fault_of_chain};
     ghost use Rattle.rohc_context.specs.Outcomes.{Fails, Ends};
     ghost use Rattle.rohc_context.specs.Renewal.{Renews};
     ghost use Rattle.rohc_context.specs.Step.{LoneStep, Turn, counts};
@@ -70,8 +72,7 @@ impl Context {
                 };
                 Ok((context, reply))
             }
-            Err(Fault::Unfit) => Err(Refusal::Check),
-            Err(Fault::Refused(refusal)) => Err(refusal),
+            Err(fault) => Err(fault.refusal()),
         }
     }
 
@@ -108,6 +109,13 @@ impl Context {
         settings.idle_ms == 0 || moment.saturating_sub(self.accepted) < u64::from(settings.idle_ms)
     }
 
+    /// The state, if the record counts.
+    fn counting(&self, counts: bool) -> Option<State>
+        ensures { option_map state_of result ≡ (if counts then Some (state_of self.now.state) else None) }
+    {
+        if counts { Some(self.state) } else { None }
+    }
+
     /// An IR, for a record that counts or doesn't.
     #[tactic(auto, unfolding(crate::specs::Record::record_of))]
     fn renew<'a>(
@@ -122,16 +130,20 @@ impl Context {
         ensures { Renews settings.now moment (header_of forward.now) (if counts then Some (record_of self.old) else None) (Some (record_of self.old))
             (ir_at (header_of forward.now)) (response_of result) (Some (record_of self.new)) }
     {
-        let counting = if counts { Some(self.state) } else { None };
-        match renewal(settings, forward, counting) {
+        let renewed = renewal(settings, forward, self.counting(counts));
+        match renewed {
             Ok((state, reply)) => {
                 self.state = state;
                 self.accepted = moment;
                 reply
             }
-            Err(fault) if counts => self.end(settings, moment, forward, fault),
-            Err(Fault::Unfit) => Reply::refused(Refusal::Check),
-            Err(Fault::Refused(refusal)) => Reply::refused(refusal),
+            Err(fault) => {
+                if counts {
+                    self.end(settings, moment, forward, fault)
+                } else {
+                    Reply::refused(fault.refusal())
+                }
+            }
         }
     }
 
@@ -147,24 +159,50 @@ impl Context {
         requires good { AreGood settings.now }
         ensures { Turn settings.now moment (header_of forward.now) KindIrDyn (Some (record_of self.old)) (Some (record_of self.old)) (response_of result) (Some (record_of self.new)) }
     {
-        let refreshed = match &self.state {
-            State::NoContext(_) => return self.refuse_low(settings, moment, forward),
-            State::Plain => Err(plain_refusal(forward)),
-            State::Static(context) => refresh(
-                settings,
-                forward,
-                context.fixed,
-                context.reference,
-                Window::empty(),
-            ),
-            State::Full(context) => refresh(
-                settings,
-                forward,
-                context.fixed,
-                Some(context.reference),
-                context.windows.0.and(false),
-            ),
-        };
+        match &self.state {
+            State::NoContext(_) => self.refuse_low(settings, moment, forward),
+            State::Plain => {
+                let refusal = plain_refusal(forward);
+                self.end(settings, moment, forward, Fault::from(refusal))
+            }
+            State::Static(context) => {
+                let refreshed = refresh(
+                    settings,
+                    forward,
+                    context.fixed,
+                    context.reference,
+                    Window::empty(),
+                );
+                self.settle(settings, moment, forward, refreshed)
+            }
+            State::Full(context) => {
+                let refreshed = refresh(
+                    settings,
+                    forward,
+                    context.fixed,
+                    Some(context.reference),
+                    context.windows.0.and(false),
+                );
+                self.settle(settings, moment, forward, refreshed)
+            }
+        }
+    }
+
+    /// What an IR-DYN leads to, or its refusal, for a record that counts.
+    #[tactic(auto, unfolding(crate::specs::Record::record_of))]
+    fn settle<'a>(
+        &mut self,
+        settings: &Settings,
+        moment: u64,
+        forward: &Forward<'a>,
+        refreshed: Result<(State, Reply<'a>), ChainRefusal>,
+    ) -> Reply<'a>
+        requires good { AreGood settings.now }
+        ensures reply { IfOk refreshed.entry (λ x. response_of result ≡ response_of x.1) }
+        ensures record { IfOk refreshed.entry (λ x. record_of self.new ≡ record { accepted = moment; state = state_of x.0 }) }
+        ensures refused { IfErr refreshed.entry (λ e. Ends settings.now moment (header_of forward.now) (Some (record_of self.old)) (Some (record_of self.old))
+            (fault_of_chain e) (response_of result) (Some (record_of self.new))) }
+    {
         match refreshed {
             Ok((state, reply)) => {
                 self.state = state;
@@ -216,14 +254,16 @@ impl Context {
         requires state { is_static self.old.state ≡ true }
         ensures { Turn settings.now moment (header_of forward.now) KindOther (Some (record_of self.old)) (Some (record_of self.old)) (response_of result) (Some (record_of self.new)) }
     {
-        let promoted = match &self.state {
-            State::Static(context) => match &context.reference {
-                Some(reference) if forward.first >= 0xc0 => context.promote(reference, forward),
-                _ => return self.refuse_low(settings, moment, forward),
-            },
-            _ => return self.refuse_low(settings, moment, forward),
+        let State::Static(context) = &self.state else {
+            return self.refuse_low(settings, moment, forward);
         };
-        match promoted {
+        let Some(reference) = &context.reference else {
+            return self.refuse_low(settings, moment, forward);
+        };
+        if forward.first < 0xc0 {
+            return self.refuse_low(settings, moment, forward);
+        }
+        match context.promote(reference, forward) {
             Ok((context, packet)) => {
                 let due = Due::Ack(context.reference.moving.sn);
                 let feedback = due.feedback(settings.mode, forward);

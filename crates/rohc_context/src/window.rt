@@ -20,7 +20,8 @@ impl Window {
     /// A window without outcomes.
     #[tactic(auto, unfolding(crate::specs::Window::outcomes))]
     pub(crate) fn empty() -> Window
-        ensures { outcomes result ≡ [] }
+        ensures none { outcomes result ≡ [] }
+        ensures length { result.length ≡ 0 }
     {
         Window { word: 0, length: 0 }
     }
@@ -30,7 +31,7 @@ impl Window {
     pub(crate) fn and(self, failure: bool) -> Window
         ensures { outcomes result ≡ and_outcome failure (outcomes self) }
     {
-        let word = (self.word << 1) | u64::from(failure);
+        let word = (self.word << 1) + u64::from(failure);
         Window {
             word,
             length: (self.length + 1).min(64),

@@ -1,4 +1,5 @@
 use Rattle.rohc_frame.specs.Reading.{header_of}
+use Rattle.rohc_chain.proofs.GoodLemmas.{ir_good_said}
 use Rattle.rohc_chain.proofs.TextLemmas.{ir_said, ir_short, ir_only, ir_refused}
 use Rattle.rohc_chain.proofs.ir.read_ir.Goals as goal
 
@@ -13,3 +14,8 @@ returns-clause-only c = ir_only (header_of c.args.forward.now) c.by_profile.resu
 
 pub returns-clause-fault : goal.returns-clause-fault
 returns-clause-fault c = ir_refused (header_of c.args.forward.now) c.by_profile.result c.by_profile.ensures.reads
+
+pub returns-clause-good : goal.returns-clause-good
+returns-clause-good c =
+    let h = header_of c.args.forward.now in
+    ir_good_said h c.by_profile.result c.by_profile.ensures.octets (ir_said h c.by_profile.result c.by_profile.ensures.reads c.requires c.by_profile.ensures.octets)

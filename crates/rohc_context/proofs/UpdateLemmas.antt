@@ -1,0 +1,80 @@
+-- What a packet of kind Other comes to.
+use Rattle.std.proofs.Common.{◌≡◌, ℕ, ◌≤◌, ◌<◌, Bool, true, false, List, [], length, Option, Some, None, inl, ap, option_map, refl, sym, subst, ◌∙◌, arith}
+use Rattle.std.specs.Prelude.{Result, Ok, Err, nat_lt, nat_le}
+use Rattle.std.proofs.lemmas.Bool.Decides.{nat_tests}
+use Rattle.rohc_header.specs.declared.fields.Static.{Static}
+use Rattle.rohc_forms.specs.declared.refusal.FormRefusal.{FormRefusal}
+use Rattle.rohc_forms.specs.Content.{Content}
+use Rattle.rohc_context.specs.declared.fault.Fault.{Fault}
+use Rattle.rohc_context.specs.Tries.{Try, Acceptance, Verdict, Fits, unshifted, static_tries}
+use Rattle.rohc_frame.specs.declared.header.HeadKind.TheVariants.{Other}
+use Rattle.rohc_frame.specs.Header.{Header}
+use Rattle.rohc_context.specs.declared.due.Due.{Due}
+use Rattle.rohc_context.specs.declared.settings.Settings.{Settings}
+use Rattle.rohc_context.specs.Due.{sent}
+use Rattle.rohc_context.specs.Failures.{takes}
+use Rattle.rohc_context.specs.Response.{Response, delivered}
+use Rattle.rohc_context.specs.Step.{TakenBy}
+use Rattle.rohc_context.specs.Record.{Reference, State, StaticContext, FullContext, Record, reference_of, state_of}
+use Rattle.rohc_context.specs.declared.reference.Reference as saved
+use Rattle.rohc_context.specs.declared.state.State as code
+use Rattle.rohc_context.specs.declared.state.State.TheVariants as states
+use Rattle.rohc_context.specs.declared.state.StaticContext as code_static
+use Rattle.rohc_context.specs.Window.{and_outcome, outcomes}
+use Rattle.rohc_context.specs.NextReference.{next_reference, kept_previous}
+use Rattle.rohc_context.specs.Explains.{Explained}
+use Rattle.rohc_context.specs.Update.{VerdictUnless, Judges, Accepts, said_under, acknowledged, promoted, updated}
+
+short : (n : ℕ) → n ≤ 65495 → nat_lt 65495 n ≡ false
+short n h = grind (arith, nat_tests)
+
+-- a packet that is read and isn't too long comes to what its tries say
+pub judged : (fixed : Static) (tries : Content → List Try) (read : Result Content FormRefusal) (c : Content) (verdict : Result Acceptance Fault)
+    → read ≡ Ok c → length c.payload ≤ 65495 → Verdict fixed c (tries c) verdict → Judges fixed tries read verdict
+judged fixed tries read c verdict e few is =
+    subst (λ r. Judges fixed tries r verdict) (sym e) (subst (λ b. VerdictUnless b fixed c (tries c) verdict) (sym (short (length c.payload) few)) is)
+
+-- the state that an accepted packet leaves
+pub updated_is : (fixed : Static) (held next : Reference) (window w : List Bool) (previous : Option Reference) (a : Acceptance)
+    → next ≡ next_reference a → previous ≡ kept_previous held next.moving a.reference → w ≡ and_outcome false window
+    → FullContext fixed next previous w ≡ updated fixed held window a
+updated_is fixed held next window w previous a e f g = rw (f, g, e) refl
+
+pub promoted_is : (fixed : Static) (next : Reference) (w : List Bool) (a : Acceptance) → next ≡ next_reference a → w ≡ [] → FullContext fixed next None w ≡ promoted fixed a
+promoted_is fixed next w a e f = rw (e, f) refl
+
+-- the one try of Static Context fits
+pub first_fits : (fixed : Static) (r : Reference) (c : Content) (h : Explained) (a : Acceptance) → Fits fixed (unshifted r) c h
+    → a ≡ record { content = c; reference = r; header = h } → Verdict fixed c (static_tries r) (Ok a)
+first_fits fixed r c h a fits e = inl (h, fits, ap Ok e)
+
+-- An arrival of kind Other in Static Context, against its reference.
+abbrev pub Promotes : State → Static → Reference → Type 0
+Promotes state fixed reference = (a m : ℕ) (s : Settings) (h : Header) (first : ℕ) (verdict : Result Acceptance Fault) (response : Response) (next : Option Record)
+    → nat_le 192 first ≡ true
+    → Judges fixed (λ c. static_tries reference) (said_under h reference) verdict
+    → Accepts s m h (record { accepted = a; state = state }) (promoted fixed) acknowledged verdict response next
+    → TakenBy (takes state Other first) s m h Other (record { accepted = a; state = state }) response next
+
+promotes_from : (fixed : Static) (reference : Reference) (f g : List Bool) → Promotes (StaticContext fixed (Some reference) f g) fixed reference
+promotes_from fixed reference f g a m s h first verdict response next high judges accepts =
+    let r : Record = record { accepted = a; state = StaticContext fixed (Some reference) f g } in
+    subst (λ b. TakenBy b s m h Other r response next) (sym high) (verdict, judges, accepts)
+
+pub promotes : (state : State) (fixed : Static) (reference : Reference) (f g : List Bool) → state ≡ StaticContext fixed (Some reference) f g → Promotes state fixed reference
+promotes state fixed reference f g e = subst (λ st. Promotes st fixed reference) (sym e) (promotes_from fixed reference f g)
+
+-- the acceptance that the code found is taken, and leads to this
+pub accepts_as : (s : Settings) (m : ℕ) (h : Header) (r : Record) (state : Acceptance → State) (due : Acceptance → Due) (a : Acceptance) (head payload : List ℕ)
+    (feedback : Option (List ℕ)) (left : State) → head ≡ a.header.octets → payload ≡ a.content.payload → feedback ≡ sent s.mode h (due a) → left ≡ state a
+    → Accepts s m h r state due (Ok a) (delivered head payload feedback) (Some (record { accepted = m; state = left }))
+accepts_as s m h r state due a head payload feedback left e f g k = rw (e, f, g, k) (refl, refl)
+
+-- a first octet from C0 on
+pub from_192 : (n : ℕ) → 192 ≤ n → nat_le 192 n ≡ true
+from_192 n h = grind (arith, nat_tests)
+
+-- the state that the code finds
+pub static_is : (st : code.State) (c : code_static.StaticContext) (r : saved.Reference) → st ≡ states.Static c → c.reference ≡ Some r
+    → state_of st ≡ StaticContext c.fixed (Some (reference_of r)) (outcomes c.windows.0) (outcomes c.windows.1)
+static_is st c r e f = ap state_of e ∙ ap (λ x. StaticContext c.fixed (option_map reference_of x) (outcomes c.windows.0) (outcomes c.windows.1)) f

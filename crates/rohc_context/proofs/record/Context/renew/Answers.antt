@@ -1,0 +1,13 @@
+use Rattle.std.proofs.Common.{option_map, Some}
+use Rattle.rohc_frame.specs.Reading.{header_of}
+use Rattle.rohc_context.specs.Record.{record_of, state_of}
+use Rattle.rohc_context.specs.Response.{response_of}
+use Rattle.rohc_context.proofs.Taken.{renews}
+use Rattle.rohc_context.proofs.record.Context.renew.Goals as goal
+
+pub returns-in-Ok : goal.returns-in-Ok
+unfolding record_of
+returns-in-Ok c =
+    let taken = c.in-Ok.ensures.taken in
+    renews c.args.settings.now c.args.moment (header_of c.args.forward.now) c.args.counts (record_of c.args.self.now) (option_map state_of c.counting.result) taken.0 _ _
+      c.counting.ensures taken.1 (taken.2 c.args.moment)
