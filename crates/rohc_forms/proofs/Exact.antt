@@ -1,11 +1,14 @@
 -- A reader reads exactly the texts of a piece.
-use Rattle.std.proofs.Common.{◌≡◌, ℕ, ◌+◌, ◌*◌, ◌≤◌, Bool, true, false, List, [], ◌∷◌, ◌++◌, length, take, drop, Option, Some, None, Result, Ok, Err, refl, sym, ap, subst, ◌∙◌, append_assoc, get_or, Fits, w8}
-use Rattle.std.specs.Prelude.{if◌then◌else◌, IfSome}
+use Rattle.std.proofs.Common.{◌≡◌, ℕ, ◌+◌, ◌*◌, ◌≤◌, Bool, true, false, List, [], ◌∷◌, ◌++◌, length, take, drop, Option, Some, None, Result, Ok, Err, refl, sym, ap, subst, ◌∙◌, append_assoc, get_or, Fits, w8, arith}
+use Rattle.std.specs.Prelude.{if◌then◌else◌, All, IfSome}
+use Rattle.std.proofs.lemmas.List.Elements.{All-from_get_or}
+use Rattle.rohc_frame.specs.Laws as frame
 use Rattle.rohc_bits.specs.Fronts.{front_value, value_bits}
 use Rattle.rohc_bits.specs.Spelling.{IsSpelled, Spells}
 use Rattle.rohc_bits.proofs.Fronts.{front_read, front_found, drop_front, behind_value, read_is_front}
 use Rattle.rohc_forms.specs.declared.refusal.FormRefusal.{FormRefusal}
-use Rattle.rohc_forms.specs.Octets.{◌>>=◌, Digits, octet_at, word_at, octet_if, word_if, value_of, value_at}
+use Rattle.rohc_bits.specs.LowBits.{LowBits}
+use Rattle.rohc_forms.specs.Octets.{◌>>=◌, octet_at, word_at, octet_if, word_if, value_of, value_at}
 use Rattle.rohc_forms.specs.Judging.{judged}
 use Rattle.rohc_forms.specs.Pieces.{IsOctet, IsWord, IsValue, Says, Then, IfNamed, Which, As, NotRefused, Unless}
 
@@ -170,7 +173,7 @@ unfolding word_if
 exact_word_if named = exact_if_named named word_at IsWord exact_word
 
 -- what was read of a value
-value_found_at : (text behind : List ℕ) (d : Digits) (found : Option (ℕ × ℕ)) → front_value text ≡ found → value_of text found ≡ Ok (d, behind) →
+value_found_at : (text behind : List ℕ) (d : LowBits) (found : Option (ℕ × ℕ)) → front_value text ≡ found → value_of text found ≡ Ok (d, behind) →
     (front : List ℕ) × (text ≡ front ++ behind) × IsValue d front
 value_found_at text behind d None is e = cc
 value_found_at text behind d (Some (value, count)) is e =
@@ -179,8 +182,8 @@ value_found_at text behind d (Some (value, count)) is e =
       front.spelling,
       front.whole ∙ ap (λ (rest : List ℕ). front.spelling ++ rest) (sym (behind_value text value count front) ∙ parts.1),
       (
-        subst (Spells front.spelling) (ap (λ (x : Digits). x.value) parts.0) front.spells,
-        sym (ap (λ (x : Digits). x.count) parts.0) ∙ ap value_bits front.counted,
+        subst (Spells front.spelling) (ap (λ (x : LowBits). x.value) parts.0) front.spells,
+        sym (ap (λ (x : LowBits). x.count) parts.0) ∙ ap value_bits front.counted,
       ),
     )
 
@@ -200,3 +203,7 @@ pub value_is : (text : List ℕ) (read : Option (ℕ × ℕ)) → ((i : ℕ) →
     ((t rest : List ℕ) (v : ℕ) → text ≡ t ++ rest → IsSpelled t v → read ≡ Some (v, length t)) → value_at text ≡ value_of text read
 unfolding value_at
 value_is text read fits within spelled every = ap (value_of text) (sym (read_is_front text read fits within spelled every))
+
+-- octets in memory are below 256
+pub all_octets : (text : List ℕ) → ((i : ℕ) → Fits w8 (get_or text i 0)) → All frame.IsOctet text
+all_octets text fits = All-from_get_or frame.IsOctet text 0 (λ i _. omega (arith, fits i))

@@ -2,3 +2,5 @@ pub mod FormatLemmas
 pub mod FieldLemmas
 pub mod Exact
 pub mod SaysLemmas
+pub mod GoodLemmas
+pub mod FormLemmas

@@ -8,7 +8,8 @@ use Rattle.rohc_forms.specs.declared.parts.Base.{Base}
 use Rattle.rohc_forms.specs.declared.parts.IpFlags.{IpFlags}
 use Rattle.rohc_forms.specs.declared.parts.RtpFlags.{RtpFlags}
 use Rattle.rohc_forms.specs.declared.refusal.FormRefusal.{FormRefusal}
-use Rattle.rohc_forms.specs.Octets.{◌>>=◌, Digits, octet_at, word_at, octet_if, word_if, value_at}
+use Rattle.rohc_bits.specs.LowBits.{LowBits}
+use Rattle.rohc_forms.specs.Octets.{◌>>=◌, octet_at, word_at, octet_if, word_if, value_at}
 use Rattle.rohc_forms.specs.Table.{Said, Layout, width, under, layout_0, layout_1, layout_2, short_layout, S, R-TS, Tsc, I, IP, RTP, has, base_said}
 use Rattle.rohc_forms.specs.Formats.{number_of}
 use Rattle.rohc_forms.specs.Judging.{judged, ip_fault, twice_fault, protocol_fault, rtp_fault, stride_fault, no_stride_fault}
@@ -54,13 +55,13 @@ exact_time : (named : Bool) → Exact (behind_time_stride named) (IsTimeStride n
 unfolding behind_time_stride
 exact_time named = exact_named named (λ _. tt) value_at IsValue exact_value
 
-judged_as : (fault : Option FormRefusal) (x : Digits × List ℕ) →
+judged_as : (fault : Option FormRefusal) (x : LowBits × List ℕ) →
     (judged fault x >>= λ y. Ok (stride_of (Some y.0), y.1)) ≡ judged {A = Option ℕ × List ℕ} fault (Some x.0.value, x.1)
 judged_as None x = refl
 judged_as (Some refusal) x = refl
 
 -- a value that is judged, and what is made of it
-judged_value : (r : Result (Digits × List ℕ) FormRefusal) →
+judged_value : (r : Result (LowBits × List ℕ) FormRefusal) →
     ((r >>= λ x. judged (stride_fault x.0.value) x) >>= λ x. Ok (stride_of (Some x.0), x.1))
     ≡ (r >>= λ x. judged {A = Option ℕ × List ℕ} (stride_fault x.0.value) (Some x.0.value, x.1))
 judged_value (Ok x) = judged_as (stride_fault x.0.value) x

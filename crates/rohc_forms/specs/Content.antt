@@ -2,10 +2,11 @@
 use Rattle.std.specs.Prelude.{ℕ, List, Bool, nat_lt, if◌then◌else◌, Option, Some, None}
 use Rattle.rohc_forms.specs.declared.form.FormKind.{FormKind}
 use Rattle.rohc_forms.specs.declared.form.FormKind.TheVariants.{Uo0, Uo1, Uo1Id, Uo1Ts, Uor2, Uor2Id, Uor2Ts}
-use Rattle.rohc_forms.specs.declared.form.Values.{Values}
 use Rattle.rohc_forms.specs.declared.parts.Base.{Base}
-use Rattle.rohc_forms.specs.Octets.{Digits, bit}
+use Rattle.rohc_bits.specs.LowBits.{LowBits}
+use Rattle.rohc_forms.specs.Octets.{bit}
 use Rattle.rohc_forms.specs.Table.{Said}
+use Rattle.rohc_forms.specs.Given.{ValuesSaid}
 
 -- The format of a packet, by the RND in force: the first octet begins with 0, 10 or 110; the T bit of UO-1 is
 -- bit 5 of the first octet, that of UOR-2 bit 7 of the second.
@@ -22,7 +23,7 @@ pub record Head : Type 0 where
   pub said : Said
   pub tsc : Option Bool
   pub marker : Bool
-  pub values : Option Values
+  pub values : Option ValuesSaid
 
 -- what is said without an extension 3
 abbrev pub plain_head : FormKind → Bool → Said → Head
@@ -31,25 +32,47 @@ plain_head kind rnd said = record { kind = kind; rnd = rnd; said = said; tsc = N
 -- What is said of the Identification: nothing, bits of its offset, or the whole.
 pub data IdSaid : Type 0 where
   Same : IdSaid
-  Offset : Digits → IdSaid
+  Offset : LowBits → IdSaid
   Whole : ℕ → IdSaid
 
 -- an Identification that stands in the packet is the whole
-abbrev pub id_said : Option ℕ → Option Digits → IdSaid
+abbrev pub id_said : Option ℕ → Option LowBits → IdSaid
 id_said (Some id) bits = Whole id
 id_said None (Some bits) = Offset bits
 id_said None None = Same
 
--- What a packet of kind Other says.
+-- the bits of its offset that are said, and the whole
+abbrev pub offset_said : IdSaid → Option LowBits
+offset_said Same = None
+offset_said (Offset bits) = Some bits
+offset_said (Whole id) = None
+
+abbrev pub whole_said : IdSaid → Option ℕ
+whole_said Same = None
+whole_said (Offset bits) = None
+whole_said (Whole id) = Some id
+
+-- the stride that an extension 3 gives, if any
+abbrev pub stride_given : Option ValuesSaid → Option ℕ
+stride_given None = None
+stride_given (Some values) = values.stride
+
+-- bits, where some are said; each format has some of SN
+abbrev pub bits_said : Option LowBits → LowBits
+bits_said None = record { count = 0; value = 0 }
+bits_said (Some bits) = bits
+
+-- What a packet of kind Other says; RND is the one in force.
 pub record Content : Type 0 where
   pub kind : FormKind
-  pub sn : Option Digits
-  pub ts : Option Digits
+  pub rnd : Bool
+  pub sn : LowBits
+  pub ts : Option LowBits
   pub tsc : Option Bool
   pub id : IdSaid
   pub udp_sum : Option ℕ
   pub marker : Bool
-  pub values : Option Values
+  pub values : Option ValuesSaid
   pub check : ℕ
   pub payload : List ℕ
 
@@ -57,7 +80,8 @@ pub record Content : Type 0 where
 abbrev pub whole_content : Head → Option ℕ → Option ℕ → List ℕ → Content
 whole_content head id udp_sum payload = record {
   kind = head.kind;
-  sn = head.said.sn;
+  rnd = head.rnd;
+  sn = bits_said head.said.sn;
   ts = head.said.ts;
   tsc = head.tsc;
   id = id_said id head.said.id;

@@ -4,11 +4,10 @@ use Rattle.rohc_forms.specs.declared.form.FormKind.{FormKind}
 use Rattle.rohc_forms.specs.declared.parts.IpFlags.{IpFlags}
 use Rattle.rohc_forms.specs.declared.parts.IpGiven.{IpGiven}
 use Rattle.rohc_forms.specs.declared.parts.RtpFlags.{RtpFlags}
-use Rattle.rohc_forms.specs.declared.parts.RtpGiven.{RtpGiven}
 use Rattle.rohc_forms.specs.declared.refusal.FormRefusal.{FormRefusal}
 use Rattle.rohc_forms.specs.Octets.{◌>>=◌, octet_at, octet_if, word_if, value_at}
 use Rattle.rohc_forms.specs.Table.{Said, Sn, Ts, S, R-TS, Tsc, I, RTP, has, and_said}
-use Rattle.rohc_forms.specs.Given.{Extended3, ip_flags, ip_values, marker_in, padding_in, payload_type_in, rtp_flags, rtp_values, with_offset_if}
+use Rattle.rohc_forms.specs.Given.{Extended3, RtpSaid, ip_flags, ip_values, marker_in, padding_in, payload_type_in, rtp_flags, rtp_values, with_offset_if}
 use Rattle.rohc_forms.specs.Judging.{judged, ip_fault, protocol_fault, rtp_fault, stride_fault, no_stride_fault}
 
 -- an octet, where it isn't refused
@@ -71,7 +70,7 @@ behind_time_stride present text =
     else Ok (tt, text)
 
 -- the octet of P and PT, if R-PT, and the strides
-unfoldable pub behind_rtp_octet : RtpFlags → List ℕ → Result (RtpGiven × List ℕ) FormRefusal
+unfoldable pub behind_rtp_octet : RtpFlags → List ℕ → Result (RtpSaid × List ℕ) FormRefusal
 behind_rtp_octet rtp text = do
   (octet, text) ← octet_if rtp.payload_type text
   (stride, text) ← stride_at rtp.stride text
@@ -79,7 +78,7 @@ behind_rtp_octet rtp text = do
   Ok (record { marker = rtp.marker; extension = rtp.extension; padding = padding_in octet; payload_type = payload_type_in octet; stride = stride }, text)
 
 -- the rtp octet, if rtp, and what it names
-unfoldable pub rtp_given_at : Bool → List ℕ → Result (Option RtpGiven × List ℕ) FormRefusal
+unfoldable pub rtp_given_at : Bool → List ℕ → Result (Option RtpSaid × List ℕ) FormRefusal
 rtp_given_at present text =
     if present
     then (judged_octet rtp_fault text >>= λ x. behind_rtp_octet (rtp_flags x.0) x.1 >>= λ y. Ok (Some y.0, y.1))

@@ -1,12 +1,30 @@
 -- What an extension 3 gives (RFC 3095 5.7.5).
 use Rattle.std.specs.Prelude.{ℕ, ◌%◌, Bool, Option, Some, None}
-use Rattle.rohc_forms.specs.declared.form.Values.{Values}
 use Rattle.rohc_forms.specs.declared.parts.IpFlags.{IpFlags}
 use Rattle.rohc_forms.specs.declared.parts.IpGiven.{IpGiven}
 use Rattle.rohc_forms.specs.declared.parts.RtpFlags.{RtpFlags}
-use Rattle.rohc_forms.specs.declared.parts.RtpGiven.{RtpGiven}
 use Rattle.rohc_forms.specs.Octets.{bit}
 use Rattle.rohc_forms.specs.Table.{Said, TOS, TTL, DF, PR, NBO, RND, R-PT, M, R-X, TSS, TIS, has}
+
+-- What an extension 3 gives; what is none stays.
+pub record ValuesSaid : Type 0 where
+  pub tos : Option ℕ
+  pub ttl : Option ℕ
+  pub payload_type : Option ℕ
+  pub stride : Option ℕ
+  pub padding : Option Bool
+  pub df : Option Bool
+  pub nbo : Option Bool
+  pub rnd : Option Bool
+  pub extension : Option Bool
+
+-- What it gives of RTP, where it has an rtp octet.
+pub record RtpSaid : Type 0 where
+  pub marker : Bool
+  pub extension : Bool
+  pub padding : Option Bool
+  pub payload_type : Option ℕ
+  pub stride : Option ℕ
 
 -- the flags of the ip octet
 abbrev pub ip_flags : ℕ → IpFlags
@@ -39,7 +57,7 @@ payload_type_in None = None
 payload_type_in (Some octet) = Some (octet % 128)
 
 -- the values that are given
-abbrev pub ip_values : Option IpGiven → Values → Values
+abbrev pub ip_values : Option IpGiven → ValuesSaid → ValuesSaid
 ip_values None v = v
 ip_values (Some ip) v = record {
   tos = ip.tos;
@@ -53,12 +71,12 @@ ip_values (Some ip) v = record {
   extension = v.extension;
 }
 
-abbrev pub rtp_values : Option RtpGiven → Values
+abbrev pub rtp_values : Option RtpSaid → ValuesSaid
 rtp_values None = record { tos = None; ttl = None; payload_type = None; stride = None; padding = None; df = None; nbo = None; rnd = None; extension = None }
 rtp_values (Some rtp) = record { tos = None; ttl = None; payload_type = rtp.payload_type; stride = rtp.stride; padding = rtp.padding; df = None; nbo = None; rnd = None; extension = Some rtp.extension }
 
 -- the marker of the rtp octet alone, where there is one
-abbrev pub marker_in : Bool → Option RtpGiven → Bool
+abbrev pub marker_in : Bool → Option RtpSaid → Bool
 marker_in base None = base
 marker_in base (Some rtp) = rtp.marker
 
@@ -66,4 +84,4 @@ marker_in base (Some rtp) = rtp.marker
 pub record Extended3 : Type 0 where
   pub said : Said
   pub marker : Bool
-  pub values : Values
+  pub values : ValuesSaid

@@ -3,7 +3,9 @@ pub mod Extension
 pub mod Fields
 pub mod Formats
 pub mod Given
+pub mod Good
 pub mod Judging
+pub mod Kinds
 pub mod Laws
 pub mod Octets
 pub mod Packets

@@ -1,7 +1,7 @@
 -- Octets, numbers and self-describing values, read from left to right.
 use Rattle.std.specs.Prelude.{◌≡◌, ℕ, ◌+◌, ◌*◌, ◌/◌, ◌%◌, ◌^◌, List, [], ◌∷◌, drop, Bool, ◌==◌, min, if◌then◌else◌, Option, Some, None, Result, Ok, Err, MatchResult}
 use Rattle.rohc_bits.specs.Fronts.{front_value, value_bits}
-use Rattle.rohc_bits.specs.declared.bits.Bits.{Bits}
+use Rattle.rohc_bits.specs.LowBits.{LowBits}
 use Rattle.rohc_forms.specs.declared.refusal.FormRefusal.{FormRefusal}
 use Rattle.rohc_forms.specs.declared.refusal.FormRefusal.TheVariants.{Truncated}
 
@@ -19,25 +19,17 @@ ReadsAs view result behind read = MatchResult result (λ x. read ≡ Ok (view x,
 abbrev pub Reads : {A : Type 0} → Result A FormRefusal → List ℕ → Result (A × List ℕ) FormRefusal → Type 0
 Reads result behind read = MatchResult result (λ x. read ≡ Ok (x, behind)) (λ e. read ≡ Err e)
 
--- So many bits, and the number that they spell.
-pub record Digits : Type 0 where
-  pub count : ℕ
-  pub value : ℕ
-
-abbrev pub digits : Bits → Digits
-digits b = record { count = b.count; value = b.value }
-
 -- less significant bits behind others; of more than 32 the low 32 count
-abbrev pub behind : Digits → Digits → Digits
+abbrev pub behind : LowBits → LowBits → LowBits
 behind low high = record { count = min (high.count + low.count) 32; value = (high.value * 2 ^ low.count + low.value) % 2 ^ 32 }
 
 -- bits behind those that are said already, if any are
-abbrev pub and_digits : Option Digits → Digits → Option Digits
-and_digits None more = Some more
-and_digits (Some said) more = Some (behind more said)
+abbrev pub and_bits : Option LowBits → LowBits → Option LowBits
+and_bits None more = Some more
+and_bits (Some said) more = Some (behind more said)
 
 -- the bits of a number that stand before so many others
-abbrev pub slice : ℕ → ℕ → ℕ → Digits
+abbrev pub slice : ℕ → ℕ → ℕ → LowBits
 slice n places width = record { count = width; value = n / 2 ^ places % 2 ^ width }
 
 -- the bit of this place, counted from the least significant
@@ -64,10 +56,10 @@ unfoldable pub word_if : Bool → List ℕ → Result (Option ℕ × List ℕ) F
 word_if present text = if present then (word_at text >>= λ x. Ok (Some x.0, x.1)) else Ok (None, text)
 
 -- the value at the front of a text, if one stands there, with as many bits as spell it, and the octets behind it
-abbrev pub value_of : List ℕ → Option (ℕ × ℕ) → Result (Digits × List ℕ) FormRefusal
+abbrev pub value_of : List ℕ → Option (ℕ × ℕ) → Result (LowBits × List ℕ) FormRefusal
 value_of text None = Err Truncated
 value_of text (Some (value, count)) = Ok (record { count = value_bits count; value = value }, drop count text)
 
 -- a self-describing value (RFC 3095 4.5.6)
-unfoldable pub value_at : List ℕ → Result (Digits × List ℕ) FormRefusal
+unfoldable pub value_at : List ℕ → Result (LowBits × List ℕ) FormRefusal
 value_at text = value_of text (front_value text)

@@ -1,5 +1,5 @@
 -- Whole packets of kind Other (RFC 3095 5.7.1 to 5.7.5), read from left to right, with the first fault that is met.
-use Rattle.std.specs.Prelude.{ℕ, ◌+◌, ◌*◌, List, Bool, nat_lt, if◌then◌else◌, Some, option_map, Result, Ok}
+use Rattle.std.specs.Prelude.{ℕ, ◌+◌, ◌*◌, List, Bool, nat_lt, if◌then◌else◌, Option, Some, None, option_map, Result, Ok}
 use Rattle.rohc_frame.specs.declared.header.HeadKind.{HeadKind}
 use Rattle.rohc_frame.specs.declared.header.HeadKind.TheVariants.{Ir, IrDyn, Other}
 use Rattle.rohc_frame.specs.Header.{Header}
@@ -7,24 +7,49 @@ use Rattle.rohc_forms.specs.declared.form.FormKind.{FormKind}
 use Rattle.rohc_forms.specs.declared.form.IdBits.{IdBits}
 use Rattle.rohc_forms.specs.declared.form.IdBits.TheVariants as code
 use Rattle.rohc_forms.specs.declared.form.Form.{Form}
+use Rattle.rohc_forms.specs.declared.form.Values.{Values}
 use Rattle.rohc_forms.specs.declared.parts.Fields.{Fields}
 use Rattle.rohc_forms.specs.declared.parts.Base.{Base}
 use Rattle.rohc_forms.specs.declared.parts.Extension3 as parts
 use Rattle.rohc_forms.specs.declared.parts.Head as parts_head
+use Rattle.rohc_forms.specs.declared.parts.RtpGiven.{RtpGiven}
 use Rattle.rohc_forms.specs.declared.refusal.FormRefusal.{FormRefusal}
-use Rattle.rohc_forms.specs.Octets.{◌>>=◌, digits, octet_at, word_at, word_if}
+use Rattle.rohc_bits.specs.LowBits.{low_bits}
+use Rattle.rohc_forms.specs.Octets.{◌>>=◌, octet_at, word_at, word_if}
 use Rattle.rohc_forms.specs.Table.{Said, Tsc, I, IP, has, under, layout_0, layout_1, layout_2, base_said}
 use Rattle.rohc_forms.specs.Judging.{judged, twice_fault}
-use Rattle.rohc_forms.specs.Given.{rnd_in_force, Extended3}
+use Rattle.rohc_forms.specs.Given.{RtpSaid, ValuesSaid, rnd_in_force, Extended3}
 use Rattle.rohc_forms.specs.Content.{Content, Head, IdSaid, Offset, Same, Whole, kind_of, plain_head, whole_content}
 use Rattle.rohc_forms.specs.Extension.{ip_octet_at, behind_ip_octet}
 
 -- what a reader's fields say
 abbrev pub said_by : Fields → Said
-said_by f = record { sn = Some (digits f.sn); ts = option_map digits f.ts; id = option_map digits f.id; marker = f.marker; extended = f.extended; check = f.check }
+said_by f = record { sn = Some (low_bits f.sn); ts = option_map low_bits f.ts; id = option_map low_bits f.id; marker = f.marker; extended = f.extended; check = f.check }
+
+-- what is given of RTP, and all that is given
+abbrev pub rtp_by : RtpGiven → RtpSaid
+rtp_by g = record { marker = g.marker; extension = g.extension; padding = g.padding; payload_type = g.payload_type; stride = g.stride }
+
+abbrev pub values_by : Values → ValuesSaid
+values_by v = record {
+  tos = v.tos;
+  ttl = v.ttl;
+  payload_type = v.payload_type;
+  stride = v.stride;
+  padding = v.padding;
+  df = v.df;
+  nbo = v.nbo;
+  rnd = v.rnd;
+  extension = v.extension;
+}
+
+-- the stride that is given, if any
+abbrev pub stride_in : Option Values → Option ℕ
+stride_in None = None
+stride_in (Some v) = v.stride
 
 abbrev pub extended_by : parts.Extension3 → Extended3
-extended_by e = record { said = said_by e.fields; marker = e.marker; values = e.values }
+extended_by e = record { said = said_by e.fields; marker = e.marker; values = values_by e.values }
 
 -- The octets before an extension, as one number, most significant first; the first octet tells how many they are.
 unfoldable pub base_at : ℕ → List ℕ → Result (Base × List ℕ) FormRefusal
@@ -34,7 +59,7 @@ base_at first text =
     else (word_at text >>= λ x. Ok (record { first = first; number = first * 65536 + x.0 }, x.1))
 
 abbrev pub head_by : parts_head.Head → Head
-head_by h = record { kind = h.kind; rnd = h.rnd; said = said_by h.fields; tsc = h.tsc; marker = h.marker; values = h.values }
+head_by h = record { kind = h.kind; rnd = h.rnd; said = said_by h.fields; tsc = h.tsc; marker = h.marker; values = option_map values_by h.values }
 
 -- extensions 1 and 2, behind their first octet
 unfoldable pub extension_1_at : FormKind → ℕ → Said → List ℕ → Result (Said × List ℕ) FormRefusal
@@ -78,19 +103,20 @@ head_at first rnd stride_known text = base_at first text >>= λ x. behind_base x
 
 abbrev pub id_by : IdBits → IdSaid
 id_by code.Same = Same
-id_by (code.Offset bits) = Offset (digits bits)
+id_by (code.Offset bits) = Offset (low_bits bits)
 id_by (code.Whole id) = Whole id
 
 abbrev pub content : Form → Content
 content f = record {
   kind = f.kind;
-  sn = Some (digits f.sn);
-  ts = option_map digits f.ts;
+  rnd = f.rnd;
+  sn = low_bits f.sn;
+  ts = option_map low_bits f.ts;
   tsc = f.tsc;
   id = id_by f.id;
   udp_sum = f.udp_sum;
   marker = f.marker;
-  values = f.values;
+  values = option_map values_by f.values;
   check = f.check;
   payload = f.payload.now;
 }

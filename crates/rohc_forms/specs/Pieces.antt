@@ -3,7 +3,7 @@ use Rattle.std.specs.Prelude.{◌≡◌, ℕ, ◌+◌, ◌*◌, List, [], ◌∷
 use Rattle.rohc_bits.specs.Fronts.{value_bits}
 use Rattle.rohc_bits.specs.Spelling.{Spells}
 use Rattle.rohc_forms.specs.declared.refusal.FormRefusal.{FormRefusal}
-use Rattle.rohc_forms.specs.Octets.{Digits}
+use Rattle.rohc_bits.specs.LowBits.{LowBits}
 
 -- an octet
 abbrev pub IsOctet : ℕ → List ℕ → Type 0
@@ -14,7 +14,7 @@ abbrev pub IsWord : ℕ → List ℕ → Type 0
 IsWord n text = (high : ℕ) × (low : ℕ) × (text ≡ high ∷ low ∷ []) × (n ≡ high * 256 + low)
 
 -- a self-describing value, and as many bits as its octets leave to it (RFC 3095 4.5.6)
-abbrev pub IsValue : Digits → List ℕ → Type 0
+abbrev pub IsValue : LowBits → List ℕ → Type 0
 IsValue d text = Spells text d.value × (d.count ≡ value_bits (length text))
 
 -- no octets: what is said is this

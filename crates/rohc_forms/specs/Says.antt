@@ -7,12 +7,11 @@ use Rattle.rohc_forms.specs.declared.parts.Base.{Base}
 use Rattle.rohc_forms.specs.declared.parts.IpFlags.{IpFlags}
 use Rattle.rohc_forms.specs.declared.parts.IpGiven.{IpGiven}
 use Rattle.rohc_forms.specs.declared.parts.RtpFlags.{RtpFlags}
-use Rattle.rohc_forms.specs.declared.parts.RtpGiven.{RtpGiven}
-use Rattle.rohc_forms.specs.Octets.{Digits}
+use Rattle.rohc_bits.specs.LowBits.{LowBits}
 use Rattle.rohc_forms.specs.Table.{Said, Sn, Ts, Layout, and_said, width, under, short_layout, S, R-TS, Tsc, I, IP, RTP, has, base_said}
 use Rattle.rohc_forms.specs.Formats.{number_of}
 use Rattle.rohc_forms.specs.Judging.{ip_fault, twice_fault, protocol_fault, rtp_fault, stride_fault, no_stride_fault}
-use Rattle.rohc_forms.specs.Given.{ip_flags, rnd_in_force, with_offset_if, rtp_flags, padding_in, payload_type_in, ip_values, rtp_values, marker_in, Extended3}
+use Rattle.rohc_forms.specs.Given.{RtpSaid, ip_flags, rnd_in_force, with_offset_if, rtp_flags, padding_in, payload_type_in, ip_values, rtp_values, marker_in, Extended3}
 use Rattle.rohc_forms.specs.Content.{Head, Content, kind_of, plain_head, whole_content}
 use Rattle.rohc_forms.specs.Pieces.{IsOctet, IsWord, IsValue, Says, Then, IfNamed, Which, As, NotRefused, Unless}
 
@@ -33,7 +32,7 @@ with_sn said None = said
 with_sn said (Some octet) = and_said Sn (record { count = 8; value = octet }) said
 
 -- more bits of TS, if R-TS
-abbrev pub with_ts : Said → Option Digits → Said
+abbrev pub with_ts : Said → Option LowBits → Said
 with_ts said None = said
 with_ts said (Some value) = and_said Ts value said
 
@@ -57,7 +56,7 @@ IsIpGiven (Some ip) =
     Says (Some (record { tos = tos; ttl = ttl; df = ip.df; nbo = ip.nbo; rnd = ip.rnd })))))
 
 -- the number of a value's bits doesn't matter to a stride
-abbrev pub stride_of : Option Digits → Option ℕ
+abbrev pub stride_of : Option LowBits → Option ℕ
 stride_of None = None
 stride_of (Some d) = Some d.value
 
@@ -69,7 +68,7 @@ abbrev pub IsTimeStride : Bool → Unit {0} → List ℕ → Type 0
 IsTimeStride named = As (λ _. tt) (IfNamed named IsValue)
 
 -- what the rtp octet names: P and PT, strides
-abbrev pub IsRtpNamed : RtpFlags → RtpGiven → List ℕ → Type 0
+abbrev pub IsRtpNamed : RtpFlags → RtpSaid → List ℕ → Type 0
 IsRtpNamed rtp =
     Then (IfNamed rtp.payload_type IsOctet) (λ octet.
     Then (IsStride rtp.stride) (λ stride.
@@ -77,7 +76,7 @@ IsRtpNamed rtp =
     Says (record { marker = rtp.marker; extension = rtp.extension; padding = padding_in octet; payload_type = payload_type_in octet; stride = stride }))))
 
 -- the rtp octet, if rtp, and what it names
-abbrev pub IsRtpGiven : Bool → Option RtpGiven → List ℕ → Type 0
+abbrev pub IsRtpGiven : Bool → Option RtpSaid → List ℕ → Type 0
 IsRtpGiven named = IfNamed named (Then (NotRefused rtp_fault IsOctet) (λ octet. IsRtpNamed (rtp_flags octet)))
 
 -- Behind the ip octet: SN, TS, what the ip octet names, the offset of the Identification, the rtp octet and what

@@ -2,7 +2,8 @@
 use Rattle.std.specs.Prelude.{ℕ, ◌+◌, List, [], ◌∷◌, Bool, false, ◌==◌, nat_lt, if◌then◌else◌, Option, Some, None}
 use Rattle.rohc_forms.specs.declared.form.FormKind.{FormKind}
 use Rattle.rohc_forms.specs.declared.form.FormKind.TheVariants.{Uo0, Uo1, Uo1Id, Uo1Ts, Uor2, Uor2Id, Uor2Ts}
-use Rattle.rohc_forms.specs.Octets.{Digits, slice, bit, and_digits}
+use Rattle.rohc_bits.specs.LowBits.{LowBits}
+use Rattle.rohc_forms.specs.Octets.{slice, bit, and_bits}
 
 -- A field's name: a number that stands there in each packet of the format, SN, TS, IP-ID, M, X, CRC.
 pub data Field : Type 0 where
@@ -113,9 +114,9 @@ has flag octet = bit (place flag) octet
 
 -- What is said of the fields: bits of numbers, two flags, the check.
 pub record Said : Type 0 where
-  pub sn : Option Digits
-  pub ts : Option Digits
-  pub id : Option Digits
+  pub sn : Option LowBits
+  pub ts : Option LowBits
+  pub id : Option LowBits
   pub marker : Bool
   pub extended : Bool
   pub check : ℕ
@@ -124,11 +125,11 @@ abbrev pub nothing : Said
 nothing = record { sn = None; ts = None; id = None; marker = false; extended = false; check = 0 }
 
 -- more that is said: bits of a number stand behind those that are said already
-abbrev pub and_said : Field → Digits → Said → Said
+abbrev pub and_said : Field → LowBits → Said → Said
 and_said (Fixed n) d s = s
-and_said Sn d s = record { sn = and_digits s.sn d; ts = s.ts; id = s.id; marker = s.marker; extended = s.extended; check = s.check }
-and_said Ts d s = record { sn = s.sn; ts = and_digits s.ts d; id = s.id; marker = s.marker; extended = s.extended; check = s.check }
-and_said Id d s = record { sn = s.sn; ts = s.ts; id = and_digits s.id d; marker = s.marker; extended = s.extended; check = s.check }
+and_said Sn d s = record { sn = and_bits s.sn d; ts = s.ts; id = s.id; marker = s.marker; extended = s.extended; check = s.check }
+and_said Ts d s = record { sn = s.sn; ts = and_bits s.ts d; id = s.id; marker = s.marker; extended = s.extended; check = s.check }
+and_said Id d s = record { sn = s.sn; ts = s.ts; id = and_bits s.id d; marker = s.marker; extended = s.extended; check = s.check }
 and_said Marker d s = record { sn = s.sn; ts = s.ts; id = s.id; marker = d.value == 1; extended = s.extended; check = s.check }
 and_said Extended d s = record { sn = s.sn; ts = s.ts; id = s.id; marker = s.marker; extended = d.value == 1; check = s.check }
 and_said Check d s = record { sn = s.sn; ts = s.ts; id = s.id; marker = s.marker; extended = s.extended; check = d.value }
@@ -149,5 +150,5 @@ abbrev pub base_said : FormKind → ℕ → Said
 base_said kind n = under (layout kind) n nothing
 
 -- The same of each UOR-2, with its bits of TS or IP-ID.
-abbrev pub uor2_said : ℕ → Option Digits → Option Digits → Said
+abbrev pub uor2_said : ℕ → Option LowBits → Option LowBits → Said
 uor2_said n ts id = record { sn = Some (slice n 8 6); ts = ts; id = id; marker = (slice n 14 1).value == 1; extended = (slice n 7 1).value == 1; check = (slice n 0 7).value }

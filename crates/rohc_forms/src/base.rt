@@ -1,7 +1,8 @@
 //! The octets before an extension, and their formats (RFC 3095 5.7.1 to 5.7.4).
 
 ghost use Rattle.std.specs.Prelude.{◌≡◌, option_map};
-ghost use Rattle.rohc_forms.specs.Octets.{Reads, digits, slice};
+ghost use Rattle.rohc_bits.specs.LowBits.{low_bits};
+ghost use Rattle.rohc_forms.specs.Octets.{Reads, slice};
 ghost use Rattle.rohc_forms.specs.Table.{base_said, uor2_said};
 ghost use Rattle.rohc_forms.specs.Content.{kind_of};
 ghost use Rattle.rohc_forms.specs.Packets.{said_by, base_at};
@@ -107,7 +108,7 @@ pub(crate) fn base_fields(kind: FormKind, number: u32) -> Fields
 
 /// What each UOR-2 says, with these bits of the timestamp or of the Identification.
 fn uor2_fields(number: u32, ts: Option<Bits>, id: Option<Bits>) -> Fields
-    ensures { said_by result ≡ uor2_said number (option_map digits ts) (option_map digits id) }
+    ensures { said_by result ≡ uor2_said number (option_map low_bits ts) (option_map low_bits id) }
 {
     Fields {
         sn: bits(number, 8, 6),

@@ -1,10 +1,11 @@
 //! Extension 3 (RFC 3095 5.7.5).
 
-ghost use Rattle.std.specs.Prelude.{◌≡◌, ◌<◌};
+ghost use Rattle.std.specs.Prelude.{◌≡◌, ◌<◌, ◌≤◌, option_map, IfOk};
+ghost use Rattle.std.specs.Option.{ForSome};
 ghost use Rattle.rohc_forms.specs.Octets.{Reads, ReadsAs};
 ghost use Rattle.rohc_forms.specs.Given.{rnd_in_force, padding_in, payload_type_in, ip_values, rtp_values, marker_in};
 ghost use Rattle.rohc_forms.specs.Extension.{ip_octet_at, sn_at, ts_at, behind_protocol, ip_given_at, offset_at, stride_at, behind_time_stride, behind_rtp_octet, rtp_given_at, behind_ip_octet};
-ghost use Rattle.rohc_forms.specs.Packets.{said_by, extended_by};
+ghost use Rattle.rohc_forms.specs.Packets.{said_by, rtp_by, values_by, extended_by};
 
 use crate::flag;
 use crate::form::{FormKind, Values};
@@ -132,7 +133,9 @@ fn with_offset(
 /// The stride of timestamps, if TSS.
 #[tactic(auto, unfolding(crate::specs::Extension::stride_at))]
 fn stride(present: bool, cursor: &mut Cursor<'_>) -> Result<Option<u32>, FormRefusal>
-    ensures { Reads result cursor.new (stride_at present cursor.old) }
+    ensures reads { Reads result cursor.new (stride_at present cursor.old) }
+    ensures some { IfOk result (λ stride. ForSome stride (λ n. 1 ≤ n)) }
+    ensures fits { IfOk result (λ stride. ForSome stride (λ n. n ≤ 536870911)) }
 {
     if !present {
         return Ok(None);
@@ -167,7 +170,8 @@ fn padding(octet: Option<u8>) -> Option<bool>
 
 /// RTP's payload type, in the same octet.
 fn payload_type(octet: Option<u8>) -> Option<u8>
-    ensures { result ≡ payload_type_in octet }
+    ensures value { result ≡ payload_type_in octet }
+    ensures fits { ForSome result (λ n. n < 128) }
 {
     match octet {
         Some(octet) => Some(octet & 0x7f),
@@ -178,7 +182,7 @@ fn payload_type(octet: Option<u8>) -> Option<u8>
 /// What the rtp octet names: the octet of P and PT, and the strides.
 #[tactic(auto, unfolding(crate::specs::Extension::behind_rtp_octet))]
 fn named_by(rtp: RtpFlags, cursor: &mut Cursor<'_>) -> Result<RtpGiven, FormRefusal>
-    ensures { Reads result cursor.new (behind_rtp_octet rtp cursor.old) }
+    ensures { ReadsAs rtp_by result cursor.new (behind_rtp_octet rtp cursor.old) }
 {
     let octet = optional_octet(rtp.payload_type, cursor)?;
     let stride = stride(rtp.stride, cursor)?;
@@ -196,7 +200,7 @@ fn named_by(rtp: RtpFlags, cursor: &mut Cursor<'_>) -> Result<RtpGiven, FormRefu
 /// effect.
 #[tactic(auto, unfolding(crate::specs::Extension::rtp_given_at))]
 fn rtp_given(present: bool, cursor: &mut Cursor<'_>) -> Result<Option<RtpGiven>, FormRefusal>
-    ensures { Reads result cursor.new (rtp_given_at present cursor.old) }
+    ensures { ReadsAs (option_map rtp_by) result cursor.new (rtp_given_at present cursor.old) }
 {
     if !present {
         return Ok(None);
@@ -221,43 +225,36 @@ fn rtp_given(present: bool, cursor: &mut Cursor<'_>) -> Result<Option<RtpGiven>,
 
 /// The values that RTP's octets give.
 fn values_of_rtp(rtp: Option<RtpGiven>) -> Values
-    ensures { result ≡ rtp_values rtp }
+    ensures { values_by result ≡ rtp_values (option_map rtp_by rtp) }
 {
-    let nothing = Values {
+    Values {
         tos: None,
         ttl: None,
-        payload_type: None,
-        stride: None,
-        padding: None,
+        payload_type: rtp.and_then(|rtp| rtp.payload_type),
+        stride: rtp.and_then(|rtp| rtp.stride),
+        padding: rtp.and_then(|rtp| rtp.padding),
         df: None,
         nbo: None,
         rnd: None,
-        extension: None,
-    };
-    match rtp {
-        Some(rtp) => Values {
-            payload_type: rtp.payload_type,
-            stride: rtp.stride,
-            padding: rtp.padding,
-            extension: Some(rtp.extension),
-            ..nothing
-        },
-        None => nothing,
+        extension: rtp.map(|rtp| rtp.extension),
     }
 }
 
 /// These values with those that IP's octets give.
 fn with_ip(ip: Option<IpGiven>, values: Values) -> Values
-    ensures { result ≡ ip_values ip values }
+    ensures { values_by result ≡ ip_values ip (values_by values) }
 {
     match ip {
         Some(ip) => Values {
             tos: ip.tos,
             ttl: ip.ttl,
+            payload_type: values.payload_type,
+            stride: values.stride,
+            padding: values.padding,
             df: Some(ip.df),
             nbo: Some(ip.nbo),
             rnd: Some(ip.rnd),
-            ..values
+            extension: values.extension,
         },
         None => values,
     }
@@ -265,7 +262,7 @@ fn with_ip(ip: Option<IpGiven>, values: Values) -> Values
 
 /// The marker of the rtp octet alone, where there is one.
 fn marker(base: bool, rtp: Option<RtpGiven>) -> bool
-    ensures { result ≡ marker_in base rtp }
+    ensures { result ≡ marker_in base (option_map rtp_by rtp) }
 {
     match rtp {
         Some(rtp) => rtp.marker,

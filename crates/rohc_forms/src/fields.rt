@@ -1,7 +1,8 @@
 //! Bits that extensions put behind those of the octets before them (RFC 3095 5.7.5).
 
 ghost use Rattle.std.specs.Prelude.{◌≡◌, option_map};
-ghost use Rattle.rohc_forms.specs.Octets.{digits, and_digits};
+ghost use Rattle.rohc_bits.specs.LowBits.{low_bits};
+ghost use Rattle.rohc_forms.specs.Octets.{and_bits};
 ghost use Rattle.rohc_forms.specs.Table.{Sn, Ts, Id, and_said, plus, minus};
 ghost use Rattle.rohc_forms.specs.Packets.{said_by};
 
@@ -11,7 +12,7 @@ use rohc_bits::Bits;
 
 /// Bits behind others, if there are any.
 fn behind(said: Option<Bits>, more: Bits) -> Option<Bits>
-    ensures { option_map digits result ≡ and_digits (option_map digits said) (digits more) }
+    ensures { option_map low_bits result ≡ and_bits (option_map low_bits said) (low_bits more) }
 {
     match said {
         Some(said) => Some(said.append(more.value, more.count)),
@@ -22,7 +23,7 @@ fn behind(said: Option<Bits>, more: Bits) -> Option<Bits>
 impl Fields {
     /// These fields with more bits of the sequence number.
     pub(crate) fn and_sn(self, more: Bits) -> Fields
-        ensures { said_by result ≡ and_said Sn (digits more) (said_by self) }
+        ensures { said_by result ≡ and_said Sn (low_bits more) (said_by self) }
     {
         let sn = self.sn.append(more.value, more.count);
         Fields { sn, ..self }
@@ -30,7 +31,7 @@ impl Fields {
 
     /// These fields with more bits of the timestamp.
     pub(crate) fn and_ts(self, more: Bits) -> Fields
-        ensures { said_by result ≡ and_said Ts (digits more) (said_by self) }
+        ensures { said_by result ≡ and_said Ts (low_bits more) (said_by self) }
     {
         let ts = behind(self.ts, more);
         Fields { ts, ..self }
@@ -38,7 +39,7 @@ impl Fields {
 
     /// These fields with more bits of the Identification's offset.
     pub(crate) fn and_id(self, more: Bits) -> Fields
-        ensures { said_by result ≡ and_said Id (digits more) (said_by self) }
+        ensures { said_by result ≡ and_said Id (low_bits more) (said_by self) }
     {
         let id = behind(self.id, more);
         Fields { id, ..self }
@@ -46,7 +47,7 @@ impl Fields {
 
     /// These fields with the bits +T of an extension.
     pub(crate) fn and_plus(self, kind: FormKind, more: Bits) -> Fields
-        ensures { said_by result ≡ and_said (plus kind) (digits more) (said_by self) }
+        ensures { said_by result ≡ and_said (plus kind) (low_bits more) (said_by self) }
     {
         match kind {
             FormKind::Uo1Id | FormKind::Uor2Id => self.and_id(more),
@@ -56,7 +57,7 @@ impl Fields {
 
     /// These fields with the bits -T of an extension.
     pub(crate) fn and_minus(self, kind: FormKind, more: Bits) -> Fields
-        ensures { said_by result ≡ and_said (minus kind) (digits more) (said_by self) }
+        ensures { said_by result ≡ and_said (minus kind) (low_bits more) (said_by self) }
     {
         match kind {
             FormKind::Uor2Ts => self.and_id(more),

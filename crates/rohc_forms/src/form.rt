@@ -1,5 +1,9 @@
 //! What a packet of kind Other says of its header's fields.
 
+ghost use Rattle.std.specs.Prelude.{◌≡◌, ◌≤◌, ◌<◌, false};
+ghost use Rattle.std.specs.Option.{ForSome};
+ghost use Rattle.rohc_forms.specs.Kinds.{is_uor2, is_whole, offset_in};
+
 use rohc_bits::Bits;
 
 /// The format of a packet (RFC 3095 5.7.1 to 5.7.4).
@@ -39,9 +43,9 @@ pub struct Values {
     pub tos: Option<u8>,
     /// The time to live.
     pub ttl: Option<u8>,
-    /// RTP's payload type.
+    /// RTP's payload type, below 128.
     pub payload_type: Option<u8>,
-    /// The stride of timestamps, above 0.
+    /// The stride of timestamps, from 1 to 536,870,911.
     pub stride: Option<u32>,
     /// RTP's padding flag.
     pub padding: Option<bool>,
@@ -53,6 +57,9 @@ pub struct Values {
     pub rnd: Option<bool>,
     /// RTP's extension flag.
     pub extension: Option<bool>,
+    ghost payload_type_fits: { ForSome payload_type (λ n. n < 128) },
+    ghost stride_some: { ForSome stride (λ n. 1 ≤ n) },
+    ghost stride_fits: { ForSome stride (λ n. n ≤ 536870911) },
 }
 
 /// What a packet says.
@@ -60,13 +67,15 @@ pub struct Values {
 pub struct Form<'a> {
     /// Its format, by the RND in force.
     pub kind: FormKind,
+    /// Whether the Identification is random in this packet: the RND that it gives, else its context's.
+    pub rnd: bool,
     /// Bits of the sequence number.
     pub sn: Bits,
     /// Bits of the timestamp.
     pub ts: Option<Bits>,
     /// Whether an extension 3 says that the timestamp's bits are scaled.
     pub tsc: Option<bool>,
-    /// The Identification.
+    /// The Identification: the whole where it is random, and there alone.
     pub id: IdBits,
     /// The UDP checksum, where packets carry one.
     pub udp_sum: Option<u16>,
@@ -79,4 +88,12 @@ pub struct Form<'a> {
     pub check: u8,
     /// What stands behind the header.
     pub payload: &'a [u8],
+    ghost sn_some: { 1 ≤ sn.count },
+    ghost sn_narrow: { sn.count ≤ 16 },
+    ghost ts_some: { ForSome ts (λ bits. 2 ≤ bits.count) },
+    ghost offset_some: { ForSome (offset_in id) (λ bits. 1 ≤ bits.count) },
+    ghost offset_narrow: { ForSome (offset_in id) (λ bits. bits.count ≤ 16) },
+    ghost whole: { is_whole id ≡ rnd },
+    ghost check_7: { check < 128 },
+    ghost check_3: { is_uor2 kind ≡ false → check < 8 },
 }

@@ -2,7 +2,7 @@
 //! packet says by these.
 
 ghost use Rattle.rohc_forms.specs.Formats.{FitsOne, FitsOneExtension};
-ghost use Rattle.rohc_forms.specs.Laws.{ReadsForms, SaysOne, RefusesForms};
+ghost use Rattle.rohc_forms.specs.Laws.{ReadsForms, SaysOne, SaysGood, RefusesForms};
 
 /// Exactly one format fits a packet whose first octet is below E0, under the RND in force, and exactly one of
 /// the extensions 0, 1 and 2 an extension whose first octet is below C0.
@@ -15,6 +15,11 @@ pub fn one_format()
 pub fn one_form()
     ensures reads { ReadsForms }
     ensures unique { SaysOne }
+{}
+
+/// What a packet of octets says lies in its ranges: the numbers of bits, the values, and which of them are there.
+pub fn good_form()
+    ensures { SaysGood }
 {}
 
 /// A packet is refused exactly for the first fault among its fields.

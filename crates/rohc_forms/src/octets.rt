@@ -1,8 +1,10 @@
 //! Octets, numbers and self-describing values off the front of a packet.
 
-ghost use Rattle.std.specs.Prelude.{◌≡◌, ◌<◌, ◌≤◌, ◌+◌, ◌^◌, length, drop, IfOk, MatchResult};
+ghost use Rattle.std.specs.Prelude.{◌≡◌, ◌<◌, ◌≤◌, ◌+◌, ◌^◌, length, drop, All, IfOk, MatchResult};
 ghost use Rattle.rohc_bits.specs.Fronts.{value_bits};
-ghost use Rattle.rohc_forms.specs.Octets.{Reads, ReadsAs, digits, slice, bit, octet_at, word_at, octet_if, word_if, value_at};
+ghost use Rattle.rohc_frame.specs.Laws.{IsOctet};
+ghost use Rattle.rohc_bits.specs.LowBits.{low_bits};
+ghost use Rattle.rohc_forms.specs.Octets.{Reads, ReadsAs, slice, bit, octet_at, word_at, octet_if, word_if, value_at};
 
 use crate::refusal::FormRefusal;
 use rohc_bits::{Bits, Cursor, read_value};
@@ -11,7 +13,7 @@ use rohc_bits::{Bits, Cursor, read_value};
 pub(crate) fn bits(number: u32, places: u8, width: u8) -> Bits
     requires places { places < 32 }
     requires width { width < 32 }
-    ensures { digits result ≡ slice number places width }
+    ensures { low_bits result ≡ slice number places width }
 {
     Bits::new((number >> places) % (1 << width), width)
 }
@@ -22,6 +24,14 @@ pub(crate) fn is_set(number: u32, place: u8) -> bool
     ensures { result ≡ bit place number }
 {
     (number >> place) & 1 == 1
+}
+
+/// A cursor at the front of octets, each of which is below 256.
+pub(crate) fn cursor_over<'a>(octets: &'a [u8]) -> Cursor<'a>
+    ensures text { result ≡ octets.entry.now }
+    ensures octets { All IsOctet octets.entry.now }
+{
+    Cursor::new(octets)
 }
 
 /// The next octet.
@@ -87,7 +97,8 @@ fn value_width(octets: usize) -> u8
 /// The self-describing value at the front of the octets, and how many of them spell it (RFC 3095 4.5.6).
 fn value_in(octets: &[u8]) -> Result<(Bits, usize), FormRefusal>
     ensures within { IfOk result (λ read. read.1 ≤ length octets.now) }
-    ensures reads { MatchResult result (λ read. value_at octets.now ≡ Ok (digits read.0, drop read.1 octets.now)) (λ e. value_at octets.now ≡ Err e) }
+    ensures fits { IfOk result (λ read. read.0.value ≤ 536870911) }
+    ensures reads { MatchResult result (λ read. value_at octets.now ≡ Ok (low_bits read.0, drop read.1 octets.now)) (λ e. value_at octets.now ≡ Err e) }
 {
     match read_value(octets) {
         Some((value, count)) => Ok((Bits::new(value, value_width(count)), count)),
@@ -97,7 +108,8 @@ fn value_in(octets: &[u8]) -> Result<(Bits, usize), FormRefusal>
 
 /// The next self-describing value, and how many bits spell it.
 pub(crate) fn value(cursor: &mut Cursor<'_>) -> Result<Bits, FormRefusal>
-    ensures { ReadsAs digits result cursor.new (value_at cursor.old) }
+    ensures reads { ReadsAs low_bits result cursor.new (value_at cursor.old) }
+    ensures fits { IfOk result (λ bits. bits.value ≤ 536870911) }
 {
     let (value, count) = value_in(cursor.rest())?;
     cursor.take(count).ok_or(FormRefusal::Truncated)?;

@@ -1,5 +1,8 @@
 //! What single parts of a packet say. The module is open for the definitions, which name its types.
 
+ghost use Rattle.std.specs.Prelude.{◌≤◌, ◌<◌};
+ghost use Rattle.std.specs.Option.{ForSome};
+
 use crate::form::{FormKind, Values};
 use rohc_bits::Bits;
 
@@ -64,6 +67,9 @@ pub(crate) struct RtpGiven {
     pub padding: Option<bool>,
     pub payload_type: Option<u8>,
     pub stride: Option<u32>,
+    ghost payload_type_fits: { ForSome payload_type (λ n. n < 128) },
+    ghost stride_some: { ForSome stride (λ n. 1 ≤ n) },
+    ghost stride_fits: { ForSome stride (λ n. n ≤ 536870911) },
 }
 
 /// What a packet says with its extension 3.

@@ -1,24 +1,25 @@
 //! Whole packets of kind Other.
 
-ghost use Rattle.std.specs.Prelude.{◌≡◌, Some, Ok, option_map, IfOk, IfErr};
+ghost use Rattle.std.specs.Prelude.{◌≡◌, ◌||◌, All, true, is_some, Some, Ok, option_map, IfOk, IfErr};
 ghost use Rattle.std.specs.Result.{result_map_both};
 ghost use Rattle.rohc_frame.specs.Reading.{header_of};
+ghost use Rattle.rohc_frame.specs.Laws.{IsOctet};
 ghost use Rattle.rohc_forms.specs.Content.{Content, id_said};
-ghost use Rattle.rohc_forms.specs.Packets.{IsOther, id_by, content, form_at};
-ghost use Rattle.rohc_forms.specs.Octets.{digits};
+ghost use Rattle.rohc_forms.specs.Packets.{IsOther, id_by, content, stride_in, form_at};
+ghost use Rattle.rohc_bits.specs.LowBits.{low_bits};
 ghost use Rattle.rohc_forms.specs.Fields.{form_fault};
 ghost use Rattle.rohc_forms.specs.Says.{IsForm};
 
 use crate::form::{Form, IdBits};
-use crate::octets::optional_word;
+use crate::octets::{cursor_over, optional_word};
 use crate::packet::head;
 use crate::refusal::FormRefusal;
-use rohc_bits::{Bits, Cursor};
+use rohc_bits::Bits;
 use rohc_frame::Forward;
 
 /// What is said of the Identification: the whole, where it stands in the packet.
 fn id_bits(whole: Option<u16>, bits: Option<Bits>) -> IdBits
-    ensures { id_by result ≡ id_said whole (option_map digits bits) }
+    ensures { id_by result ≡ id_said whole (option_map low_bits bits) }
 {
     match (whole, bits) {
         (Some(id), _) => IdBits::Whole(id),
@@ -35,14 +36,16 @@ fn in_order<'a>(
     udp_sum: bool,
     stride_known: bool,
 ) -> Result<Form<'a>, FormRefusal>
-    ensures { result_map_both content (λ e. e) result ≡ form_at (header_of forward.now) rnd udp_sum stride_known }
+    ensures reads { result_map_both content (λ e. e) result ≡ form_at (header_of forward.now) rnd udp_sum stride_known }
+    ensures octets { All IsOctet forward.now.rest.now }
 {
-    let mut cursor = Cursor::new(forward.rest);
+    let mut cursor = cursor_over(forward.rest);
     let head = head(forward.first, rnd, stride_known, &mut cursor)?;
     let whole = optional_word(head.rnd, &mut cursor)?;
     let udp_sum = optional_word(udp_sum, &mut cursor)?;
     Ok(Form {
         kind: head.kind,
+        rnd: head.rnd,
         sn: head.fields.sn,
         ts: head.fields.ts,
         tsc: head.tsc,
@@ -58,7 +61,8 @@ fn in_order<'a>(
 /// What a packet of kind Other says of its header's fields.
 ///
 /// `rnd`, `udp_sum` and `stride_known` are its context's: whether the Identification is random, packets
-/// carry the UDP checksum, and a stride of timestamps is in force. The refusals come in the order of the
+/// carry the UDP checksum, and a stride of timestamps is in force. There is a UDP checksum exactly where packets
+/// carry one, and scaled bits only where the context or the packet has a stride. The refusals come in the order of the
 /// octets (RFC 3095 5.7.1 to 5.7.5).
 pub fn read_form<'a>(
     forward: &Forward<'a>,
@@ -69,6 +73,8 @@ pub fn read_form<'a>(
     requires kind { IsOther forward.now.kind }
     ensures says { IfOk result (λ form. IsForm (header_of forward.now) rnd udp_sum stride_known (content form)) }
     ensures only { (said : Content) → IsForm (header_of forward.now) rnd udp_sum stride_known said → result_map_both content (λ e. e) result ≡ Ok said }
+    ensures carried { IfOk result (λ form. is_some form.udp_sum ≡ udp_sum) }
+    ensures scaled { IfOk result (λ form. form.tsc ≡ Some true → (stride_known || is_some (stride_in form.values)) ≡ true) }
     ensures fault { IfErr result (λ e. form_fault (header_of forward.now) rnd udp_sum stride_known ≡ Some e) }
     ensures reads { result_map_both content (λ e. e) result ≡ form_at (header_of forward.now) rnd udp_sum stride_known }
 {

@@ -280,6 +280,7 @@ fn packets_without_extension_3(rt: HostRuntime) {
             panic!(rt; "refused");
         };
         assert_eq!(rt; said(&form), expected);
+        assert_eq!(rt; form.rnd, context.0);
         assert!(rt; form.values.is_none());
         assert_eq!(rt; form.payload.len(), 1);
         assert_eq!(rt; form.payload.last(), packet.last());
@@ -360,6 +361,7 @@ fn packets_with_extension_3(rt: HostRuntime) {
             panic!(rt; "refused");
         };
         assert_eq!(rt; said(&form), expected);
+        assert_eq!(rt; form.rnd, ip.2);
         assert_eq!(rt; form.values, Some(of_ip(ip)));
         assert_eq!(rt; form.payload.len(), 1);
         assert_eq!(rt; form.payload.last(), packet.last());

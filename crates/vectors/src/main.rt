@@ -11,6 +11,8 @@ mod fields;
 mod forms;
 mod framing;
 mod headers;
+#[cfg(test)]
+mod tests;
 mod text;
 mod values;
 
