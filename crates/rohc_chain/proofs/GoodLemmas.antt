@@ -1,9 +1,9 @@
 -- What octets spell lies in the ranges of its fields.
-use Rattle.std.proofs.Common.{◌≡◌, ℕ, ◌+◌, ◌/◌, ◌%◌, ◌<◌, ◌≤◌, Bool, true, false, List, [], ◌∷◌, ◌++◌, length, Option, Some, None, sym, subst, arith}
+use Rattle.std.proofs.Common.{◌≡◌, ℕ, ◌+◌, ◌/◌, ◌%◌, ◌<◌, Bool, true, false, List, [], ◌∷◌, ◌++◌, length, Option, Some, None, sym, subst, arith}
 use Rattle.std.specs.Prelude.{All}
 use Rattle.std.proofs.Math.Seq.{take-append_seam}
 use Rattle.std.proofs.lemmas.List.Elements.{All-head, All-tail, All-take}
-use Rattle.rohc_bits.specs.Spelling.{Spells}
+use Rattle.rohc_bits.proofs.Values.{value_bound}
 use Rattle.rohc_frame.specs.Header.{Header}
 use Rattle.rohc_frame.specs.Laws.{IsOctet}
 use Rattle.rohc_header.specs.declared.fields.Static.{Static}
@@ -40,30 +40,10 @@ static_good fixed text all is =
       ssrc = quad_good fixed.ssrc (all_right (word fixed.destination_port) (quad fixed.ssrc) last);
     }
 
-spelled_bound : (text : List ℕ) (value : ℕ) → All IsOctet text → Spells text value → value ≤ 536870911
-spelled_bound [] v all s = absurd s
-spelled_bound (a ∷ []) v all s = let l = All-head IsOctet a [] all in omega (arith, s.0, s.1)
-spelled_bound (a ∷ b ∷ []) v all s =
-    let l = All-head IsOctet b [] (All-tail IsOctet a (b ∷ []) all) in
-    omega (arith, s.0, s.1)
-spelled_bound (a ∷ b ∷ c ∷ []) v all s =
-    let behind = All-tail IsOctet a (b ∷ c ∷ []) all in
-    let l = All-head IsOctet b (c ∷ []) behind in
-    let m = All-head IsOctet c [] (All-tail IsOctet b (c ∷ []) behind) in
-    omega (arith, s.0, s.1)
-spelled_bound (a ∷ b ∷ c ∷ d ∷ []) v all s =
-    let behind = All-tail IsOctet a (b ∷ c ∷ d ∷ []) all in
-    let last = All-tail IsOctet b (c ∷ d ∷ []) behind in
-    let l = All-head IsOctet b (c ∷ d ∷ []) behind in
-    let m = All-head IsOctet c (d ∷ []) last in
-    let n = All-head IsOctet d [] (All-tail IsOctet c (d ∷ []) last) in
-    omega (arith, s.0, s.1)
-spelled_bound (a ∷ b ∷ c ∷ d ∷ e ∷ text) v all s = absurd s
-
 stride_good : (tss : Bool) (kept stride : Option ℕ) (text : List ℕ) → IsGoodStride kept → SpellsStride tss kept stride text → IsGoodStride stride
 stride_good false kept stride text good is = subst IsGoodStride (sym is.1) good
 stride_good true kept None text good is = tt
-stride_good true kept (Some stride) text good is = (is.1, spelled_bound text stride is.0.octets is.0.spells)
+stride_good true kept (Some stride) text good is = (is.1, value_bound text stride is.0.spells)
 
 given_good : (rx : Bool) (kept : Kept) (extension : Bool) (stride : Option ℕ) (text : List ℕ) → IsGoodStride kept.stride → SpellsGiven rx kept extension stride text → IsGoodStride stride
 given_good false kept extension stride text good is = subst IsGoodStride (sym is.2) good
