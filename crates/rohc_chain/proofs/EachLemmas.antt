@@ -49,7 +49,7 @@ stride_text : (stride : Option ℕ) → IsGoodStride stride → (text : List ℕ
 stride_text None good = ([], end, (refl, refl))
 stride_text (Some n) good =
     let all = behind (224 + n / 16777216) (n / 65536 % 256 ∷ n / 256 % 256 ∷ n % 256 ∷ []) (omega (arith, good.1))
-        (behind (n / 65536 % 256) (n / 256 % 256 ∷ n % 256 ∷ []) (omega arith) (behind (n / 256 % 256) (n % 256 ∷ []) (omega arith) (behind (n % 256) [] (omega arith) end))) in (
+    (behind (n / 65536 % 256) (n / 256 % 256 ∷ n % 256 ∷ []) (omega arith) (behind (n / 256 % 256) (n % 256 ∷ []) (omega arith) (behind (n % 256) [] (omega arith) end))) in (
       (224 + n / 16777216) ∷ n / 65536 % 256 ∷ n / 256 % 256 ∷ n % 256 ∷ [],
       all,
       (record { octets = all; spells = (omega (arith, good.1), omega (arith, good.1)) }, good.0),

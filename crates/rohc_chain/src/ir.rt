@@ -10,7 +10,7 @@ ghost use Rattle.rohc_chain.specs.Texts.{IsIrText, IsShort, ir_fault};
 use crate::cover::{fits_chains, fits_plain};
 use crate::dynamic_chain::dynamic_chain;
 use crate::octets::{cursor_over, octet};
-use crate::packet::{LONGEST_PAYLOAD, Ir};
+use crate::packet::{Ir, LONGEST_PAYLOAD};
 use crate::parts::Kept;
 use crate::refusal::ChainRefusal;
 use crate::static_chain::static_chain;

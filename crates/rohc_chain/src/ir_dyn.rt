@@ -10,7 +10,7 @@ ghost use Rattle.rohc_chain.specs.Texts.{IsIrDynText, ir_dyn_fault};
 use crate::cover::fits_chains;
 use crate::dynamic_chain::dynamic_chain;
 use crate::octets::{cursor_over, octet};
-use crate::packet::{LONGEST_PAYLOAD, IrDyn};
+use crate::packet::{IrDyn, LONGEST_PAYLOAD};
 use crate::parts::Kept;
 use crate::refusal::ChainRefusal;
 use rohc_frame::Forward;
