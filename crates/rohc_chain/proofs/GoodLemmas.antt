@@ -9,7 +9,8 @@ use Rattle.rohc_frame.specs.Laws.{IsOctet}
 use Rattle.rohc_header.specs.declared.fields.Static.{Static}
 use Rattle.rohc_header.specs.declared.fields.Dynamic.{Dynamic}
 use Rattle.rohc_chain.specs.declared.parts.Kept.{Kept}
-use Rattle.rohc_chain.specs.ChainText.{word, quad, flag, SpellsStatic, SpellsStride, SpellsGiven, SpellsDynamic}
+use Rattle.rohc_header.specs.Original.{word, quad, flag}
+use Rattle.rohc_chain.specs.ChainText.{SpellsStatic, SpellsStride, SpellsGiven, SpellsDynamic}
 use Rattle.rohc_chain.specs.Good.{IsGoodStatic, IsGoodStride, IsGoodDynamic, IsGoodContent}
 use Rattle.rohc_chain.specs.Packets.{IrContent, Plain, StaticOnly, Whole, DynContent, nothing_kept}
 use Rattle.rohc_chain.specs.Texts.{IsIrText, IsIrDynText}
@@ -52,13 +53,13 @@ given_good true kept extension stride text good is = stride_good is.tss kept.str
 dynamic_good : (kept : Kept) (moving : Dynamic) (text : List ℕ) → All IsOctet text → IsGoodStride kept.stride → SpellsDynamic kept moving text → IsGoodDynamic moving
 dynamic_good kept moving text all good is =
     let whole = subst (λ (t : List ℕ). All IsOctet t) is.whole all in
-    let flags : List ℕ = (flag 128 moving.df + flag 64 moving.rnd + flag 32 moving.nbo + is.spells_ip.ignored) ∷ 0 ∷ [] in
+    let flags : List ℕ = (flag moving.df 128 + flag moving.rnd 64 + flag moving.nbo 32 + is.spells_ip.ignored) ∷ 0 ∷ [] in
     let ip = subst (λ (t : List ℕ). All IsOctet t) is.spells_ip.whole (all_left is.ip (word moving.udp_sum ++ is.rtp) whole) in
     let behind_tos = All-tail IsOctet moving.tos (moving.ttl ∷ word moving.id ++ flags) ip in
     let behind_ttl = All-tail IsOctet moving.ttl (word moving.id ++ flags) behind_tos in
     let behind = all_right is.ip (word moving.udp_sum ++ is.rtp) whole in
-    let first : ℕ = 128 + flag 32 moving.padding + flag 16 is.spells_rtp.rx in
-    let second : ℕ = flag 128 moving.marker + moving.payload_type in
+    let first : ℕ = 128 + flag moving.padding 32 + flag is.spells_rtp.rx 16 in
+    let second : ℕ = flag moving.marker 128 + moving.payload_type in
     let numbers : List ℕ = quad moving.ts ++ 0 ∷ is.spells_rtp.given in
     let rtp = subst (λ (t : List ℕ). All IsOctet t) is.spells_rtp.whole (all_right (word moving.udp_sum) is.rtp behind) in
     let behind_second = All-tail IsOctet second (word moving.sn ++ numbers) (All-tail IsOctet first (second ∷ word moving.sn ++ numbers) rtp) in

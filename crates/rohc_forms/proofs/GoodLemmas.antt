@@ -246,7 +246,7 @@ holds_any R x text all n = tt
 
 type_good : (octet : Option ℕ) → IfSome (payload_type_in octet) (λ n. n < 128)
 type_good None = tt
-type_good (Some octet) = mod_below octet 128 (omega arith)
+type_good (Some octet) = mod_below (octet / 2 ^ 0) 128 (omega arith)
 
 stride_good : (named : Bool) → Holds (IsStride named) (λ stride. IfSome stride (λ n. (1 ≤ n) × (n ≤ 536870911)))
 stride_good named = holds_as stride_of (IfNamed named (NotRefused (λ d. stride_fault d.value) IsValue)) _ _
@@ -375,7 +375,7 @@ extension_good first base rnd known octet is = holds_which (nat_lt octet 192) _ 
 
 head_good : (first : ℕ) (rnd known : Bool) → Holds (IsHead first rnd known) (IsGoodHead first known)
 head_good first rnd known =
-    holds_then (IsBase first) _ (λ base. base.first ≡ first) _ (λ base text all is. ap (λ (b : Base). b.first) is.1) (λ base is.
+    holds_then (IsBase first rnd) _ (λ base. base.first ≡ first) _ (λ base text all is. ap (λ (b : Base). b.first) is.1) (λ base is.
     holds_which (base_said (kind_of base rnd) base.number).extended _ _ _
     (holds_then IsOctet _ (λ _. Unit {0}) _ (holds_any _) (λ octet _. extension_good first base rnd known octet is))
     (holds_says _ (IsGoodHead first known) (plain_good first base rnd known _ is (base_said_good (kind_of base rnd) base.number))))
