@@ -1,6 +1,10 @@
--- Bits as truth values, most significant first.
-use Rattle.std.specs.Prelude.{◌==◌, ℕ, zero, suc, ◌+◌, ◌/◌, ◌%◌, ◌^◌, Bool, if◌then◌else◌, List, [], ◌∷◌, length}
+-- Octets, and bits as truth values, most significant first.
+use Rattle.std.specs.Prelude.{◌==◌, ℕ, zero, suc, ◌+◌, ◌/◌, ◌%◌, ◌^◌, ◌<◌, Bool, if◌then◌else◌, List, [], ◌∷◌, length}
 use Rattle.std.specs.List.{flat_map}
+
+-- an octet is a number of eight bits
+abbrev pub IsOctet : ℕ → Type 0
+IsOctet n = n < 256
 
 -- the k low bits of a number
 unfoldable pub bits : (k n : ℕ) → List Bool

@@ -1,14 +1,13 @@
 -- Octets spell each value that lies in its range.
-use Rattle.std.proofs.Common.{◌≡◌, ℕ, ◌+◌, ◌*◌, ◌/◌, ◌%◌, ◌<◌, ◌≤◌, Bool, true, false, List, [], ◌∷◌, ◌++◌, Option, Some, None, refl, arith}
+use Rattle.std.proofs.Common.{ℕ, ◌+◌, ◌*◌, ◌/◌, ◌%◌, ◌<◌, ◌≤◌, Bool, true, false, List, [], ◌∷◌, ◌++◌, Option, Some, None, refl, arith}
 use Rattle.std.specs.Prelude.{All, is_some}
 use Rattle.std.proofs.lemmas.List.Elements.{All-nil, All-cons, All-append}
-use Rattle.rohc_bits.specs.Spelling.{IsSpelled}
+use Rattle.rohc_bits.proofs.Arithmetic.{is_spelled}
 use Rattle.rohc_frame.specs.Laws.{IsOctet}
 use Rattle.rohc_header.specs.Original.{word, quad, flag}
-use Rattle.rohc_header.specs.declared.fields.Static.{Static}
 use Rattle.rohc_header.specs.declared.fields.Dynamic.{Dynamic}
 use Rattle.rohc_chain.specs.ChainText.{SpellsStride}
-use Rattle.rohc_chain.specs.Good.{IsGoodStatic, IsGoodStride, IsGoodDynamic}
+use Rattle.rohc_chain.specs.Good.{IsGoodStride, IsGoodDynamic}
 use Rattle.rohc_chain.specs.Laws.{SpellsEachStatic, SpellsEachDynamic}
 
 behind : (octet : ℕ) (text : List ℕ) → octet < 256 → All IsOctet text → All IsOctet (octet ∷ text)
@@ -52,7 +51,7 @@ stride_text (Some n) good =
     (behind (n / 65536 % 256) (n / 256 % 256 ∷ n % 256 ∷ []) (omega arith) (behind (n / 256 % 256) (n % 256 ∷ []) (omega arith) (behind (n % 256) [] (omega arith) end))) in (
       (224 + n / 16777216) ∷ n / 65536 % 256 ∷ n / 256 % 256 ∷ n % 256 ∷ [],
       all,
-      (record { octets = all; spells = (omega (arith, good.1), omega (arith, good.1)) }, good.0),
+      (is_spelled ((224 + n / 16777216) ∷ (n / 65536 % 256) ∷ (n / 256 % 256) ∷ (n % 256) ∷ []) n all (omega (arith, good.1), omega (arith, good.1)), good.0),
     )
 
 abbrev ip_text : Dynamic → List ℕ

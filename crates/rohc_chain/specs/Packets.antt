@@ -4,6 +4,7 @@ use Rattle.rohc_checks.specs.Division.{check, poly8}
 use Rattle.rohc_frame.specs.declared.header.HeadKind.{HeadKind}
 use Rattle.rohc_frame.specs.declared.header.HeadKind.TheVariants.{Ir, IrDyn, Other}
 use Rattle.rohc_frame.specs.Header.{Header, placed}
+pub use Rattle.rohc_frame.specs.Header.{IsIr, IsIrDyn}
 use Rattle.rohc_header.specs.declared.fields.Static.{Static}
 use Rattle.rohc_header.specs.declared.fields.Dynamic.{Dynamic}
 use Rattle.rohc_chain.specs.declared.packet.Ir as lent
@@ -36,18 +37,6 @@ pub record DynContent : Type 0 where
 -- the same of what the code answers
 abbrev pub dyn_content : lent_dyn.IrDyn → DynContent
 dyn_content packet = record { moving = packet.moving; payload = packet.payload.now }
-
--- type octet FC or FD
-abbrev pub IsIr : HeadKind → Type 0
-IsIr (Ir dynamic) = Unit {0}
-IsIr IrDyn = ⊥
-IsIr Other = ⊥
-
--- type octet F8
-abbrev pub IsIrDyn : HeadKind → Type 0
-IsIrDyn (Ir dynamic) = ⊥
-IsIrDyn IrDyn = Unit {0}
-IsIrDyn Other = ⊥
 
 -- the IR has a dynamic chain: type octet FD
 abbrev pub is_dynamic : HeadKind → Bool

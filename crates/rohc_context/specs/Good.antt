@@ -1,5 +1,6 @@
 use Rattle.std.specs.Prelude.{◌≡◌, ℕ, ◌<◌, ◌≤◌, ◌^◌, All, Option, IfSome, true}
 use Rattle.rohc_frame.specs.Header.{Header, is_header}
+pub use Rattle.rohc_frame.specs.Laws.{IsOctet}
 use Rattle.rohc_context.specs.declared.settings.Settings.{Settings}
 use Rattle.rohc_context.specs.Settings.{AreGood}
 use Rattle.rohc_context.specs.Record.{Record}
@@ -7,9 +8,6 @@ use Rattle.rohc_context.specs.Record.{Record}
 -- every number of the record is in the range of its field
 abbrev pub IsGoodRecord : Record → Type 0
 IsGoodRecord r = r.accepted < 2 ^ 64
-
-abbrev pub IsOctet : ℕ → Type 0
-IsOctet n = n < 256
 
 -- a header of these settings' size, within their greatest identifier, of octets
 pub record IsGoodHeader (s : Settings) (h : Header) : Type 0 where
