@@ -1,2 +1,5 @@
+pub mod Arithmetic
+pub mod BitLists
 pub mod Fronts
+pub mod Values
 pub mod Widths

@@ -1,3 +1,4 @@
+pub mod Bits
 pub mod Fronts
 pub mod Spelling
 pub mod LowBits

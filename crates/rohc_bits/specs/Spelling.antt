@@ -1,14 +1,21 @@
-use Rattle.std.specs.Prelude.{◌≡◌, ℕ, ◌+◌, ◌*◌, ◌/◌, ◌%◌, ◌<◌, List, [], ◌∷◌, ◌++◌, All}
+-- Self-describing values (RFC 3095 4.5.6).
+use Rattle.std.specs.Prelude.{◌≡◌, ℕ, ◌<◌, ◌⊎◌, Bool, true, false, List, [], ◌∷◌, ◌++◌, length, All}
+use Rattle.rohc_bits.specs.Bits.{bits_of, number}
 
--- The first bits 0, 10, 110 or 111 of a text say that it has one, two, three or four octets, and its
--- other bits spell the value (RFC 3095 4.5.6).
+-- The bits of the text are these first ones, and behind them so many that spell the value.
+pub record StandsBehind (first : List Bool) (count : ℕ) (text : List ℕ) (value : ℕ) : Type 0 where
+  pub digits : List Bool
+  pub whole : bits_of text ≡ first ++ digits
+  pub counted : length digits ≡ count
+  pub number : value ≡ number digits
+
+-- First stand the bits 0, 10, 110 or 111, then 7, 14, 21 or 29 bits of the value.
 abbrev pub Spells : List ℕ → ℕ → Type 0
-Spells [] value = ⊥
-Spells (a ∷ []) value = (a / 128 ≡ 0) × (value ≡ a)
-Spells (a ∷ b ∷ []) value = (a / 64 ≡ 2) × (value ≡ a % 64 * 256 + b)
-Spells (a ∷ b ∷ c ∷ []) value = (a / 32 ≡ 6) × (value ≡ (a % 32 * 256 + b) * 256 + c)
-Spells (a ∷ b ∷ c ∷ d ∷ []) value = (a / 32 ≡ 7) × (value ≡ ((a % 32 * 256 + b) * 256 + c) * 256 + d)
-Spells (a ∷ b ∷ c ∷ d ∷ e ∷ more) value = ⊥
+Spells text value =
+    StandsBehind (false ∷ []) 7 text value ⊎
+    StandsBehind (true ∷ false ∷ []) 14 text value ⊎
+    StandsBehind (true ∷ true ∷ false ∷ []) 21 text value ⊎
+    StandsBehind (true ∷ true ∷ true ∷ []) 29 text value
 
 -- The text is octets that spell the value.
 pub record IsSpelled (text : List ℕ) (value : ℕ) : Type 0 where
@@ -17,4 +24,5 @@ pub record IsSpelled (text : List ℕ) (value : ℕ) : Type 0 where
 
 -- fronts of one text that spell values are one, and so are the values
 abbrev pub FrontsAgree : Type 0
-FrontsAgree = (a b x y : List ℕ) (v w : ℕ) → a ++ x ≡ b ++ y → IsSpelled a v → IsSpelled b w → (a ≡ b) × (v ≡ w)
+FrontsAgree = (a b x y : List ℕ) (v w : ℕ) →
+    a ++ x ≡ b ++ y → IsSpelled a v → IsSpelled b w → (a ≡ b) × (v ≡ w)

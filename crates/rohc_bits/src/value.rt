@@ -1,16 +1,18 @@
 //! Self-describing values (RFC 3095 4.5.6).
 
-ghost use Rattle.std.specs.Prelude.{◌≡◌, ◌<◌, ◌≤◌, ◌↔◌, ℕ, List, ◌++◌, length, take, Some, IfSome, IsNone};
+ghost use Rattle.std.specs.Prelude.{◌≡◌, ◌<◌, ◌≤◌, ◌↔◌, ◌^◌, ℕ, List, ◌++◌, length, take, Some, IfSome, IsNone};
 ghost use Rattle.rohc_bits.specs.Spelling.{IsSpelled};
+ghost use Rattle.rohc_bits.specs.Fronts.{value_bits};
 
 use arrayvec::ArrayVec;
 
 /// The self-describing value at the front of the octets, and how many of them spell it.
 ///
-/// A longer spelling than needed is read. `None` where the octets end before the value does.
+/// It has at most the 7, 14, 21 or 29 bits of so many octets, and a longer spelling than needed is read. `None` where the octets end before the value does.
 pub fn read_value(octets: &[u8]) -> Option<(u32, usize)>
     ensures within { IfSome result (λ read. read.1 ≤ length octets.now) }
     ensures spelled { IfSome result (λ read. IsSpelled (take read.1 octets.now) read.0) }
+    ensures fits { IfSome result (λ read. read.0 < 2 ^ value_bits read.1) }
     ensures every { (text rest : List ℕ) (value : ℕ) → octets.now ≡ text ++ rest → IsSpelled text value → result ≡ Some (value, length text) }
 {
     match *octets {

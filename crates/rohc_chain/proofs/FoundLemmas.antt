@@ -16,7 +16,8 @@ use Rattle.rohc_chain.specs.declared.refusal.ChainRefusal.TheVariants.{IpVersion
 use Rattle.rohc_chain.specs.Octets.{octet_at, word_at, four_octets_at, quad_at, value_at, bit}
 use Rattle.rohc_chain.specs.Faults.{unless, version_fault, protocol_fault, extension_list_fault, csrc_list_fault, rtp_fault, mode_fault, stride_fault}
 use Rattle.rohc_chain.specs.Chains.{judged_octet, judged_value, ip_static_at, static_at, ip_dynamic_at, stride_at, behind_time_stride, flags_at, rtp_dynamic_at, joined, dynamic_at}
-use Rattle.rohc_chain.specs.ChainText.{word, quad, flag, SpellsIpStatic, SpellsStatic, SpellsIpDynamic, SpellsStride, SpellsTimeStride, SpellsFlags, SpellsGiven, SpellsRtpDynamic, SpellsDynamic}
+use Rattle.rohc_header.specs.Original.{word, quad, flag}
+use Rattle.rohc_chain.specs.ChainText.{SpellsIpStatic, SpellsStatic, SpellsIpDynamic, SpellsStride, SpellsTimeStride, SpellsFlags, SpellsGiven, SpellsRtpDynamic, SpellsDynamic}
 use Rattle.rohc_chain.proofs.Steps.{ok_is, bind_ok, octet_found, judged_ok, judged_found}
 use Rattle.rohc_chain.proofs.Values.{IsOctet, value_found}
 use Rattle.rohc_chain.proofs.BitLemmas.{ip_octet, rtp_first_octet, rtp_second_octet, given_octet}
@@ -180,7 +181,7 @@ ip_dynamic_found text x all e =
       ignored = d.0.0 % 32;
       five_bits = omega arith;
       whole = ap (λ (f : ℕ). a.0.0 ∷ b.0.0 ∷ word c.0.0 ++ f ∷ l.0.0 ∷ []) (ip_octet d.0.0 fd.1)
-          ∙ ap (λ (o : ℕ). a.0.0 ∷ b.0.0 ∷ word c.0.0 ++ (flag 128 (bit 7 d.0.0) + flag 64 (bit 6 d.0.0) + flag 32 (bit 5 d.0.0) + d.0.0 % 32) ∷ o ∷ []) empty;
+          ∙ ap (λ (o : ℕ). a.0.0 ∷ b.0.0 ∷ word c.0.0 ++ (flag (bit 7 d.0.0) 128 + flag (bit 6 d.0.0) 64 + flag (bit 5 d.0.0) 32 + d.0.0 % 32) ∷ o ∷ []) empty;
     } in
     subst (λ (y : IpDynamic × List ℕ). (spelling : List ℕ) × Found text spelling y.1 × ((udp_sum : ℕ) (rtp : RtpDynamic) → SpellsIpDynamic (joined y.0 udp_sum rtp) spelling)) is
     (a.0.0 ∷ b.0.0 ∷ word c.0.0 ++ d.0.0 ∷ l.0.0 ∷ [], found, spells)
@@ -315,8 +316,8 @@ rtp_dynamic_found kept text x all e =
       seven_bits = omega arith;
       spells_given = fg.2;
       whole = ap (λ (o : ℕ). o ∷ b.0.0 ∷ word c.0.0 ++ (quad d.0.0 ++ l.0.0 ∷ fg.0)) first
-          ∙ ap (λ (o : ℕ). (128 + flag 32 (bit 5 a.0.0) + flag 16 (bit 4 a.0.0)) ∷ o ∷ word c.0.0 ++ (quad d.0.0 ++ l.0.0 ∷ fg.0)) second
-          ∙ ap (λ (o : ℕ). (128 + flag 32 (bit 5 a.0.0) + flag 16 (bit 4 a.0.0)) ∷ (flag 128 (bit 7 b.0.0) + b.0.0 % 128) ∷ word c.0.0 ++ (quad d.0.0 ++ o ∷ fg.0)) empty;
+          ∙ ap (λ (o : ℕ). (128 + flag (bit 5 a.0.0) 32 + flag (bit 4 a.0.0) 16) ∷ o ∷ word c.0.0 ++ (quad d.0.0 ++ l.0.0 ∷ fg.0)) second
+          ∙ ap (λ (o : ℕ). (128 + flag (bit 5 a.0.0) 32 + flag (bit 4 a.0.0) 16) ∷ (flag (bit 7 b.0.0) 128 + b.0.0 % 128) ∷ word c.0.0 ++ (quad d.0.0 ++ o ∷ fg.0)) empty;
     } in
     subst (RtpFound kept text) is (a.0.0 ∷ b.0.0 ∷ word c.0.0 ++ (quad d.0.0 ++ l.0.0 ∷ fg.0), found, spells)
 

@@ -1,9 +1,14 @@
 -- What octets spell lies in the ranges of its fields.
+<<<<<<< HEAD
 use Rattle.std.proofs.Common.{◌≡◌, ℕ, ◌+◌, ◌/◌, ◌%◌, ◌<◌, ◌≤◌, Bool, true, false, List, [], ◌∷◌, ◌++◌, length, Option, Some, None, sym, subst, arith}
 use Rattle.std.specs.Prelude.{All, Result, Ok, Err, IfOk}
+=======
+use Rattle.std.proofs.Common.{◌≡◌, ℕ, ◌+◌, ◌/◌, ◌%◌, ◌<◌, Bool, true, false, List, [], ◌∷◌, ◌++◌, length, Option, Some, None, sym, subst, arith}
+use Rattle.std.specs.Prelude.{All}
+>>>>>>> 6a1d2f93c2d6e9029b2cd71f59a505d8ba5e27b5
 use Rattle.std.proofs.Math.Seq.{take-append_seam}
 use Rattle.std.proofs.lemmas.List.Elements.{All-head, All-tail, All-take}
-use Rattle.rohc_bits.specs.Spelling.{Spells}
+use Rattle.rohc_bits.proofs.Values.{value_bound}
 use Rattle.rohc_frame.specs.Header.{Header}
 use Rattle.rohc_frame.specs.Laws.{IsOctet}
 use Rattle.rohc_header.specs.declared.fields.Static.{Static}
@@ -11,8 +16,13 @@ use Rattle.rohc_header.specs.declared.fields.Dynamic.{Dynamic}
 use Rattle.rohc_chain.specs.declared.packet.Ir as lent
 use Rattle.rohc_chain.specs.declared.packet.IrDyn as lent_dyn
 use Rattle.rohc_chain.specs.declared.parts.Kept.{Kept}
+<<<<<<< HEAD
 use Rattle.rohc_chain.specs.declared.refusal.ChainRefusal.{ChainRefusal}
 use Rattle.rohc_chain.specs.ChainText.{word, quad, flag, SpellsStatic, SpellsStride, SpellsGiven, SpellsDynamic}
+=======
+use Rattle.rohc_header.specs.Original.{word, quad, flag}
+use Rattle.rohc_chain.specs.ChainText.{SpellsStatic, SpellsStride, SpellsGiven, SpellsDynamic}
+>>>>>>> 6a1d2f93c2d6e9029b2cd71f59a505d8ba5e27b5
 use Rattle.rohc_chain.specs.Good.{IsGoodStatic, IsGoodStride, IsGoodDynamic, IsGoodContent}
 use Rattle.rohc_chain.specs.Packets.{IrContent, Plain, StaticOnly, Whole, ir_content, DynContent, dyn_content, nothing_kept}
 use Rattle.rohc_chain.specs.Texts.{IsIrText, IsIrDynText}
@@ -43,30 +53,10 @@ static_good fixed text all is =
       ssrc = quad_good fixed.ssrc (all_right (word fixed.destination_port) (quad fixed.ssrc) last);
     }
 
-spelled_bound : (text : List ℕ) (value : ℕ) → All IsOctet text → Spells text value → value ≤ 536870911
-spelled_bound [] v all s = absurd s
-spelled_bound (a ∷ []) v all s = let l = All-head IsOctet a [] all in omega (arith, s.0, s.1)
-spelled_bound (a ∷ b ∷ []) v all s =
-    let l = All-head IsOctet b [] (All-tail IsOctet a (b ∷ []) all) in
-    omega (arith, s.0, s.1)
-spelled_bound (a ∷ b ∷ c ∷ []) v all s =
-    let behind = All-tail IsOctet a (b ∷ c ∷ []) all in
-    let l = All-head IsOctet b (c ∷ []) behind in
-    let m = All-head IsOctet c [] (All-tail IsOctet b (c ∷ []) behind) in
-    omega (arith, s.0, s.1)
-spelled_bound (a ∷ b ∷ c ∷ d ∷ []) v all s =
-    let behind = All-tail IsOctet a (b ∷ c ∷ d ∷ []) all in
-    let last = All-tail IsOctet b (c ∷ d ∷ []) behind in
-    let l = All-head IsOctet b (c ∷ d ∷ []) behind in
-    let m = All-head IsOctet c (d ∷ []) last in
-    let n = All-head IsOctet d [] (All-tail IsOctet c (d ∷ []) last) in
-    omega (arith, s.0, s.1)
-spelled_bound (a ∷ b ∷ c ∷ d ∷ e ∷ text) v all s = absurd s
-
 stride_good : (tss : Bool) (kept stride : Option ℕ) (text : List ℕ) → IsGoodStride kept → SpellsStride tss kept stride text → IsGoodStride stride
 stride_good false kept stride text good is = subst IsGoodStride (sym is.1) good
 stride_good true kept None text good is = tt
-stride_good true kept (Some stride) text good is = (is.1, spelled_bound text stride is.0.octets is.0.spells)
+stride_good true kept (Some stride) text good is = (is.1, value_bound text stride is.0.spells)
 
 given_good : (rx : Bool) (kept : Kept) (extension : Bool) (stride : Option ℕ) (text : List ℕ) → IsGoodStride kept.stride → SpellsGiven rx kept extension stride text → IsGoodStride stride
 given_good false kept extension stride text good is = subst IsGoodStride (sym is.2) good
@@ -75,13 +65,13 @@ given_good true kept extension stride text good is = stride_good is.tss kept.str
 dynamic_good : (kept : Kept) (moving : Dynamic) (text : List ℕ) → All IsOctet text → IsGoodStride kept.stride → SpellsDynamic kept moving text → IsGoodDynamic moving
 dynamic_good kept moving text all good is =
     let whole = subst (λ (t : List ℕ). All IsOctet t) is.whole all in
-    let flags : List ℕ = (flag 128 moving.df + flag 64 moving.rnd + flag 32 moving.nbo + is.spells_ip.ignored) ∷ 0 ∷ [] in
+    let flags : List ℕ = (flag moving.df 128 + flag moving.rnd 64 + flag moving.nbo 32 + is.spells_ip.ignored) ∷ 0 ∷ [] in
     let ip = subst (λ (t : List ℕ). All IsOctet t) is.spells_ip.whole (all_left is.ip (word moving.udp_sum ++ is.rtp) whole) in
     let behind_tos = All-tail IsOctet moving.tos (moving.ttl ∷ word moving.id ++ flags) ip in
     let behind_ttl = All-tail IsOctet moving.ttl (word moving.id ++ flags) behind_tos in
     let behind = all_right is.ip (word moving.udp_sum ++ is.rtp) whole in
-    let first : ℕ = 128 + flag 32 moving.padding + flag 16 is.spells_rtp.rx in
-    let second : ℕ = flag 128 moving.marker + moving.payload_type in
+    let first : ℕ = 128 + flag moving.padding 32 + flag is.spells_rtp.rx 16 in
+    let second : ℕ = flag moving.marker 128 + moving.payload_type in
     let numbers : List ℕ = quad moving.ts ++ 0 ∷ is.spells_rtp.given in
     let rtp = subst (λ (t : List ℕ). All IsOctet t) is.spells_rtp.whole (all_right (word moving.udp_sum) is.rtp behind) in
     let behind_second = All-tail IsOctet second (word moving.sn ++ numbers) (All-tail IsOctet first (second ∷ word moving.sn ++ numbers) rtp) in

@@ -8,3 +8,4 @@ pub mod SpelledLemmas
 pub mod FoundLemmas
 pub mod TextLemmas
 pub mod GoodLemmas
+pub mod EachLemmas

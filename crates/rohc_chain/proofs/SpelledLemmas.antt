@@ -9,7 +9,8 @@ use Rattle.rohc_chain.specs.declared.parts.IpDynamic.{IpDynamic}
 use Rattle.rohc_chain.specs.declared.parts.RtpDynamic.{RtpDynamic}
 use Rattle.rohc_chain.specs.Octets.{octet_at, word_at, four_octets_at, quad_at, bit}
 use Rattle.rohc_chain.specs.Chains.{ip_static_at, static_at, ip_dynamic_at, stride_at, behind_time_stride, flags_at, rtp_dynamic_at, dynamic_at}
-use Rattle.rohc_chain.specs.ChainText.{word, quad, flag, SpellsIpStatic, SpellsStatic, SpellsIpDynamic, SpellsStride, SpellsTimeStride, SpellsFlags, SpellsGiven, SpellsRtpDynamic, SpellsDynamic}
+use Rattle.rohc_header.specs.Original.{word, quad, flag}
+use Rattle.rohc_chain.specs.ChainText.{SpellsIpStatic, SpellsStatic, SpellsIpDynamic, SpellsStride, SpellsTimeStride, SpellsFlags, SpellsGiven, SpellsRtpDynamic, SpellsDynamic}
 use Rattle.rohc_chain.proofs.Values.{value_read}
 use Rattle.rohc_chain.proofs.BitLemmas.{IpFlags, ip_flags, RtpFirst, rtp_first, RtpSecond, rtp_second, GivenFlags, given_flags}
 
@@ -56,7 +57,7 @@ ip_part moving = record { tos = moving.tos; ttl = moving.ttl; id = moving.id; df
 ip_dynamic_read : (moving : Dynamic) (text rest : List ℕ) → SpellsIpDynamic moving text → ip_dynamic_at (text ++ rest) ≡ Ok (ip_part moving, rest)
 unfolding octet_at ip_dynamic_at
 ip_dynamic_read moving text rest is =
-    let flags : ℕ = flag 128 moving.df + flag 64 moving.rnd + flag 32 moving.nbo + is.ignored in
+    let flags : ℕ = flag moving.df 128 + flag moving.rnd 64 + flag moving.nbo 32 + is.ignored in
     let found : IpFlags flags moving.df moving.rnd moving.nbo = ip_flags moving.df moving.rnd moving.nbo is.ignored is.five_bits in
     ap (λ (t : List ℕ). ip_dynamic_at (t ++ rest)) is.whole
     ∙ rw (word_read moving.id (flags ∷ 0 ∷ rest), found.is_df, found.is_rnd, found.is_nbo) refl
@@ -79,7 +80,7 @@ flags_read : (kept : Kept) (extension : Bool) (stride : Option ℕ) (text rest :
     flags_at kept true (text ++ rest) ≡ Ok (record { extension = extension; stride = stride }, rest)
 unfolding octet_at flags_at
 flags_read kept extension stride text rest is =
-    let flags : ℕ = 32 * is.ignored + flag 16 extension + 4 * is.mode + flag 2 is.tis + flag 1 is.tss in
+    let flags : ℕ = 32 * is.ignored + flag extension 16 + 4 * is.mode + flag is.tis 2 + flag is.tss 1 in
     let low = is.not_reliable in
     let found : GivenFlags flags extension is.mode is.tis is.tss = given_flags extension is.tis is.tss is.ignored is.mode (omega arith) in
     let mode : (is.mode == 3) ≡ false = grind (arith, nat_tests) in
@@ -100,8 +101,8 @@ rtp_part moving = record { padding = moving.padding; extension = moving.extensio
 rtp_dynamic_read : (kept : Kept) (moving : Dynamic) (text rest : List ℕ) → SpellsRtpDynamic kept moving text → rtp_dynamic_at kept (text ++ rest) ≡ Ok (rtp_part moving, rest)
 unfolding octet_at rtp_dynamic_at
 rtp_dynamic_read kept moving text rest is =
-    let first : RtpFirst (128 + flag 32 moving.padding + flag 16 is.rx) moving.padding is.rx = rtp_first moving.padding is.rx in
-    let second : RtpSecond (flag 128 moving.marker + moving.payload_type) moving.marker moving.payload_type = rtp_second moving.marker moving.payload_type is.seven_bits in
+    let first : RtpFirst (128 + flag moving.padding 32 + flag is.rx 16) moving.padding is.rx = rtp_first moving.padding is.rx in
+    let second : RtpSecond (flag moving.marker 128 + moving.payload_type) moving.marker moving.payload_type = rtp_second moving.marker moving.payload_type is.seven_bits in
     let behind_sn : List ℕ = quad moving.ts ++ 0 ∷ is.given in
     ap (λ (t : List ℕ). rtp_dynamic_at kept (t ++ rest)) is.whole
     ∙ rw (first.version, first.sources, word_read moving.sn (behind_sn ++ rest), quad_read moving.ts (0 ∷ is.given ++ rest), first.is_rx, given_read is.rx kept moving.extension moving.stride is.given rest is.spells_given, first.is_padding, second.is_marker, second.is_payload_type) refl

@@ -1,6 +1,6 @@
 -- Whole packets: what is read from them is what their octets spell.
 use Rattle.std.proofs.Common.{◌≡◌, ℕ, ◌-◌, ◌≤◌, Bool, true, false, List, [], ◌∷◌, ◌++◌, length, take, drop, get_or, Option, Some, None, Result, Ok, Err, refl, sym, ap, subst, ◌∙◌, append_assoc, length-append, arith}
-use Rattle.std.specs.Prelude.{◌==◌, All, nat_lt, if◌then◌else◌, IfOk, IfErr}
+use Rattle.std.specs.Prelude.{◌==◌, All, nat_le, if◌then◌else◌, IfOk, IfErr}
 use Rattle.std.specs.Result.{result_map_both, result_err}
 use Rattle.std.proofs.Math.Seq.{take-append_seam}
 use Rattle.std.proofs.lemmas.Bool.{eqb-true, eq-eqb}
@@ -19,7 +19,7 @@ use Rattle.rohc_chain.specs.declared.refusal.ChainRefusal.TheVariants.{Profile, 
 use Rattle.rohc_chain.specs.Octets.{octet_at}
 use Rattle.rohc_chain.specs.Faults.{ir_profile_fault, dyn_profile_fault}
 use Rattle.rohc_chain.specs.Chains.{judged, judged_octet, static_at, dynamic_at}
-use Rattle.rohc_chain.specs.Packets.{IrContent, Plain, StaticOnly, Whole, ir_content, DynContent, dyn_content, IsIr, IsIrDyn, is_dynamic, plain_cover, cover, fits, before, nothing_kept, length_fault, check_fault, ended, plain_at, static_only_at, whole_at, chains_at, ir_at, ir_dyn_at}
+use Rattle.rohc_chain.specs.Packets.{longest_payload, IrContent, Plain, StaticOnly, Whole, ir_content, DynContent, dyn_content, IsIr, IsIrDyn, is_dynamic, plain_cover, cover, fits, before, nothing_kept, length_fault, check_fault, ended, plain_at, static_only_at, whole_at, chains_at, ir_at, ir_dyn_at}
 use Rattle.rohc_chain.specs.ChainText.{SpellsStatic, SpellsDynamic}
 use Rattle.rohc_chain.specs.Texts.{check_of, IsPlainText, IsStaticText, IsWholeText, IsIrText, IsIrDynText, IsShort, ir_fault, ir_dyn_fault}
 use Rattle.rohc_chain.proofs.Steps.{ok_parts, bind_ok, octet_found, judged_ok, judged_found}
@@ -49,12 +49,12 @@ static_text_read h fixed is =
     let chains : static_at is.chains ≡ Ok (fixed, []) = ap static_at (sym (append-nil is.chains)) ∙ static_read fixed is.chains [] is.spells_static in
     rw (is.whole, is.kind, chains, check_fits (cover h is.chains)) refl
 
-short : (payload : List ℕ) → length payload ≤ 65495 → length_fault payload ≡ None
+short : (payload : List ℕ) → length payload ≤ longest_payload → length_fault payload ≡ None
 short payload l =
-    let test : nat_lt (length payload) 65496 ≡ true = grind (arith, nat_tests) in
+    let test : nat_le (length payload) longest_payload ≡ true = grind (arith, nat_tests) in
     rw test refl
 
-whole_text_read : (h : Header) (fixed : Static) (moving : Dynamic) (payload : List ℕ) → IsWholeText h fixed moving payload → length payload ≤ 65495 → ir_at h ≡ Ok (Whole fixed moving payload)
+whole_text_read : (h : Header) (fixed : Static) (moving : Dynamic) (payload : List ℕ) → IsWholeText h fixed moving payload → length payload ≤ longest_payload → ir_at h ≡ Ok (Whole fixed moving payload)
 unfolding ir_at octet_at whole_at
 whole_text_read h fixed moving payload is l =
     let first : static_at (is.static_chain ++ (is.dynamic_chain ++ payload)) ≡ Ok (fixed, is.dynamic_chain ++ payload) = static_read fixed is.static_chain (is.dynamic_chain ++ payload) is.spells_static in
@@ -68,7 +68,7 @@ ir_from_text h (Plain packet) is l = plain_read h packet is
 ir_from_text h (StaticOnly fixed) is l = static_text_read h fixed is
 ir_from_text h (Whole fixed moving payload) is l = whole_text_read h fixed moving payload is l
 
-pub dyn_from_text : (h : Header) (profile : ℕ) (kept : Kept) (packet : DynContent) → IsIrDynText h profile kept packet → length packet.payload ≤ 65495 → ir_dyn_at h profile kept ≡ Ok packet
+pub dyn_from_text : (h : Header) (profile : ℕ) (kept : Kept) (packet : DynContent) → IsIrDynText h profile kept packet → length packet.payload ≤ longest_payload → ir_dyn_at h profile kept ≡ Ok packet
 unfolding ir_dyn_at octet_at
 dyn_from_text h profile kept packet is l =
     let read : dynamic_at kept (is.chain ++ packet.payload) ≡ Ok (packet.moving, packet.payload) = dynamic_read kept packet.moving is.chain packet.payload is.spells_dynamic in
@@ -108,9 +108,9 @@ static_text_found h octet text content all kind whole e =
     subst (λ (c : IrContent). IsIrText h c × IsShort c) j.1
     (record { chains = text; kind = kind; spells_static = subst (SpellsStatic a.0.0) (sym same) found.2; whole = whole ∙ ap (λ (o : ℕ). 1 ∷ o ∷ text) place }, tt)
 
-not_long : (payload : List ℕ) → length_fault payload ≡ None → length payload ≤ 65495
+not_long : (payload : List ℕ) → length_fault payload ≡ None → length payload ≤ longest_payload
 not_long payload e =
-    let test : nat_lt (length payload) 65496 ≡ true = unless_none (nat_lt (length payload) 65496) TooLong e in
+    let test : nat_le (length payload) longest_payload ≡ true = unless_none (nat_le (length payload) longest_payload) TooLong e in
     grind (arith, nat_tests)
 
 whole_text_found : (h : Header) (octet : ℕ) (text : List ℕ) (content : IrContent) → All IsOctet text → h.kind ≡ Ir true → h.rest ≡ 1 ∷ octet ∷ text →
@@ -178,7 +178,7 @@ ir_dyn_kind IrDyn is = refl
 ir_dyn_kind Other is = absurd is
 
 pub dyn_text : (h : Header) (profile : ℕ) (kept : Kept) (packet : DynContent) → IsIrDyn h.kind → profile ≤ 1 → All IsOctet h.rest → ir_dyn_at h profile kept ≡ Ok packet →
-    IsIrDynText h profile kept packet × (length packet.payload ≤ 65495)
+    IsIrDynText h profile kept packet × (length packet.payload ≤ longest_payload)
 unfolding ir_dyn_at
 dyn_text h profile kept packet is low all e =
     let a = bind_ok (judged_octet (dyn_profile_fault profile) h.rest) _ packet e in
@@ -196,7 +196,7 @@ dyn_text h profile kept packet is low all e =
     let profiles = dyn_profiles (a.0.0 == 1) (profile == 0) profile a.0.0 low refl refl first.1 in
     let chain : before d.0.1 b.0.1 ≡ fd.0 = ap (before d.0.1) fd.1.whole ∙ before_end fd.0 d.0.1 in
     let place : b.0.0 ≡ check_of (cover h fd.0) = fitting b.0.0 (cover h (before d.0.1 b.0.1)) j.0 ∙ ap (λ (t : List ℕ). check_of (cover h t)) chain in
-    subst (λ (p : DynContent). IsIrDynText h profile kept p × (length p.payload ≤ 65495)) j.1 (
+    subst (λ (p : DynContent). IsIrDynText h profile kept p × (length p.payload ≤ longest_payload)) j.1 (
       record {
         chain = fd.0;
         kind = ir_dyn_kind h.kind is;
@@ -291,10 +291,10 @@ module _ (h : Header) (profile : ℕ) (kept : Kept) (r : Result lent_dyn.IrDyn C
   pub dyn_said : IsIrDyn h.kind → profile ≤ 1 → All IsOctet h.rest → IfOk r (λ packet. IsIrDynText h profile kept (dyn_content packet))
   dyn_said is low all = ok_said dyn_content r (ir_dyn_at h profile kept) (IsIrDynText h profile kept) e (λ packet read. (dyn_text h profile kept packet is low all read).0)
 
-  pub dyn_short : IsIrDyn h.kind → profile ≤ 1 → All IsOctet h.rest → IfOk r (λ packet. length packet.payload.now ≤ 65495)
-  dyn_short is low all = ok_said dyn_content r (ir_dyn_at h profile kept) (λ packet. length packet.payload ≤ 65495) e (λ packet read. (dyn_text h profile kept packet is low all read).1)
+  pub dyn_short : IsIrDyn h.kind → profile ≤ 1 → All IsOctet h.rest → IfOk r (λ packet. length packet.payload.now ≤ longest_payload)
+  dyn_short is low all = ok_said dyn_content r (ir_dyn_at h profile kept) (λ packet. length packet.payload ≤ longest_payload) e (λ packet read. (dyn_text h profile kept packet is low all read).1)
 
-  pub dyn_only : (packet : DynContent) → IsIrDynText h profile kept packet → length packet.payload ≤ 65495 → result_map_both dyn_content (λ e. e) r ≡ Ok packet
+  pub dyn_only : (packet : DynContent) → IsIrDynText h profile kept packet → length packet.payload ≤ longest_payload → result_map_both dyn_content (λ e. e) r ≡ Ok packet
   dyn_only packet is l = e ∙ dyn_from_text h profile kept packet is l
 
   pub dyn_refused : IfErr r (λ e. ir_dyn_fault h profile ≡ Some e)

@@ -4,19 +4,8 @@ use Rattle.std.specs.Prelude.{◌≡◌, ℕ, ◌+◌, ◌*◌, ◌/◌, ◌%◌
 use Rattle.rohc_bits.specs.Spelling.{IsSpelled}
 use Rattle.rohc_header.specs.declared.fields.Static.{Static}
 use Rattle.rohc_header.specs.declared.fields.Dynamic.{Dynamic}
+use Rattle.rohc_header.specs.Original.{word, quad, flag}
 use Rattle.rohc_chain.specs.declared.parts.Kept.{Kept}
-
--- a number of two octets, most significant first
-abbrev pub word : ℕ → List ℕ
-word n = n / 256 ∷ n % 256 ∷ []
-
--- a number of four octets, most significant first
-abbrev pub quad : ℕ → List ℕ
-quad n = word (n / 65536) ++ word (n % 65536)
-
--- a flag by the weight of its bit
-abbrev pub flag : ℕ → Bool → ℕ
-flag weight set = if set then weight else 0
 
 -- IPv4, static: version 4 and four ignored bits; protocol 17; the addresses.
 pub record SpellsIpStatic (source destination : List ℕ) (text : List ℕ) : Type 0 where
@@ -37,7 +26,7 @@ pub record SpellsStatic (fixed : Static) (text : List ℕ) : Type 0 where
 pub record SpellsIpDynamic (moving : Dynamic) (text : List ℕ) : Type 0 where
   pub ignored : ℕ
   pub five_bits : ignored < 32
-  pub whole : text ≡ moving.tos ∷ moving.ttl ∷ word moving.id ++ (flag 128 moving.df + flag 64 moving.rnd + flag 32 moving.nbo + ignored) ∷ 0 ∷ []
+  pub whole : text ≡ moving.tos ∷ moving.ttl ∷ word moving.id ++ (flag moving.df 128 + flag moving.rnd 64 + flag moving.nbo 32 + ignored) ∷ 0 ∷ []
 
 -- the stride of timestamps: a value above 0, or none where the one that is kept stays
 abbrev pub SpellsStride : Bool → Option ℕ → Option ℕ → List ℕ → Type 0
@@ -62,7 +51,7 @@ pub record SpellsFlags (kept : Option ℕ) (extension : Bool) (stride : Option �
   pub not_reliable : mode < 3
   pub spells_stride : SpellsStride tss kept stride stride_text
   pub spells_time : SpellsTimeStride tis time_text
-  pub whole : text ≡ (32 * ignored + flag 16 extension + 4 * mode + flag 2 tis + flag 1 tss) ∷ stride_text ++ time_text
+  pub whole : text ≡ (32 * ignored + flag extension 16 + 4 * mode + flag tis 2 + flag tss 1) ∷ stride_text ++ time_text
 
 -- the octet of these flags and what it names, or nothing where what is kept stays
 abbrev pub SpellsGiven : Bool → Kept → Bool → Option ℕ → List ℕ → Type 0
@@ -76,7 +65,7 @@ pub record SpellsRtpDynamic (kept : Kept) (moving : Dynamic) (text : List ℕ) :
   pub given : List ℕ
   pub seven_bits : moving.payload_type < 128
   pub spells_given : SpellsGiven rx kept moving.extension moving.stride given
-  pub whole : text ≡ (128 + flag 32 moving.padding + flag 16 rx) ∷ (flag 128 moving.marker + moving.payload_type) ∷ word moving.sn ++ (quad moving.ts ++ 0 ∷ given)
+  pub whole : text ≡ (128 + flag moving.padding 32 + flag rx 16) ∷ (flag moving.marker 128 + moving.payload_type) ∷ word moving.sn ++ (quad moving.ts ++ 0 ∷ given)
 
 -- IPv4, UDP and RTP, dynamic: between IPv4's and RTP's the UDP checksum.
 pub record SpellsDynamic (kept : Kept) (moving : Dynamic) (text : List ℕ) : Type 0 where

@@ -1,11 +1,14 @@
 -- What the readers of IR and IR-DYN packets and the definitions of their octets have to do with one another.
-use Rattle.std.specs.Prelude.{◌≡◌, ℕ, ◌≤◌, ◌↔◌, length, All, Some, Ok, Err}
+use Rattle.std.specs.Prelude.{◌≡◌, ℕ, ◌≤◌, ◌↔◌, List, length, All, Some, Ok, Err}
 use Rattle.rohc_frame.specs.Header.{Header}
 use Rattle.rohc_frame.specs.Laws.{IsOctet}
+use Rattle.rohc_header.specs.declared.fields.Static.{Static}
+use Rattle.rohc_header.specs.declared.fields.Dynamic.{Dynamic}
 use Rattle.rohc_chain.specs.declared.parts.Kept.{Kept}
 use Rattle.rohc_chain.specs.declared.refusal.ChainRefusal.{ChainRefusal}
-use Rattle.rohc_chain.specs.Packets.{IrContent, DynContent, IsIr, IsIrDyn, ir_at, ir_dyn_at}
-use Rattle.rohc_chain.specs.Good.{IsGoodStride, IsGoodDynamic, IsGoodContent}
+use Rattle.rohc_chain.specs.Packets.{IrContent, DynContent, IsIr, IsIrDyn, nothing_kept, longest_payload, ir_at, ir_dyn_at}
+use Rattle.rohc_chain.specs.Good.{IsGoodStatic, IsGoodStride, IsGoodDynamic, IsGoodContent}
+use Rattle.rohc_chain.specs.ChainText.{SpellsStatic, SpellsDynamic}
 use Rattle.rohc_chain.specs.Texts.{IsIrText, IsIrDynText, IsShort, ir_fault, ir_dyn_fault}
 
 -- what an IR of octets says is read exactly where its octets spell it and the rebuilt packet isn't too long
@@ -24,7 +27,7 @@ SaysOne = (h : Header) (a b : IrContent) → IsIrText h a → IsIrText h b → a
 -- the same of an IR-DYN for a context of profile 0 or 1
 abbrev pub ReadsIrDyns : Type 0
 ReadsIrDyns = (h : Header) (profile : ℕ) (kept : Kept) (packet : DynContent) → IsIrDyn h.kind → profile ≤ 1 → All IsOctet h.rest →
-    (ir_dyn_at h profile kept ≡ Ok packet) ↔ (IsIrDynText h profile kept packet × (length packet.payload ≤ 65495))
+    (ir_dyn_at h profile kept ≡ Ok packet) ↔ (IsIrDynText h profile kept packet × (length packet.payload ≤ longest_payload))
 
 -- and it is refused exactly where that is its first fault
 abbrev pub RefusesIrDyns : Type 0
@@ -43,3 +46,11 @@ SaysGood = (h : Header) (content : IrContent) → All IsOctet h.rest → IsIrTex
 abbrev pub DynSaysGood : Type 0
 DynSaysGood = (h : Header) (profile : ℕ) (kept : Kept) (packet : DynContent) → All IsOctet h.rest → IsGoodStride kept.stride →
     IsIrDynText h profile kept packet → IsGoodDynamic packet.moving × All IsOctet packet.payload
+
+-- and what is good is spelled by octets: each static chain
+abbrev pub SpellsEachStatic : Type 0
+SpellsEachStatic = (fixed : Static) → IsGoodStatic fixed → (text : List ℕ) × All IsOctet text × SpellsStatic fixed text
+
+-- and each dynamic chain, with no value that is kept
+abbrev pub SpellsEachDynamic : Type 0
+SpellsEachDynamic = (moving : Dynamic) → IsGoodDynamic moving → (text : List ℕ) × All IsOctet text × SpellsDynamic nothing_kept moving text

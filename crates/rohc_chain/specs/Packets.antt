@@ -1,11 +1,10 @@
 -- Whole IR and IR-DYN packets, read from left to right, with the first fault that is met.
-use Rattle.std.specs.Prelude.{ℕ, ◌-◌, List, [], ◌∷◌, ◌++◌, length, take, Bool, false, ◌==◌, nat_lt, if◌then◌else◌, Option, None, Result}
+use Rattle.std.specs.Prelude.{ℕ, ◌-◌, List, [], ◌∷◌, ◌++◌, length, take, Bool, false, ◌==◌, nat_le, if◌then◌else◌, Option, None, Result}
 use Rattle.rohc_checks.specs.Division.{check, poly8}
-use Rattle.rohc_frame.specs.declared.header.CidKind.{CidKind}
-use Rattle.rohc_frame.specs.declared.header.CidKind.TheVariants.{Small, Large}
 use Rattle.rohc_frame.specs.declared.header.HeadKind.{HeadKind}
 use Rattle.rohc_frame.specs.declared.header.HeadKind.TheVariants.{Ir, IrDyn, Other}
-use Rattle.rohc_frame.specs.Header.{Header}
+use Rattle.rohc_frame.specs.Header.{Header, placed}
+pub use Rattle.rohc_frame.specs.Header.{IsIr, IsIrDyn}
 use Rattle.rohc_header.specs.declared.fields.Static.{Static}
 use Rattle.rohc_header.specs.declared.fields.Dynamic.{Dynamic}
 use Rattle.rohc_chain.specs.declared.packet.Ir as lent
@@ -39,32 +38,15 @@ pub record DynContent : Type 0 where
 abbrev pub dyn_content : lent_dyn.IrDyn → DynContent
 dyn_content packet = record { moving = packet.moving; payload = packet.payload.now }
 
--- type octet FC or FD
-abbrev pub IsIr : HeadKind → Type 0
-IsIr (Ir dynamic) = Unit {0}
-IsIr IrDyn = ⊥
-IsIr Other = ⊥
-
--- type octet F8
-abbrev pub IsIrDyn : HeadKind → Type 0
-IsIrDyn (Ir dynamic) = ⊥
-IsIrDyn IrDyn = Unit {0}
-IsIrDyn Other = ⊥
-
 -- the IR has a dynamic chain: type octet FD
 abbrev pub is_dynamic : HeadKind → Bool
 is_dynamic (Ir dynamic) = dynamic
 is_dynamic IrDyn = false
 is_dynamic Other = false
 
--- the octets of a header up to its first octet, with the identifier where the link puts it
-abbrev pub front_of : CidKind → List ℕ → ℕ → List ℕ
-front_of Small cid_octets first = cid_octets ++ first ∷ []
-front_of Large cid_octets first = first ∷ cid_octets
-
--- the same of a header
+-- the first octet of a header and its identifier, where the link puts it
 abbrev pub front : Header → List ℕ
-front h = front_of h.size h.cid_octets h.first
+front h = placed h.size h.cid_octets h.first []
 
 -- What the check of profile 0x0000 covers: the packet through its Profile octet (RFC 3095 5.10.1).
 abbrev pub plain_cover : Header → List ℕ
@@ -91,9 +73,13 @@ nothing_kept = kept_values false None
 abbrev pub before : List ℕ → List ℕ → List ℕ
 before behind text = take (length text - length behind) text
 
--- the payload of a packet that isn't too long: of 65,535 octets 40 are the header's
+-- the longest payload: 65,535 octets hold it behind its header of 40
+abbrev pub longest_payload : ℕ
+longest_payload = 65495
+
+-- a payload isn't too long
 abbrev pub length_fault : List ℕ → Option ChainRefusal
-length_fault payload = unless (nat_lt (length payload) 65496) TooLong
+length_fault payload = unless (nat_le (length payload) longest_payload) TooLong
 
 -- and the check
 abbrev pub check_fault : ℕ → List ℕ → Option ChainRefusal

@@ -7,7 +7,7 @@ use Rattle.rohc_header.specs.declared.fields.Static.{Static}
 use Rattle.rohc_header.specs.declared.fields.Dynamic.{Dynamic}
 use Rattle.rohc_chain.specs.declared.parts.Kept.{Kept}
 use Rattle.rohc_chain.specs.declared.refusal.ChainRefusal.{ChainRefusal}
-use Rattle.rohc_chain.specs.Packets.{IrContent, Plain, StaticOnly, Whole, DynContent, is_dynamic, plain_cover, cover, before, nothing_kept, length_fault, check_fault}
+use Rattle.rohc_chain.specs.Packets.{IrContent, Plain, StaticOnly, Whole, DynContent, is_dynamic, plain_cover, cover, before, nothing_kept, longest_payload, length_fault, check_fault}
 use Rattle.rohc_chain.specs.ChainText.{SpellsStatic, SpellsDynamic}
 use Rattle.rohc_chain.specs.Fields.{after_fields, ir_fields, ir_dyn_fields}
 
@@ -51,11 +51,11 @@ pub record IsIrDynText (h : Header) (profile : ℕ) (kept : Kept) (packet : DynC
   pub spells_dynamic : SpellsDynamic kept packet.moving chain
   pub whole : h.rest ≡ 1 ∷ check_of (cover h chain) ∷ chain ++ packet.payload
 
--- the rebuilt packet isn't over 65,535 octets, of which 40 are its header's
+-- the rebuilt packet isn't too long
 abbrev pub IsShort : IrContent → Type 0
 IsShort (Plain packet) = Unit {0}
 IsShort (StaticOnly fixed) = Unit {0}
-IsShort (Whole fixed moving payload) = length payload ≤ 65495
+IsShort (Whole fixed moving payload) = length payload ≤ longest_payload
 
 -- the first of two refusals
 abbrev pub or_else : Option ChainRefusal → Option ChainRefusal → Option ChainRefusal

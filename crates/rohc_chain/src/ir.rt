@@ -11,7 +11,7 @@ ghost use Rattle.rohc_chain.specs.Texts.{IsIrText, IsShort, ir_fault};
 use crate::cover::{fits_chains, fits_plain};
 use crate::dynamic_chain::dynamic_chain;
 use crate::octets::{cursor_over, octet};
-use crate::packet::{GREATEST_PAYLOAD, Ir};
+use crate::packet::{Ir, LONGEST_PAYLOAD};
 use crate::parts::Kept;
 use crate::refusal::ChainRefusal;
 use crate::static_chain::static_chain;
@@ -62,7 +62,7 @@ fn whole<'a>(forward: &Forward<'a>, check: u8, octets: &'a [u8]) -> Result<Ir<'a
     let fixed = static_chain(&mut cursor)?;
     let moving = dynamic_chain(Kept::NOTHING, &mut cursor)?;
     let payload = cursor.rest();
-    if payload.len() > GREATEST_PAYLOAD {
+    if payload.len() > LONGEST_PAYLOAD {
         return Err(ChainRefusal::TooLong);
     }
     let chains = &octets[..octets.len() - payload.len()];

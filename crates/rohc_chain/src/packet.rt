@@ -2,8 +2,8 @@
 
 use rohc_header::{Dynamic, Static};
 
-/// The greatest payload of a rebuilt packet of 65,535 octets, of which 40 are its header.
-pub(crate) const GREATEST_PAYLOAD: usize = 65_495;
+/// The longest payload of a packet: 65,535 octets hold it behind its header.
+pub(crate) const LONGEST_PAYLOAD: usize = 65_495;
 
 /// What an IR packet says.
 #[derive(Clone, Copy, Debug)]

@@ -263,6 +263,156 @@ fn ir_dyns(rt: HostRuntime) -> Result<(), Fail> {
     Ok(())
 }
 
+// IR-DYNs of other streams, some behind identifiers: how the link spells these, the packet, the stride that is
+// kept, what its dynamic chain says, and its payload.
+const OTHER_DYNAMIC: [(CidKind, &[u8], Option<u32>, Moving, &[u8]); 4] = [
+    (
+        CidKind::Small,
+        &[
+            0xec, 0xf8, 0x01, 0x17, 0xbc, 0xf4, 0x36, 0x44, 0xe0, 0x00, 0x67, 0x1d, 0x90, 0x2c,
+            0xf0, 0xa3, 0x19, 0x9a, 0x03, 0x04, 0x00, 0x19, 0xc0, 0x40, 0x00, 0x9d, 0x89,
+        ],
+        Some(160),
+        (
+            (188, 244, 13892, true, true, true),
+            26397,
+            (false, true, false, 44, 61603, 429_523_716, Some(16_384)),
+        ),
+        &[0x9d, 0x89],
+    ),
+    (
+        CidKind::Small,
+        &[
+            0xf8, 0x01, 0xba, 0xd5, 0xce, 0x63, 0xec, 0xe0, 0x00, 0xda, 0xbc, 0xb0, 0x95, 0xb3,
+            0xda, 0x60, 0x24, 0xed, 0x7a, 0x00, 0x1b, 0xff, 0xff, 0xff, 0xff, 0x7f, 0x54, 0x28,
+            0x85,
+        ],
+        None,
+        (
+            (213, 206, 25580, true, true, true),
+            55996,
+            (
+                true,
+                true,
+                true,
+                21,
+                46042,
+                1_613_032_826,
+                Some(536_870_911),
+            ),
+        ),
+        &[0x54, 0x28, 0x85],
+    ),
+    (
+        CidKind::Large,
+        &[
+            0xf8, 0x80, 0x05, 0x01, 0xe2, 0x0a, 0x2b, 0x86, 0x20, 0xaf, 0x00, 0x00, 0x00, 0xb0,
+            0x76, 0x60, 0x93, 0x7a, 0xb1, 0x98, 0x68, 0x00, 0xe9, 0x80, 0xa0, 0x9b,
+        ],
+        Some(160),
+        (
+            (10, 43, 34336, true, false, true),
+            0,
+            (true, false, false, 118, 24723, 2_058_459_240, Some(160)),
+        ),
+        &[0x9b],
+    ),
+    (
+        CidKind::Large,
+        &[
+            0xf8, 0x05, 0x01, 0xd0, 0x93, 0x94, 0xc6, 0xaa, 0xc0, 0x00, 0xcb, 0x14, 0x80, 0xd2,
+            0x5b, 0x21, 0x98, 0x71, 0xab, 0xf1, 0x00, 0x6a, 0x6d, 0xa1,
+        ],
+        Some(160),
+        (
+            (147, 148, 50858, true, true, false),
+            51988,
+            (false, false, true, 82, 23329, 2_557_586_417, Some(160)),
+        ),
+        &[0x6a, 0x6d, 0xa1],
+    ),
+];
+
+#[test]
+fn ir_dyns_of_other_streams(rt: HostRuntime) {
+    for (size, packet, stride, expected, payload) in OTHER_DYNAMIC {
+        let Some(Ok(said)) = ir_dyn_in(size, packet, 1, false, stride) else {
+            panic!(rt; "no IR-DYN");
+        };
+        assert!(rt; moving_fields(said.moving) == expected);
+        assert_eq!(rt; said.payload, payload);
+    }
+}
+
+// IRs of other streams behind identifiers: how the link spells these, the packet, what its chains say, and its
+// payload.
+const OTHER_WHOLE: [(CidKind, &[u8], Fixed, Moving, &[u8]); 2] = [
+    (
+        CidKind::Small,
+        &[
+            0xe7, 0xfd, 0x01, 0x48, 0x40, 0x11, 0x71, 0xb3, 0xa9, 0x0e, 0xcd, 0xa9, 0x6b, 0x0e,
+            0xe6, 0x79, 0x7f, 0xeb, 0xa3, 0xf5, 0xfc, 0xc9, 0x16, 0xc7, 0x2a, 0xce, 0xe0, 0x00,
+            0x8d, 0xcc, 0xa0, 0x34, 0x6d, 0x8e, 0xd3, 0xfd, 0xc3, 0xcc, 0x00, 0xe2,
+        ],
+        (
+            [0x71, 0xb3, 0xa9, 0x0e],
+            [0xcd, 0xa9, 0x6b, 0x0e],
+            59001,
+            32747,
+            2_750_807_241,
+        ),
+        (
+            (22, 199, 10958, true, true, true),
+            36300,
+            (true, false, false, 52, 28046, 3_556_623_308, None),
+        ),
+        &[0xe2],
+    ),
+    (
+        CidKind::Large,
+        &[
+            0xfd, 0x81, 0x2c, 0x01, 0x05, 0x40, 0x11, 0x36, 0x65, 0x4e, 0x60, 0xd1, 0x1c, 0x4f,
+            0xc2, 0x1f, 0x99, 0xe5, 0xba, 0x95, 0xc0, 0xd9, 0xc0, 0x92, 0xae, 0xd8, 0xff, 0xa0,
+            0x00, 0x00, 0x00, 0xb0, 0xbd, 0xfb, 0x00, 0x57, 0x05, 0xa8, 0x95, 0x00, 0xf8, 0x33,
+            0x13, 0x06,
+        ],
+        (
+            [0x36, 0x65, 0x4e, 0x60],
+            [0xd1, 0x1c, 0x4f, 0xc2],
+            8089,
+            58810,
+            2_512_443_840,
+        ),
+        (
+            (146, 174, 55551, true, false, true),
+            0,
+            (true, true, true, 61, 64256, 1_459_988_629, None),
+        ),
+        &[0x33, 0x13, 0x06],
+    ),
+];
+
+#[test]
+fn irs_of_other_streams(rt: HostRuntime) {
+    for (size, packet, kept, expected, rest) in OTHER_WHOLE {
+        let Some(
+            Ok(
+                Ir::Whole {
+                    fixed,
+                    moving,
+                    payload,
+                },
+            ),
+        ) = ir_in(size, packet)
+        else {
+            panic!(rt; "no whole IR");
+        };
+        assert_eq!(rt; fixed_fields(fixed), kept);
+        assert!(rt; moving_fields(moving) == expected);
+        assert_eq!(rt; payload, rest);
+    }
+}
+
 // The IRs of example refused chains, and Trailing, which comes before Check.
 const REFUSED_IRS: [(Parts, ChainRefusal); 9] = [
     ([&[0xfd, 0, 0], &[], &[], &[]], ChainRefusal::Profile),

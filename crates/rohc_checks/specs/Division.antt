@@ -1,5 +1,5 @@
 -- A check by polynomial division over whole lists of bits (RFC 3095, section 5.9).
-use Rattle.std.specs.Prelude.{◌==◌, ℕ, zero, suc, ◌+◌, ◌-◌, ◌*◌, ◌/◌, ◌%◌, Bool, true, false, if◌then◌else◌, List, [], ◌∷◌, ◌++◌, length, map, drop, replicate}
+use Rattle.std.specs.Prelude.{◌≡◌, ◌==◌, ℕ, zero, suc, ◌+◌, ◌-◌, ◌*◌, ◌/◌, ◌%◌, Bool, true, false, if◌then◌else◌, List, [], ◌∷◌, ◌++◌, length, map, drop, replicate}
 use Rattle.std.specs.List.{flat_map, range_with_len}
 use Rattle.std.proofs.Math.Bool.{xor}
 
@@ -32,6 +32,11 @@ poly8 = true ∷ false ∷ false ∷ false ∷ false ∷ false ∷ true ∷ true
 -- the highest power
 abbrev pub degree : List Bool → ℕ
 degree poly = length poly - 1
+
+-- a polynomial of degree n: its highest coefficient is 1, and n lower ones follow
+abbrev pub HasDegree : ℕ → List Bool → Type 0
+HasDegree n [] = ⊥
+HasDegree n (highest ∷ lower) = (highest ≡ true) × (length lower ≡ n)
 
 -- xs added without carry to the first places of ys
 unfoldable pub add_front : List Bool → List Bool → List Bool

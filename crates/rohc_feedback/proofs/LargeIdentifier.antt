@@ -6,6 +6,7 @@ use Rattle.std.proofs.lemmas.Bool.Decides.{nat_tests}
 use Rattle.std.proofs.lemmas.Bool.{cases_lt}
 use Rattle.std.proofs.lemmas.List.Elements.{All-nil, All-cons, All-head, All-tail}
 use Rattle.rohc_bits.specs.Spelling.{IsSpelled}
+use Rattle.rohc_bits.proofs.Arithmetic.{spelled_as, is_spelled}
 use Rattle.rohc_frame.specs.declared.header.CidKind.TheVariants.{Large}
 use Rattle.rohc_feedback.specs.Element.{identifier_octets}
 
@@ -15,32 +16,29 @@ abbrev pub IsShortest : List ℕ → ℕ → Type 0
 IsShortest text cid = (other : List ℕ) → IsSpelled other cid → length text ≤ length other
 
 one_octet : (cid : ℕ) → cid < 128 → IsSpelled (cid ∷ []) cid
-one_octet cid low = record {
-  octets = All-cons (λ octet. octet < 256) cid [] (omega arith) (All-nil (λ octet. octet < 256));
-  spells = (omega arith, refl);
-}
+one_octet cid low =
+    is_spelled (cid ∷ []) cid (All-cons (λ octet. octet < 256) cid [] (omega arith) (All-nil (λ octet. octet < 256))) (omega arith, refl)
 
 two_octets : (cid : ℕ) → 128 ≤ cid → cid ≤ 16383 → IsSpelled ((128 + cid / 256) ∷ (cid % 256) ∷ []) cid
 two_octets cid high low =
     let P : ℕ → Type 0 = λ octet. octet < 256 in
-    record {
-      octets = All-cons P (128 + cid / 256) (cid % 256 ∷ []) (omega arith) (All-cons P (cid % 256) [] (omega arith) (All-nil P));
-      spells = (omega arith, omega arith);
-    }
+    is_spelled ((128 + cid / 256) ∷ (cid % 256) ∷ []) cid
+    (All-cons P (128 + cid / 256) (cid % 256 ∷ []) (omega arith) (All-cons P (cid % 256) [] (omega arith) (All-nil P)))
+    (omega arith, omega arith)
 
 -- by how many octets the shortest has
 is_one : (text : List ℕ) (cid : ℕ) → cid < 128 → IsSpelled text cid → length text ≤ 1 → text ≡ cid ∷ []
-is_one [] cid low is short = absurd is.spells
-is_one (a ∷ []) cid low is short = let e = is.spells.1 in cc
+is_one [] cid low is short = absurd (spelled_as [] cid is)
+is_one (a ∷ []) cid low is short = let e = (spelled_as (a ∷ []) cid is).1 in cc
 is_one (a ∷ b ∷ text) cid low is short = absurd (omega arith)
 
 is_two : (text : List ℕ) (cid : ℕ) → 128 ≤ cid → IsSpelled text cid → length text ≤ 2 → text ≡ (128 + cid / 256) ∷ (cid % 256) ∷ []
-is_two [] cid high is short = absurd is.spells
-is_two (a ∷ []) cid high is short = let s = is.spells in absurd (omega arith)
+is_two [] cid high is short = absurd (spelled_as [] cid is)
+is_two (a ∷ []) cid high is short = let s = spelled_as (a ∷ []) cid is in absurd (omega arith)
 is_two (a ∷ b ∷ []) cid high is short =
     let P : ℕ → Type 0 = λ octet. octet < 256 in
     let octet : b < 256 = All-head P b [] (All-tail P a (b ∷ []) is.octets) in
-    let s = is.spells in
+    let s = spelled_as (a ∷ b ∷ []) cid is in
     let first : a ≡ 128 + cid / 256 = omega arith in
     let second : b ≡ cid % 256 = omega arith in
     cc
@@ -85,6 +83,15 @@ pub read_some : (read : Option (ℕ × ℕ)) (octets feedback : List ℕ) (cid :
 read_some read octets feedback cid every fits is none =
     let front : read ≡ Some (cid, length (identifier_octets Large cid)) = every (identifier_octets Large cid) feedback cid is (spelled_identifier cid fits) in
     cc
+
+-- and it is no greater value
+pub read_within : (read : Option (ℕ × ℕ)) (octets feedback : List ℕ) (cid v n : ℕ) → ReadsFront read octets → cid ≤ 16383 →
+    octets ≡ identifier_octets Large cid ++ feedback → read ≡ Some (v, n) → v ≤ 16383
+read_within read octets feedback cid v n every fits is read_is =
+    let front : read ≡ Some (cid, length (identifier_octets Large cid)) = every (identifier_octets Large cid) feedback cid is (spelled_identifier cid fits) in
+    let both : ◌≡◌ {A = ℕ × ℕ} (v, n) (cid, length (identifier_octets Large cid)) = cc in
+    let same : v ≡ cid = ap (λ (p : ℕ × ℕ). p.0) both in
+    omega (arith, same)
 
 behind_front : (octets identifier feedback : List ℕ) (count : ℕ) → octets ≡ identifier ++ feedback → count ≡ length identifier → take (length octets - count) (drop count octets) ≡ feedback
 behind_front octets identifier feedback count is counted =

@@ -7,7 +7,8 @@ use Rattle.rohc_forms.specs.declared.form.FormKind.TheVariants.{Uo0, Uo1, Uo1Id,
 use Rattle.rohc_forms.specs.Octets.{slice, bit}
 use Rattle.rohc_forms.specs.Content.{kind_of}
 use Rattle.rohc_forms.specs.Formats.{is_found, number_of, begin_with, has_format, base_of, FitsOne, FitsOneExtension}
-use Rattle.rohc_forms.specs.Table.{plus, minus, layout_0, layout_1, layout_2, short_layout}
+use Rattle.rohc_forms.specs.Table.{plus, minus, layout_0, layout_1, layout_2, short_layout, FirstOctet, IpOctet, RtpOctet, TypeOctet, Prefix, S, R-TS, Tsc, I, IP, RTP, TOS, TTL, DF, PR, IPX, NBO, RND, IP2, Mode, R-PT, M, R-X, CSRC, TSS, TIS, P, PT}
+use Rattle.rohc_forms.specs.Laws.{BeginsWith11, HaveEightBits, StandInPlace}
 
 -- the format that fits is the one that is read
 only : (kind : FormKind) (rnd : Bool) (a b c : ℕ) → a < 224 → b < 256 → c < 256 → has_format kind rnd (a ∷ b ∷ c ∷ []) ≡ true → kind ≡ kind_of (base_of a b c) rnd
@@ -137,3 +138,40 @@ fits_2 kind a b c l m n = (
 
 pub fits_one_extension : FitsOneExtension
 fits_one_extension = λ kind a b c l m n. (fits_0 kind a b c l, fits_1 kind a b c l m, fits_2 kind a b c l m n)
+
+-- the prefix of an extension 3
+pub begins_with_11 : BeginsWith11
+begins_with_11 = λ first l. ((λ m. omega arith), λ e. omega (arith, e))
+
+-- the octets of an extension 3
+pub eight_bits : HaveEightBits
+eight_bits FirstOctet = refl
+eight_bits IpOctet = refl
+eight_bits RtpOctet = refl
+eight_bits TypeOctet = refl
+
+pub in_place : StandInPlace
+in_place Prefix = (FirstOctet, [], S ∷ R-TS ∷ Tsc ∷ I ∷ IP ∷ RTP ∷ [], refl, refl)
+in_place S = (FirstOctet, Prefix ∷ [], R-TS ∷ Tsc ∷ I ∷ IP ∷ RTP ∷ [], refl, refl)
+in_place R-TS = (FirstOctet, Prefix ∷ S ∷ [], Tsc ∷ I ∷ IP ∷ RTP ∷ [], refl, refl)
+in_place Tsc = (FirstOctet, Prefix ∷ S ∷ R-TS ∷ [], I ∷ IP ∷ RTP ∷ [], refl, refl)
+in_place I = (FirstOctet, Prefix ∷ S ∷ R-TS ∷ Tsc ∷ [], IP ∷ RTP ∷ [], refl, refl)
+in_place IP = (FirstOctet, Prefix ∷ S ∷ R-TS ∷ Tsc ∷ I ∷ [], RTP ∷ [], refl, refl)
+in_place RTP = (FirstOctet, Prefix ∷ S ∷ R-TS ∷ Tsc ∷ I ∷ IP ∷ [], [], refl, refl)
+in_place TOS = (IpOctet, [], TTL ∷ DF ∷ PR ∷ IPX ∷ NBO ∷ RND ∷ IP2 ∷ [], refl, refl)
+in_place TTL = (IpOctet, TOS ∷ [], DF ∷ PR ∷ IPX ∷ NBO ∷ RND ∷ IP2 ∷ [], refl, refl)
+in_place DF = (IpOctet, TOS ∷ TTL ∷ [], PR ∷ IPX ∷ NBO ∷ RND ∷ IP2 ∷ [], refl, refl)
+in_place PR = (IpOctet, TOS ∷ TTL ∷ DF ∷ [], IPX ∷ NBO ∷ RND ∷ IP2 ∷ [], refl, refl)
+in_place IPX = (IpOctet, TOS ∷ TTL ∷ DF ∷ PR ∷ [], NBO ∷ RND ∷ IP2 ∷ [], refl, refl)
+in_place NBO = (IpOctet, TOS ∷ TTL ∷ DF ∷ PR ∷ IPX ∷ [], RND ∷ IP2 ∷ [], refl, refl)
+in_place RND = (IpOctet, TOS ∷ TTL ∷ DF ∷ PR ∷ IPX ∷ NBO ∷ [], IP2 ∷ [], refl, refl)
+in_place IP2 = (IpOctet, TOS ∷ TTL ∷ DF ∷ PR ∷ IPX ∷ NBO ∷ RND ∷ [], [], refl, refl)
+in_place Mode = (RtpOctet, [], R-PT ∷ M ∷ R-X ∷ CSRC ∷ TSS ∷ TIS ∷ [], refl, refl)
+in_place R-PT = (RtpOctet, Mode ∷ [], M ∷ R-X ∷ CSRC ∷ TSS ∷ TIS ∷ [], refl, refl)
+in_place M = (RtpOctet, Mode ∷ R-PT ∷ [], R-X ∷ CSRC ∷ TSS ∷ TIS ∷ [], refl, refl)
+in_place R-X = (RtpOctet, Mode ∷ R-PT ∷ M ∷ [], CSRC ∷ TSS ∷ TIS ∷ [], refl, refl)
+in_place CSRC = (RtpOctet, Mode ∷ R-PT ∷ M ∷ R-X ∷ [], TSS ∷ TIS ∷ [], refl, refl)
+in_place TSS = (RtpOctet, Mode ∷ R-PT ∷ M ∷ R-X ∷ CSRC ∷ [], TIS ∷ [], refl, refl)
+in_place TIS = (RtpOctet, Mode ∷ R-PT ∷ M ∷ R-X ∷ CSRC ∷ TSS ∷ [], [], refl, refl)
+in_place P = (TypeOctet, [], PT ∷ [], refl, refl)
+in_place PT = (TypeOctet, P ∷ [], [], refl, refl)

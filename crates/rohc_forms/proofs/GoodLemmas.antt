@@ -8,7 +8,7 @@ use Rattle.std.proofs.lemmas.Bool.Decides.{nat_tests}
 use Rattle.std.proofs.lemmas.List.Elements.{All-head, All-tail, All-take, All-drop}
 use Rattle.rohc_bits.specs.Fronts.{value_bits}
 use Rattle.rohc_bits.specs.LowBits.{LowBits}
-use Rattle.rohc_bits.specs.Spelling.{Spells}
+use Rattle.rohc_bits.proofs.Values.{value_fits, value_range}
 use Rattle.rohc_bits.proofs.Widths.{joined_fits}
 use Rattle.rohc_frame.specs.Laws as frame
 use Rattle.rohc_forms.specs.declared.form.FormKind.{FormKind}
@@ -80,39 +80,10 @@ word_good n text all is =
     let e : n ≡ is.0 * 256 + is.1 = is.3 in
     omega arith
 
--- a value fits the bits that its octets leave to it
-spelled_fits : (text : List ℕ) (value : ℕ) → All frame.IsOctet text → Spells text value → value < 2 ^ value_bits (length text)
-spelled_fits [] v all s = absurd s
-spelled_fits (a ∷ []) v all s = let l : a < 256 = All-head frame.IsOctet a [] all in omega (arith, s.0, s.1)
-spelled_fits (a ∷ b ∷ []) v all s =
-    let l : b < 256 = All-head frame.IsOctet b [] (All-tail frame.IsOctet a (b ∷ []) all) in
-    omega (arith, s.0, s.1)
-spelled_fits (a ∷ b ∷ c ∷ []) v all s =
-    let rest = All-tail frame.IsOctet a (b ∷ c ∷ []) all in
-    let l : b < 256 = All-head frame.IsOctet b (c ∷ []) rest in
-    let m : c < 256 = All-head frame.IsOctet c [] (All-tail frame.IsOctet b (c ∷ []) rest) in
-    omega (arith, s.0, s.1)
-spelled_fits (a ∷ b ∷ c ∷ d ∷ []) v all s =
-    let rest = All-tail frame.IsOctet a (b ∷ c ∷ d ∷ []) all in
-    let last = All-tail frame.IsOctet b (c ∷ d ∷ []) rest in
-    let l : b < 256 = All-head frame.IsOctet b (c ∷ d ∷ []) rest in
-    let m : c < 256 = All-head frame.IsOctet c (d ∷ []) last in
-    let n : d < 256 = All-head frame.IsOctet d [] (All-tail frame.IsOctet c (d ∷ []) last) in
-    omega (arith, s.0, s.1)
-spelled_fits (a ∷ b ∷ c ∷ d ∷ e ∷ text) v all s = absurd s
-
-value_range : (text : List ℕ) (value : ℕ) → Spells text value → (7 ≤ value_bits (length text)) × (value_bits (length text) ≤ 29)
-value_range [] v s = absurd s
-value_range (a ∷ []) v s = (omega arith, omega arith)
-value_range (a ∷ b ∷ []) v s = (omega arith, omega arith)
-value_range (a ∷ b ∷ c ∷ []) v s = (omega arith, omega arith)
-value_range (a ∷ b ∷ c ∷ d ∷ []) v s = (omega arith, omega arith)
-value_range (a ∷ b ∷ c ∷ d ∷ e ∷ text) v s = absurd s
-
 value_good : Holds IsValue (IsBits 7 29)
 value_good d text all is =
     let range = value_range text d.value is.0 in
-    let fits : d.value < 2 ^ value_bits (length text) = spelled_fits text d.value all is.0 in
+    let fits : d.value < 2 ^ value_bits (length text) = value_fits text d.value is.0 in
     record {
       some = rw is.1 range.0;
       narrow = rw is.1 range.1;
@@ -275,7 +246,7 @@ holds_any R x text all n = tt
 
 type_good : (octet : Option ℕ) → IfSome (payload_type_in octet) (λ n. n < 128)
 type_good None = tt
-type_good (Some octet) = mod_below octet 128 (omega arith)
+type_good (Some octet) = mod_below (octet / 2 ^ 0) 128 (omega arith)
 
 stride_good : (named : Bool) → Holds (IsStride named) (λ stride. IfSome stride (λ n. (1 ≤ n) × (n ≤ 536870911)))
 stride_good named = holds_as stride_of (IfNamed named (NotRefused (λ d. stride_fault d.value) IsValue)) _ _
@@ -404,7 +375,7 @@ extension_good first base rnd known octet is = holds_which (nat_lt octet 192) _ 
 
 head_good : (first : ℕ) (rnd known : Bool) → Holds (IsHead first rnd known) (IsGoodHead first known)
 head_good first rnd known =
-    holds_then (IsBase first) _ (λ base. base.first ≡ first) _ (λ base text all is. ap (λ (b : Base). b.first) is.1) (λ base is.
+    holds_then (IsBase first rnd) _ (λ base. base.first ≡ first) _ (λ base text all is. ap (λ (b : Base). b.first) is.1) (λ base is.
     holds_which (base_said (kind_of base rnd) base.number).extended _ _ _
     (holds_then IsOctet _ (λ _. Unit {0}) _ (holds_any _) (λ octet _. extension_good first base rnd known octet is))
     (holds_says _ (IsGoodHead first known) (plain_good first base rnd known _ is (base_said_good (kind_of base rnd) base.number))))

@@ -1,5 +1,5 @@
 -- What is read is what the octets of a packet say.
-use Rattle.std.proofs.Common.{◌≡◌, ℕ, ◌+◌, ◌*◌, Bool, true, false, List, [], ◌∷◌, length, Option, Some, None, Result, Ok, Err, refl, sym, ap, ◌∙◌, arith}
+use Rattle.std.proofs.Common.{◌≡◌, ℕ, ◌+◌, ◌*◌, Bool, true, false, List, [], ◌∷◌, ◌++◌, length, Option, Some, None, Result, Ok, Err, refl, sym, ap, ◌∙◌, arith}
 use Rattle.std.specs.Prelude.{◌||◌, is_some, option_map, nat_lt, if◌then◌else◌, IfOk}
 use Rattle.std.specs.Result.{result_map_both}
 use Rattle.rohc_frame.specs.Header.{Header}
@@ -9,8 +9,8 @@ use Rattle.rohc_forms.specs.declared.parts.IpFlags.{IpFlags}
 use Rattle.rohc_forms.specs.declared.parts.RtpFlags.{RtpFlags}
 use Rattle.rohc_forms.specs.declared.refusal.FormRefusal.{FormRefusal}
 use Rattle.rohc_bits.specs.LowBits.{LowBits}
-use Rattle.rohc_forms.specs.Octets.{◌>>=◌, octet_at, word_at, octet_if, word_if, value_at}
-use Rattle.rohc_forms.specs.Table.{Said, Layout, width, under, layout_0, layout_1, layout_2, short_layout, S, R-TS, Tsc, I, IP, RTP, has, base_said}
+use Rattle.rohc_forms.specs.Octets.{◌>>=◌, bit, octet_at, word_at, octet_if, word_if, value_at}
+use Rattle.rohc_forms.specs.Table.{Said, Layout, layout, width, under, layout_0, layout_1, layout_2, short_layout, S, R-TS, Tsc, I, IP, RTP, has, base_said}
 use Rattle.rohc_forms.specs.Formats.{number_of}
 use Rattle.rohc_forms.specs.Judging.{judged, ip_fault, twice_fault, protocol_fault, rtp_fault, stride_fault, no_stride_fault}
 use Rattle.rohc_forms.specs.Given.{ip_flags, rnd_in_force, rtp_flags, rtp_values}
@@ -18,8 +18,8 @@ use Rattle.rohc_forms.specs.Extension.{judged_octet, ip_octet_at, sn_at, ts_at, 
 use Rattle.rohc_forms.specs.Content.{Head, Content, kind_of, plain_head, whole_content}
 use Rattle.rohc_forms.specs.Packets.{base_at, extension_1_at, extension_2_at, short_extension_at, extension_3_at, extension_at, behind_base, head_at, form_at}
 use Rattle.rohc_forms.specs.Pieces.{IsOctet, IsWord, IsValue, Says, Then, IfNamed, Which, As, NotRefused}
-use Rattle.rohc_forms.specs.Says.{IsUnder, base_length, IsBase, with_sn, with_ts, and_offset, IsIpOctet, IsProtocol, IsIpGiven, stride_of, IsStride, IsTimeStride, IsRtpNamed, IsRtpGiven, IsBehindIp, IsExtension3, IsExtension, IsHead, IsPayload, IsForm}
-use Rattle.rohc_forms.specs.Laws.{ReadsForms, SaysOne}
+use Rattle.rohc_forms.specs.Says.{IsUnder, IsBase, with_sn, with_ts, and_offset, IsIpOctet, IsProtocol, IsIpGiven, stride_of, IsStride, IsTimeStride, IsRtpNamed, IsRtpGiven, IsBehindIp, IsExtension3, IsExtension, IsHead, IsPayload, IsForm}
+use Rattle.rohc_forms.specs.Laws.{CountsOctets, ReadsForms, SaysOne}
 use Rattle.rohc_forms.proofs.Exact.{ok_is, bind_ok, Reader, Piece, Exact, same_reader, same_piece, exact_says, exact_then, exact_as, exact_not_refused, exact_unless, exact_which, exact_named, exact_if_named, exact_octet, exact_word, exact_octet_if, exact_word_if, exact_value}
 
 exact_sn : (named : Bool) (said : Said) → Exact (sn_at named said) (As (with_sn said) (IfNamed named IsOctet))
@@ -201,45 +201,78 @@ exact_base_piece first =
     (exact_as (λ b. record { first = first; number = first * 256 + b }) octet_at IsOctet exact_octet)
     (exact_as (λ low. record { first = first; number = first * 65536 + low }) word_at IsWord exact_word))
 
-base_to : (first : ℕ) (base : Base) (text : List ℕ) (one two : Bool) → nat_lt first 128 ≡ one → nat_lt first 192 ≡ two → BasePiece one two first base text → IsBase first base text
-base_to first base text true two e f n = rw (n.0, e) (refl, n.1 ∙ ap (λ k. record { first = first; number = k }) (omega arith))
-base_to first base text false true e f n = rw (n.1, e, f) (refl, n.2 ∙ ap (λ k. record { first = first; number = k }) (omega arith))
-base_to first base text false false e f n =
-    rw (n.1.2, e, f) (refl, n.2 ∙ ap (λ k. record { first = first; number = k }) (let is : n.0 ≡ n.1.0 * 256 + n.1.1 = n.1.3 in omega arith))
+-- how many bits the octets before an extension have
+base_width_by : (base : Base) (rnd uo0 uo1 t1 t2 : Bool) → nat_lt base.first 128 ≡ uo0 → nat_lt base.first 192 ≡ uo1 → bit 5 base.first ≡ t1 → bit 15 base.number ≡ t2 →
+    width (layout (kind_of base rnd)) ≡ (if uo0 then 8 else if uo1 then 16 else 24)
+base_width_by base rnd true uo1 t1 t2 e f g h = rw e refl
+base_width_by base true false true t1 t2 e f g h = rw (e, f) refl
+base_width_by base false false true true t2 e f g h = rw (e, f, g) refl
+base_width_by base false false true false t2 e f g h = rw (e, f, g) refl
+base_width_by base true false false t1 t2 e f g h = rw (e, f) refl
+base_width_by base false false false t1 true e f g h = rw (e, f, h) refl
+base_width_by base false false false t1 false e f g h = rw (e, f, h) refl
 
-base_1 : (first : ℕ) (base : Base) (text : List ℕ) → length (first ∷ text) ≡ 1 → base ≡ record { first = first; number = number_of (first ∷ text) } →
+base_width : (first : ℕ) (base : Base) (rnd one two : Bool) → base.first ≡ first → nat_lt first 128 ≡ one → nat_lt first 192 ≡ two →
+    width (layout (kind_of base rnd)) ≡ (if one then 8 else if two then 16 else 24)
+base_width first base rnd one two is e f =
+    base_width_by base rnd one two (bit 5 base.first) (bit 15 base.number) (ap (λ n. nat_lt n 128) is ∙ e) (ap (λ n. nat_lt n 192) is ∙ f) refl refl
+
+base_to : (first : ℕ) (rnd : Bool) (base : Base) (text : List ℕ) (one two : Bool) → nat_lt first 128 ≡ one → nat_lt first 192 ≡ two → BasePiece one two first base text → IsBase first rnd base text
+base_to first rnd base text true two e f n = (
+  ap (λ (t : List ℕ). length (first ∷ t) * 8) n.0 ∙ sym (base_width first base rnd true two (ap (λ (b : Base). b.first) n.1) e f),
+  n.1 ∙ rw n.0 (ap (λ k. record { first = first; number = k }) (omega arith)),
+)
+base_to first rnd base text false true e f n = (
+  ap (λ (t : List ℕ). length (first ∷ t) * 8) n.1 ∙ sym (base_width first base rnd false true (ap (λ (b : Base). b.first) n.2) e f),
+  n.2 ∙ rw n.1 (ap (λ k. record { first = first; number = k }) (omega arith)),
+)
+base_to first rnd base text false false e f n = (
+  ap (λ (t : List ℕ). length (first ∷ t) * 8) n.1.2 ∙ sym (base_width first base rnd false false (ap (λ (b : Base). b.first) n.2) e f),
+  n.2 ∙ rw n.1.2 (ap (λ k. record { first = first; number = k }) (let is : n.0 ≡ n.1.0 * 256 + n.1.1 = n.1.3 in omega arith)),
+)
+
+base_1 : (first : ℕ) (base : Base) (text : List ℕ) → length (first ∷ text) * 8 ≡ 8 → base ≡ record { first = first; number = number_of (first ∷ text) } →
     Says (record { first = first; number = first }) base text
 base_1 first base [] l is = (refl, is ∙ ap (λ k. record { first = first; number = k }) (omega arith))
 base_1 first base (a ∷ text) l is = absurd (omega arith)
 
-base_2 : (first : ℕ) (base : Base) (text : List ℕ) → length (first ∷ text) ≡ 2 → base ≡ record { first = first; number = number_of (first ∷ text) } →
+base_2 : (first : ℕ) (base : Base) (text : List ℕ) → length (first ∷ text) * 8 ≡ 16 → base ≡ record { first = first; number = number_of (first ∷ text) } →
     As (λ b. record { first = first; number = first * 256 + b }) IsOctet base text
 base_2 first base [] l is = absurd (omega arith)
 base_2 first base (a ∷ []) l is = (a, refl, is ∙ ap (λ k. record { first = first; number = k }) (omega arith))
 base_2 first base (a ∷ b ∷ text) l is = absurd (omega arith)
 
-base_3 : (first : ℕ) (base : Base) (text : List ℕ) → length (first ∷ text) ≡ 3 → base ≡ record { first = first; number = number_of (first ∷ text) } →
+base_3 : (first : ℕ) (base : Base) (text : List ℕ) → length (first ∷ text) * 8 ≡ 24 → base ≡ record { first = first; number = number_of (first ∷ text) } →
     As (λ low. record { first = first; number = first * 65536 + low }) IsWord base text
 base_3 first base [] l is = absurd (omega arith)
 base_3 first base (a ∷ []) l is = absurd (omega arith)
 base_3 first base (a ∷ b ∷ []) l is = (a * 256 + b, (a, b, refl, refl), is ∙ ap (λ k. record { first = first; number = k }) (omega arith))
 base_3 first base (a ∷ b ∷ c ∷ text) l is = absurd (omega arith)
 
-base_from : (first : ℕ) (base : Base) (text : List ℕ) (one two : Bool) → nat_lt first 128 ≡ one → nat_lt first 192 ≡ two → IsBase first base text → BasePiece one two first base text
-base_from first base text true two e f n = let l : base_length first ≡ 1 = rw e refl in base_1 first base text (n.0 ∙ l) n.1
-base_from first base text false true e f n = let l : base_length first ≡ 2 = rw (e, f) refl in base_2 first base text (n.0 ∙ l) n.1
-base_from first base text false false e f n = let l : base_length first ≡ 3 = rw (e, f) refl in base_3 first base text (n.0 ∙ l) n.1
+base_from : (first : ℕ) (rnd : Bool) (base : Base) (text : List ℕ) (one two : Bool) → nat_lt first 128 ≡ one → nat_lt first 192 ≡ two → IsBase first rnd base text → BasePiece one two first base text
+base_from first rnd base text true two e f n = base_1 first base text (n.0 ∙ base_width first base rnd true two (ap (λ (b : Base). b.first) n.1) e f) n.1
+base_from first rnd base text false true e f n = base_2 first base text (n.0 ∙ base_width first base rnd false true (ap (λ (b : Base). b.first) n.1) e f) n.1
+base_from first rnd base text false false e f n = base_3 first base text (n.0 ∙ base_width first base rnd false false (ap (λ (b : Base). b.first) n.1) e f) n.1
 
-exact_base : (first : ℕ) → Exact (base_at first) (IsBase first)
-exact_base first = same_piece (base_at first) (BasePiece (nat_lt first 128) (nat_lt first 192) first) (IsBase first)
-    (λ base text. base_to first base text (nat_lt first 128) (nat_lt first 192) refl refl)
-    (λ base text. base_from first base text (nat_lt first 128) (nat_lt first 192) refl refl)
+exact_base : (first : ℕ) (rnd : Bool) → Exact (base_at first) (IsBase first rnd)
+exact_base first rnd = same_piece (base_at first) (BasePiece (nat_lt first 128) (nat_lt first 192) first) (IsBase first rnd)
+    (λ base text. base_to first rnd base text (nat_lt first 128) (nat_lt first 192) refl refl)
+    (λ base text. base_from first rnd base text (nat_lt first 128) (nat_lt first 192) refl refl)
     (exact_base_piece first)
+
+counted_by : (rnd : Bool) (a b c : ℕ) (one two : Bool) → nat_lt a 128 ≡ one → nat_lt a 192 ≡ two →
+    (octets : List ℕ) × (behind : List ℕ) × (b ∷ c ∷ [] ≡ octets ++ behind) × IsBase a rnd (record { first = a; number = if one then a else if two then a * 256 + b else a * 65536 + (b * 256 + c) }) octets
+counted_by rnd a b c true two e f = ([], b ∷ c ∷ [], refl, base_to a rnd _ [] true two e f (refl, refl))
+counted_by rnd a b c false true e f = (b ∷ [], c ∷ [], refl, base_to a rnd _ (b ∷ []) false true e f (b, refl, refl))
+counted_by rnd a b c false false e f = (b ∷ c ∷ [], [], refl, base_to a rnd _ (b ∷ c ∷ []) false false e f (b * 256 + c, (b, c, refl, refl), refl))
+
+pub counts_octets : CountsOctets
+counts_octets = λ rnd a b c. counted_by rnd a b c (nat_lt a 128) (nat_lt a 192) refl refl
 
 exact_head : (first : ℕ) (rnd known : Bool) → Exact (head_at first rnd known) (IsHead first rnd known)
 unfolding head_at
 exact_head first rnd known =
-    exact_then (base_at first) (λ base. behind_base base rnd known) (IsBase first) _ (exact_base first) (λ base.
+    exact_then (base_at first) (λ base. behind_base base rnd known) (IsBase first rnd) _ (exact_base first rnd) (λ base.
     exact_which (base_said (kind_of base rnd) base.number).extended
     (λ text. octet_at text >>= λ x. extension_at base rnd known x.0 x.1)
     (λ text. Ok (plain_head (kind_of base rnd) rnd (base_said (kind_of base rnd) base.number), text)) _ _

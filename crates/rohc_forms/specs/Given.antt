@@ -1,10 +1,9 @@
 -- What an extension 3 gives (RFC 3095 5.7.5).
-use Rattle.std.specs.Prelude.{ℕ, ◌%◌, Bool, Option, Some, None}
+use Rattle.std.specs.Prelude.{ℕ, Bool, Option, Some, None}
 use Rattle.rohc_forms.specs.declared.parts.IpFlags.{IpFlags}
 use Rattle.rohc_forms.specs.declared.parts.IpGiven.{IpGiven}
 use Rattle.rohc_forms.specs.declared.parts.RtpFlags.{RtpFlags}
-use Rattle.rohc_forms.specs.Octets.{bit}
-use Rattle.rohc_forms.specs.Table.{Said, TOS, TTL, DF, PR, NBO, RND, R-PT, M, R-X, TSS, TIS, has}
+use Rattle.rohc_forms.specs.Table.{Said, TOS, TTL, DF, PR, NBO, RND, R-PT, M, R-X, TSS, TIS, P, PT, number_in, has}
 
 -- What an extension 3 gives; what is none stays.
 pub record ValuesSaid : Type 0 where
@@ -50,11 +49,11 @@ rtp_flags octet = record { payload_type = has R-PT octet; marker = has M octet; 
 -- the octet of P and PT
 abbrev pub padding_in : Option ℕ → Option Bool
 padding_in None = None
-padding_in (Some octet) = Some (bit 7 octet)
+padding_in (Some octet) = Some (has P octet)
 
 abbrev pub payload_type_in : Option ℕ → Option ℕ
 payload_type_in None = None
-payload_type_in (Some octet) = Some (octet % 128)
+payload_type_in (Some octet) = Some (number_in PT octet)
 
 -- the values that are given
 abbrev pub ip_values : Option IpGiven → ValuesSaid → ValuesSaid

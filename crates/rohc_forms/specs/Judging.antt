@@ -1,10 +1,10 @@
 -- Why an octet or a value of an extension 3 is refused, where it is (RFC 3095 5.7.5).
-use Rattle.std.specs.Prelude.{ℕ, ◌/◌, Bool, true, false, ◌==◌, ◌&&◌, not, if◌then◌else◌, Option, Some, None, Result, Ok, Err}
+use Rattle.std.specs.Prelude.{ℕ, Bool, true, false, ◌==◌, ◌&&◌, not, if◌then◌else◌, Option, Some, None, Result, Ok, Err}
 use Rattle.rohc_forms.specs.declared.form.FormKind.{FormKind}
 use Rattle.rohc_forms.specs.declared.form.FormKind.TheVariants.{Uo0, Uo1, Uo1Id, Uo1Ts, Uor2, Uor2Id, Uor2Ts}
 use Rattle.rohc_forms.specs.declared.refusal.FormRefusal.{FormRefusal}
 use Rattle.rohc_forms.specs.declared.refusal.FormRefusal.TheVariants.{Protocol, ExtensionList, Csrc, ZeroStride, ReliableMode, OuterHeader, NoStride, RndInUo1, IpIdTwice}
-use Rattle.rohc_forms.specs.Table.{IPX, RND, IP2, CSRC, has}
+use Rattle.rohc_forms.specs.Table.{IPX, RND, IP2, Mode, CSRC, number_in, has}
 
 -- what was read, or its refusal where there is one
 abbrev pub judged : {A : Type 0} → Option FormRefusal → A → Result A FormRefusal
@@ -39,9 +39,9 @@ twice_fault offset rnd = refused_if (offset && rnd) IpIdTwice
 abbrev pub protocol_fault : ℕ → Option FormRefusal
 protocol_fault octet = refused_if (not (octet == 17)) Protocol
 
--- the rtp octet: its two high bits are the mode
+-- the rtp octet: mode 3 is reliable mode
 abbrev pub rtp_fault : ℕ → Option FormRefusal
-rtp_fault octet = if octet / 64 == 3 then Some ReliableMode else refused_if (has CSRC octet) Csrc
+rtp_fault octet = if number_in Mode octet == 3 then Some ReliableMode else refused_if (has CSRC octet) Csrc
 
 abbrev pub stride_fault : ℕ → Option FormRefusal
 stride_fault stride = refused_if (stride == 0) ZeroStride

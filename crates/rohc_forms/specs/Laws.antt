@@ -1,11 +1,13 @@
-use Rattle.std.specs.Prelude.{◌≡◌, ◌↔◌, All, Bool, Some, Ok, Err}
+use Rattle.std.specs.Prelude.{◌≡◌, ◌↔◌, ℕ, ◌+◌, ◌<◌, ◌≤◌, List, [], ◌∷◌, ◌++◌, All, Bool, Some, Ok, Err}
 use Rattle.rohc_frame.specs.Header.{Header}
 use Rattle.rohc_frame.specs.Laws.{IsOctet}
 use Rattle.rohc_forms.specs.declared.refusal.FormRefusal.{FormRefusal}
 use Rattle.rohc_forms.specs.Content.{Content}
 use Rattle.rohc_forms.specs.Packets.{form_at}
 use Rattle.rohc_forms.specs.Fields.{form_fault}
-use Rattle.rohc_forms.specs.Says.{IsForm}
+use Rattle.rohc_forms.specs.Says.{IsBase, IsForm}
+use Rattle.rohc_forms.specs.Formats.{base_of}
+use Rattle.rohc_forms.specs.Table.{Part, Prefix, Extension3Octet, parts, size, place, number_in}
 use Rattle.rohc_forms.specs.Good.{IsGoodContent}
 
 -- a packet is refused exactly where that is the first fault among its fields
@@ -25,3 +27,24 @@ SaysOne = (h : Header) (rnd udp_sum stride_known : Bool) (a b : Content) → IsF
 -- what octets say lies in its ranges
 abbrev pub SaysGood : Type 0
 SaysGood = (h : Header) (rnd udp_sum stride_known : Bool) (c : Content) → All IsOctet h.rest → IsForm h rnd udp_sum stride_known c → IsGoodContent h.first udp_sum stride_known c
+
+-- the octets before an extension, of three, are as many as the format that is read has bits for
+abbrev pub CountsOctets : Type 0
+CountsOctets = (rnd : Bool) (a b c : ℕ) → (octets : List ℕ) × (behind : List ℕ) × (b ∷ c ∷ [] ≡ octets ++ behind) × IsBase a rnd (base_of a b c) octets
+
+-- an octet begins an extension 3 exactly where its prefix is 11
+abbrev pub BeginsWith11 : Type 0
+BeginsWith11 = (first : ℕ) → first < 256 → (192 ≤ first) ↔ (number_in Prefix first ≡ 3)
+
+-- how many bits these parts have
+abbrev pub bits_of : List Part → ℕ
+bits_of [] = 0
+bits_of (part ∷ more) = size part + bits_of more
+
+-- each octet of an extension 3 has eight bits
+abbrev pub HaveEightBits : Type 0
+HaveEightBits = (octet : Extension3Octet) → bits_of (parts octet) ≡ 8
+
+-- and each part stands in one of them, before as many bits as its place says
+abbrev pub StandInPlace : Type 0
+StandInPlace = (part : Part) → (octet : Extension3Octet) × (before : List Part) × (behind : List Part) × (parts octet ≡ before ++ part ∷ behind) × (place part ≡ bits_of behind)

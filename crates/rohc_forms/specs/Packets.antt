@@ -1,8 +1,7 @@
 -- Whole packets of kind Other (RFC 3095 5.7.1 to 5.7.5), read from left to right, with the first fault that is met.
 use Rattle.std.specs.Prelude.{ℕ, ◌+◌, ◌*◌, List, Bool, nat_lt, if◌then◌else◌, Option, Some, None, option_map, Result, Ok}
-use Rattle.rohc_frame.specs.declared.header.HeadKind.{HeadKind}
-use Rattle.rohc_frame.specs.declared.header.HeadKind.TheVariants.{Ir, IrDyn, Other}
 use Rattle.rohc_frame.specs.Header.{Header}
+pub use Rattle.rohc_frame.specs.Header.{IsOther}
 use Rattle.rohc_forms.specs.declared.form.FormKind.{FormKind}
 use Rattle.rohc_forms.specs.declared.form.IdBits.{IdBits}
 use Rattle.rohc_forms.specs.declared.form.IdBits.TheVariants as code
@@ -120,11 +119,6 @@ content f = record {
   check = f.check;
   payload = f.payload.now;
 }
-
-abbrev pub IsOther : HeadKind → Type 0
-IsOther (Ir dynamic) = ⊥
-IsOther IrDyn = ⊥
-IsOther Other = Unit {0}
 
 -- What a packet says, or its first fault: behind its extension come the Identification, if the RND in force is
 -- 1, the UDP checksum, if packets carry one, and the payload.

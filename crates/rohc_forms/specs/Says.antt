@@ -1,6 +1,6 @@
 -- What the octets of a packet say (RFC 3095 5.7.1 to 5.7.5): its pieces stand one behind the other, and of the
 -- octets before an extension, and of extensions 0 to 2, each field says its bits under the format.
-use Rattle.std.specs.Prelude.{◌≡◌, ℕ, ◌*◌, List, ◌∷◌, length, Bool, ◌||◌, is_some, nat_lt, if◌then◌else◌, Option, Some, None, option_map}
+use Rattle.std.specs.Prelude.{◌≡◌, ℕ, ◌*◌, List, ◌∷◌, length, Bool, ◌||◌, is_some, nat_lt, Option, Some, None, option_map}
 use Rattle.rohc_frame.specs.Header.{Header}
 use Rattle.rohc_forms.specs.declared.form.FormKind.{FormKind}
 use Rattle.rohc_forms.specs.declared.parts.Base.{Base}
@@ -8,7 +8,7 @@ use Rattle.rohc_forms.specs.declared.parts.IpFlags.{IpFlags}
 use Rattle.rohc_forms.specs.declared.parts.IpGiven.{IpGiven}
 use Rattle.rohc_forms.specs.declared.parts.RtpFlags.{RtpFlags}
 use Rattle.rohc_bits.specs.LowBits.{LowBits}
-use Rattle.rohc_forms.specs.Table.{Said, Sn, Ts, Layout, and_said, width, under, short_layout, S, R-TS, Tsc, I, IP, RTP, has, base_said}
+use Rattle.rohc_forms.specs.Table.{Said, Sn, Ts, Layout, layout, and_said, width, under, short_layout, S, R-TS, Tsc, I, IP, RTP, has, base_said}
 use Rattle.rohc_forms.specs.Formats.{number_of}
 use Rattle.rohc_forms.specs.Judging.{ip_fault, twice_fault, protocol_fault, rtp_fault, stride_fault, no_stride_fault}
 use Rattle.rohc_forms.specs.Given.{RtpSaid, ip_flags, rnd_in_force, with_offset_if, rtp_flags, padding_in, payload_type_in, ip_values, rtp_values, marker_in, Extended3}
@@ -19,12 +19,10 @@ use Rattle.rohc_forms.specs.Pieces.{IsOctet, IsWord, IsValue, Says, Then, IfName
 abbrev pub IsUnder : Layout → ℕ → Said → Said → List ℕ → Type 0
 IsUnder l first before after text = (length (first ∷ text) * 8 ≡ width l) × (after ≡ under l (number_of (first ∷ text)) before)
 
--- how many octets stand before an extension
-abbrev pub base_length : ℕ → ℕ
-base_length first = if nat_lt first 128 then 1 else if nat_lt first 192 then 2 else 3
-
-abbrev pub IsBase : ℕ → Base → List ℕ → Type 0
-IsBase first base text = (length (first ∷ text) ≡ base_length first) × (base ≡ record { first = first; number = number_of (first ∷ text) })
+-- The octets before an extension are as many as their format has bits for, and one number.
+abbrev pub IsBase : ℕ → Bool → Base → List ℕ → Type 0
+IsBase first rnd base text =
+    (length (first ∷ text) * 8 ≡ width (layout (kind_of base rnd))) × (base ≡ record { first = first; number = number_of (first ∷ text) })
 
 -- eight more bits of SN, if S
 abbrev pub with_sn : Said → Option ℕ → Said
@@ -109,7 +107,7 @@ IsExtension base rnd stride_known first =
 -- The octets before an extension, behind the first; the extension, if their format says X.
 abbrev pub IsHead : ℕ → Bool → Bool → Head → List ℕ → Type 0
 IsHead first rnd stride_known =
-    Then (IsBase first) (λ base.
+    Then (IsBase first rnd) (λ base.
     Which (base_said (kind_of base rnd) base.number).extended
     (Then IsOctet (IsExtension base rnd stride_known))
     (Says (plain_head (kind_of base rnd) rnd (base_said (kind_of base rnd) base.number))))

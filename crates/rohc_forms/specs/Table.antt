@@ -1,5 +1,5 @@
 -- The formats of packets and of extensions 0 to 2 (RFC 3095 5.7.1 to 5.7.5), and what bits under them say.
-use Rattle.std.specs.Prelude.{ℕ, ◌+◌, List, [], ◌∷◌, Bool, false, ◌==◌, nat_lt, if◌then◌else◌, Option, Some, None}
+use Rattle.std.specs.Prelude.{ℕ, ◌+◌, ◌/◌, ◌%◌, ◌^◌, List, [], ◌∷◌, Bool, false, ◌==◌, nat_lt, if◌then◌else◌, Option, Some, None}
 use Rattle.rohc_forms.specs.declared.form.FormKind.{FormKind}
 use Rattle.rohc_forms.specs.declared.form.FormKind.TheVariants.{Uo0, Uo1, Uo1Id, Uo1Ts, Uor2, Uor2Id, Uor2Ts}
 use Rattle.rohc_bits.specs.LowBits.{LowBits}
@@ -62,32 +62,62 @@ layout_2 kind = (Fixed 2, 2) ∷ (Sn, 3) ∷ (plus kind, 3) ∷ (plus kind, 8) �
 abbrev pub short_layout : FormKind → ℕ → Layout
 short_layout kind first = if nat_lt first 64 then layout_0 kind else if nat_lt first 128 then layout_1 kind else layout_2 kind
 
--- The flags of the octets of an extension 3.
-pub data Flag : Type 0 where
-  S : Flag
-  R-TS : Flag
-  Tsc : Flag
-  I : Flag
-  IP : Flag
-  RTP : Flag
-  TOS : Flag
-  TTL : Flag
-  DF : Flag
-  PR : Flag
-  IPX : Flag
-  NBO : Flag
-  RND : Flag
-  IP2 : Flag
-  R-PT : Flag
-  M : Flag
-  R-X : Flag
-  CSRC : Flag
-  TSS : Flag
-  TIS : Flag
+-- The parts of the octets of an extension 3 (RFC 3095 5.7.5): flags, and numbers of more bits.
+pub data Part : Type 0 where
+  Prefix : Part
+  S : Part
+  R-TS : Part
+  Tsc : Part
+  I : Part
+  IP : Part
+  RTP : Part
+  TOS : Part
+  TTL : Part
+  DF : Part
+  PR : Part
+  IPX : Part
+  NBO : Part
+  RND : Part
+  IP2 : Part
+  Mode : Part
+  R-PT : Part
+  M : Part
+  R-X : Part
+  CSRC : Part
+  TSS : Part
+  TIS : Part
+  P : Part
+  PT : Part
 
--- The place of each in its octet, counted from the least significant: 11 S R-TS Tsc I ip rtp in the first octet,
--- TOS TTL DF PR IPX NBO RND ip2 in the ip octet, Mode(2) R-PT M R-X CSRC TSS TIS in the rtp octet.
-abbrev pub place : Flag → ℕ
+-- how many bits each has
+abbrev pub size : Part → ℕ
+size Prefix = 2
+size Mode = 2
+size PT = 7
+size flag = 1
+
+-- An extension 3 has a first octet, one that ip names, one that rtp names, and one that R-PT names.
+pub data Extension3Octet : Type 0 where
+  FirstOctet : Extension3Octet
+  IpOctet : Extension3Octet
+  RtpOctet : Extension3Octet
+  TypeOctet : Extension3Octet
+
+--     0     1     2     3     4     5     6     7
+--   | 1     1  |  S  | R-TS| Tsc |  I  | ip  | rtp |
+--   | TOS | TTL | DF  | PR  | IPX | NBO | RND | ip2 |
+--   |   Mode    | R-PT|  M  | R-X |CSRC | TSS | TIS |
+--   |  P  |                  PT                     |
+abbrev pub parts : Extension3Octet → List Part
+parts FirstOctet = Prefix ∷ S ∷ R-TS ∷ Tsc ∷ I ∷ IP ∷ RTP ∷ []
+parts IpOctet = TOS ∷ TTL ∷ DF ∷ PR ∷ IPX ∷ NBO ∷ RND ∷ IP2 ∷ []
+parts RtpOctet = Mode ∷ R-PT ∷ M ∷ R-X ∷ CSRC ∷ TSS ∷ TIS ∷ []
+parts TypeOctet = P ∷ PT ∷ []
+
+-- The place of each part in its octet: how many less significant bits stand behind it. A law says that the
+-- octets are made of their parts.
+abbrev pub place : Part → ℕ
+place Prefix = 6
 place S = 5
 place R-TS = 4
 place Tsc = 3
@@ -102,14 +132,21 @@ place IPX = 3
 place NBO = 2
 place RND = 1
 place IP2 = 0
+place Mode = 6
 place R-PT = 5
 place M = 4
 place R-X = 3
 place CSRC = 2
 place TSS = 1
 place TIS = 0
+place P = 7
+place PT = 0
 
-abbrev pub has : Flag → ℕ → Bool
+-- the number that a part spells, and whether a flag is set
+abbrev pub number_in : Part → ℕ → ℕ
+number_in part octet = octet / 2 ^ place part % 2 ^ size part
+
+abbrev pub has : Part → ℕ → Bool
 has flag octet = bit (place flag) octet
 
 -- What is said of the fields: bits of numbers, two flags, the check.

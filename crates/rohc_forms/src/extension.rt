@@ -163,7 +163,7 @@ fn padding(octet: Option<u8>) -> Option<bool>
     ensures { result ≡ padding_in octet }
 {
     match octet {
-        Some(octet) => Some(is_set(u32::from(octet), 7)),
+        Some(octet) => Some(is_set(u32::from(octet), flag::P)),
         None => None,
     }
 }

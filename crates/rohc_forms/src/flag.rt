@@ -49,3 +49,8 @@ pub(crate) const CSRC: u8 = 2;
 pub(crate) const TSS: u8 = 1;
 /// A stride of time follows.
 pub(crate) const TIS: u8 = 0;
+
+// The octet that R-PT names: P PT(7).
+
+/// RTP's padding flag.
+pub(crate) const P: u8 = 7;

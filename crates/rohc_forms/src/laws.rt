@@ -2,13 +2,22 @@
 //! packet says by these.
 
 ghost use Rattle.rohc_forms.specs.Formats.{FitsOne, FitsOneExtension};
-ghost use Rattle.rohc_forms.specs.Laws.{ReadsForms, SaysOne, SaysGood, RefusesForms};
+ghost use Rattle.rohc_forms.specs.Laws.{CountsOctets, BeginsWith11, HaveEightBits, StandInPlace, ReadsForms, SaysOne, SaysGood, RefusesForms};
 
-/// Exactly one format fits a packet whose first octet is below E0, under the RND in force, and exactly one of
-/// the extensions 0, 1 and 2 an extension whose first octet is below C0.
+/// Exactly one format fits a packet whose first octet is below E0, under the RND in force, and it has as many
+/// octets as are read. Exactly one of the extensions 0, 1 and 2 fits an extension whose first octet is below C0;
+/// the others are extension 3.
 pub fn one_format()
     ensures packet { FitsOne }
+    ensures counted { CountsOctets }
     ensures extension { FitsOneExtension }
+    ensures extension_3 { BeginsWith11 }
+{}
+
+/// An extension 3 has whole octets, and each part stands in one of them, at its place.
+pub fn extension_3_octets()
+    ensures whole { HaveEightBits }
+    ensures placed { StandInPlace }
 {}
 
 /// A packet is read exactly where its octets say what is read. They say one thing at most.

@@ -4,6 +4,7 @@ use Rattle.std.proofs.lemmas.Bool.Decides.{nat_tests}
 use Rattle.std.proofs.lemmas.Bool.{cases_lt}
 use Rattle.std.proofs.lemmas.List.Elements.{All-head, All-tail, All-take, All-from_get_or}
 use Rattle.rohc_bits.specs.Spelling.{IsSpelled}
+use Rattle.rohc_bits.proofs.Arithmetic.{spelled_as, is_spelled}
 use Rattle.rohc_frame.specs.declared.header.CidKind.{CidKind}
 use Rattle.rohc_frame.specs.declared.header.CidKind.TheVariants.{Small, Large}
 use Rattle.rohc_frame.specs.declared.header.HeadKind.{HeadKind}
@@ -79,14 +80,14 @@ large_header_bound octets first behind cid count fits e identifier =
 -- The octets of a large identifier are a spelling of it, of one or two octets.
 spelled_from : (cid : ℕ) (octets : List ℕ) → All (λ octet. octet < 256) octets → is_identifier Large cid octets ≡ true → IsSpelled octets cid × (length octets ≤ 2)
 spelled_from cid [] all e = cc
-spelled_from cid (a ∷ []) all e = (record { octets = all; spells = (grind (arith, nat_tests), grind (arith, nat_tests)) }, omega arith)
-spelled_from cid (a ∷ b ∷ []) all e = (record { octets = all; spells = (grind (arith, nat_tests), grind (arith, nat_tests)) }, omega arith)
+spelled_from cid (a ∷ []) all e = (is_spelled (a ∷ []) cid all (grind (arith, nat_tests), grind (arith, nat_tests)), omega arith)
+spelled_from cid (a ∷ b ∷ []) all e = (is_spelled (a ∷ b ∷ []) cid all (grind (arith, nat_tests), grind (arith, nat_tests)), omega arith)
 spelled_from cid (a ∷ b ∷ c ∷ octets) all e = cc
 
 from_spelled : (cid : ℕ) (octets : List ℕ) → IsSpelled octets cid × (length octets ≤ 2) → is_identifier Large cid octets ≡ true
-from_spelled cid [] is = absurd is.0.spells
-from_spelled cid (a ∷ []) is = let s = is.0.spells in grind (arith, nat_tests)
-from_spelled cid (a ∷ b ∷ []) is = let s = is.0.spells in grind (arith, nat_tests)
+from_spelled cid [] is = absurd (spelled_as [] cid is.0)
+from_spelled cid (a ∷ []) is = let s = spelled_as (a ∷ []) cid is.0 in grind (arith, nat_tests)
+from_spelled cid (a ∷ b ∷ []) is = let s = spelled_as (a ∷ b ∷ []) cid is.0 in grind (arith, nat_tests)
 from_spelled cid (a ∷ b ∷ c ∷ octets) is = let short = is.1 in absurd (omega arith)
 
 pub spells_large : (cid : ℕ) (octets : List ℕ) → All (λ octet. octet < 256) octets → (is_identifier Large cid octets ≡ true → IsSpelled octets cid × (length octets ≤ 2)) × (IsSpelled octets cid × (length octets ≤ 2) → is_identifier Large cid octets ≡ true)

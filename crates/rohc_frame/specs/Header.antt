@@ -28,6 +28,24 @@ is_kind (Ir dynamic) first = first == (if dynamic then 253 else 252)
 is_kind IrDyn first = first == 248
 is_kind Other first = nat_lt first 224
 
+-- the header is an IR
+abbrev pub IsIr : HeadKind → Type 0
+IsIr (Ir dynamic) = Unit {0}
+IsIr IrDyn = ⊥
+IsIr Other = ⊥
+
+-- an IR-DYN
+abbrev pub IsIrDyn : HeadKind → Type 0
+IsIrDyn (Ir dynamic) = ⊥
+IsIrDyn IrDyn = Unit {0}
+IsIrDyn Other = ⊥
+
+-- neither: what its profile makes of it
+abbrev pub IsOther : HeadKind → Type 0
+IsOther (Ir dynamic) = ⊥
+IsOther IrDyn = ⊥
+IsOther Other = Unit {0}
+
 -- These octets say this identifier (RFC 5795 5.1.3). On a small link they are none for 0, else one Add-CID
 -- octet; on a large link a self-describing value of one or two octets.
 abbrev pub is_identifier : CidKind → ℕ → List ℕ → Bool

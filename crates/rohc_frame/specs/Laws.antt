@@ -1,9 +1,10 @@
 use Rattle.std.specs.Prelude.{◌≡◌, ℕ, ◌<◌, ◌≤◌, ◌↔◌, List, length, All, Some, Ok, Err, true}
+pub use Rattle.rohc_bits.specs.Bits.{IsOctet}
 use Rattle.rohc_bits.specs.Spelling.{IsSpelled}
 use Rattle.rohc_frame.specs.declared.header.CidKind.{CidKind}
 use Rattle.rohc_frame.specs.declared.header.CidKind.TheVariants.{Large}
 use Rattle.rohc_frame.specs.declared.refusal.FrameRefusal.{FrameRefusal}
-use Rattle.rohc_frame.specs.Header.{Header, is_header, is_identifier}
+use Rattle.rohc_frame.specs.Header.{Header, greatest_cid, is_header, is_identifier}
 use Rattle.rohc_frame.specs.Reading.{Reading, IsReading}
 use Rattle.rohc_frame.specs.Refused.{IsRefused}
 use Rattle.rohc_frame.specs.Parts.{parts_of}
@@ -23,13 +24,15 @@ abbrev pub GivesRefusals : Type 0
 GivesRefusals = (size : CidKind) (max_cid : ℕ) (octets : List ℕ) (refusal : FrameRefusal) →
     (parts_of size max_cid octets ≡ Err refusal) ↔ IsRefused size max_cid octets refusal
 
-abbrev pub IsOctet : ℕ → Type 0
-IsOctet n = n < 256
-
 -- the octets of a large identifier are a spelling of it, of one or two octets
 abbrev pub SpellsLarge : Type 0
 SpellsLarge = (cid : ℕ) (octets : List ℕ) → All IsOctet octets →
     (is_identifier Large cid octets ≡ true) ↔ (IsSpelled octets cid × (length octets ≤ 2))
+
+-- octets say exactly the identifiers up to the link's greatest
+abbrev pub SaysEachIdentifier : Type 0
+SaysEachIdentifier = (size : CidKind) (cid : ℕ) →
+    ((octets : List ℕ) × All IsOctet octets × (is_identifier size cid octets ≡ true)) ↔ (cid ≤ greatest_cid size)
 
 -- a header of the link, of octets
 pub record IsGood (size : CidKind) (max_cid : ℕ) (h : Header) : Type 0 where

@@ -1,7 +1,7 @@
 //! Laws of the definitions, as contracts of functions that do nothing. The crates above know a
 //! packet's parts by these.
 
-ghost use Rattle.rohc_frame.specs.Laws.{GivesReadings, HasOneReading, GivesRefusals, HasGoodHeader, SpellsLarge};
+ghost use Rattle.rohc_frame.specs.Laws.{GivesReadings, HasOneReading, GivesRefusals, HasGoodHeader, SpellsLarge, SaysEachIdentifier};
 
 /// A packet's parts are its reading exactly where it has one, and it has one at most.
 pub fn one_reading()
@@ -23,4 +23,10 @@ pub fn good_header()
 /// A large identifier's octets are a self-describing value, and are one or two.
 pub fn large_spelling()
     ensures { SpellsLarge }
+{}
+
+/// The octets of an identifier say exactly 0 to 15 on a small link, and 0 to 16,383 on a large one
+/// (RFC 5795 5.1.3).
+pub fn greatest_identifier()
+    ensures { SaysEachIdentifier }
 {}

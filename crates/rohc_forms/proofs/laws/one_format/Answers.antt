@@ -1,4 +1,5 @@
-use Rattle.rohc_forms.proofs.FormatLemmas.{fits_one, fits_one_extension}
+use Rattle.rohc_forms.proofs.FormatLemmas.{fits_one, fits_one_extension, begins_with_11}
+use Rattle.rohc_forms.proofs.SaysLemmas.{counts_octets}
 use Rattle.rohc_forms.proofs.laws.one_format.Goals as goal
 
 pub returns-clause-packet : goal.returns-clause-packet
@@ -6,3 +7,9 @@ returns-clause-packet c = fits_one
 
 pub returns-clause-extension : goal.returns-clause-extension
 returns-clause-extension c = fits_one_extension
+
+pub returns-clause-counted : goal.returns-clause-counted
+returns-clause-counted c = counts_octets
+
+pub returns-clause-extension_3 : goal.returns-clause-extension_3
+returns-clause-extension_3 c = begins_with_11
