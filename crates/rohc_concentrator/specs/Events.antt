@@ -2,7 +2,8 @@
 use Rattle.std.specs.Prelude.{◌≡◌, ◌≢◌, ℕ, List, [], None}
 use Rattle.rohc_concentrator.specs.declared.concentrator.Concentrator.{Concentrator}
 use Rattle.rohc_concentrator.specs.Tables.{setting_at, record_at, identifiers_at, KeepsSettings, KeepsOthers, KeepsOrder}
-use Rattle.rohc_concentrator.specs.Report.{Report, IsAnswered, borne}
+use Rattle.rohc_concentrator.specs.Report.{Report, IsAnswered}
+use Rattle.rohc_concentrator.specs.Bears.{borne}
 
 -- a packet of a link arrives at a moment and is answered
 pub record Arrives (old : Concentrator) (link moment : ℕ) (octets : List ℕ) (report : Report) (new : Concentrator) : Type 0 where

@@ -1,14 +1,12 @@
 -- One context machine, run alone.
-use Rattle.std.specs.Prelude.{◌≡◌, ℕ, List, [], ◌∷◌, Bool, true, false, ◌==◌, if◌then◌else◌, Option, Some, None, Result, Ok, Err}
+use Rattle.std.specs.Prelude.{◌≡◌, ℕ, List, [], ◌∷◌, Bool, true, false, ◌==◌, if◌then◌else◌, Option, Some, None}
 use Rattle.rohc_frame.specs.Header.{Header}
-use Rattle.rohc_frame.specs.Reading.{Reading}
-use Rattle.rohc_frame.specs.Parts.{parts_of}
-use Rattle.rohc_frame.specs.declared.refusal.FrameRefusal.{FrameRefusal}
 use Rattle.rohc_context.specs.declared.settings.Settings.{Settings}
 use Rattle.rohc_context.specs.Record.{Record}
 use Rattle.rohc_context.specs.Response.{Response}
 use Rattle.rohc_context.specs.Step.{LoneStep}
 use Rattle.rohc_concentrator.specs.declared.setting.LinkSetting.{LinkSetting}
+use Rattle.rohc_concentrator.specs.Bears.{header_on}
 use Rattle.rohc_concentrator.specs.Report.{IsPoor}
 
 -- what happens to one context: a header arrives at a moment, or all is forgotten
@@ -49,11 +47,6 @@ abbrev pub arrival_of : ℕ → ℕ → Option Header → List LoneEvent
 arrival_of cid moment None = []
 arrival_of cid moment (Some h) = if h.cid == cid then Arrival moment h ∷ [] else []
 
--- by the reading of the packet, if it has one
-abbrev pub arrival_in : ℕ → ℕ → Result Reading FrameRefusal → List LoneEvent
-arrival_in cid moment (Ok reading) = arrival_of cid moment reading.header
-arrival_in cid moment (Err refusal) = []
-
 -- a packet of a link is an arrival at the context of the identifier that it bears
 abbrev pub own_arrival : LinkSetting → ℕ → ℕ → List ℕ → List LoneEvent
-own_arrival s cid moment octets = arrival_in cid moment (parts_of s.settings.size s.settings.max_cid octets)
+own_arrival s cid moment octets = arrival_of cid moment (header_on s octets)

@@ -61,21 +61,6 @@ abbrev pub IsAnswered : Option LinkSetting → (ℕ → Option Record) → ℕ �
 IsAnswered None before moment octets report after = report ≡ Refused refusals.NoLink
 IsAnswered (Some s) before moment octets report after = IsRead s moment (parts_of s.settings.size s.settings.max_cid octets) before report after
 
--- the identifier of a header, if there is one
-abbrev pub cid_in : Option Header → Option ℕ
-cid_in None = None
-cid_in (Some h) = Some h.cid
-
--- the identifier that a reading bears, if it bears one
-abbrev pub borne_in : Result Reading FrameRefusal → Option ℕ
-borne_in (Ok reading) = cid_in reading.header
-borne_in (Err refusal) = None
-
--- the identifier that a packet bears on a link, if it bears one
-abbrev pub borne : Option LinkSetting → List ℕ → Option ℕ
-borne None octets = None
-borne (Some s) octets = borne_in (parts_of s.settings.size s.settings.max_cid octets)
-
 -- the outcome is the refusal `NoMemory`
 abbrev pub is_no_memory : Outcome → Bool
 is_no_memory (outcomes.Refused refusals.NoMemory) = true

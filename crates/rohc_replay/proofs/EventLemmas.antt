@@ -9,7 +9,8 @@ use Rattle.rohc_concentrator.specs.declared.concentrator.Concentrator.{Concentra
 use Rattle.rohc_concentrator.specs.declared.setting.LinkSetting.{LinkSetting}
 use Rattle.rohc_concentrator.specs.Setting.{settings_in}
 use Rattle.rohc_concentrator.specs.Tables.{setting_at, record_at}
-use Rattle.rohc_concentrator.specs.Report.{Report, Arrived, OnlyFront, Refused, IsAnswered, borne, wants_memory}
+use Rattle.rohc_concentrator.specs.Report.{Report, Arrived, OnlyFront, Refused, IsAnswered, wants_memory}
+use Rattle.rohc_concentrator.specs.Bears.{borne}
 use Rattle.rohc_concentrator.specs.Events.{Arrives, Resets}
 use Rattle.rohc_concentrator.specs.LoneRun.{own_arrival}
 use Rattle.rohc_replay.specs.AnswerLines.{report_lines, reset_lines, response_lines, relay_line, bad_line, long_line}

@@ -20,8 +20,9 @@ use Rattle.rohc_context.specs.Response.{Response, refused}
 use Rattle.rohc_context.proofs.StepLaws.{never_poor}
 use Rattle.rohc_concentrator.specs.declared.setting.LinkSetting.{LinkSetting}
 use Rattle.rohc_concentrator.specs.Setting.{settings_in, IsGoodSetting}
-use Rattle.rohc_concentrator.specs.Report.{Report, OwnStep, IsArrival, IsCut, IsRead, borne_in, cid_in, is_no_memory, wants_memory}
-use Rattle.rohc_concentrator.specs.LoneRun.{LoneEvent, Arrival, Forget, MarkedRun, arrival_of, arrival_in}
+use Rattle.rohc_concentrator.specs.Report.{Report, OwnStep, IsArrival, IsCut, IsRead, is_no_memory, wants_memory}
+use Rattle.rohc_concentrator.specs.LoneRun.{LoneEvent, Arrival, Forget, MarkedRun, arrival_of}
+use Rattle.rohc_concentrator.specs.Bears.{header_in, cid_in}
 use Rattle.rohc_replay.specs.AnswerLines.{report_lines, response_lines, relay_line, link_refusal}
 use Rattle.rohc_replay.specs.Isolation.{is_pair_line}
 use Rattle.rohc_replay.proofs.OwnLines.{filter-append, relays_left_out, refusal_left_out, reply_left_out, reply_whole_kept}
@@ -137,8 +138,8 @@ module _ (s : LinkSetting) (l c : ℕ) (lf : l < 2 ^ 16) (cf : c < 2 ^ 16) where
       rw a (tells_nothing (settings_in s c) l c (before c) (after c) (map (relay_line l) relayed) (others (λ e. let same : ◌≡◌ {A = Option ℕ} None (Some c) = e in cc)) (relays_left_out l c l relayed lf cf lf))
 
   pub read_told : (m : ℕ) (parts : Result Reading FrameRefusal) (before after : ℕ → Option Record) (report : Report) → ((r : Reading) (h : Header) → parts ≡ Ok r → r.header ≡ Some h → h.cid < 2 ^ 16) →
-      (borne_in parts ≢ Some c → after c ≡ before c) → IsRead s m parts before report after →
-      Tells (settings_in s c) l c (before c) (with_mark (wants_memory report) (arrival_in c m parts)) (report_lines l report) (after c)
+      (cid_in (header_in parts) ≢ Some c → after c ≡ before c) → IsRead s m parts before report after →
+      Tells (settings_in s c) l c (before c) (with_mark (wants_memory report) (arrival_of c m (header_in parts))) (report_lines l report) (after c)
   read_told m (Ok r) before after report bound others a = cut_told m r.elements r.header before after report (λ h. bound r h refl) others a
   read_told m (Err refusal) before after report bound others a =
       rw a (tells_nothing (settings_in s c) l c (before c) (after c) (link_refusal l (refusal_of_framing refusal) ∷ []) (others (λ e. let same : ◌≡◌ {A = Option ℕ} None (Some c) = e in cc)) (refusal_left_out l c l (refusal_of_framing refusal) lf cf lf))

@@ -10,7 +10,8 @@ use Rattle.rohc_context.specs.declared.settings.Settings.{Settings}
 use Rattle.rohc_concentrator.specs.declared.setting.LinkSetting.{LinkSetting}
 use Rattle.rohc_concentrator.specs.Setting.{settings_in}
 use Rattle.rohc_concentrator.specs.Tables.{record_at}
-use Rattle.rohc_concentrator.specs.LoneRun.{LoneEvent, Arrival, Forget, LoneRun, arrival_of, arrival_in}
+use Rattle.rohc_concentrator.specs.LoneRun.{LoneEvent, Arrival, Forget, LoneRun, arrival_of}
+use Rattle.rohc_concentrator.specs.Bears.{header_in}
 use Rattle.rohc_concentrator.proofs.GoodLemmas.{good_setting, good_settings_in, good_record_at, good_header}
 use Rattle.rohc_concentrator.proofs.WorldLemmas.{IsGoodEvent, lone_run_one}
 use Rattle.rohc_replay.specs.AnswerLines.{response_lines}
@@ -37,13 +38,13 @@ module _ (s : LinkSetting) (l c : ℕ) where
   good_arrival_of m None fits good = tt
   good_arrival_of m (Some h) fits good = good_where (settings_in s c) (h.cid == c) (Arrival m h ∷ []) [] ((fits, good h refl), tt) tt
 
-  good_arrival_in : (m : ℕ) (parts : Result Reading FrameRefusal) → m < 2 ^ 64 → ((r : Reading) (h : Header) → parts ≡ Ok r → r.header ≡ Some h → IsGoodHeader (settings_in s c) h) → AreGoodEvents (settings_in s c) (arrival_in c m parts)
+  good_arrival_in : (m : ℕ) (parts : Result Reading FrameRefusal) → m < 2 ^ 64 → ((r : Reading) (h : Header) → parts ≡ Ok r → r.header ≡ Some h → IsGoodHeader (settings_in s c) h) → AreGoodEvents (settings_in s c) (arrival_of c m (header_in parts))
   good_arrival_in m (Ok r) fits good = good_arrival_of m r.header fits (λ h. good r h refl)
   good_arrival_in m (Err refusal) fits good = tt
 
   good_event : (e : Event) → IsEvent e → AreGoodEvents (settings_in s c) (own_event s l c e)
   good_event (Arrive k m octets) fits =
-      good_where (settings_in s c) (k == l) (arrival_in c m (parts_of s.settings.size s.settings.max_cid octets)) []
+      good_where (settings_in s c) (k == l) (arrival_of c m (header_in (parts_of s.settings.size s.settings.max_cid octets))) []
       (good_arrival_in m (parts_of s.settings.size s.settings.max_cid octets) fits.1 (λ r h e f. good_header s c octets r h e f fits.3)) tt
   good_event (Reset k) fits = good_where (settings_in s c) (k == l) (Forget ∷ []) [] (tt, tt) tt
 
