@@ -10,7 +10,7 @@ use Rattle.rohc_concentrator.specs.declared.setting.LinkSetting.{LinkSetting}
 use Rattle.rohc_concentrator.specs.declared.setup.SetupFault.{SetupFault}
 use Rattle.rohc_concentrator.specs.declared.setup.SetupFault.TheVariants.{NoLinks, TooManyLinks, BadSetting, DuplicateLink, NoMemory}
 use Rattle.rohc_concentrator.specs.Setting.{IsGoodSetting, are_in_order}
-use Rattle.rohc_concentrator.specs.Setup.{AreSound, IsFault, StandsAt, names_link, setting_of}
+use Rattle.rohc_concentrator.specs.Setup.{AreSound, IsFault, StandsAt, names_link, entry_of}
 use Rattle.rohc_concentrator.specs.Laws.{FaultyIsNotFine, FineOrFaulty}
 use Rattle.rohc_concentrator.proofs.SetupLemmas.{sound_more, none_before}
 
@@ -19,9 +19,9 @@ use Rattle.rohc_concentrator.proofs.SetupLemmas.{sound_more, none_before}
 good_at : (xs : List LinkSetting) (place : ℕ) (before : List LinkSetting) (s : LinkSetting) → StandsAt xs place before s → AreSound xs → IsGoodSetting s
 good_at xs place before s at sound = subst IsGoodSetting (get_or_from_slice_get xs at.index s s at.there) (sound.good at.index s (slice_get_within xs at.index s at.there))
 
-not_named_where : (link : ℕ) (xs : List LinkSetting) → setting_of link xs ≡ None → names_link link xs ≡ false
+not_named_where : (link : ℕ) (xs : List LinkSetting) → entry_of link xs ≡ None → names_link link xs ≡ false
 not_named_where link [] none = refl
-not_named_where link (x ∷ xs) none = elim (x.link == link) as (λ b. (if b then Some x else setting_of link xs) ≡ None → (b || names_link link xs) ≡ false) [
+not_named_where link (x ∷ xs) none = elim (x.link == link) as (λ b. (if b then Some x else entry_of link xs) ≡ None → (b || names_link link xs) ≡ false) [
   | true ↦ λ found. absurd (let e : ◌≡◌ {A = Option LinkSetting} (Some x) None = found in cc)
   | false ↦ λ behind. not_named_where link xs behind
 ] none

@@ -20,7 +20,7 @@ use Rattle.rohc_context.specs.Step.{LoneStep}
 use Rattle.rohc_context.proofs.StepLaws.{has_no_other, leaves_good, leaves_none, never_poor}
 use Rattle.rohc_concentrator.specs.declared.concentrator.Concentrator.{Concentrator}
 use Rattle.rohc_concentrator.specs.declared.setting.LinkSetting.{LinkSetting}
-use Rattle.rohc_concentrator.specs.Setting.{settings_in}
+use Rattle.rohc_concentrator.specs.Setting.{settings_of}
 use Rattle.rohc_concentrator.specs.Tables.{setting_at, record_at}
 use Rattle.rohc_concentrator.specs.Events.{Arrives, Resets}
 use Rattle.rohc_concentrator.specs.Bears.{borne, header_in, cid_in}
@@ -43,18 +43,18 @@ own_step_one s m h before x y a b good (inl p) (inr q) e = absurd (never_poor be
 own_step_one s m h before x y a b good (inr p) (inl q) e = absurd (never_poor before s m h y b q (is_no_memory-only y.outcome (sym e ∙ ap (λ (r : Response). is_no_memory r.outcome) p.2)))
 
 module _ (s t : LinkSetting) (m : ℕ) (before there after after_there : ℕ → Option Record) (x y : Report) where
-  arrival_one : (h : Header) (relayed : List (List ℕ)) → settings_in s h.cid ≡ settings_in t h.cid → before h.cid ≡ there h.cid → AreGoodValues (before h.cid) (settings_in s h.cid) m h →
+  arrival_one : (h : Header) (relayed : List (List ℕ)) → settings_of s h.cid ≡ settings_of t h.cid → before h.cid ≡ there h.cid → AreGoodValues (before h.cid) (settings_of s h.cid) m h →
       IsArrival s m h relayed before x after → IsArrival t m h relayed there y after_there → wants_memory x ≡ wants_memory y → (x ≡ y) × (after h.cid ≡ after_there h.cid)
   arrival_one h relayed settings records good p q e =
       let wants : is_no_memory p.0.outcome ≡ is_no_memory q.0.outcome = sym (ap wants_memory p.1) ∙ e ∙ ap wants_memory q.1 in
-      let own : OwnStep (settings_in s h.cid) m h (before h.cid) q.0 (after_there h.cid) =
-      subst (λ z. OwnStep z m h (before h.cid) q.0 (after_there h.cid)) (sym settings) (subst (λ b. OwnStep (settings_in t h.cid) m h b q.0 (after_there h.cid)) (sym records) q.2) in
-      let step = own_step_one (settings_in s h.cid) m h (before h.cid) p.0 q.0 (after h.cid) (after_there h.cid) good p.2 own wants in
+      let own : OwnStep (settings_of s h.cid) m h (before h.cid) q.0 (after_there h.cid) =
+      subst (λ z. OwnStep z m h (before h.cid) q.0 (after_there h.cid)) (sym settings) (subst (λ b. OwnStep (settings_of t h.cid) m h b q.0 (after_there h.cid)) (sym records) q.2) in
+      let step = own_step_one (settings_of s h.cid) m h (before h.cid) p.0 q.0 (after h.cid) (after_there h.cid) good p.2 own wants in
       (p.1 ∙ ap (λ r. Arrived h.cid r relayed) step.0 ∙ sym q.1, step.1)
 
   -- what a header needs to be answered alike
   abbrev pub Meets : Header → Type 0
-  Meets h = (settings_in s h.cid ≡ settings_in t h.cid) × (before h.cid ≡ there h.cid) × AreGoodValues (before h.cid) (settings_in s h.cid) m h
+  Meets h = (settings_of s h.cid ≡ settings_of t h.cid) × (before h.cid ≡ there h.cid) × AreGoodValues (before h.cid) (settings_of s h.cid) m h
 
   cut_one : (relayed : List (List ℕ)) (header : Option Header) → ((h : Header) → header ≡ Some h → Meets h) → IsCut s m relayed header before x after → IsCut t m relayed header there y after_there →
       wants_memory x ≡ wants_memory y → (x ≡ y) × ((c : ℕ) → cid_in header ≡ Some c → after c ≡ after_there c)
@@ -70,7 +70,7 @@ module _ (s t : LinkSetting) (m : ℕ) (before there after after_there : ℕ →
   read_one (Ok r) meets p q e = cut_one r.elements r.header (λ h. meets r h refl) p q e
 
 -- equal settings of an identifier cut a packet alike
-same_parts : (s t : LinkSetting) (c : ℕ) (octets : List ℕ) → settings_in s c ≡ settings_in t c → parts_of s.settings.size s.settings.max_cid octets ≡ parts_of t.settings.size t.settings.max_cid octets
+same_parts : (s t : LinkSetting) (c : ℕ) (octets : List ℕ) → settings_of s c ≡ settings_of t c → parts_of s.settings.size s.settings.max_cid octets ≡ parts_of t.settings.size t.settings.max_cid octets
 same_parts s t c octets e = ap (λ (z : Settings). parts_of z.size z.max_cid octets) e
 
 pub two_worlds : TwoWorlds
@@ -86,7 +86,7 @@ two_worlds a b after_a after_b l c m octets x y agree fits all bears p q rich_x 
     λ r h e f. let g : ◌≡◌ {A = Option ℕ} (Some h.cid) (Some c) = sym (ap cid_in f) ∙ sym (ap (λ z. cid_in (header_in z)) e) ∙ borne_here in cc in
     let one = read_one s t m (record_at a l) (record_at b l) (record_at after_a l) (record_at after_b l) x y parts
     (λ r h e f. let same = bears_cid r h e f in (
-      subst (λ d. settings_in s d ≡ settings_in t d) (sym same) agree.settings,
+      subst (λ d. settings_of s d ≡ settings_of t d) (sym same) agree.settings,
       subst (λ d. record_at a l d ≡ record_at b l d) (sym same) agree.records,
       good_arrival a l h.cid m s octets r h agree.set_here fits e f all,
     ))
@@ -112,7 +112,7 @@ module _ (s : LinkSetting) (m : ℕ) (before after : ℕ → Option Record) (rep
   cut_none relayed (Some h) bears a =
       let same : h.cid ≡ c = (let f : ◌≡◌ {A = Option ℕ} (Some h.cid) (Some c) = bears in cc) in
       let refused_here : is_refusal a.0.outcome ≡ true = sym (ap is_refused a.1) ∙ refuses in
-      subst (λ d. after d ≡ None) same (own_none (settings_in s h.cid) m h (before h.cid) a.0 (after h.cid) a.2 refused_here (subst (λ d. before d ≡ None) (sym same) none))
+      subst (λ d. after d ≡ None) same (own_none (settings_of s h.cid) m h (before h.cid) a.0 (after h.cid) a.2 refused_here (subst (λ d. before d ≡ None) (sym same) none))
 
   read_none : (parts : Result Reading FrameRefusal) → cid_in (header_in parts) ≡ Some c → IsRead s m parts before report after → after c ≡ None
   read_none (Ok r) bears a = cut_none r.elements r.header bears a

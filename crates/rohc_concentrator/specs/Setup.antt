@@ -1,3 +1,4 @@
+-- What a concentrator is made of. Words: entry_of l; AreSound, AreFine; IsFault, and what StandsAt a place.
 use Rattle.std.specs.Prelude.{◌≡◌, ◌≢◌, ℕ, ◌+◌, ◌<◌, ◌≤◌, List, [], length, take, Bool, true, ◌==◌, Option, Some, find, All, AllPairs, slice_get}
 use Rattle.std.specs.List.{list_any}
 use Rattle.rohc_concentrator.specs.declared.setting.LinkSetting.{LinkSetting}
@@ -10,8 +11,8 @@ abbrev pub names_link : ℕ → List LinkSetting → Bool
 names_link link settings = list_any (λ (s : LinkSetting). s.link == link) settings
 
 -- the first setting of this link
-abbrev pub setting_of : ℕ → List LinkSetting → Option LinkSetting
-setting_of link settings = find (λ (s : LinkSetting). s.link == link) settings
+abbrev pub entry_of : ℕ → List LinkSetting → Option LinkSetting
+entry_of link settings = find (λ (s : LinkSetting). s.link == link) settings
 
 -- each setting is good, and no two are of one link
 pub record AreSound (settings : List LinkSetting) : Type 0 where
@@ -19,7 +20,8 @@ pub record AreSound (settings : List LinkSetting) : Type 0 where
   pub apart : AllPairs (λ (s t : LinkSetting). s.link ≢ t.link) settings
 
 -- the entry at this place, counted from 1, and those before it are sound, of at most 256
-pub record StandsAt (settings : List LinkSetting) (place : ℕ) (before : List LinkSetting) (s : LinkSetting) : Type 0 where
+pub record StandsAt (settings : List LinkSetting) (place : ℕ) (before : List LinkSetting)
+    (s : LinkSetting) : Type 0 where
   pub index : ℕ
   pub counted : place ≡ index + 1
   pub there : slice_get settings index ≡ Some s
@@ -27,12 +29,15 @@ pub record StandsAt (settings : List LinkSetting) (place : ℕ) (before : List L
   pub sound : AreSound before
   pub few : length settings ≤ 256
 
--- a fault of the settings: their count, or else the first entry that isn't good or has a link of one before it
+-- a fault of the settings: their count, else the first entry that isn't good or has a link of one before it
 abbrev pub IsFault : List LinkSetting → SetupFault → Type 0
 IsFault settings NoLinks = settings ≡ []
 IsFault settings TooManyLinks = 256 < length settings
-IsFault settings (BadSetting place) = (before : List LinkSetting) × (s : LinkSetting) × StandsAt settings place before s × (¬ IsGoodSetting s)
-IsFault settings (DuplicateLink place) = (before : List LinkSetting) × (s : LinkSetting) × StandsAt settings place before s × IsGoodSetting s × (names_link s.link before ≡ true)
+IsFault settings (BadSetting place) =
+    (before : List LinkSetting) × (s : LinkSetting) × StandsAt settings place before s × (¬ IsGoodSetting s)
+IsFault settings (DuplicateLink place) =
+    (before : List LinkSetting) × (s : LinkSetting) × StandsAt settings place before s
+    × IsGoodSetting s × (names_link s.link before ≡ true)
 IsFault settings NoMemory = ⊥
 
 -- 1 to 256 settings, and sound

@@ -30,7 +30,7 @@ pub enum SetupFault {
 }
 
 ghost use Rattle.rohc_concentrator.specs.Tables.{settings_in_order, setting_at, record_at};
-ghost use Rattle.rohc_concentrator.specs.Setup.{IsFault, AreSound, AreFine, names_link, setting_of};
+ghost use Rattle.rohc_concentrator.specs.Setup.{IsFault, AreSound, AreFine, names_link, entry_of};
 
 /// The first fault of the settings, if there is one: their count first, then entry by entry.
 fn judge(settings: &[LinkSetting]) -> Result<(), SetupFault>
@@ -69,7 +69,7 @@ impl Concentrator {
     pub fn new(alloc: Global, settings: &[LinkSetting]) -> Result<Concentrator, SetupFault>
         ensures fine { IfOk result (λ k. AreFine settings.now) }
         ensures in_order { IfOk result (λ k. settings_in_order k ≡ settings.now) }
-        ensures each { IfOk result (λ k. (link : ℕ) → setting_at k link ≡ setting_of link settings.now) }
+        ensures each { IfOk result (λ k. (link : ℕ) → setting_at k link ≡ entry_of link settings.now) }
         ensures empty { IfOk result (λ k. (link cid : ℕ) → record_at k link cid ≡ None) }
         ensures fault { IfErr result (λ e. IsFault settings.now e ⊎ (e ≡ SetupFault.NoMemory)) }
         ensures poor { result ≡ Err SetupFault.NoMemory → AreFine settings.now }
@@ -83,7 +83,7 @@ impl Concentrator {
 fn build(alloc: Global, settings: &[LinkSetting]) -> Result<Concentrator, AllocError>
     requires { AreSound settings.now }
     ensures in_order { IfOk result (λ k. settings_in_order k ≡ settings.now) }
-    ensures each { IfOk result (λ k. (link : ℕ) → setting_at k link ≡ setting_of link settings.now) }
+    ensures each { IfOk result (λ k. (link : ℕ) → setting_at k link ≡ entry_of link settings.now) }
     ensures empty { IfOk result (λ k. (link cid : ℕ) → record_at k link cid ≡ None) }
 {
     let mut links = IndexMap::new(alloc);
@@ -94,5 +94,5 @@ fn build(alloc: Global, settings: &[LinkSetting]) -> Result<Concentrator, AllocE
         };
         links.insert(setting.link, records)?;
     }
-    Ok(Concentrator { alloc, links })
+    Ok(Concentrator { links })
 }

@@ -12,7 +12,7 @@ use Rattle.rohc_replay.specs.declared.tally.Tally.{Tally}
 use Rattle.rohc_replay.specs.Script.{Line, Good, Bad, Long, IsLine, AreLines, longest_line, lines_of}
 use Rattle.rohc_replay.specs.AnswerLines.{text_of, long_line}
 use Rattle.rohc_replay.specs.Offers.{TakesAll, TakesPart, counted}
-use Rattle.rohc_replay.specs.Run.{Turns, Runs, IsTally, Replays, Stops, is_good_line}
+use Rattle.rohc_replay.specs.Run.{RunsLine, Runs, IsTally, Replays, Stops, is_good_line}
 use Rattle.rohc_replay.specs.Turn.{with_line, TakesTurn, TakesLongTurn}
 use Rattle.rohc_replay.specs.Stream.{Stands, Ends, IsKept, StopsAt}
 use Rattle.rohc_replay.specs.Lines.{has_newline}
@@ -21,8 +21,8 @@ use Rattle.rohc_replay.proofs.SplitLemmas.{Splits-more, Splits-newline, AreLines
 
 -- a run goes on by one line
 pub Runs-push : (old mid new : Concentrator) (lines : List Line) (answers : List (List (List ℕ))) (line : Line) (more : List (List ℕ)) →
-    Runs old lines answers mid → Turns mid line more new → Runs old (lines ++ line ∷ []) (answers ++ more ∷ []) new
-Runs-push old mid new [] [] line more run turn = (new, subst (λ k. Turns k line more new) run turn, refl)
+    Runs old lines answers mid → RunsLine mid line more new → Runs old (lines ++ line ∷ []) (answers ++ more ∷ []) new
+Runs-push old mid new [] [] line more run turn = (new, subst (λ k. RunsLine k line more new) run turn, refl)
 Runs-push old mid new (l ∷ ls) (a ∷ rest) line more run turn = (run.0, run.1, Runs-push run.0 mid new ls rest line more run.2 turn)
 Runs-push old mid new [] (a ∷ rest) line more run turn = absurd run
 Runs-push old mid new (l ∷ ls) [] line more run turn = absurd run
@@ -91,7 +91,7 @@ IsLine-kept true kept rest line is_kept short is_long = rw (is_long refl) is_kep
 pub Stands-newline : (first : Concentrator) (held : Option (List ℕ)) (seen kept : List ℕ) (long : Bool) (now : Concentrator) (holding : Option (List ℕ)) (counts : Counts)
     (line : Line) (more : List (List ℕ)) (new : Concentrator) (after : Option (List ℕ)) (counts_after : Counts) →
     Stands first held seen kept long now holding counts → (long ≡ false → IsLine kept line) → (long ≡ true → line ≡ Long) →
-    Turns now line more new → counts_after.tally ≡ with_line counts.tally line → TakesAll holding after counts.taken counts_after.taken (text_of more) →
+    RunsLine now line more new → counts_after.tally ≡ with_line counts.tally line → TakesAll holding after counts.taken counts_after.taken (text_of more) →
     Stands first held (seen ++ 10 ∷ []) [] false new after counts_after
 Stands-newline first held seen kept long now holding counts line more new after counts_after s short is_long turns tally taken = record {
   finished = s.finished ++ s.rest ∷ [];
@@ -119,7 +119,7 @@ last_line-some (x ∷ xs) h = refl
 pub Ends-line : (first : Concentrator) (held : Option (List ℕ)) (seen kept : List ℕ) (long : Bool) (now : Concentrator) (holding : Option (List ℕ)) (counts : Counts)
     (line : Line) (more : List (List ℕ)) (new : Concentrator) (after : Option (List ℕ)) (counts_after : Counts) →
     Stands first held seen kept long now holding counts → (long ≡ false → IsLine kept line) → (long ≡ true → line ≡ Long) → (long ≡ false → 0 < length kept) →
-    Turns now line more new → counts_after.tally ≡ with_line counts.tally line → TakesAll holding after counts.taken counts_after.taken (text_of more) →
+    RunsLine now line more new → counts_after.tally ≡ with_line counts.tally line → TakesAll holding after counts.taken counts_after.taken (text_of more) →
     Ends first held seen new after counts_after
 Ends-line first held seen kept long now holding counts line more new after counts_after s short is_long some turns tally taken = record {
   lines = s.lines ++ line ∷ [];
@@ -286,7 +286,7 @@ Replays-whole first held a b c seen read now holding flushed counts before last 
 Stops-line : (first : Concentrator) (held : Option (List ℕ)) (seen kept : List ℕ) (long : Bool) (now : Concentrator) (holding : Option (List ℕ)) (counts : Counts)
     (line : Line) (more : List (List ℕ)) (new : Concentrator) (after : Option (List ℕ)) (taken_after : ℕ)
     (s : Stands first held seen kept long now holding counts) → (long ≡ false → IsLine kept line) → (long ≡ true → line ≡ Long) →
-    Turns now line more new → TakesPart holding after counts.taken taken_after (text_of more) →
+    RunsLine now line more new → TakesPart holding after counts.taken taken_after (text_of more) →
     Stops first (s.finished ++ s.rest ∷ []) held after taken_after new
 Stops-line first held seen kept long now holding counts line more new after taken_after s short is_long turns part = record {
   earlier = s.lines;

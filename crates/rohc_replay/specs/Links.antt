@@ -1,4 +1,4 @@
--- What a links file says.
+-- What a links file says. Words: Lists; read_from a table, read_text.
 use Rattle.std.specs.Prelude.{ℕ, ◌+◌, ◌==◌, List, [], ◌∷◌, codes, pos, Option, Some, None, if◌then◌else◌, Result, Ok, Err}
 use Rattle.std.specs.Option.{ok_or, option_map_or}
 use Rattle.rohc_concentrator.specs.declared.setting.LinkSetting.{LinkSetting}

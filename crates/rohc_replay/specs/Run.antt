@@ -1,4 +1,4 @@
--- The run of a script: one turn of the concentrator for each line.
+-- The run of a script, line by line. Words: RunsLine, Runs; line_mark, marked_of; IsTally; Replays; Fails.
 use Rattle.std.specs.Prelude.{◌≡◌, ℕ, ◌-◌, ◌^◌, List, [], ◌∷◌, ◌++◌, Bool, true, false, not, count_by, min, length, ◌<◌, ◌⊎◌, Option, IfSome}
 use Rattle.std.specs.List.{flat_map}
 use Rattle.std.specs.Io.KnownBytes.{Appends, Consumes}
@@ -15,29 +15,35 @@ use Rattle.rohc_replay.specs.Lines.{Splits}
 use Rattle.rohc_replay.specs.AnswerLines.{report_lines, reset_lines, bad_line, long_line, text_of}
 
 -- one line: the concentrator before it, its answer lines, and the concentrator after it
-abbrev pub Turns : Concentrator → Line → List (List ℕ) → Concentrator → Type 0
-Turns old (Good (Arrive link moment octets)) answers new = (report : Report) × Arrives old link moment octets report new × (answers ≡ report_lines link report)
-Turns old (Good (Reset link)) answers new = Resets old link new × (answers ≡ reset_lines link (setting_at old link))
-Turns old Bad answers new = (new ≡ old) × (answers ≡ bad_line ∷ [])
-Turns old Long answers new = (new ≡ old) × (answers ≡ long_line ∷ [])
+abbrev pub RunsLine : Concentrator → Line → List (List ℕ) → Concentrator → Type 0
+RunsLine old (Good (Arrive link moment octets)) answers new =
+    (report : Report) × Arrives old link moment octets report new × (answers ≡ report_lines link report)
+RunsLine old (Good (Reset link)) answers new =
+    Resets old link new × (answers ≡ reset_lines link (setting_at old link))
+RunsLine old Bad answers new = (new ≡ old) × (answers ≡ bad_line ∷ [])
+RunsLine old Long answers new = (new ≡ old) × (answers ≡ long_line ∷ [])
 
 -- the lines in turn, with the answer lines of each
 abbrev pub Runs : Concentrator → List Line → List (List (List ℕ)) → Concentrator → Type 0
 Runs old [] [] new = new ≡ old
-Runs old (line ∷ lines) (answers ∷ more) new = (mid : Concentrator) × Turns old line answers mid × Runs mid lines more new
+Runs old (line ∷ lines) (answers ∷ more) new =
+    (mid : Concentrator) × RunsLine old line answers mid × Runs mid lines more new
 Runs old [] (answers ∷ more) new = ⊥
 Runs old (line ∷ lines) [] new = ⊥
 
 -- whether an event was answered `NoMemory`
-abbrev pub turn_mark : (old : Concentrator) (e : Event) (answers : List (List ℕ)) (new : Concentrator) → Turns old (Good e) answers new → Bool
-turn_mark old (Arrive link moment octets) answers new turn = wants_memory turn.0
-turn_mark old (Reset link) answers new turn = false
+abbrev pub line_mark : (old : Concentrator) (e : Event) (answers : List (List ℕ)) (new : Concentrator) →
+    RunsLine old (Good e) answers new → Bool
+line_mark old (Arrive link moment octets) answers new turn = wants_memory turn.0
+line_mark old (Reset link) answers new turn = false
 
 -- the lines of a run, each with its mark: true where its event was answered `NoMemory`
-abbrev pub marked_of : (old : Concentrator) (lines : List Line) (answers : List (List (List ℕ))) (new : Concentrator) → Runs old lines answers new → List (Line × Bool)
+abbrev pub marked_of : (old : Concentrator) (lines : List Line) (answers : List (List (List ℕ)))
+    (new : Concentrator) → Runs old lines answers new → List (Line × Bool)
 marked_of old [] answers new run = []
 marked_of old (line ∷ lines) [] new run = []
-marked_of old (Good e ∷ lines) (a ∷ more) new run = (Good e, turn_mark old e a run.0 run.1) ∷ marked_of run.0 lines more new run.2
+marked_of old (Good e ∷ lines) (a ∷ more) new run =
+    (Good e, line_mark old e a run.0 run.1) ∷ marked_of run.0 lines more new run.2
 marked_of old (Bad ∷ lines) (a ∷ more) new run = (Bad, false) ∷ marked_of run.0 lines more new run.2
 marked_of old (Long ∷ lines) (a ∷ more) new run = (Long, false) ∷ marked_of run.0 lines more new run.2
 
@@ -54,7 +60,8 @@ pub record IsTally (lines : List Line) (t : Tally) : Type 0 where
 
 -- A whole replay: the script of the text, its answer lines, which are all that was written, the tally, and
 -- where the concentrator stands after all events.
-pub record Replays (old : Concentrator) (text : List ℕ) (held holding : Option (List ℕ)) (t : Tally) (new : Concentrator) : Type 0 where
+pub record Replays (old : Concentrator) (text : List ℕ) (held holding : Option (List ℕ)) (t : Tally)
+    (new : Concentrator) : Type 0 where
   pub lines : List Line
   pub answers : List (List (List ℕ))
   pub script : IsScript text lines
@@ -62,9 +69,10 @@ pub record Replays (old : Concentrator) (text : List ℕ) (held holding : Option
   pub written : Appends held holding (flat_map text_of answers)
   pub tally : IsTally lines t
 
--- A read failed: of the octets that were read before it, the finished lines were run and answered, and the writer
--- took all of that.
-pub record ReadFails (old : Concentrator) (before after held holding : Option (List ℕ)) (written : ℕ) (new : Concentrator) : Type 0 where
+-- A read failed: of the octets that were read before it, the finished lines were run and answered, and the
+-- writer took all of that.
+pub record ReadFails (old : Concentrator) (before after held holding : Option (List ℕ)) (written : ℕ)
+    (new : Concentrator) : Type 0 where
   pub seen : List ℕ
   pub consumed : Consumes before after seen
   pub finished : List (List ℕ)
@@ -76,8 +84,10 @@ pub record ReadFails (old : Concentrator) (before after held holding : Option (L
   pub run : Runs old lines answers new
   pub taken : TakesAll held holding 0 written (flat_map text_of answers)
 
--- Lines were run one after the other. Of the answers of the last one a part was taken and not all; of those before it, all.
-pub record Stops (old : Concentrator) (texts : List (List ℕ)) (held holding : Option (List ℕ)) (written : ℕ) (new : Concentrator) : Type 0 where
+-- Lines were run one after the other. Of the answers of the last one a part was taken and not all; of those
+-- before it, all.
+pub record Stops (old : Concentrator) (texts : List (List ℕ)) (held holding : Option (List ℕ)) (written : ℕ)
+    (new : Concentrator) : Type 0 where
   pub earlier : List Line
   pub last : Line
   pub are_lines : AreLines texts (earlier ++ last ∷ [])
@@ -91,14 +101,16 @@ pub record Stops (old : Concentrator) (texts : List (List ℕ)) (held holding : 
   pub taken : TakesAll held holding 0 written (flat_map text_of answers ++ part)
 
 -- A write failed, at one of the first lines of the text.
-pub record WriteFails (old : Concentrator) (text : List ℕ) (held holding : Option (List ℕ)) (written : ℕ) (new : Concentrator) : Type 0 where
+pub record WriteFails (old : Concentrator) (text : List ℕ) (held holding : Option (List ℕ)) (written : ℕ)
+    (new : Concentrator) : Type 0 where
   pub texts : List (List ℕ)
   pub others : List (List ℕ)
   pub first_lines : lines_of text ≡ texts ++ others
   pub stops : Stops old texts held holding written new
 
 -- The flush failed: all lines were run, and all their answers taken.
-pub record FlushFails (old : Concentrator) (text : List ℕ) (held holding : Option (List ℕ)) (written : ℕ) (new : Concentrator) : Type 0 where
+pub record FlushFails (old : Concentrator) (text : List ℕ) (held holding : Option (List ℕ)) (written : ℕ)
+    (new : Concentrator) : Type 0 where
   pub lines : List Line
   pub script : IsScript text lines
   pub answers : List (List (List ℕ))
@@ -106,10 +118,14 @@ pub record FlushFails (old : Concentrator) (text : List ℕ) (held holding : Opt
   pub taken : TakesAll held holding 0 written (flat_map text_of answers)
 
 -- What each fault leaves, from the concentrator, the reader and the writer before to those after it.
-abbrev pub Fails : {R W : Type 0} → (R → Option (List ℕ)) → (W → Option (List ℕ)) → Concentrator → R → W → RunFault → Concentrator → R → W → Type 0
-Fails remaining contents old reader writer NoMemory new reader_after writer_after = (new ≡ old) × (reader_after ≡ reader) × (writer_after ≡ writer)
+abbrev pub Fails : {R W : Type 0} → (R → Option (List ℕ)) → (W → Option (List ℕ))
+    → Concentrator → R → W → RunFault → Concentrator → R → W → Type 0
+Fails remaining contents old reader writer NoMemory new reader_after writer_after =
+    (new ≡ old) × (reader_after ≡ reader) × (writer_after ≡ writer)
 Fails remaining contents old reader writer (Read written) new reader_after writer_after =
-    ReadFails old (remaining reader) (remaining reader_after) (contents writer) (contents writer_after) written new
+    ReadFails old (remaining reader) (remaining reader_after) (contents writer) (contents writer_after)
+    written new
 Fails remaining contents old reader writer (Write written) new reader_after writer_after =
-    IfSome (remaining reader) (λ text. WriteFails old text (contents writer) (contents writer_after) written new
+    IfSome (remaining reader) (λ text.
+    WriteFails old text (contents writer) (contents writer_after) written new
     ⊎ FlushFails old text (contents writer) (contents writer_after) written new)
