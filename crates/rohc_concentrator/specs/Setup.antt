@@ -1,5 +1,5 @@
--- What a concentrator is made of. Words: entry_of l; AreSound, AreFine; IsFault, and what StandsAt a place.
-use Rattle.std.specs.Prelude.{◌≡◌, ◌≢◌, ℕ, ◌+◌, ◌<◌, ◌≤◌, List, [], length, take, Bool, true, ◌==◌, Option, Some, find, All, AllPairs, slice_get}
+-- What a concentrator is made of. Words: entry_of l; AreSound, AreFine; IsFault, what StandsAt a place, fault_name a fault.
+use Rattle.std.specs.Prelude.{◌≡◌, ◌≢◌, ℕ, ◌+◌, ◌<◌, ◌≤◌, List, [], length, take, Bool, true, ◌==◌, Option, Some, find, All, AllPairs, slice_get, codes}
 use Rattle.std.specs.List.{list_any}
 use Rattle.rohc_concentrator.specs.declared.setting.LinkSetting.{LinkSetting}
 use Rattle.rohc_concentrator.specs.declared.setup.SetupFault.{SetupFault}
@@ -45,3 +45,11 @@ pub record AreFine (settings : List LinkSetting) : Type 0 where
   pub some : 1 ≤ length settings
   pub few : length settings ≤ 256
   pub sound : AreSound settings
+
+-- the names of the faults
+abbrev pub fault_name : SetupFault → List ℕ
+fault_name NoLinks = codes "NoLinks"
+fault_name TooManyLinks = codes "TooManyLinks"
+fault_name (BadSetting place) = codes "BadSetting"
+fault_name (DuplicateLink place) = codes "DuplicateLink"
+fault_name NoMemory = codes "NoMemory"

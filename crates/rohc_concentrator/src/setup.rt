@@ -29,6 +29,23 @@ pub enum SetupFault {
     NoMemory,
 }
 
+impl SetupFault {
+    ghost use Rattle.rohc_concentrator.specs.Setup.{fault_name};
+
+    /// The name of the fault.
+    pub fn name(&self) -> &'static str
+        ensures { result.now ≡ fault_name self.now }
+    {
+        match self {
+            SetupFault::NoLinks => "NoLinks",
+            SetupFault::TooManyLinks => "TooManyLinks",
+            SetupFault::BadSetting { .. } => "BadSetting",
+            SetupFault::DuplicateLink { .. } => "DuplicateLink",
+            SetupFault::NoMemory => "NoMemory",
+        }
+    }
+}
+
 ghost use Rattle.rohc_concentrator.specs.Tables.{settings_in_order, setting_at, record_at};
 ghost use Rattle.rohc_concentrator.specs.Setup.{IsFault, AreSound, AreFine, names_link, entry_of};
 
