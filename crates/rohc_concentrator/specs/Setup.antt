@@ -1,4 +1,5 @@
--- What a concentrator is made of. Words: entry_of l; AreSound, AreFine; IsFault, what StandsAt a place, fault_name a fault.
+-- What a concentrator is made of. Words: entry_of l; AreSound, AreFine; IsFault, what StandsAt a place;
+-- fault_name.
 use Rattle.std.specs.Prelude.{◌≡◌, ◌≢◌, ℕ, ◌+◌, ◌<◌, ◌≤◌, List, [], length, take, Bool, true, ◌==◌, Option, Some, find, All, AllPairs, slice_get, codes}
 use Rattle.std.specs.List.{list_any}
 use Rattle.rohc_concentrator.specs.declared.setting.LinkSetting.{LinkSetting}

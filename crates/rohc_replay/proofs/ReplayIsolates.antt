@@ -124,7 +124,7 @@ module _ (r : Replay) (p : Pair) where
     alike = subst (λ es. IsTold r es p) (own_left p.setting p.link p.cid marked) told;
   }
 
-pub replay_isolates : (old : Concentrator) (text : List ℕ) (held holding : Option (List ℕ)) (t : Tally) (new : Concentrator) → Replays old text held holding t new → Isolates old text held holding new
+pub replay_isolates : (old : Concentrator) (text : List ℕ) (held holding : Option (List ℕ)) (t : Tally) (new : Concentrator) → Replays (record { before = old; after = new; held = held; holding = holding }) text t → Isolates old text held holding new
 replay_isolates old text held holding t new r =
     let fit : AreFit r.lines = lines_fit (lines_of text) r.lines r.script in
     let written = flat_map text_of r.answers in
@@ -148,7 +148,7 @@ replay_isolates old text held holding t new r =
     )
 
 pub isolates_where : (result : Result Tally RunFault) (remaining : Option (List ℕ)) (old new : Concentrator) (held holding : Option (List ℕ)) →
-    IfOk result (λ t. IfSome remaining (λ input. Replays old input held holding t new)) → IfOk result (λ t. IfSome remaining (λ input. Isolates old input held holding new))
+    IfOk result (λ t. IfSome remaining (λ input. Replays (record { before = old; after = new; held = held; holding = holding }) input t)) → IfOk result (λ t. IfSome remaining (λ input. Isolates old input held holding new))
 isolates_where (Ok t) (Some input) old new held holding r = replay_isolates old input held holding t new r
 isolates_where (Ok t) None old new held holding r = tt
 isolates_where (Err e) remaining old new held holding r = tt

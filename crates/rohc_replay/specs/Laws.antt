@@ -7,7 +7,7 @@ use Rattle.rohc_concentrator.specs.Tables.{record_at}
 use Rattle.rohc_replay.specs.Script.{Line, IsScript}
 use Rattle.rohc_replay.specs.AnswerLines.{text_of}
 use Rattle.rohc_replay.specs.Isolation.{Replay, IsIsolated, own, own_lines}
-use Rattle.rohc_replay.specs.Run.{Runs, marked_of, ReadFails, WriteFails, FlushFails}
+use Rattle.rohc_replay.specs.Run.{Runs, marked_of, Change, ReadFails, WriteFails, FlushFails}
 
 -- the one list begins with the other
 abbrev pub IsFront : {X : Type 0} → List X → List X → Type 0
@@ -38,29 +38,31 @@ BeginsAlike = (a b after_a after_b : Concentrator) (text : List ℕ) (lines more
 -- What a failed read leaves written begins what a whole run of the text writes, where the same events want
 -- memory.
 abbrev pub ReadLeavesFront : Type 0
-ReadLeavesFront = (old new after : Concentrator) (text : List ℕ) (unread held holding : Option (List ℕ))
-    (written : ℕ) (f : ReadFails old (Some text) unread held holding written new)
-    (lines : List Line) (answers : List (List (List ℕ))) (whole : Runs old lines answers after) →
+ReadLeavesFront = (c : Change) (whole_after : Concentrator) (text : List ℕ) (left : Option (List ℕ))
+    (written : ℕ) (f : ReadFails c (Some text) left written)
+    (lines : List Line) (answers : List (List (List ℕ))) (whole : Runs c.before lines answers whole_after) →
     IsScript text lines →
-    IsFront (marked_of old f.lines f.answers new f.run) (marked_of old lines answers after whole) →
+    IsFront (marked_of c.before f.lines f.answers c.after f.run)
+    (marked_of c.before lines answers whole_after whole) →
     IsFront (flat_map text_of f.answers) (flat_map text_of answers)
 
 -- And so does what a failed write leaves.
 abbrev pub WriteLeavesFront : Type 0
-WriteLeavesFront = (old new after : Concentrator) (text : List ℕ) (held holding : Option (List ℕ))
-    (written : ℕ) (f : WriteFails old text held holding written new)
-    (lines : List Line) (answers : List (List (List ℕ))) (whole : Runs old lines answers after) →
+WriteLeavesFront = (c : Change) (whole_after : Concentrator) (text : List ℕ) (written : ℕ)
+    (f : WriteFails c text written)
+    (lines : List Line) (answers : List (List (List ℕ))) (whole : Runs c.before lines answers whole_after) →
     IsScript text lines →
-    IsFront (marked_of old (f.stops.earlier ++ f.stops.last ∷ [])
-    (f.stops.answers ++ f.stops.last_answers ∷ []) new f.stops.run)
-    (marked_of old lines answers after whole) →
+    IsFront (marked_of c.before (f.stops.earlier ++ f.stops.last ∷ [])
+    (f.stops.answers ++ f.stops.last_answers ∷ []) c.after f.stops.run)
+    (marked_of c.before lines answers whole_after whole) →
     IsFront (flat_map text_of f.stops.answers ++ f.stops.part) (flat_map text_of answers)
 
 -- And what a failed flush leaves is all of it.
 abbrev pub FlushLeavesAll : Type 0
-FlushLeavesAll = (old new after : Concentrator) (text : List ℕ) (held holding : Option (List ℕ))
-    (written : ℕ) (f : FlushFails old text held holding written new)
-    (lines : List Line) (answers : List (List (List ℕ))) (whole : Runs old lines answers after) →
+FlushLeavesAll = (c : Change) (whole_after : Concentrator) (text : List ℕ) (written : ℕ)
+    (f : FlushFails c text written)
+    (lines : List Line) (answers : List (List (List ℕ))) (whole : Runs c.before lines answers whole_after) →
     IsScript text lines →
-    IsFront (marked_of old f.lines f.answers new f.run) (marked_of old lines answers after whole) →
+    IsFront (marked_of c.before f.lines f.answers c.after f.run)
+    (marked_of c.before lines answers whole_after whole) →
     flat_map text_of f.answers ≡ flat_map text_of answers

@@ -43,7 +43,8 @@ pub record Ends (first : Concentrator) (held : Option (List ℕ)) (seen : List �
 abbrev pub StopsAt : Concentrator → Option (List ℕ) → List ℕ
     → Concentrator → Option (List ℕ) → Counts → Type 0
 StopsAt first held front now holding counts =
-    (texts : List (List ℕ)) × Splits front texts [] × Stops first texts held holding counts.taken now
+    (texts : List (List ℕ)) × Splits front texts []
+    × Stops (record { before = first; after = now; held = held; holding = holding }) texts counts.taken
 
 -- a front of what was seen was
 abbrev pub StopsWithin : Concentrator → Option (List ℕ) → List ℕ
