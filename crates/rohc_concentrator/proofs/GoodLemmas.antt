@@ -1,4 +1,6 @@
 -- What a concentrator keeps is good.
+use Rattle.rohc_context.specs.Record.{record_of}
+use Rattle.std.specs.Option.{option_map, option_and_then}
 use Rattle.std.proofs.Common.{◌≡◌, ℕ, ◌<◌, ◌^◌, List, All, Option, Some, None, Ok, IfSome, nat_eq, subst}
 use Rattle.indexmap.specs.IndexMap.{get}
 use Rattle.rohc_frame.specs.Header.{Header}
@@ -13,10 +15,10 @@ use Rattle.rohc_context.proofs.StepLaws.{keeps_good}
 use Rattle.rohc_concentrator.specs.declared.concentrator.Concentrator.{Concentrator}
 use Rattle.rohc_concentrator.specs.declared.records.LinkRecords.{LinkRecords}
 use Rattle.rohc_concentrator.specs.declared.setting.LinkSetting.{LinkSetting}
-use Rattle.rohc_concentrator.specs.Setting.{IsGoodSetting, settings_in}
-use Rattle.rohc_concentrator.specs.Tables.{setting_at, setting_in, record_at, record_in, record_within}
+use Rattle.rohc_concentrator.specs.Setting.{IsGoodSetting, settings_of}
+use Rattle.rohc_concentrator.specs.Tables.{setting_at, record_at, record_in}
 
-good_within : (records : Option LinkRecords) (s : LinkSetting) → setting_in records ≡ Some s → IsGoodSetting s
+good_within : (records : Option LinkRecords) (s : LinkSetting) → option_map (λ (r : LinkRecords). r.setting) records ≡ Some s → IsGoodSetting s
 good_within (Some r) s e = subst IsGoodSetting (let same : ◌≡◌ {A = Option LinkSetting} (Some r.setting) (Some s) = e in cc) r.good
 good_within None s e = absurd (let same : ◌≡◌ {A = Option LinkSetting} None (Some s) = e in cc)
 
@@ -25,8 +27,8 @@ pub good_setting : (k : Concentrator) (l : ℕ) (s : LinkSetting) → setting_at
 good_setting k l s e = good_within (get nat_eq k.links l) s e
 
 -- and so is what is set for an identifier of it
-pub good_settings_in : (s : LinkSetting) (c : ℕ) → IsGoodSetting s → AreGood (settings_in s c)
-good_settings_in s c good = record {
+pub good_settings_of : (s : LinkSetting) (c : ℕ) → IsGoodSetting s → AreGood (settings_of s c)
+good_settings_of s c good = record {
   max_cid = good.settings_good.max_cid;
   k1 = good.settings_good.k1;
   k2 = good.settings_good.k2;
@@ -35,11 +37,11 @@ good_settings_in s c good = record {
   idle_ms = good.settings_good.idle_ms;
 }
 
-good_in : (context : Option Context) → IfSome (record_in context) IsGoodRecord
+good_in : (context : Option Context) → IfSome (option_map record_of context) IsGoodRecord
 good_in None = tt
 good_in (Some c) = keeps_good c
 
-good_record_within : (records : Option LinkRecords) (c : ℕ) → IfSome (record_within records c) IsGoodRecord
+good_record_within : (records : Option LinkRecords) (c : ℕ) → IfSome (option_and_then (λ (t : LinkRecords). record_in t c) records) IsGoodRecord
 good_record_within None c = tt
 good_record_within (Some r) c = good_in (get nat_eq r.contexts c)
 
@@ -48,17 +50,17 @@ pub good_record_at : (k : Concentrator) (l c : ℕ) → IfSome (record_at k l c)
 good_record_at k l c = good_record_within (get nat_eq k.links l) c
 
 -- the header of a packet of octets is good for each identifier's settings
-pub good_header : (s : LinkSetting) (c : ℕ) (octets : List ℕ) (r : Reading) (h : Header) → parts_of s.settings.size s.settings.max_cid octets ≡ Ok r → r.header ≡ Some h → All IsOctet octets → IsGoodHeader (settings_in s c) h
+pub good_header : (s : LinkSetting) (c : ℕ) (octets : List ℕ) (r : Reading) (h : Header) → parts_of s.settings.size s.settings.max_cid octets ≡ Ok r → r.header ≡ Some h → All IsOctet octets → IsGoodHeader (settings_of s c) h
 good_header s c octets r h parts header all =
     let good = header_is_good s.settings.size s.settings.max_cid octets r h parts header all in
     record { sized = good.sized; within = good.within; spelled = good.spelled; first = good.first; cid_octets = good.cid_octets; rest = good.rest }
 
 -- so an arrival meets good values
 pub good_arrival : (k : Concentrator) (l c m : ℕ) (s : LinkSetting) (octets : List ℕ) (r : Reading) (h : Header) → setting_at k l ≡ Some s → m < 2 ^ 64 → parts_of s.settings.size s.settings.max_cid octets ≡ Ok r → r.header ≡ Some h → All IsOctet octets →
-    AreGoodValues (record_at k l c) (settings_in s c) m h
+    AreGoodValues (record_at k l c) (settings_of s c) m h
 good_arrival k l c m s octets r h set fits parts header all = record {
   record_before = good_record_at k l c;
-  settings = good_settings_in s c (good_setting k l s set);
+  settings = good_settings_of s c (good_setting k l s set);
   moment_fits = fits;
   header = good_header s c octets r h parts header all;
 }

@@ -1,4 +1,6 @@
 pub mod GoodLemmas
+pub mod MarkedLemmas
 pub mod OrderLemmas
+pub mod SetupLaws
 pub mod SetupLemmas
 pub mod WorldLemmas

@@ -1,3 +1,5 @@
+use Rattle.rohc_context.specs.Record.{record_of}
+use Rattle.std.specs.Option.{option_map}
 use Rattle.std.proofs.Common.{◌≡◌, ℕ, List, [], ◌∷◌, ◌++◌, Some, None, Bool, true, false, cond, map, nat_eq, refl, sym, ◌∙◌, ap, inr}
 use Rattle.std.specs.Map.{keys_of, lookup, set_value}
 use Rattle.std.specs.HashMap.{HashMap, get, keys}
@@ -5,7 +7,7 @@ use Rattle.indexmap.specs.IndexMap.{insert_entry}
 use Rattle.indexmap.proofs.CallerLemmas.{insert_entry-new}
 use Rattle.rohc_context.specs.declared.record.Context.{Context}
 use Rattle.rohc_concentrator.specs.declared.records.LinkRecords.{LinkRecords}
-use Rattle.rohc_concentrator.specs.Tables.{KeepsPlace, record_in}
+use Rattle.rohc_concentrator.specs.Tables.{KeepsPlace}
 
 -- one more entry at the end has its key at the end
 keys_of-append : {V : Type 0} (es : List (ℕ × V)) (k : ℕ) (v : V) → keys_of (es ++ (k, v) ∷ []) ≡ keys_of es ++ k ∷ []
@@ -13,7 +15,7 @@ keys_of-append [] k v = refl
 keys_of-append (e ∷ es) k v = ap (λ ks. e.0 ∷ ks) (keys_of-append es k v)
 
 -- a first record goes last
-pub order_after_first : {S : Type 0} (m n : HashMap ℕ Context S) (cid : ℕ) (first : Context) → get nat_eq m cid ≡ None → n.entries ≡ insert_entry nat_eq m.entries cid first → KeepsPlace (keys m) (keys n) cid (record_in (get nat_eq m cid))
+pub order_after_first : {S : Type 0} (m n : HashMap ℕ Context S) (cid : ℕ) (first : Context) → get nat_eq m cid ≡ None → n.entries ≡ insert_entry nat_eq m.entries cid first → KeepsPlace (keys m) (keys n) cid (option_map record_of (get nat_eq m cid))
 order_after_first m n cid first absent inserted =
     let last : keys n ≡ keys m ++ cid ∷ [] = ap keys_of (inserted ∙ insert_entry-new nat_eq m cid first absent) ∙ keys_of-append m.entries cid first in
     rw absent (inr last)

@@ -20,10 +20,11 @@ use Rattle.rohc_context.specs.Step.{LoneStep}
 use Rattle.rohc_context.proofs.StepLaws.{has_no_other, leaves_good, leaves_none, never_poor}
 use Rattle.rohc_concentrator.specs.declared.concentrator.Concentrator.{Concentrator}
 use Rattle.rohc_concentrator.specs.declared.setting.LinkSetting.{LinkSetting}
-use Rattle.rohc_concentrator.specs.Setting.{settings_in}
+use Rattle.rohc_concentrator.specs.Setting.{settings_of}
 use Rattle.rohc_concentrator.specs.Tables.{setting_at, record_at}
 use Rattle.rohc_concentrator.specs.Events.{Arrives, Resets}
-use Rattle.rohc_concentrator.specs.Report.{Report, Arrived, OwnStep, IsArrival, IsCut, IsRead, IsAnswered, borne, borne_in, cid_in, is_no_memory, wants_memory, is_refusal, is_refused}
+use Rattle.rohc_concentrator.specs.Bears.{borne, header_in, cid_in}
+use Rattle.rohc_concentrator.specs.Report.{Report, Arrived, OwnStep, IsArrival, IsCut, IsRead, IsAnswered, is_no_memory, wants_memory, is_refusal, is_refused}
 use Rattle.rohc_concentrator.specs.LoneRun.{LoneEvent, Arrival, Forget, LoneRun}
 use Rattle.rohc_concentrator.specs.Laws.{TwoWorlds, NoTrace, AreAlike}
 use Rattle.rohc_concentrator.proofs.GoodLemmas.{good_arrival}
@@ -42,18 +43,18 @@ own_step_one s m h before x y a b good (inl p) (inr q) e = absurd (never_poor be
 own_step_one s m h before x y a b good (inr p) (inl q) e = absurd (never_poor before s m h y b q (is_no_memory-only y.outcome (sym e ∙ ap (λ (r : Response). is_no_memory r.outcome) p.2)))
 
 module _ (s t : LinkSetting) (m : ℕ) (before there after after_there : ℕ → Option Record) (x y : Report) where
-  arrival_one : (h : Header) (relayed : List (List ℕ)) → settings_in s h.cid ≡ settings_in t h.cid → before h.cid ≡ there h.cid → AreGoodValues (before h.cid) (settings_in s h.cid) m h →
+  arrival_one : (h : Header) (relayed : List (List ℕ)) → settings_of s h.cid ≡ settings_of t h.cid → before h.cid ≡ there h.cid → AreGoodValues (before h.cid) (settings_of s h.cid) m h →
       IsArrival s m h relayed before x after → IsArrival t m h relayed there y after_there → wants_memory x ≡ wants_memory y → (x ≡ y) × (after h.cid ≡ after_there h.cid)
   arrival_one h relayed settings records good p q e =
       let wants : is_no_memory p.0.outcome ≡ is_no_memory q.0.outcome = sym (ap wants_memory p.1) ∙ e ∙ ap wants_memory q.1 in
-      let own : OwnStep (settings_in s h.cid) m h (before h.cid) q.0 (after_there h.cid) =
-      subst (λ z. OwnStep z m h (before h.cid) q.0 (after_there h.cid)) (sym settings) (subst (λ b. OwnStep (settings_in t h.cid) m h b q.0 (after_there h.cid)) (sym records) q.2) in
-      let step = own_step_one (settings_in s h.cid) m h (before h.cid) p.0 q.0 (after h.cid) (after_there h.cid) good p.2 own wants in
+      let own : OwnStep (settings_of s h.cid) m h (before h.cid) q.0 (after_there h.cid) =
+      subst (λ z. OwnStep z m h (before h.cid) q.0 (after_there h.cid)) (sym settings) (subst (λ b. OwnStep (settings_of t h.cid) m h b q.0 (after_there h.cid)) (sym records) q.2) in
+      let step = own_step_one (settings_of s h.cid) m h (before h.cid) p.0 q.0 (after h.cid) (after_there h.cid) good p.2 own wants in
       (p.1 ∙ ap (λ r. Arrived h.cid r relayed) step.0 ∙ sym q.1, step.1)
 
   -- what a header needs to be answered alike
   abbrev pub Meets : Header → Type 0
-  Meets h = (settings_in s h.cid ≡ settings_in t h.cid) × (before h.cid ≡ there h.cid) × AreGoodValues (before h.cid) (settings_in s h.cid) m h
+  Meets h = (settings_of s h.cid ≡ settings_of t h.cid) × (before h.cid ≡ there h.cid) × AreGoodValues (before h.cid) (settings_of s h.cid) m h
 
   cut_one : (relayed : List (List ℕ)) (header : Option Header) → ((h : Header) → header ≡ Some h → Meets h) → IsCut s m relayed header before x after → IsCut t m relayed header there y after_there →
       wants_memory x ≡ wants_memory y → (x ≡ y) × ((c : ℕ) → cid_in header ≡ Some c → after c ≡ after_there c)
@@ -64,12 +65,12 @@ module _ (s t : LinkSetting) (m : ℕ) (before there after after_there : ℕ →
       (one.0, λ c borne. let same : h.cid ≡ c = (let f : ◌≡◌ {A = Option ℕ} (Some h.cid) (Some c) = borne in cc) in subst (λ d. after d ≡ after_there d) same one.1)
 
   pub read_one : (parts : Result Reading FrameRefusal) → ((r : Reading) (h : Header) → parts ≡ Ok r → r.header ≡ Some h → Meets h) → IsRead s m parts before x after → IsRead t m parts there y after_there →
-      wants_memory x ≡ wants_memory y → (x ≡ y) × ((c : ℕ) → borne_in parts ≡ Some c → after c ≡ after_there c)
+      wants_memory x ≡ wants_memory y → (x ≡ y) × ((c : ℕ) → cid_in (header_in parts) ≡ Some c → after c ≡ after_there c)
   read_one (Err refusal) meets p q e = (p ∙ sym q, λ c borne. absurd (let f : ◌≡◌ {A = Option ℕ} None (Some c) = borne in cc))
   read_one (Ok r) meets p q e = cut_one r.elements r.header (λ h. meets r h refl) p q e
 
 -- equal settings of an identifier cut a packet alike
-same_parts : (s t : LinkSetting) (c : ℕ) (octets : List ℕ) → settings_in s c ≡ settings_in t c → parts_of s.settings.size s.settings.max_cid octets ≡ parts_of t.settings.size t.settings.max_cid octets
+same_parts : (s t : LinkSetting) (c : ℕ) (octets : List ℕ) → settings_of s c ≡ settings_of t c → parts_of s.settings.size s.settings.max_cid octets ≡ parts_of t.settings.size t.settings.max_cid octets
 same_parts s t c octets e = ap (λ (z : Settings). parts_of z.size z.max_cid octets) e
 
 pub two_worlds : TwoWorlds
@@ -77,15 +78,15 @@ two_worlds a b after_a after_b l c m octets x y agree fits all bears p q rich_x 
     let s = agree.here in
     let t = agree.there in
     let parts = parts_of s.settings.size s.settings.max_cid octets in
-    let borne_here : borne_in parts ≡ Some c = subst (λ z. borne z octets ≡ Some c) agree.set_here bears in
+    let borne_here : cid_in (header_in parts) ≡ Some c = subst (λ z. borne z octets ≡ Some c) agree.set_here bears in
     let here : IsRead s m parts (record_at a l) x (record_at after_a l) = subst (λ z. IsAnswered z (record_at a l) m octets x (record_at after_a l)) agree.set_here p.answer in
     let there : IsRead t m parts (record_at b l) y (record_at after_b l) =
     subst (λ z. IsRead t m z (record_at b l) y (record_at after_b l)) (sym (same_parts s t c octets agree.settings)) (subst (λ z. IsAnswered z (record_at b l) m octets y (record_at after_b l)) agree.set_there q.answer) in
     let bears_cid : (r : Reading) (h : Header) → parts ≡ Ok r → r.header ≡ Some h → h.cid ≡ c =
-    λ r h e f. let g : ◌≡◌ {A = Option ℕ} (Some h.cid) (Some c) = sym (ap cid_in f) ∙ sym (ap borne_in e) ∙ borne_here in cc in
+    λ r h e f. let g : ◌≡◌ {A = Option ℕ} (Some h.cid) (Some c) = sym (ap cid_in f) ∙ sym (ap (λ z. cid_in (header_in z)) e) ∙ borne_here in cc in
     let one = read_one s t m (record_at a l) (record_at b l) (record_at after_a l) (record_at after_b l) x y parts
     (λ r h e f. let same = bears_cid r h e f in (
-      subst (λ d. settings_in s d ≡ settings_in t d) (sym same) agree.settings,
+      subst (λ d. settings_of s d ≡ settings_of t d) (sym same) agree.settings,
       subst (λ d. record_at a l d ≡ record_at b l d) (sym same) agree.records,
       good_arrival a l h.cid m s octets r h agree.set_here fits e f all,
     ))
@@ -94,7 +95,7 @@ two_worlds a b after_a after_b l c m octets x y agree fits all bears p q rich_x 
 
 -- A refusal makes no record.
 
-which_refusal : (o : Outcome) → is_refusal o ≡ true → (refusal : Refusal) × (o ≡ outcomes.Refused refusal)
+pub which_refusal : (o : Outcome) → is_refusal o ≡ true → (refusal : Refusal) × (o ≡ outcomes.Refused refusal)
 which_refusal (outcomes.Refused refusal) e = (refusal, refl)
 which_refusal outcomes.Delivered e = absurd (let f : false ≡ true = e in cc)
 which_refusal outcomes.Stored e = absurd (let f : false ≡ true = e in cc)
@@ -111,9 +112,9 @@ module _ (s : LinkSetting) (m : ℕ) (before after : ℕ → Option Record) (rep
   cut_none relayed (Some h) bears a =
       let same : h.cid ≡ c = (let f : ◌≡◌ {A = Option ℕ} (Some h.cid) (Some c) = bears in cc) in
       let refused_here : is_refusal a.0.outcome ≡ true = sym (ap is_refused a.1) ∙ refuses in
-      subst (λ d. after d ≡ None) same (own_none (settings_in s h.cid) m h (before h.cid) a.0 (after h.cid) a.2 refused_here (subst (λ d. before d ≡ None) (sym same) none))
+      subst (λ d. after d ≡ None) same (own_none (settings_of s h.cid) m h (before h.cid) a.0 (after h.cid) a.2 refused_here (subst (λ d. before d ≡ None) (sym same) none))
 
-  read_none : (parts : Result Reading FrameRefusal) → borne_in parts ≡ Some c → IsRead s m parts before report after → after c ≡ None
+  read_none : (parts : Result Reading FrameRefusal) → cid_in (header_in parts) ≡ Some c → IsRead s m parts before report after → after c ≡ None
   read_none (Ok r) bears a = cut_none r.elements r.header bears a
   read_none (Err refusal) bears a = absurd (let f : ◌≡◌ {A = Option ℕ} None (Some c) = bears in cc)
 

@@ -1,27 +1,41 @@
--- Promises over two concentrators, and over what is refused.
-use Rattle.std.specs.Prelude.{◌≡◌, ℕ, ◌<◌, ◌^◌, List, All, true, false, Some, None}
+-- Promises over two concentrators, over what is refused, and over the definitions themselves.
+-- Words: Agree (on one identifier), AreAlike (on all), IsAcceptedIr; then each law.
+use Rattle.std.specs.Prelude.{◌≡◌, ℕ, ◌<◌, ◌^◌, List, map, All, Bool, true, false, Option, Some, None, IfSome, ◌⊎◌, ◌↔◌}
+use Rattle.rohc_frame.specs.Header.{Header}
 use Rattle.rohc_frame.specs.Laws.{IsOctet}
+use Rattle.rohc_frame.specs.declared.header.HeadKind.TheVariants.{Ir}
+use Rattle.rohc_context.specs.declared.settings.Settings.{Settings}
+use Rattle.rohc_context.specs.Good.{IsGoodRecord}
+use Rattle.rohc_context.specs.Record.{Record}
+use Rattle.rohc_context.specs.Response.{Response}
+use Rattle.rohc_context.specs.Step.{LoneStep}
 use Rattle.rohc_concentrator.specs.declared.concentrator.Concentrator.{Concentrator}
 use Rattle.rohc_concentrator.specs.declared.setting.LinkSetting.{LinkSetting}
-use Rattle.rohc_concentrator.specs.Setting.{settings_in}
+use Rattle.rohc_concentrator.specs.Setting.{settings_of}
 use Rattle.rohc_concentrator.specs.Tables.{setting_at, record_at}
-use Rattle.rohc_concentrator.specs.Report.{Report, borne, wants_memory, is_refused}
+use Rattle.rohc_concentrator.specs.Report.{Report, wants_memory, is_refusal, is_refused}
+use Rattle.rohc_concentrator.specs.Bears.{borne}
 use Rattle.rohc_concentrator.specs.Events.{Arrives}
+use Rattle.rohc_concentrator.specs.declared.setup.SetupFault.{SetupFault}
+use Rattle.rohc_concentrator.specs.Setup.{IsFault, AreFine}
+use Rattle.rohc_concentrator.specs.LoneRun.{LoneEvent, LoneRun, MarkedStep, MarkedRun}
 
--- two concentrators agree on an identifier of a link: on its settings there, and on its record or that it has none
+-- two concentrators agree on an identifier of a link: on its settings there, and on its record or on none
 pub record Agree (a b : Concentrator) (l c : ℕ) : Type 0 where
   pub here : LinkSetting
   pub there : LinkSetting
   pub set_here : setting_at a l ≡ Some here
   pub set_there : setting_at b l ≡ Some there
-  pub settings : settings_in here c ≡ settings_in there c
+  pub settings : settings_of here c ≡ settings_of there c
   pub records : record_at a l c ≡ record_at b l c
 
--- Two worlds: an arrival that bears the identifier is answered alike by both, and leaves equal records, want of memory aside.
+-- Two worlds: an arrival that bears the identifier is answered alike by both, and leaves equal records,
+-- want of memory aside.
 abbrev pub TwoWorlds : Type 0
-TwoWorlds = (a b after_a after_b : Concentrator) (l c moment : ℕ) (octets : List ℕ) (x y : Report) → Agree a b l c →
-    moment < 2 ^ 64 → All IsOctet octets → borne (setting_at a l) octets ≡ Some c →
-    Arrives a l moment octets x after_a → Arrives b l moment octets y after_b → wants_memory x ≡ false → wants_memory y ≡ false →
+TwoWorlds = (a b after_a after_b : Concentrator) (l c moment : ℕ) (octets : List ℕ) (x y : Report) →
+    Agree a b l c → moment < 2 ^ 64 → All IsOctet octets → borne (setting_at a l) octets ≡ Some c →
+    Arrives a l moment octets x after_a → Arrives b l moment octets y after_b →
+    wants_memory x ≡ false → wants_memory y ≡ false →
     (x ≡ y) × (record_at after_a l c ≡ record_at after_b l c)
 
 -- two concentrators are alike: in all settings and all records
@@ -31,5 +45,42 @@ pub record AreAlike (a b : Concentrator) : Type 0 where
 
 -- No trace: an arrival that is refused leaves no record where there was none.
 abbrev pub NoTrace : Type 0
-NoTrace = (old new : Concentrator) (l moment : ℕ) (octets : List ℕ) (report : Report) → Arrives old l moment octets report new →
-    is_refused report ≡ true → (c : ℕ) → record_at old l c ≡ None → record_at new l c ≡ None
+NoTrace = (old new : Concentrator) (l moment : ℕ) (octets : List ℕ) (report : Report) →
+    Arrives old l moment octets report new → is_refused report ≡ true →
+    (c : ℕ) → record_at old l c ≡ None → record_at new l c ≡ None
+
+-- Every record that a concentrator holds is good.
+abbrev pub HoldsGoodRecords : Type 0
+HoldsGoodRecords = (k : Concentrator) (l c : ℕ) → IfSome (record_at k l c) IsGoodRecord
+
+-- Settings that have a fault aren't fine.
+abbrev pub FaultyIsNotFine : Type 0
+FaultyIsNotFine = (settings : List LinkSetting) (fault : SetupFault) →
+    IsFault settings fault → ¬ AreFine settings
+
+-- Settings are fine or have a fault.
+abbrev pub FineOrFaulty : Type 0
+FineOrFaulty = (settings : List LinkSetting) →
+    AreFine settings ⊎ ((fault : SetupFault) × IsFault settings fault)
+
+-- the header is of an IR that the lone step accepts where there is no record
+pub record IsAcceptedIr (s : Settings) (moment : ℕ) (h : Header) : Type 0 where
+  pub dynamic : Bool
+  pub kind : h.kind ≡ Ir dynamic
+  pub reply : Response
+  pub after : Option Record
+  pub step : LoneStep None s moment h reply after
+  pub accepted : is_refusal reply.outcome ≡ false
+
+-- A marked arrival is such an IR, for an identifier without a record.
+abbrev pub MarkedIsAcceptedIr : Type 0
+MarkedIsAcceptedIr =
+    (s : Settings) (moment : ℕ) (h : Header) (before after : Option Record) (reply : Response) →
+    MarkedStep s moment h true before reply after → (before ≡ None) × IsAcceptedIr s moment h
+
+-- The lone run is the marked run of events without a mark.
+abbrev pub LoneRunIsUnmarked : Type 0
+LoneRunIsUnmarked =
+    (s : Settings) (before after : Option Record) (events : List LoneEvent) (replies : List Response) →
+    LoneRun s before events replies after
+    ↔ MarkedRun s before (map (λ (event : LoneEvent). (event, false)) events) replies after

@@ -1,5 +1,6 @@
 pub mod Setting
 pub mod Tables
+pub mod Bears
 pub mod Report
 pub mod Setup
 pub mod Events

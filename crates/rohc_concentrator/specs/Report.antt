@@ -1,3 +1,5 @@
+-- What an arrival is answered. Words: Report, the answer as plain data; OwnStep, IsPoor (want of memory),
+-- IsAnswered.
 use Rattle.std.specs.Prelude.{◌≡◌, ℕ, List, Bool, true, false, Option, Some, None, Result, Ok, Err, ◌⊎◌}
 use Rattle.rohc_frame.specs.Header.{Header}
 use Rattle.rohc_frame.specs.Reading.{Reading, elements_of}
@@ -15,7 +17,7 @@ use Rattle.rohc_context.specs.Step.{LoneStep}
 use Rattle.rohc_concentrator.specs.declared.setting.LinkSetting.{LinkSetting}
 use Rattle.rohc_concentrator.specs.declared.answer.Answer.{Answer}
 use Rattle.rohc_concentrator.specs.declared.answer.Answer.TheVariants as answers
-use Rattle.rohc_concentrator.specs.Setting.{settings_in}
+use Rattle.rohc_concentrator.specs.Setting.{settings_of}
 
 -- An answer, apart from where its octets lie in memory.
 pub data Report : Type 0 where
@@ -37,44 +39,36 @@ IsPoor s moment h before response next =
 
 -- one arrival of an identifier: the lone step of its record, or want of memory
 abbrev pub OwnStep : Settings → ℕ → Header → Option Record → Response → Option Record → Type 0
-OwnStep s moment h before response next = LoneStep before s moment h response next ⊎ IsPoor s moment h before response next
+OwnStep s moment h before response next =
+    LoneStep before s moment h response next ⊎ IsPoor s moment h before response next
 
 -- one arrival that bears a header: the answer is its identifier's own step, and only that record may change
-abbrev pub IsArrival : LinkSetting → ℕ → Header → List (List ℕ) → (ℕ → Option Record) → Report → (ℕ → Option Record) → Type 0
+abbrev pub IsArrival : LinkSetting → ℕ → Header → List (List ℕ) → (ℕ → Option Record)
+    → Report → (ℕ → Option Record) → Type 0
 IsArrival s moment h relayed before report after =
     (response : Response) × (report ≡ Arrived h.cid response relayed)
-    × OwnStep (settings_in s h.cid) moment h (before h.cid) response (after h.cid)
+    × OwnStep (settings_of s h.cid) moment h (before h.cid) response (after h.cid)
 
 -- a packet that was cut: padding and feedback alone, or a header too
-abbrev pub IsCut : LinkSetting → ℕ → List (List ℕ) → Option Header → (ℕ → Option Record) → Report → (ℕ → Option Record) → Type 0
+abbrev pub IsCut : LinkSetting → ℕ → List (List ℕ) → Option Header → (ℕ → Option Record)
+    → Report → (ℕ → Option Record) → Type 0
 IsCut s moment relayed None before report after = report ≡ OnlyFront relayed
 IsCut s moment relayed (Some h) before report after = IsArrival s moment h relayed before report after
 
 -- a packet on a link: by its one reading or its one refusal
-abbrev pub IsRead : LinkSetting → ℕ → Result Reading FrameRefusal → (ℕ → Option Record) → Report → (ℕ → Option Record) → Type 0
+abbrev pub IsRead : LinkSetting → ℕ → Result Reading FrameRefusal → (ℕ → Option Record)
+    → Report → (ℕ → Option Record) → Type 0
 IsRead s moment (Err refusal) before report after = report ≡ Refused (refusal_of_framing refusal)
-IsRead s moment (Ok reading) before report after = IsCut s moment reading.elements reading.header before report after
+IsRead s moment (Ok reading) before report after =
+    IsCut s moment reading.elements reading.header before report after
 
 -- What an arrival is answered, by the link's setting if it is there, the records of its identifiers before,
 -- the moment and the packet, and those records after.
-abbrev pub IsAnswered : Option LinkSetting → (ℕ → Option Record) → ℕ → List ℕ → Report → (ℕ → Option Record) → Type 0
+abbrev pub IsAnswered : Option LinkSetting → (ℕ → Option Record) → ℕ → List ℕ
+    → Report → (ℕ → Option Record) → Type 0
 IsAnswered None before moment octets report after = report ≡ Refused refusals.NoLink
-IsAnswered (Some s) before moment octets report after = IsRead s moment (parts_of s.settings.size s.settings.max_cid octets) before report after
-
--- the identifier of a header, if there is one
-abbrev pub cid_in : Option Header → Option ℕ
-cid_in None = None
-cid_in (Some h) = Some h.cid
-
--- the identifier that a reading bears, if it bears one
-abbrev pub borne_in : Result Reading FrameRefusal → Option ℕ
-borne_in (Ok reading) = cid_in reading.header
-borne_in (Err refusal) = None
-
--- the identifier that a packet bears on a link, if it bears one
-abbrev pub borne : Option LinkSetting → List ℕ → Option ℕ
-borne None octets = None
-borne (Some s) octets = borne_in (parts_of s.settings.size s.settings.max_cid octets)
+IsAnswered (Some s) before moment octets report after =
+    IsRead s moment (parts_of s.settings.size s.settings.max_cid octets) before report after
 
 -- the outcome is the refusal `NoMemory`
 abbrev pub is_no_memory : Outcome → Bool

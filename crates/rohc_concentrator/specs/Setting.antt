@@ -1,3 +1,4 @@
+-- What is set for a link. Words: settings_of s i, the settings for an identifier; IsGoodSetting.
 use Rattle.std.specs.Prelude.{◌≡◌, ℕ, ◌+◌, List, [], ◌∷◌, Bool, true, ◌&&◌, nat_le, Option, find, unwrap_or}
 use Rattle.std.specs.Option.{option_map}
 use Rattle.rohc_context.specs.declared.settings.Mode.{Mode}
@@ -15,13 +16,15 @@ abbrev pub mode_in : ℕ → List CidRange → Option Mode
 mode_in cid ranges = option_map (λ (r : CidRange). r.mode) (find (holds cid) ranges)
 
 -- the settings for an identifier: the link's, with the mode of the range that holds it, if one does
-abbrev pub settings_in : LinkSetting → ℕ → Settings
-settings_in s cid = record s.settings { mode = unwrap_or (mode_in cid s.ranges.items) s.settings.mode }
+abbrev pub settings_of : LinkSetting → ℕ → Settings
+settings_of s cid = record s.settings { mode = unwrap_or (mode_in cid s.ranges.items) s.settings.mode }
 
 -- from the least identifier to the greatest, one range behind the other
 abbrev pub are_in_order : ℕ → ℕ → List CidRange → Bool
 are_in_order least greatest [] = true
-are_in_order least greatest (r ∷ rs) = nat_le least r.first && nat_le r.first r.last && nat_le r.last greatest && are_in_order (r.last + 1) greatest rs
+are_in_order least greatest (r ∷ rs) =
+    nat_le least r.first && nat_le r.first r.last && nat_le r.last greatest
+    && are_in_order (r.last + 1) greatest rs
 
 -- the settings are within their limits, and the ranges in order, apart and within the greatest identifier
 pub record IsGoodSetting (s : LinkSetting) : Type 0 where

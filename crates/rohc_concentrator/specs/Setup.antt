@@ -1,4 +1,6 @@
-use Rattle.std.specs.Prelude.{◌≡◌, ◌≢◌, ℕ, ◌+◌, ◌<◌, ◌≤◌, List, [], length, take, Bool, true, ◌==◌, Option, Some, find, All, AllPairs, slice_get}
+-- What a concentrator is made of. Words: entry_of l; AreSound, AreFine; IsFault, what StandsAt a place;
+-- fault_name.
+use Rattle.std.specs.Prelude.{◌≡◌, ◌≢◌, ℕ, ◌+◌, ◌<◌, ◌≤◌, List, [], length, take, Bool, true, ◌==◌, Option, Some, find, All, AllPairs, slice_get, codes}
 use Rattle.std.specs.List.{list_any}
 use Rattle.rohc_concentrator.specs.declared.setting.LinkSetting.{LinkSetting}
 use Rattle.rohc_concentrator.specs.declared.setup.SetupFault.{SetupFault}
@@ -10,8 +12,8 @@ abbrev pub names_link : ℕ → List LinkSetting → Bool
 names_link link settings = list_any (λ (s : LinkSetting). s.link == link) settings
 
 -- the first setting of this link
-abbrev pub setting_of : ℕ → List LinkSetting → Option LinkSetting
-setting_of link settings = find (λ (s : LinkSetting). s.link == link) settings
+abbrev pub entry_of : ℕ → List LinkSetting → Option LinkSetting
+entry_of link settings = find (λ (s : LinkSetting). s.link == link) settings
 
 -- each setting is good, and no two are of one link
 pub record AreSound (settings : List LinkSetting) : Type 0 where
@@ -19,7 +21,8 @@ pub record AreSound (settings : List LinkSetting) : Type 0 where
   pub apart : AllPairs (λ (s t : LinkSetting). s.link ≢ t.link) settings
 
 -- the entry at this place, counted from 1, and those before it are sound, of at most 256
-pub record StandsAt (settings : List LinkSetting) (place : ℕ) (before : List LinkSetting) (s : LinkSetting) : Type 0 where
+pub record StandsAt (settings : List LinkSetting) (place : ℕ) (before : List LinkSetting)
+    (s : LinkSetting) : Type 0 where
   pub index : ℕ
   pub counted : place ≡ index + 1
   pub there : slice_get settings index ≡ Some s
@@ -27,12 +30,15 @@ pub record StandsAt (settings : List LinkSetting) (place : ℕ) (before : List L
   pub sound : AreSound before
   pub few : length settings ≤ 256
 
--- a fault of the settings: their count, or else the first entry that isn't good or has a link of one before it
+-- a fault of the settings: their count, else the first entry that isn't good or has a link of one before it
 abbrev pub IsFault : List LinkSetting → SetupFault → Type 0
 IsFault settings NoLinks = settings ≡ []
 IsFault settings TooManyLinks = 256 < length settings
-IsFault settings (BadSetting place) = (before : List LinkSetting) × (s : LinkSetting) × StandsAt settings place before s × (¬ IsGoodSetting s)
-IsFault settings (DuplicateLink place) = (before : List LinkSetting) × (s : LinkSetting) × StandsAt settings place before s × IsGoodSetting s × (names_link s.link before ≡ true)
+IsFault settings (BadSetting place) =
+    (before : List LinkSetting) × (s : LinkSetting) × StandsAt settings place before s × (¬ IsGoodSetting s)
+IsFault settings (DuplicateLink place) =
+    (before : List LinkSetting) × (s : LinkSetting) × StandsAt settings place before s
+    × IsGoodSetting s × (names_link s.link before ≡ true)
 IsFault settings NoMemory = ⊥
 
 -- 1 to 256 settings, and sound
@@ -40,3 +46,11 @@ pub record AreFine (settings : List LinkSetting) : Type 0 where
   pub some : 1 ≤ length settings
   pub few : length settings ≤ 256
   pub sound : AreSound settings
+
+-- the names of the faults
+abbrev pub fault_name : SetupFault → List ℕ
+fault_name NoLinks = codes "NoLinks"
+fault_name TooManyLinks = codes "TooManyLinks"
+fault_name (BadSetting place) = codes "BadSetting"
+fault_name (DuplicateLink place) = codes "DuplicateLink"
+fault_name NoMemory = codes "NoMemory"

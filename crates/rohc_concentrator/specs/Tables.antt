@@ -1,50 +1,46 @@
-use Rattle.std.specs.Prelude.{◌≡◌, ◌≢◌, ℕ, List, [], ◌∷◌, ◌++◌, ◌⊎◌, Option, Some, None, nat_eq, map}
+-- What a concentrator keeps. Words: setting_at k l, record_at k l i, identifiers_at k l; AreTables;
+-- Keeps: what stays.
+use Rattle.std.specs.Prelude.{◌≡◌, ◌≢◌, ℕ, List, [], ◌∷◌, ◌++◌, ◌⊎◌, Option, Some, None, nat_eq, map, unwrap_or}
+use Rattle.std.specs.HashMap.{HashMap}
+use Rattle.std.specs.Option.{option_map, option_and_then}
 use Rattle.indexmap.specs.IndexMap.{get, keys}
-use Rattle.rohc_context.specs.declared.record.Context.{Context}
 use Rattle.rohc_context.specs.Record.{Record, record_of}
 use Rattle.rohc_concentrator.specs.declared.setting.LinkSetting.{LinkSetting}
 use Rattle.rohc_concentrator.specs.declared.records.LinkRecords.{LinkRecords}
 use Rattle.rohc_concentrator.specs.declared.concentrator.Concentrator.{Concentrator}
 
--- a record as clauses see it, where there is one
-abbrev pub record_in : Option Context → Option Record
-record_in None = None
-record_in (Some c) = Some (record_of c)
-
--- the record of an identifier among those of a link
-abbrev pub record_among : LinkRecords → ℕ → Option Record
-record_among r cid = record_in (get nat_eq r.contexts cid)
-
--- the setting of a link, if it is there
-abbrev pub setting_in : Option LinkRecords → Option LinkSetting
-setting_in None = None
-setting_in (Some r) = Some r.setting
-
--- the record of an identifier, if the link is there and has one
-abbrev pub record_within : Option LinkRecords → ℕ → Option Record
-record_within None cid = None
-record_within (Some r) cid = record_among r cid
-
--- the identifiers that have a record, none where the link isn't there
-abbrev pub identifiers_in : Option LinkRecords → List ℕ
-identifiers_in None = []
-identifiers_in (Some r) = keys r.contexts
-
 -- what is set for a link, if it is there
 abbrev pub setting_at : Concentrator → ℕ → Option LinkSetting
-setting_at k link = setting_in (get nat_eq k.links link)
+setting_at k link = option_map (λ (r : LinkRecords). r.setting) (get nat_eq k.links link)
 
--- the record of an identifier of a link, if there is one
+-- the record of an identifier among those of a link, if there is one
+abbrev pub record_in : LinkRecords → ℕ → Option Record
+record_in r cid = option_map record_of (get nat_eq r.contexts cid)
+
+-- the record of an identifier of a link, if the link is there and has one
 abbrev pub record_at : Concentrator → ℕ → ℕ → Option Record
-record_at k link cid = record_within (get nat_eq k.links link) cid
+record_at k link cid = option_and_then (λ (r : LinkRecords). record_in r cid) (get nat_eq k.links link)
 
 -- the identifiers of a link that have a record, in the order of their first IR
 abbrev pub identifiers_at : Concentrator → ℕ → List ℕ
-identifiers_at k link = identifiers_in (get nat_eq k.links link)
+identifiers_at k link =
+    unwrap_or (option_map (λ (r : LinkRecords). keys r.contexts) (get nat_eq k.links link)) []
 
 -- the links' settings in their order
 abbrev pub settings_in_order : Concentrator → List LinkSetting
 settings_in_order k = map (λ (e : ℕ × LinkRecords). e.1.setting) k.links.entries
+
+-- what is kept for a link: its setting, its records, and the order of their identifiers
+pub record IsLink (k : Concentrator) (link : ℕ) (r : LinkRecords) : Type 0 where
+  pub setting : setting_at k link ≡ Some r.setting
+  pub records : (cid : ℕ) → record_at k link cid ≡ record_in r cid
+  pub identifiers : identifiers_at k link ≡ keys r.contexts
+
+-- all that is kept, for each link that is there, in the order of their settings
+pub record AreTables {S : Type 0} (k : Concentrator) (tables : HashMap ℕ LinkRecords S) : Type 0 where
+  pub there : (link : ℕ) (r : LinkRecords) → get nat_eq tables link ≡ Some r → IsLink k link r
+  pub absent : (link : ℕ) → get nat_eq tables link ≡ None → setting_at k link ≡ None
+  pub in_order : map (λ (e : ℕ × LinkRecords). e.1.setting) tables.entries ≡ settings_in_order k
 
 -- all settings stay, and their order
 pub record KeepsSettings (old new : Concentrator) : Type 0 where
@@ -53,7 +49,8 @@ pub record KeepsSettings (old new : Concentrator) : Type 0 where
 
 -- every record but that of this identifier of this link stays
 abbrev pub KeepsOthers : Concentrator → Concentrator → ℕ → Option ℕ → Type 0
-KeepsOthers old new link borne = (l cid : ℕ) → (l ≢ link) ⊎ (borne ≢ Some cid) → record_at new l cid ≡ record_at old l cid
+KeepsOthers old new link borne =
+    (l cid : ℕ) → (l ≢ link) ⊎ (borne ≢ Some cid) → record_at new l cid ≡ record_at old l cid
 
 -- a record that is replaced keeps its place, and a first one goes last
 abbrev pub KeepsPlace : List ℕ → List ℕ → ℕ → Option Record → Type 0

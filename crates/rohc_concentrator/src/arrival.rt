@@ -10,8 +10,9 @@ use rohc_frame::cut;
 
 impl Concentrator {
     ghost use Rattle.std.specs.Prelude.{◌≡◌, [], ◌≢◌, ◌↔◌, ℕ, None, IsErr, is_some, nat_eq};
-    ghost use Rattle.rohc_concentrator.specs.Tables.{setting_at, record_at, identifiers_at, KeepsSettings, KeepsOthers, KeepsOrder};
-    ghost use Rattle.rohc_concentrator.specs.Report.{report_of, IsAnswered, borne};
+    ghost use Rattle.rohc_concentrator.specs.Tables.{setting_at, record_at, identifiers_at, AreTables, KeepsSettings, KeepsOthers, KeepsOrder};
+    ghost use Rattle.rohc_concentrator.specs.Report.{report_of, IsAnswered};
+    ghost use Rattle.rohc_concentrator.specs.Bears.{borne};
 
     /// One packet of a link, with the moment of its arrival in milliseconds.
     ///
@@ -73,7 +74,7 @@ impl Concentrator {
     ///
     /// A link's records stand in the order of their first IR; a replaced one keeps its place.
     pub fn tables(&self) -> &IndexMap<u16, LinkRecords>
-        ensures { result.now ≡ self.now.links }
+        ensures { AreTables self.now result.now }
     {
         &self.links
     }

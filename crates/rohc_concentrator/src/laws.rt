@@ -1,7 +1,7 @@
 //! Laws of the concentrator, as contracts of functions that do nothing.
 
 ghost use Rattle.rohc_context.specs.Laws.{HasAnswer, HasNoOther};
-ghost use Rattle.rohc_concentrator.specs.Laws.{TwoWorlds, NoTrace};
+ghost use Rattle.rohc_concentrator.specs.Laws.{TwoWorlds, NoTrace, HoldsGoodRecords, FaultyIsNotFine, FineOrFaulty, MarkedIsAcceptedIr, LoneRunIsUnmarked};
 
 /// For good values, an arrival has exactly one answer and one record, or none, after it.
 pub fn one_answer()
@@ -20,4 +20,25 @@ pub fn two_worlds()
 /// An arrival that is refused, for want of memory too, makes no record.
 pub fn no_trace()
     ensures { NoTrace }
+{}
+
+/// Every record that a concentrator holds is good.
+pub fn good_records()
+    ensures { HoldsGoodRecords }
+{}
+
+/// Settings are fine or have a fault, and not both.
+pub fn fine_or_faulty()
+    ensures exclusive { FaultyIsNotFine }
+    ensures either { FineOrFaulty }
+{}
+
+/// Where want of memory is marked, there was an accepted IR for an identifier without a record.
+pub fn marked_is_accepted_ir()
+    ensures { MarkedIsAcceptedIr }
+{}
+
+/// The lone run is the marked run of events without a mark.
+pub fn lone_run_is_unmarked()
+    ensures { LoneRunIsUnmarked }
 {}

@@ -4,8 +4,8 @@ ghost use Rattle.std.specs.Prelude.{◌≡◌, ◌≢◌, ◌≤◌, ℕ};
 ghost use Rattle.indexmap.specs.IndexMap.{keys};
 ghost use Rattle.rohc_frame.specs.Reading.{header_of};
 ghost use Rattle.rohc_context.specs.Response.{response_of};
-ghost use Rattle.rohc_concentrator.specs.Setting.{settings_in};
-ghost use Rattle.rohc_concentrator.specs.Tables.{record_among, KeepsPlace};
+ghost use Rattle.rohc_concentrator.specs.Setting.{settings_of};
+ghost use Rattle.rohc_concentrator.specs.Tables.{record_in, KeepsPlace};
 ghost use Rattle.rohc_concentrator.specs.Report.{OwnStep};
 
 use crate::records::LinkRecords;
@@ -20,11 +20,11 @@ pub(crate) fn arrive_at<'a>(
 ) -> Reply<'a>
     requires sized { forward.now.size ≡ records.old.setting.settings.size }
     requires within { forward.now.cid ≤ records.old.setting.settings.max_cid }
-    ensures own { OwnStep (settings_in records.old.setting forward.now.cid) moment (header_of forward.now)
-        (record_among records.old forward.now.cid) (response_of result) (record_among records.new forward.now.cid) }
-    ensures others { (cid : ℕ) → cid ≢ forward.now.cid → record_among records.new cid ≡ record_among records.old cid }
+    ensures own { OwnStep (settings_of records.old.setting forward.now.cid) moment (header_of forward.now)
+        (record_in records.old forward.now.cid) (response_of result) (record_in records.new forward.now.cid) }
+    ensures others { (cid : ℕ) → cid ≢ forward.now.cid → record_in records.new cid ≡ record_in records.old cid }
     ensures setting { records.new.setting ≡ records.old.setting }
-    ensures order { KeepsPlace (keys records.old.contexts) (keys records.new.contexts) forward.now.cid (record_among records.old forward.now.cid) }
+    ensures order { KeepsPlace (keys records.old.contexts) (keys records.new.contexts) forward.now.cid (record_in records.old forward.now.cid) }
 {
     let settings = records.setting.settings_of(forward.cid);
     if let Some(context) = records.contexts.get_mut(&forward.cid) {

@@ -27,11 +27,11 @@ pub struct LinkSetting {
 
 impl LinkSetting {
     ghost use Rattle.std.specs.Prelude.{◌≡◌, ◌↔◌, IsTrue};
-    ghost use Rattle.rohc_concentrator.specs.Setting.{settings_in, IsGoodSetting};
+    ghost use Rattle.rohc_concentrator.specs.Setting.{settings_of, IsGoodSetting};
 
     /// The settings for an identifier: the link's, with the mode of the range that holds it, if one does.
     pub fn settings_of(&self, cid: u16) -> Settings
-        ensures { result ≡ settings_in self.now cid }
+        ensures { result ≡ settings_of self.now cid }
     {
         let mode = mode_in(self.ranges.as_slice(), cid).unwrap_or(self.settings.mode);
         Settings {

@@ -29,8 +29,25 @@ pub enum SetupFault {
     NoMemory,
 }
 
+impl SetupFault {
+    ghost use Rattle.rohc_concentrator.specs.Setup.{fault_name};
+
+    /// The name of the fault.
+    pub fn name(&self) -> &'static str
+        ensures { result.now ≡ fault_name self.now }
+    {
+        match self {
+            SetupFault::NoLinks => "NoLinks",
+            SetupFault::TooManyLinks => "TooManyLinks",
+            SetupFault::BadSetting { .. } => "BadSetting",
+            SetupFault::DuplicateLink { .. } => "DuplicateLink",
+            SetupFault::NoMemory => "NoMemory",
+        }
+    }
+}
+
 ghost use Rattle.rohc_concentrator.specs.Tables.{settings_in_order, setting_at, record_at};
-ghost use Rattle.rohc_concentrator.specs.Setup.{IsFault, AreSound, AreFine, names_link, setting_of};
+ghost use Rattle.rohc_concentrator.specs.Setup.{IsFault, AreSound, AreFine, names_link, entry_of};
 
 /// The first fault of the settings, if there is one: their count first, then entry by entry.
 fn judge(settings: &[LinkSetting]) -> Result<(), SetupFault>
@@ -69,7 +86,7 @@ impl Concentrator {
     pub fn new(alloc: Global, settings: &[LinkSetting]) -> Result<Concentrator, SetupFault>
         ensures fine { IfOk result (λ k. AreFine settings.now) }
         ensures in_order { IfOk result (λ k. settings_in_order k ≡ settings.now) }
-        ensures each { IfOk result (λ k. (link : ℕ) → setting_at k link ≡ setting_of link settings.now) }
+        ensures each { IfOk result (λ k. (link : ℕ) → setting_at k link ≡ entry_of link settings.now) }
         ensures empty { IfOk result (λ k. (link cid : ℕ) → record_at k link cid ≡ None) }
         ensures fault { IfErr result (λ e. IsFault settings.now e ⊎ (e ≡ SetupFault.NoMemory)) }
         ensures poor { result ≡ Err SetupFault.NoMemory → AreFine settings.now }
@@ -83,7 +100,7 @@ impl Concentrator {
 fn build(alloc: Global, settings: &[LinkSetting]) -> Result<Concentrator, AllocError>
     requires { AreSound settings.now }
     ensures in_order { IfOk result (λ k. settings_in_order k ≡ settings.now) }
-    ensures each { IfOk result (λ k. (link : ℕ) → setting_at k link ≡ setting_of link settings.now) }
+    ensures each { IfOk result (λ k. (link : ℕ) → setting_at k link ≡ entry_of link settings.now) }
     ensures empty { IfOk result (λ k. (link cid : ℕ) → record_at k link cid ≡ None) }
 {
     let mut links = IndexMap::new(alloc);
@@ -94,5 +111,5 @@ fn build(alloc: Global, settings: &[LinkSetting]) -> Result<Concentrator, AllocE
         };
         links.insert(setting.link, records)?;
     }
-    Ok(Concentrator { alloc, links })
+    Ok(Concentrator { links })
 }

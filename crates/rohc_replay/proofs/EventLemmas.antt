@@ -7,9 +7,10 @@ use Rattle.rohc_context.specs.declared.refusal.Refusal.TheVariants as refusals
 use Rattle.rohc_concentrator.proofs.GoodLemmas.{good_setting}
 use Rattle.rohc_concentrator.specs.declared.concentrator.Concentrator.{Concentrator}
 use Rattle.rohc_concentrator.specs.declared.setting.LinkSetting.{LinkSetting}
-use Rattle.rohc_concentrator.specs.Setting.{settings_in}
+use Rattle.rohc_concentrator.specs.Setting.{settings_of}
 use Rattle.rohc_concentrator.specs.Tables.{setting_at, record_at}
-use Rattle.rohc_concentrator.specs.Report.{Report, Arrived, OnlyFront, Refused, IsAnswered, borne, wants_memory}
+use Rattle.rohc_concentrator.specs.Report.{Report, Arrived, OnlyFront, Refused, IsAnswered, wants_memory}
+use Rattle.rohc_concentrator.specs.Bears.{borne}
 use Rattle.rohc_concentrator.specs.Events.{Arrives, Resets}
 use Rattle.rohc_concentrator.specs.LoneRun.{own_arrival}
 use Rattle.rohc_replay.specs.AnswerLines.{report_lines, reset_lines, response_lines, relay_line, bad_line, long_line}
@@ -33,7 +34,7 @@ reset_left_out l c k None lf cf kf = refusal_left_out l c k refusals.NoLink lf c
 
 module _ (old new : Concentrator) (s : LinkSetting) (l c : ℕ) (lf : l < 2 ^ 16) (cf : c < 2 ^ 16) (set : setting_at old l ≡ Some s) where
   here_told : (m : ℕ) (octets : List ℕ) (report : Report) → All IsOctet octets → Arrives old l m octets report new →
-      Tells (settings_in s c) l c (record_at old l c) (with_mark (wants_memory report) (own_arrival s c m octets)) (report_lines l report) (record_at new l c)
+      Tells (settings_of s c) l c (record_at old l c) (with_mark (wants_memory report) (own_arrival s c m octets)) (report_lines l report) (record_at new l c)
   here_told m octets report all a =
       read_told s l c lf cf m (parts_of s.settings.size s.settings.max_cid octets) (record_at old l) (record_at new l) report
       (λ r h. cid_fits s octets r h (good_setting old l s set) all)
@@ -41,21 +42,21 @@ module _ (old new : Concentrator) (s : LinkSetting) (l c : ℕ) (lf : l < 2 ^ 16
       (subst (λ x. IsAnswered x (record_at old l) m octets report (record_at new l)) set a.answer)
 
   pub arrive_told : (k m : ℕ) (octets : List ℕ) (report : Report) → k < 2 ^ 16 → All IsOctet octets → Arrives old k m octets report new →
-      Tells (settings_in s c) l c (record_at old l c) (with_mark (wants_memory report) (own_event s l c (Arrive k m octets))) (report_lines k report) (record_at new l c)
+      Tells (settings_of s c) l c (record_at old l c) (with_mark (wants_memory report) (own_event s l c (Arrive k m octets))) (report_lines k report) (record_at new l c)
   arrive_told k m octets report kf all a = ⊎_elim
       (λ e. let yes : (k == l) ≡ true = eq-eqb k l e in
-      rw yes (subst (λ x. Arrives old x m octets report new → Tells (settings_in s c) l c (record_at old l c) (with_mark (wants_memory report) (own_arrival s c m octets)) (report_lines x report) (record_at new l c)) (sym e) (here_told m octets report all) a))
+      rw yes (subst (λ x. Arrives old x m octets report new → Tells (settings_of s c) l c (record_at old l c) (with_mark (wants_memory report) (own_arrival s c m octets)) (report_lines x report) (record_at new l c)) (sym e) (here_told m octets report all) a))
       (λ apart. let no : (k == l) ≡ false = ne_eqb k l apart in
-      none_told (settings_in s c) l c (wants_memory report) (record_at old l c) (record_at new l c) (own_event s l c (Arrive k m octets)) (report_lines k report) (rw no refl)
-      (tells_nothing (settings_in s c) l c (record_at old l c) (record_at new l c) (report_lines k report) (a.others l c (inl (λ e. apart (sym e)))) (report_left_out l c k report lf cf kf apart)))
+      none_told (settings_of s c) l c (wants_memory report) (record_at old l c) (record_at new l c) (own_event s l c (Arrive k m octets)) (report_lines k report) (rw no refl)
+      (tells_nothing (settings_of s c) l c (record_at old l c) (record_at new l c) (report_lines k report) (a.others l c (inl (λ e. apart (sym e)))) (report_left_out l c k report lf cf kf apart)))
       (cases_eq k l)
 
-  pub reset_told : (k : ℕ) → k < 2 ^ 16 → Resets old k new → Tells (settings_in s c) l c (record_at old l c) (with_mark false (own_event s l c (Reset k))) (reset_lines k (setting_at old k)) (record_at new l c)
+  pub reset_told : (k : ℕ) → k < 2 ^ 16 → Resets old k new → Tells (settings_of s c) l c (record_at old l c) (with_mark false (own_event s l c (Reset k))) (reset_lines k (setting_at old k)) (record_at new l c)
   reset_told k kf r = ⊎_elim
       (λ e. let yes : (k == l) ≡ true = eq-eqb k l e in
       rw yes ([], subst (λ x. record_at new x c ≡ None) e (r.forgotten c), reset_left_out l c k (setting_at old k) lf cf kf))
       (λ apart. let no : (k == l) ≡ false = ne_eqb k l apart in
-      rw no (tells_nothing (settings_in s c) l c (record_at old l c) (record_at new l c) (reset_lines k (setting_at old k)) (r.others l c (λ e. apart (sym e))) (reset_left_out l c k (setting_at old k) lf cf kf)))
+      rw no (tells_nothing (settings_of s c) l c (record_at old l c) (record_at new l c) (reset_lines k (setting_at old k)) (r.others l c (λ e. apart (sym e))) (reset_left_out l c k (setting_at old k) lf cf kf)))
       (cases_eq k l)
 
 -- a line that is no event is left out

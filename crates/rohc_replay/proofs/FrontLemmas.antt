@@ -54,17 +54,17 @@ consumed_front text seen (Some back) consumed = (back, consumed)
 consumed_front text seen None consumed = absurd consumed
 
 pub read_leaves_front : ReadLeavesFront
-read_leaves_front old new after text left held holding written f lines answers whole script marks =
+read_leaves_front c after text left written f lines answers whole script marks =
     let back = consumed_front text f.seen left f.consumed in
     let cut : lines_of text ≡ f.finished ++ lines_of (f.rest ++ back.0) =
     ap lines_of (back.1 ∙ ap (λ t. t ++ back.0) f.splits.whole ∙ append_assoc (text_of f.finished) f.rest back.0) ∙ finished_first f.finished (f.rest ++ back.0) f.splits.each in
-    front_text f.answers answers (front_answers old new after text f.finished (lines_of (f.rest ++ back.0)) f.lines f.answers f.run lines answers whole cut f.are_lines script marks)
+    front_text f.answers answers (front_answers c.before c.after after text f.finished (lines_of (f.rest ++ back.0)) f.lines f.answers f.run lines answers whole cut f.are_lines script marks)
 
 pub write_leaves_front : WriteLeavesFront
-write_leaves_front old new after text held holding written f lines answers whole script marks =
+write_leaves_front c after text written f lines answers whole script marks =
     let s = f.stops in
     let all = front_text (s.answers ++ s.last_answers ∷ []) answers
-    (front_answers old new after text f.texts f.others (s.earlier ++ s.last ∷ []) (s.answers ++ s.last_answers ∷ []) s.run lines answers whole f.first_lines s.are_lines script marks) in (
+    (front_answers c.before c.after after text f.texts f.others (s.earlier ++ s.last ∷ []) (s.answers ++ s.last_answers ∷ []) s.run lines answers whole f.first_lines s.are_lines script marks) in (
       s.rest ++ all.0,
       all.1
           ∙ ap (λ t. t ++ all.0) (flat_map-append text_of s.answers (s.last_answers ∷ []) ∙ ap (λ t. flat_map text_of s.answers ++ t) (append-nil (text_of s.last_answers) ∙ s.parts))
@@ -86,8 +86,8 @@ answers_alone old new after lines answers more p q = go old old lines answers p 
     go a b (l ∷ ls) (x ∷ xs) p q = go p.0 q.0 ls xs p.2 q.2
 
 pub flush_leaves_all : FlushLeavesAll
-flush_leaves_all old new after text held holding written f lines answers whole script marks =
-    let front = front_answers old new after text (lines_of text) [] f.lines f.answers f.run lines answers whole (sym (append-nil (lines_of text))) f.script script marks in
+flush_leaves_all c after text written f lines answers whole script marks =
+    let front = front_answers c.before c.after after text (lines_of text) [] f.lines f.answers f.run lines answers whole (sym (append-nil (lines_of text))) f.script script marks in
     let same : lines ≡ f.lines = lines_one (lines_of text) lines f.lines script f.script in
-    let none : front.0 ≡ [] = answers_alone old new after f.lines f.answers front.0 f.run (subst (λ xs. Runs old f.lines xs after) front.1 (subst (λ ls. Runs old ls answers after) same whole)) in
+    let none : front.0 ≡ [] = answers_alone c.before c.after after f.lines f.answers front.0 f.run (subst (λ xs. Runs c.before f.lines xs after) front.1 (subst (λ ls. Runs c.before ls answers after) same whole)) in
     ap (flat_map text_of) (sym (append-nil f.answers) ∙ ap (λ t. f.answers ++ t) (sym none) ∙ sym front.1)

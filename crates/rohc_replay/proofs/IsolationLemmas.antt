@@ -19,9 +19,10 @@ use Rattle.rohc_context.specs.Record.{Record}
 use Rattle.rohc_context.specs.Response.{Response, refused}
 use Rattle.rohc_context.proofs.StepLaws.{never_poor}
 use Rattle.rohc_concentrator.specs.declared.setting.LinkSetting.{LinkSetting}
-use Rattle.rohc_concentrator.specs.Setting.{settings_in, IsGoodSetting}
-use Rattle.rohc_concentrator.specs.Report.{Report, OwnStep, IsArrival, IsCut, IsRead, borne_in, cid_in, is_no_memory, wants_memory}
-use Rattle.rohc_concentrator.specs.LoneRun.{LoneEvent, Arrival, Forget, MarkedRun, arrival_of, arrival_in}
+use Rattle.rohc_concentrator.specs.Setting.{settings_of, IsGoodSetting}
+use Rattle.rohc_concentrator.specs.Report.{Report, OwnStep, IsArrival, IsCut, IsRead, is_no_memory, wants_memory}
+use Rattle.rohc_concentrator.specs.LoneRun.{LoneEvent, Arrival, Forget, MarkedRun, arrival_of}
+use Rattle.rohc_concentrator.specs.Bears.{header_in, cid_in}
 use Rattle.rohc_replay.specs.AnswerLines.{report_lines, response_lines, relay_line, link_refusal}
 use Rattle.rohc_replay.specs.Isolation.{is_pair_line}
 use Rattle.rohc_replay.proofs.OwnLines.{filter-append, relays_left_out, refusal_left_out, reply_left_out, reply_whole_kept}
@@ -105,43 +106,43 @@ none_told s l c mark before after events answers none told = subst (λ es. Tells
 -- The answer to a packet that bears a header tells the pair of the header its step, and each other pair of the link nothing.
 module _ (s : LinkSetting) (l c : ℕ) (lf : l < 2 ^ 16) (cf : c < 2 ^ 16) where
   same_told : (m : ℕ) (h : Header) (relayed : List (List ℕ)) (before after : ℕ → Option Record) (response : Response) → h.cid < 2 ^ 16 → h.cid ≡ c →
-      OwnStep (settings_in s h.cid) m h (before h.cid) response (after h.cid) →
-      Tells (settings_in s c) l c (before c) ((Arrival m h, is_no_memory response.outcome) ∷ []) (map (relay_line l) relayed ++ response_lines l h.cid response) (after c)
+      OwnStep (settings_of s h.cid) m h (before h.cid) response (after h.cid) →
+      Tells (settings_of s c) l c (before c) ((Arrival m h, is_no_memory response.outcome) ∷ []) (map (relay_line l) relayed ++ response_lines l h.cid response) (after c)
   same_told m h relayed before after response hf same step =
-      subst (λ x. Tells (settings_in s x) l x (before x) ((Arrival m h, is_no_memory response.outcome) ∷ []) (map (relay_line l) relayed ++ response_lines l h.cid response) (after x)) same
-      (own_told (settings_in s h.cid) l h.cid lf hf m h relayed (before h.cid) (after h.cid) response step)
+      subst (λ x. Tells (settings_of s x) l x (before x) ((Arrival m h, is_no_memory response.outcome) ∷ []) (map (relay_line l) relayed ++ response_lines l h.cid response) (after x)) same
+      (own_told (settings_of s h.cid) l h.cid lf hf m h relayed (before h.cid) (after h.cid) response step)
 
   other_told : (h : Header) (relayed : List (List ℕ)) (before after : Option Record) (response : Response) → h.cid < 2 ^ 16 → h.cid ≢ c → after ≡ before →
-      Tells (settings_in s c) l c before [] (map (relay_line l) relayed ++ response_lines l h.cid response) after
+      Tells (settings_of s c) l c before [] (map (relay_line l) relayed ++ response_lines l h.cid response) after
   other_told h relayed before after response hf apart same =
-      tells_nothing (settings_in s c) l c before after (map (relay_line l) relayed ++ response_lines l h.cid response) same
+      tells_nothing (settings_of s c) l c before after (map (relay_line l) relayed ++ response_lines l h.cid response) same
       (filter-append (is_pair_line l c) (map (relay_line l) relayed) (response_lines l h.cid response)
       ∙ rw (relays_left_out l c l relayed lf cf lf, reply_left_out l c l h.cid (λ rest. other_pair l c l h.cid rest lf cf lf hf (λ e. apart (sym e.1))) response) refl)
 
   header_told : (m : ℕ) (h : Header) (relayed : List (List ℕ)) (before after : ℕ → Option Record) (report : Report) → h.cid < 2 ^ 16 → (h.cid ≢ c → after c ≡ before c) →
       IsArrival s m h relayed before report after →
-      Tells (settings_in s c) l c (before c) (with_mark (wants_memory report) (arrival_of c m (Some h))) (report_lines l report) (after c)
+      Tells (settings_of s c) l c (before c) (with_mark (wants_memory report) (arrival_of c m (Some h))) (report_lines l report) (after c)
   header_told m h relayed before after report hf others a =
       rw a.1 (⊎_elim
       (λ e. let yes : (h.cid == c) ≡ true = eq-eqb h.cid c e in rw yes (same_told m h relayed before after a.0 hf e a.2))
       (λ apart. let no : (h.cid == c) ≡ false = ne_eqb h.cid c apart in
-      none_told (settings_in s c) l c (is_no_memory a.0.outcome) (before c) (after c) (arrival_of c m (Some h)) (map (relay_line l) relayed ++ response_lines l h.cid a.0)
+      none_told (settings_of s c) l c (is_no_memory a.0.outcome) (before c) (after c) (arrival_of c m (Some h)) (map (relay_line l) relayed ++ response_lines l h.cid a.0)
       (rw no refl) (other_told h relayed (before c) (after c) a.0 hf apart (others apart)))
       (cases_eq h.cid c))
 
   cut_told : (m : ℕ) (relayed : List (List ℕ)) (header : Option Header) (before after : ℕ → Option Record) (report : Report) → ((h : Header) → header ≡ Some h → h.cid < 2 ^ 16) →
       (cid_in header ≢ Some c → after c ≡ before c) → IsCut s m relayed header before report after →
-      Tells (settings_in s c) l c (before c) (with_mark (wants_memory report) (arrival_of c m header)) (report_lines l report) (after c)
+      Tells (settings_of s c) l c (before c) (with_mark (wants_memory report) (arrival_of c m header)) (report_lines l report) (after c)
   cut_told m relayed (Some h) before after report bound others a = header_told m h relayed before after report (bound h refl) (λ apart. others (λ e. apart (let same : ◌≡◌ {A = Option ℕ} (Some h.cid) (Some c) = e in cc))) a
   cut_told m relayed None before after report bound others a =
-      rw a (tells_nothing (settings_in s c) l c (before c) (after c) (map (relay_line l) relayed) (others (λ e. let same : ◌≡◌ {A = Option ℕ} None (Some c) = e in cc)) (relays_left_out l c l relayed lf cf lf))
+      rw a (tells_nothing (settings_of s c) l c (before c) (after c) (map (relay_line l) relayed) (others (λ e. let same : ◌≡◌ {A = Option ℕ} None (Some c) = e in cc)) (relays_left_out l c l relayed lf cf lf))
 
   pub read_told : (m : ℕ) (parts : Result Reading FrameRefusal) (before after : ℕ → Option Record) (report : Report) → ((r : Reading) (h : Header) → parts ≡ Ok r → r.header ≡ Some h → h.cid < 2 ^ 16) →
-      (borne_in parts ≢ Some c → after c ≡ before c) → IsRead s m parts before report after →
-      Tells (settings_in s c) l c (before c) (with_mark (wants_memory report) (arrival_in c m parts)) (report_lines l report) (after c)
+      (cid_in (header_in parts) ≢ Some c → after c ≡ before c) → IsRead s m parts before report after →
+      Tells (settings_of s c) l c (before c) (with_mark (wants_memory report) (arrival_of c m (header_in parts))) (report_lines l report) (after c)
   read_told m (Ok r) before after report bound others a = cut_told m r.elements r.header before after report (λ h. bound r h refl) others a
   read_told m (Err refusal) before after report bound others a =
-      rw a (tells_nothing (settings_in s c) l c (before c) (after c) (link_refusal l (refusal_of_framing refusal) ∷ []) (others (λ e. let same : ◌≡◌ {A = Option ℕ} None (Some c) = e in cc)) (refusal_left_out l c l (refusal_of_framing refusal) lf cf lf))
+      rw a (tells_nothing (settings_of s c) l c (before c) (after c) (link_refusal l (refusal_of_framing refusal) ∷ []) (others (λ e. let same : ◌≡◌ {A = Option ℕ} None (Some c) = e in cc)) (refusal_left_out l c l (refusal_of_framing refusal) lf cf lf))
 
 -- an identifier that a link can spell is below 2^16
 spelled_fits : (size : CidKind) (n m : ℕ) → n ≤ m → m ≤ greatest_cid size → n < 2 ^ 16

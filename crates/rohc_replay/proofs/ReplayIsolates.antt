@@ -1,5 +1,5 @@
 -- A replay isolates each identifier of each link from all others.
-use Rattle.std.proofs.Common.{◌≡◌, ℕ, ◌<◌, ◌^◌, List, [], ◌∷◌, ◌++◌, append-nil, map, if◌then◌else◌, filter, Bool, true, false, Option, Some, None, Result, Ok, Err, IfOk, IfSome, refl, sym, ◌∙◌, ap, subst}
+use Rattle.std.proofs.Common.{◌≡◌, ℕ, List, [], ◌∷◌, ◌++◌, append-nil, map, if◌then◌else◌, filter, Bool, true, false, Option, Some, None, Result, Ok, Err, IfOk, IfSome, refl, sym, ◌∙◌, ap, subst}
 use Rattle.std.specs.List.{flat_map, AllByRecursion}
 use Rattle.rohc_context.specs.declared.settings.Settings.{Settings}
 use Rattle.rohc_context.specs.Record.{Record}
@@ -7,13 +7,13 @@ use Rattle.rohc_context.specs.Response.{Response}
 use Rattle.rohc_context.proofs.StepLaws.{never_poor}
 use Rattle.rohc_concentrator.specs.declared.concentrator.Concentrator.{Concentrator}
 use Rattle.rohc_concentrator.specs.declared.setting.LinkSetting.{LinkSetting}
-use Rattle.rohc_concentrator.specs.Setting.{settings_in}
-use Rattle.rohc_concentrator.specs.Tables.{setting_at, record_at}
+use Rattle.rohc_concentrator.specs.Setting.{settings_of}
+use Rattle.rohc_concentrator.specs.Tables.{record_at}
 use Rattle.rohc_concentrator.specs.LoneRun.{LoneEvent, Arrival, Forget, LoneRun, MarkedRun, unmarked}
 use Rattle.rohc_replay.specs.declared.tally.Tally.{Tally}
 use Rattle.rohc_replay.specs.declared.fault.RunFault.{RunFault}
 use Rattle.rohc_replay.specs.AnswerLines.{response_lines, text_of}
-use Rattle.rohc_replay.specs.Isolation.{is_pair_line, is_own_line, own, own_line, own_marked, lines_left, left_of, IsToldAll, IsTold, IsToldAlike, Isolates}
+use Rattle.rohc_replay.specs.Isolation.{Pair, IsPair, Replay, is_pair_line, is_own_line, own, own_line, own_marked, lines_left, left_of, IsToldAll, IsTold, IsToldAlike, Isolates}
 use Rattle.rohc_replay.specs.Lines.{has_newline}
 use Rattle.rohc_replay.specs.Run.{Replays, marked_of}
 use Rattle.rohc_replay.specs.Script.{Line, IsLine, AreLines, IsScript, lines_of}
@@ -50,12 +50,12 @@ runs_alone s l c before after ((Arrival m h, true) ∷ marked) (reply ∷ replie
           ∙ rw (run.1.2, poor_left_out l c, more.2) refl,
     )
 
-module _ (old new : Concentrator) (l c : ℕ) (s : LinkSetting) (written : List ℕ) where
+module _ (r : Replay) (p : Pair) where
   -- what is told of want of memory too is told without it
-  pub told_alone : (marked : List (Line × Bool)) → IsToldAll old new marked written l c s → IsTold old new (own s l c marked) written l c s
+  pub told_alone : (marked : List (Line × Bool)) → IsToldAll r marked p → IsTold r (own p.setting p.link p.cid marked) p
   told_alone marked a =
-      let alone = runs_alone (settings_in s c) l c (record_at old l c) (record_at new l c) (own_marked s l c marked) a.replies a.run in
-      record { replies = alone.0; run = alone.1; told = filter-within (is_pair_line l c) _ (lines_of written) ∙ ap (filter (is_own_line l c)) a.told ∙ alone.2 }
+      let alone = runs_alone (settings_of p.setting p.cid) p.link p.cid (record_at r.before p.link p.cid) (record_at r.after p.link p.cid) (own_marked p.setting p.link p.cid marked) a.replies a.run in
+      record { replies = alone.0; run = alone.1; told = filter-within (is_pair_line p.link p.cid) _ (lines_of r.written) ∙ ap (filter (is_own_line p.link p.cid)) a.told ∙ alone.2 }
 
 -- The lines that are left of a script: what they are, and that nothing of the pair's own is missing.
 module _ (s : LinkSetting) (l c : ℕ) where
@@ -116,38 +116,39 @@ module _ (s : LinkSetting) (l c : ℕ) where
       ∙ ap (λ es. (if mark then [] else own_line s l c line) ++ es) (own_left marked)
       ∙ line_own line (own_line s l c line) mark (left_lines marked) refl
 
-module _ (old new : Concentrator) (l c : ℕ) (s : LinkSetting) (text written : List ℕ) where
-  pub told_alike : (marked : List (Line × Bool)) → IsScript text (map (λ (m : Line × Bool). m.0) marked) → IsTold old new (own s l c marked) written l c s → IsToldAlike old new text marked written l c s
+module _ (r : Replay) (p : Pair) where
+  pub told_alike : (marked : List (Line × Bool)) → IsScript r.text (map (λ (m : Line × Bool). m.0) marked) → IsTold r (own p.setting p.link p.cid marked) p → IsToldAlike r marked p
   told_alike marked script told = record {
-    lines = left_lines s l c marked;
-    script = script_left s l c text marked script;
-    alike = subst (λ es. IsTold old new es written l c s) (own_left s l c marked) told;
+    lines = left_lines p.setting p.link p.cid marked;
+    script = script_left p.setting p.link p.cid r.text marked script;
+    alike = subst (λ es. IsTold r es p) (own_left p.setting p.link p.cid marked) told;
   }
 
-pub replay_isolates : (old : Concentrator) (text : List ℕ) (held holding : Option (List ℕ)) (t : Tally) (new : Concentrator) → Replays old text held holding t new → Isolates old text held holding new
+pub replay_isolates : (old : Concentrator) (text : List ℕ) (held holding : Option (List ℕ)) (t : Tally) (new : Concentrator) → Replays (record { before = old; after = new; held = held; holding = holding }) text t → Isolates old text held holding new
 replay_isolates old text held holding t new r =
     let fit : AreFit r.lines = lines_fit (lines_of text) r.lines r.script in
     let written = flat_map text_of r.answers in
+    let replay : Replay = record { before = old; after = new; text = text; written = written } in
     let lines : lines_of written ≡ flat_map (λ a. a) r.answers = written_lines old r.lines r.answers new r.run fit in
     let marked = marked_of old r.lines r.answers new r.run in
     let script : IsScript text (map (λ (m : Line × Bool). m.0) marked) = subst (IsScript text) (sym (marked_lines old r.lines r.answers new r.run)) r.script in
-    let answered : (l c : ℕ) (s : LinkSetting) → l < 2 ^ 16 → c < 2 ^ 16 → setting_at old l ≡ Some s → IsToldAll old new marked written l c s =
-    λ l c s lf cf set. let told = run_told s l c lf cf old r.lines r.answers new r.run fit set in record { replies = told.0; run = told.1; told = ap (filter (is_pair_line l c)) lines ∙ told.2 } in (
+    let answered : (p : Pair) → IsPair old p → IsToldAll replay marked p =
+    λ p is. let told = run_told p.setting p.link p.cid is.link_fits is.cid_fits old r.lines r.answers new r.run fit is.set in record { replies = told.0; run = told.1; told = ap (filter (is_pair_line p.link p.cid)) lines ∙ told.2 } in (
       written,
       r.written,
       record {
         marked = marked;
         script = script;
         answered = answered;
-        alone = λ l c s lf cf set. told_alone old new l c s written marked (answered l c s lf cf set);
-        taken_out = λ l c s lf cf set. told_alike old new l c s text written marked script (told_alone old new l c s written marked (answered l c s lf cf set));
+        alone = λ p is. told_alone replay p marked (answered p is);
+        taken_out = λ p is. told_alike replay p marked script (told_alone replay p marked (answered p is));
         settings = λ l. run_set l old r.lines r.answers new r.run;
         absent = λ l c lf cf none. ap (filter (is_pair_line l c)) lines ∙ absent_run l c lf cf old r.lines r.answers new r.run fit none;
       },
     )
 
 pub isolates_where : (result : Result Tally RunFault) (remaining : Option (List ℕ)) (old new : Concentrator) (held holding : Option (List ℕ)) →
-    IfOk result (λ t. IfSome remaining (λ input. Replays old input held holding t new)) → IfOk result (λ t. IfSome remaining (λ input. Isolates old input held holding new))
+    IfOk result (λ t. IfSome remaining (λ input. Replays (record { before = old; after = new; held = held; holding = holding }) input t)) → IfOk result (λ t. IfSome remaining (λ input. Isolates old input held holding new))
 isolates_where (Ok t) (Some input) old new held holding r = replay_isolates old input held holding t new r
 isolates_where (Ok t) None old new held holding r = tt
 isolates_where (Err e) remaining old new held holding r = tt

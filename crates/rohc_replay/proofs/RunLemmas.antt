@@ -5,7 +5,7 @@ use Rattle.rohc_concentrator.specs.Laws.{AreAlike}
 use Rattle.rohc_concentrator.proofs.WorldLemmas.{arrive_alike, reset_alike}
 use Rattle.rohc_replay.specs.AnswerLines.{report_lines, reset_lines}
 use Rattle.rohc_replay.specs.Laws.{IsFront, BeginsAlike}
-use Rattle.rohc_replay.specs.Run.{Turns, Runs, turn_mark, marked_of}
+use Rattle.rohc_replay.specs.Run.{RunsLine, Runs, line_mark, marked_of}
 use Rattle.rohc_replay.specs.Script.{Event, Arrive, Reset, IsEvent, Line, Good, Bad, Long, lines_of}
 use Rattle.rohc_replay.proofs.ToldLemmas.{AreFit, lines_fit}
 
@@ -17,8 +17,8 @@ front_more : {X : Type 0} (x y : X) (xs ys : List X) → x ≡ y → IsFront xs 
 front_more x y xs ys e f = (f.0, ap (λ z. z ∷ ys) (sym e) ∙ ap (λ zs. x ∷ zs) f.1)
 
 -- one good line
-event_alike : (a b mid_a mid_b : Concentrator) (e : Event) (x y : List (List ℕ)) (p : Turns a (Good e) x mid_a) (q : Turns b (Good e) y mid_b) → AreAlike a b → IsEvent e →
-    turn_mark b e y mid_b q ≡ turn_mark a e x mid_a p → (x ≡ y) × AreAlike mid_a mid_b
+event_alike : (a b mid_a mid_b : Concentrator) (e : Event) (x y : List (List ℕ)) (p : RunsLine a (Good e) x mid_a) (q : RunsLine b (Good e) y mid_b) → AreAlike a b → IsEvent e →
+    line_mark b e y mid_b q ≡ line_mark a e x mid_a p → (x ≡ y) × AreAlike mid_a mid_b
 event_alike a b mid_a mid_b (Arrive l m octets) x y p q alike fits marks =
     let one = arrive_alike a b mid_a mid_b l m octets p.0 q.0 alike fits.1 fits.3 p.1 q.1 (sym marks) in
     (p.2 ∙ ap (report_lines l) one.0 ∙ sym q.2, one.1)
@@ -34,7 +34,7 @@ run_alike a b after_a after_b [] more (x ∷ answers) others run whole alike fit
 run_alike a b after_a after_b (line ∷ lines) more [] others run whole alike fit marks = absurd run
 run_alike a b after_a after_b (line ∷ lines) more (x ∷ answers) [] run whole alike fit marks = absurd whole
 run_alike a b after_a after_b (Good e ∷ lines) more (x ∷ answers) (y ∷ others) run whole alike fit marks =
-    let firsts = front_first (Good e, turn_mark a e x run.0 run.1) (Good e, turn_mark b e y whole.0 whole.1) (marked_of run.0 lines answers after_a run.2) (marked_of whole.0 (lines ++ more) others after_b whole.2) marks in
+    let firsts = front_first (Good e, line_mark a e x run.0 run.1) (Good e, line_mark b e y whole.0 whole.1) (marked_of run.0 lines answers after_a run.2) (marked_of whole.0 (lines ++ more) others after_b whole.2) marks in
     let one = event_alike a b run.0 whole.0 e x y run.1 whole.1 alike fit.0 (same_mark (Good e) _ _ firsts.0) in
     front_more x y answers others one.0 (run_alike run.0 whole.0 after_a after_b lines more answers others run.2 whole.2 one.1 fit.1 firsts.1)
 run_alike a b after_a after_b (Bad ∷ lines) more (x ∷ answers) (y ∷ others) run whole alike fit marks =

@@ -12,7 +12,7 @@ use Rattle.rohc_replay.specs.declared.tally.Tally.{Tally}
 use Rattle.rohc_replay.specs.Script.{Line, Good, Bad, Long, IsLine, AreLines, longest_line, lines_of}
 use Rattle.rohc_replay.specs.AnswerLines.{text_of, long_line}
 use Rattle.rohc_replay.specs.Offers.{TakesAll, TakesPart, counted}
-use Rattle.rohc_replay.specs.Run.{Turns, Runs, IsTally, Replays, Stops, is_good_line}
+use Rattle.rohc_replay.specs.Run.{RunsLine, Runs, IsTally, Replays, Stops, is_good_line}
 use Rattle.rohc_replay.specs.Turn.{with_line, TakesTurn, TakesLongTurn}
 use Rattle.rohc_replay.specs.Stream.{Stands, Ends, IsKept, StopsAt}
 use Rattle.rohc_replay.specs.Lines.{has_newline}
@@ -21,8 +21,8 @@ use Rattle.rohc_replay.proofs.SplitLemmas.{Splits-more, Splits-newline, AreLines
 
 -- a run goes on by one line
 pub Runs-push : (old mid new : Concentrator) (lines : List Line) (answers : List (List (List ℕ))) (line : Line) (more : List (List ℕ)) →
-    Runs old lines answers mid → Turns mid line more new → Runs old (lines ++ line ∷ []) (answers ++ more ∷ []) new
-Runs-push old mid new [] [] line more run turn = (new, subst (λ k. Turns k line more new) run turn, refl)
+    Runs old lines answers mid → RunsLine mid line more new → Runs old (lines ++ line ∷ []) (answers ++ more ∷ []) new
+Runs-push old mid new [] [] line more run turn = (new, subst (λ k. RunsLine k line more new) run turn, refl)
 Runs-push old mid new (l ∷ ls) (a ∷ rest) line more run turn = (run.0, run.1, Runs-push run.0 mid new ls rest line more run.2 turn)
 Runs-push old mid new [] (a ∷ rest) line more run turn = absurd run
 Runs-push old mid new (l ∷ ls) [] line more run turn = absurd run
@@ -91,7 +91,7 @@ IsLine-kept true kept rest line is_kept short is_long = rw (is_long refl) is_kep
 pub Stands-newline : (first : Concentrator) (held : Option (List ℕ)) (seen kept : List ℕ) (long : Bool) (now : Concentrator) (holding : Option (List ℕ)) (counts : Counts)
     (line : Line) (more : List (List ℕ)) (new : Concentrator) (after : Option (List ℕ)) (counts_after : Counts) →
     Stands first held seen kept long now holding counts → (long ≡ false → IsLine kept line) → (long ≡ true → line ≡ Long) →
-    Turns now line more new → counts_after.tally ≡ with_line counts.tally line → TakesAll holding after counts.taken counts_after.taken (text_of more) →
+    RunsLine now line more new → counts_after.tally ≡ with_line counts.tally line → TakesAll holding after counts.taken counts_after.taken (text_of more) →
     Stands first held (seen ++ 10 ∷ []) [] false new after counts_after
 Stands-newline first held seen kept long now holding counts line more new after counts_after s short is_long turns tally taken = record {
   finished = s.finished ++ s.rest ∷ [];
@@ -119,7 +119,7 @@ last_line-some (x ∷ xs) h = refl
 pub Ends-line : (first : Concentrator) (held : Option (List ℕ)) (seen kept : List ℕ) (long : Bool) (now : Concentrator) (holding : Option (List ℕ)) (counts : Counts)
     (line : Line) (more : List (List ℕ)) (new : Concentrator) (after : Option (List ℕ)) (counts_after : Counts) →
     Stands first held seen kept long now holding counts → (long ≡ false → IsLine kept line) → (long ≡ true → line ≡ Long) → (long ≡ false → 0 < length kept) →
-    Turns now line more new → counts_after.tally ≡ with_line counts.tally line → TakesAll holding after counts.taken counts_after.taken (text_of more) →
+    RunsLine now line more new → counts_after.tally ≡ with_line counts.tally line → TakesAll holding after counts.taken counts_after.taken (text_of more) →
     Ends first held seen new after counts_after
 Ends-line first held seen kept long now holding counts line more new after counts_after s short is_long some turns tally taken = record {
   lines = s.lines ++ line ∷ [];
@@ -257,7 +257,7 @@ Stands-same first held seen new_seen kept new_kept long now holding counts same_
 
 -- a whole text was replayed, and the flush kept what was written
 pub Replays-end : (first : Concentrator) (held : Option (List ℕ)) (seen : List ℕ) (now : Concentrator) (holding flushed : Option (List ℕ)) (counts : Counts) →
-    Ends first held seen now holding counts → Keeps holding flushed → Replays first seen held flushed counts.tally now
+    Ends first held seen now holding counts → Keeps holding flushed → Replays (record { before = first; after = now; held = held; holding = flushed }) seen counts.tally
 Replays-end first held seen now holding flushed counts e kept = record {
   lines = e.lines;
   answers = e.answers;
@@ -274,9 +274,9 @@ Consumes-nothing a b c seen read before last nothing = subst (Consumes a c) (ap 
 -- the last read gave nothing, so the whole text was seen
 pub Replays-whole : (first : Concentrator) (held : Option (List ℕ)) (a b c : Option (List ℕ)) (seen read : List ℕ) (now : Concentrator) (holding flushed : Option (List ℕ)) (counts : Counts) →
     Consumes a b seen → Consumes b c read → read ≡ [] → IsAtEnd c → Ends first held seen now holding counts → Keeps holding flushed →
-    IfSome a (λ input. Replays first input held flushed counts.tally now)
+    IfSome a (λ input. Replays (record { before = first; after = now; held = held; holding = flushed }) input counts.tally)
 Replays-whole first held a b c seen read now holding flushed counts before last nothing end e kept =
-    Consumes-whole a c seen (λ input. Replays first input held flushed counts.tally now)
+    Consumes-whole a c seen (λ input. Replays (record { before = first; after = now; held = held; holding = flushed }) input counts.tally)
     (Consumes-nothing a b c seen read before last nothing) end
     (Replays-end first held seen now holding flushed counts e kept)
 
@@ -286,8 +286,8 @@ Replays-whole first held a b c seen read now holding flushed counts before last 
 Stops-line : (first : Concentrator) (held : Option (List ℕ)) (seen kept : List ℕ) (long : Bool) (now : Concentrator) (holding : Option (List ℕ)) (counts : Counts)
     (line : Line) (more : List (List ℕ)) (new : Concentrator) (after : Option (List ℕ)) (taken_after : ℕ)
     (s : Stands first held seen kept long now holding counts) → (long ≡ false → IsLine kept line) → (long ≡ true → line ≡ Long) →
-    Turns now line more new → TakesPart holding after counts.taken taken_after (text_of more) →
-    Stops first (s.finished ++ s.rest ∷ []) held after taken_after new
+    RunsLine now line more new → TakesPart holding after counts.taken taken_after (text_of more) →
+    Stops (record { before = first; after = new; held = held; holding = after }) (s.finished ++ s.rest ∷ []) taken_after
 Stops-line first held seen kept long now holding counts line more new after taken_after s short is_long turns part = record {
   earlier = s.lines;
   last = line;
@@ -329,18 +329,18 @@ last_of_lines first held seen kept long now holding counts s some = sym (lines_o
 
 pub last_after_turn : (now new : Concentrator) (holding after : Option (List ℕ)) (counts counts_after : Counts) (kept : List ℕ) (result : Result Unit Stopped) → 0 < length kept →
     TakesTurn now new holding after counts counts_after kept result →
-    IfErr result (λ _. (first : Concentrator) (held : Option (List ℕ)) (seen : List ℕ) → Stands first held seen kept false now holding counts → Stops first (lines_of seen) held after counts_after.taken new)
+    IfErr result (λ _. (first : Concentrator) (held : Option (List ℕ)) (seen : List ℕ) → Stands first held seen kept false now holding counts → Stops (record { before = first; after = new; held = held; holding = after }) (lines_of seen) counts_after.taken)
 last_after_turn now new holding after counts counts_after kept (Ok done) some t = tt
 last_after_turn now new holding after counts counts_after kept (Err stopped) some t = λ first held seen s.
-    subst (λ ls. Stops first ls held after counts_after.taken new) (last_of_lines first held seen kept false now holding counts s (λ _. some))
+    subst (λ ls. Stops (record { before = first; after = new; held = held; holding = after }) ls counts_after.taken) (last_of_lines first held seen kept false now holding counts s (λ _. some))
     (Stops-line first held seen kept false now holding counts t.line t.answers new after counts_after.taken s (λ _. t.is_line) (λ e. cc) t.turns t.offers)
 
 pub last_after_long : (now : Concentrator) (holding after : Option (List ℕ)) (counts counts_after : Counts) (kept : List ℕ) (result : Result Unit Stopped) →
     TakesLongTurn holding after counts counts_after result →
-    IfErr result (λ _. (first : Concentrator) (held : Option (List ℕ)) (seen : List ℕ) → Stands first held seen kept true now holding counts → Stops first (lines_of seen) held after counts_after.taken now)
+    IfErr result (λ _. (first : Concentrator) (held : Option (List ℕ)) (seen : List ℕ) → Stands first held seen kept true now holding counts → Stops (record { before = first; after = now; held = held; holding = after }) (lines_of seen) counts_after.taken)
 last_after_long now holding after counts counts_after kept (Ok done) t = tt
 last_after_long now holding after counts counts_after kept (Err stopped) t = λ first held seen s.
-    subst (λ ls. Stops first ls held after counts_after.taken now) (last_of_lines first held seen kept true now holding counts s (λ e. cc))
+    subst (λ ls. Stops (record { before = first; after = now; held = held; holding = after }) ls counts_after.taken) (last_of_lines first held seen kept true now holding counts s (λ e. cc))
     (Stops-line first held seen kept true now holding counts Long (long_line ∷ []) now after counts_after.taken s (λ e. cc) (λ _. refl) (refl, refl) t.offers)
 
 -- what was seen, up to a newline at a place and behind it

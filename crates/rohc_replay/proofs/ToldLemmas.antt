@@ -6,13 +6,13 @@ use Rattle.rohc_context.specs.declared.settings.Settings.{Settings}
 use Rattle.rohc_context.specs.Record.{Record}
 use Rattle.rohc_concentrator.specs.declared.concentrator.Concentrator.{Concentrator}
 use Rattle.rohc_concentrator.specs.declared.setting.LinkSetting.{LinkSetting}
-use Rattle.rohc_concentrator.specs.Setting.{settings_in}
+use Rattle.rohc_concentrator.specs.Setting.{settings_of}
 use Rattle.rohc_concentrator.specs.Tables.{setting_at, record_at}
 use Rattle.rohc_concentrator.specs.LoneRun.{LoneEvent}
 use Rattle.rohc_concentrator.specs.Report.{wants_memory}
 use Rattle.rohc_replay.specs.AnswerLines.{response_lines}
 use Rattle.rohc_replay.specs.Isolation.{is_pair_line, own_marked, own_event}
-use Rattle.rohc_replay.specs.Run.{Turns, Runs, turn_mark, marked_of}
+use Rattle.rohc_replay.specs.Run.{RunsLine, Runs, line_mark, marked_of}
 use Rattle.rohc_replay.specs.Script.{Event, Arrive, Reset, IsEvent, Line, Good, Bad, Long, AreLines}
 use Rattle.rohc_replay.proofs.OwnLines.{filter-append}
 use Rattle.rohc_replay.proofs.IsolationLemmas.{with_mark, MarkedRun-append, Tells, tells_nothing}
@@ -51,7 +51,7 @@ lines_fit (text ∷ texts) (Bad ∷ lines) are = lines_fit texts lines are.1
 lines_fit (text ∷ texts) (Long ∷ lines) are = lines_fit texts lines are.1
 
 -- the settings stay
-pub event_set : (l : ℕ) (old : Concentrator) (e : Event) (answers : List (List ℕ)) (new : Concentrator) → Turns old (Good e) answers new → setting_at new l ≡ setting_at old l
+pub event_set : (l : ℕ) (old : Concentrator) (e : Event) (answers : List (List ℕ)) (new : Concentrator) → RunsLine old (Good e) answers new → setting_at new l ≡ setting_at old l
 event_set l old (Arrive k m octets) answers new turn = turn.1.settings.each l
 event_set l old (Reset k) answers new turn = turn.0.settings.each l
 
@@ -65,28 +65,28 @@ run_set l old (Long ∷ lines) (a ∷ more) new run = run_set l run.0 lines more
 
 module _ (s : LinkSetting) (l c : ℕ) (lf : l < 2 ^ 16) (cf : c < 2 ^ 16) where
   -- one good line
-  event_told : (old : Concentrator) (e : Event) (answers : List (List ℕ)) (new : Concentrator) (turn : Turns old (Good e) answers new) → IsEvent e → setting_at old l ≡ Some s →
-      Tells (settings_in s c) l c (record_at old l c) (with_mark (turn_mark old e answers new turn) (own_event s l c e)) answers (record_at new l c)
+  event_told : (old : Concentrator) (e : Event) (answers : List (List ℕ)) (new : Concentrator) (turn : RunsLine old (Good e) answers new) → IsEvent e → setting_at old l ≡ Some s →
+      Tells (settings_of s c) l c (record_at old l c) (with_mark (line_mark old e answers new turn) (own_event s l c e)) answers (record_at new l c)
   event_told old (Arrive k m octets) answers new turn fits set =
-      subst (λ a. Tells (settings_in s c) l c (record_at old l c) (with_mark (wants_memory turn.0) (own_event s l c (Arrive k m octets))) a (record_at new l c)) (sym turn.2)
+      subst (λ a. Tells (settings_of s c) l c (record_at old l c) (with_mark (wants_memory turn.0) (own_event s l c (Arrive k m octets))) a (record_at new l c)) (sym turn.2)
       (arrive_told old new s l c lf cf set k m octets turn.0 fits.0 fits.3 turn.1)
   event_told old (Reset k) answers new turn fits set =
-      subst (λ a. Tells (settings_in s c) l c (record_at old l c) (with_mark false (own_event s l c (Reset k))) a (record_at new l c)) (sym turn.1) (reset_told old new s l c lf cf set k fits turn.0)
+      subst (λ a. Tells (settings_of s c) l c (record_at old l c) (with_mark false (own_event s l c (Reset k))) a (record_at new l c)) (sym turn.1) (reset_told old new s l c lf cf set k fits turn.0)
 
   pub run_told : (old : Concentrator) (lines : List Line) (answers : List (List (List ℕ))) (new : Concentrator) (run : Runs old lines answers new) → AreFit lines → setting_at old l ≡ Some s →
-      Tells (settings_in s c) l c (record_at old l c) (own_marked s l c (marked_of old lines answers new run)) (flat_map (λ a. a) answers) (record_at new l c)
-  run_told old [] [] new run fit set = tells_nothing (settings_in s c) l c (record_at old l c) (record_at new l c) [] (ap (λ k. record_at k l c) run) refl
+      Tells (settings_of s c) l c (record_at old l c) (own_marked s l c (marked_of old lines answers new run)) (flat_map (λ a. a) answers) (record_at new l c)
+  run_told old [] [] new run fit set = tells_nothing (settings_of s c) l c (record_at old l c) (record_at new l c) [] (ap (λ k. record_at k l c) run) refl
   run_told old [] (a ∷ more) new run fit set = absurd run
   run_told old (line ∷ lines) [] new run fit set = absurd run
   run_told old (Good e ∷ lines) (a ∷ more) new run fit set =
-      tells_append (settings_in s c) l c (record_at old l c) (record_at run.0 l c) (record_at new l c) (with_mark (turn_mark old e a run.0 run.1) (own_event s l c e)) (own_marked s l c (marked_of run.0 lines more new run.2)) a (flat_map (λ b. b) more)
+      tells_append (settings_of s c) l c (record_at old l c) (record_at run.0 l c) (record_at new l c) (with_mark (line_mark old e a run.0 run.1) (own_event s l c e)) (own_marked s l c (marked_of run.0 lines more new run.2)) a (flat_map (λ b. b) more)
       (event_told old e a run.0 run.1 fit.0 set)
       (run_told run.0 lines more new run.2 fit.1 (event_set l old e a run.0 run.1 ∙ set))
   run_told old (Bad ∷ lines) (a ∷ more) new run fit set =
-      tells_append (settings_in s c) l c (record_at old l c) (record_at run.0 l c) (record_at new l c) [] (own_marked s l c (marked_of run.0 lines more new run.2)) a (flat_map (λ b. b) more)
-      (tells_nothing (settings_in s c) l c (record_at old l c) (record_at run.0 l c) a (ap (λ k. record_at k l c) run.1.0) (rw run.1.1 (bad_left_out l c lf)))
+      tells_append (settings_of s c) l c (record_at old l c) (record_at run.0 l c) (record_at new l c) [] (own_marked s l c (marked_of run.0 lines more new run.2)) a (flat_map (λ b. b) more)
+      (tells_nothing (settings_of s c) l c (record_at old l c) (record_at run.0 l c) a (ap (λ k. record_at k l c) run.1.0) (rw run.1.1 (bad_left_out l c lf)))
       (run_told run.0 lines more new run.2 fit (ap (λ k. setting_at k l) run.1.0 ∙ set))
   run_told old (Long ∷ lines) (a ∷ more) new run fit set =
-      tells_append (settings_in s c) l c (record_at old l c) (record_at run.0 l c) (record_at new l c) [] (own_marked s l c (marked_of run.0 lines more new run.2)) a (flat_map (λ b. b) more)
-      (tells_nothing (settings_in s c) l c (record_at old l c) (record_at run.0 l c) a (ap (λ k. record_at k l c) run.1.0) (rw run.1.1 (long_left_out l c lf)))
+      tells_append (settings_of s c) l c (record_at old l c) (record_at run.0 l c) (record_at new l c) [] (own_marked s l c (marked_of run.0 lines more new run.2)) a (flat_map (λ b. b) more)
+      (tells_nothing (settings_of s c) l c (record_at old l c) (record_at run.0 l c) a (ap (λ k. record_at k l c) run.1.0) (rw run.1.1 (long_left_out l c lf)))
       (run_told run.0 lines more new run.2 fit (ap (λ k. setting_at k l) run.1.0 ∙ set))

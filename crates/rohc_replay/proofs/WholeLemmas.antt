@@ -19,7 +19,7 @@ use Rattle.rohc_concentrator.specs.Tables.{setting_at, record_at}
 use Rattle.rohc_concentrator.specs.Report.{Report, IsAnswered, IsRead, IsCut}
 use Rattle.rohc_replay.specs.AnswerLines.{report_lines, reset_lines, response_lines, relay_line, text_of}
 use Rattle.rohc_replay.specs.Isolation.{is_pair_line}
-use Rattle.rohc_replay.specs.Run.{Turns, Runs}
+use Rattle.rohc_replay.specs.Run.{RunsLine, Runs}
 use Rattle.rohc_replay.specs.Script.{Event, Arrive, Reset, IsEvent, Line, Good, Bad, Long, lines_of}
 use Rattle.rohc_replay.proofs.EventLemmas.{report_left_out, reset_left_out, bad_left_out, long_left_out}
 use Rattle.rohc_replay.proofs.IsolationLemmas.{cid_fits}
@@ -48,7 +48,7 @@ reset_whole : (k : ℕ) (set : Option LinkSetting) → k < 2 ^ 16 → AreWhole (
 reset_whole k (Some s) kf = tt
 reset_whole k None kf = (refusal_whole k refusals.NoLink kf, tt)
 
-event_whole : (old : Concentrator) (e : Event) (answers : List (List ℕ)) (new : Concentrator) → Turns old (Good e) answers new → IsEvent e → AreWhole answers
+event_whole : (old : Concentrator) (e : Event) (answers : List (List ℕ)) (new : Concentrator) → RunsLine old (Good e) answers new → IsEvent e → AreWhole answers
 event_whole old (Arrive k m octets) answers new turn fits =
     subst AreWhole (sym turn.2) (answered_whole (setting_at old k) k m octets (record_at old k) (record_at new k) turn.0 fits.0 (good_setting old k) fits.3 turn.1.answer)
 event_whole old (Reset k) answers new turn fits = subst AreWhole (sym turn.1) (reset_whole k (setting_at old k) fits)
@@ -77,7 +77,7 @@ written_lines old lines answers new run fit =
 
 -- A pair of a link that isn't there is told nothing.
 module _ (l c : ℕ) (lf : l < 2 ^ 16) (cf : c < 2 ^ 16) where
-  absent_event : (old : Concentrator) (e : Event) (answers : List (List ℕ)) (new : Concentrator) → Turns old (Good e) answers new → IsEvent e → setting_at old l ≡ None → filter (is_pair_line l c) answers ≡ []
+  absent_event : (old : Concentrator) (e : Event) (answers : List (List ℕ)) (new : Concentrator) → RunsLine old (Good e) answers new → IsEvent e → setting_at old l ≡ None → filter (is_pair_line l c) answers ≡ []
   absent_event old (Arrive k m octets) answers new turn fits absent = ap (filter (is_pair_line l c)) turn.2 ∙ ⊎_elim
       (λ e. let here : IsAnswered (setting_at old l) (record_at old k) m octets turn.0 (record_at new k) = subst (λ x. IsAnswered (setting_at old x) (record_at old k) m octets turn.0 (record_at new k)) e turn.1.answer in
       let none : IsAnswered None (record_at old k) m octets turn.0 (record_at new k) = subst (λ x. IsAnswered x (record_at old k) m octets turn.0 (record_at new k)) absent here in

@@ -1,4 +1,5 @@
--- The lines that answer an event, without their newlines.
+-- The lines that answer an event, without their newlines. Words: response_lines, report_lines, reset_lines;
+-- text_of, lines with their newlines.
 use Rattle.std.specs.Prelude.{ℕ, List, [], ◌∷◌, ◌++◌, map, Option, Some, None, codes}
 use Rattle.std.specs.List.{flat_map}
 use Rattle.std.specs.Fmt.{decimal}
@@ -42,17 +43,21 @@ feedback_lines link cid (Some element) = (pair_text link cid ++ codes "feedback 
 
 -- the refusal, where there is one
 abbrev pub refused_lines : ℕ → ℕ → Outcome → List (List ℕ)
-refused_lines link cid (outcomes.Refused refusal) = (pair_text link cid ++ codes "refused " ++ name_of refusal) ∷ []
+refused_lines link cid (outcomes.Refused refusal) =
+    (pair_text link cid ++ codes "refused " ++ name_of refusal) ∷ []
 refused_lines link cid outcomes.Delivered = []
 refused_lines link cid outcomes.Stored = []
 
 -- the reply of a context: the packet, `stored`, the feedback and the refusal, each where there is one
 abbrev pub response_lines : ℕ → ℕ → Response → List (List ℕ)
-response_lines link cid r = packet_lines link cid r.packet ++ stored_lines link cid r.outcome ++ feedback_lines link cid r.feedback ++ refused_lines link cid r.outcome
+response_lines link cid r =
+    packet_lines link cid r.packet ++ stored_lines link cid r.outcome
+    ++ feedback_lines link cid r.feedback ++ refused_lines link cid r.outcome
 
 -- the answer to an arrival: what is relayed, and then the reply
 abbrev pub report_lines : ℕ → Report → List (List ℕ)
-report_lines link (Arrived cid response relayed) = map (relay_line link) relayed ++ response_lines link cid response
+report_lines link (Arrived cid response relayed) =
+    map (relay_line link) relayed ++ response_lines link cid response
 report_lines link (OnlyFront relayed) = map (relay_line link) relayed
 report_lines link (Refused refusal) = link_refusal link refusal ∷ []
 

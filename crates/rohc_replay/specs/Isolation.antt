@@ -1,4 +1,5 @@
--- Isolation: what one link and identifier are told, whatever comes under the others.
+-- Isolation: what one link and identifier are told, whatever comes under the others. Words: Pair, Replay;
+-- own, a pair's own events; pair_lines, own_lines; IsToldAll, IsTold, IsToldAlike; Isolates.
 use Rattle.std.specs.Prelude.{◌≡◌, ℕ, ◌^◌, ◌<◌, List, [], ◌∷◌, ◌++◌, map, filter, Bool, true, false, not, ◌==◌, ◌&&◌, if◌then◌else◌, Option, Some, None, codes}
 use Rattle.std.specs.List.{flat_map}
 use Rattle.std.specs.Str.{bytes_eq}
@@ -6,13 +7,33 @@ use Rattle.std.specs.Io.KnownBytes.{Appends}
 use Rattle.rohc_context.specs.Response.{Response}
 use Rattle.rohc_concentrator.specs.declared.concentrator.Concentrator.{Concentrator}
 use Rattle.rohc_concentrator.specs.declared.setting.LinkSetting.{LinkSetting}
-use Rattle.rohc_concentrator.specs.Setting.{settings_in}
+use Rattle.rohc_concentrator.specs.Setting.{settings_of}
 use Rattle.rohc_concentrator.specs.Tables.{setting_at, record_at}
 use Rattle.rohc_concentrator.specs.LoneRun.{LoneEvent, Forget, LoneRun, MarkedRun, unmarked, own_arrival}
 use Rattle.rohc_replay.specs.Script.{Event, Arrive, Reset, Line, Good, Bad, Long, IsScript, lines_of}
 use Rattle.rohc_replay.specs.AnswerLines.{pair_text, response_lines, text_of}
 
--- what an event of a script is to an identifier of a link: the link's resets, and the arrivals on it that bear the identifier
+-- an identifier of a link, with what is set for the link
+pub record Pair : Type 0 where
+  pub link : ℕ
+  pub cid : ℕ
+  pub setting : LinkSetting
+
+-- the link and the identifier have 16 bits, and the concentrator has the link with this setting
+pub record IsPair (k : Concentrator) (p : Pair) : Type 0 where
+  pub link_fits : p.link < 2 ^ 16
+  pub cid_fits : p.cid < 2 ^ 16
+  pub set : setting_at k p.link ≡ Some p.setting
+
+-- a replay from outside: the concentrator before it and after it, what was read, and what was written
+pub record Replay : Type 0 where
+  pub before : Concentrator
+  pub after : Concentrator
+  pub text : List ℕ
+  pub written : List ℕ
+
+-- what an event of a script is to an identifier of a link: the link's resets, and the arrivals on it that
+-- bear the identifier
 abbrev pub own_event : LinkSetting → ℕ → ℕ → Event → List LoneEvent
 own_event s l c (Arrive link moment octets) = if link == l then own_arrival s c moment octets else []
 own_event s l c (Reset link) = if link == l then Forget ∷ [] else []
@@ -23,10 +44,11 @@ own_line s l c (Good e) = own_event s l c e
 own_line s l c Bad = []
 own_line s l c Long = []
 
--- its own events in their order, each with the mark of its line: true where it was refused for want of memory
+-- its own events in their order, each with the mark of its line: true where memory was wanting
 abbrev pub own_marked : LinkSetting → ℕ → ℕ → List (Line × Bool) → List (LoneEvent × Bool)
 own_marked s l c [] = []
-own_marked s l c ((line, mark) ∷ marked) = map (λ event. (event, mark)) (own_line s l c line) ++ own_marked s l c marked
+own_marked s l c ((line, mark) ∷ marked) =
+    map (λ event. (event, mark)) (own_line s l c line) ++ own_marked s l c marked
 
 -- its own events without the marked ones
 abbrev pub own : LinkSetting → ℕ → ℕ → List (Line × Bool) → List LoneEvent
@@ -48,25 +70,29 @@ pair_lines l c text = filter (is_pair_line l c) (lines_of text)
 
 -- a line of the pair, but for the one that tells want of memory
 abbrev pub is_own_line : ℕ → ℕ → List ℕ → Bool
-is_own_line l c line = is_pair_line l c line && not (bytes_eq (pair_text l c ++ codes "refused NoMemory") line)
+is_own_line l c line =
+    is_pair_line l c line && not (bytes_eq (pair_text l c ++ codes "refused NoMemory") line)
 
 -- those of them that aren't want of memory
 abbrev pub own_lines : ℕ → ℕ → List ℕ → List (List ℕ)
 own_lines l c text = filter (is_own_line l c) (lines_of text)
 
--- All that a replay told one pair, want of memory among it: the replies of one context machine over the pair's own events, each of
--- which is marked exactly where its reply is `NoMemory`, and may be marked only where it is an accepted first IR.
-pub record IsToldAll (old new : Concentrator) (marked : List (Line × Bool)) (written : List ℕ) (l c : ℕ) (s : LinkSetting) : Type 0 where
+-- All that a replay told one pair, want of memory among it: the replies of one context machine over the
+-- pair's own events, each of which is marked exactly where its reply is `NoMemory`, and may be marked only
+-- where it is an accepted first IR.
+pub record IsToldAll (r : Replay) (marked : List (Line × Bool)) (p : Pair) : Type 0 where
   pub replies : List Response
-  pub run : MarkedRun (settings_in s c) (record_at old l c) (own_marked s l c marked) replies (record_at new l c)
-  pub told : pair_lines l c written ≡ flat_map (response_lines l c) replies
+  pub run : MarkedRun (settings_of p.setting p.cid) (record_at r.before p.link p.cid)
+      (own_marked p.setting p.link p.cid marked) replies (record_at r.after p.link p.cid)
+  pub told : pair_lines p.link p.cid r.written ≡ flat_map (response_lines p.link p.cid) replies
 
--- What a replay told one pair: the replies of one context machine, run alone under the link's settings for that identifier, over
--- the pair's own events from its record before, and where that run leads its record stands.
-pub record IsTold (old new : Concentrator) (own_events : List LoneEvent) (written : List ℕ) (l c : ℕ) (s : LinkSetting) : Type 0 where
+-- What a replay told one pair: the replies of one context machine, run alone under the link's settings for
+-- that identifier, over the pair's own events from its record before to its record after.
+pub record IsTold (r : Replay) (own_events : List LoneEvent) (p : Pair) : Type 0 where
   pub replies : List Response
-  pub run : LoneRun (settings_in s c) (record_at old l c) own_events replies (record_at new l c)
-  pub told : own_lines l c written ≡ flat_map (response_lines l c) replies
+  pub run : LoneRun (settings_of p.setting p.cid) (record_at r.before p.link p.cid)
+      own_events replies (record_at r.after p.link p.cid)
+  pub told : own_lines p.link p.cid r.written ≡ flat_map (response_lines p.link p.cid) replies
 
 -- a line is left where it is the pair's own and isn't marked
 abbrev pub left_of : {X : Type 0} → List LoneEvent → Bool → X → List X
@@ -74,29 +100,34 @@ left_of [] mark x = []
 left_of (event ∷ events) true x = []
 left_of (event ∷ events) false x = x ∷ []
 
--- The lines of a script without every other arrival, every other link's reset, every bad or long line and every marked arrival.
+-- The lines of a script without every other arrival, every other link's reset, every bad or long line and
+-- every marked arrival.
 abbrev pub lines_left : LinkSetting → ℕ → ℕ → List (List ℕ) → List (Line × Bool) → List (List ℕ)
 lines_left s l c [] marked = []
 lines_left s l c (octets ∷ texts) [] = []
-lines_left s l c (octets ∷ texts) ((line, mark) ∷ marked) = left_of (own_line s l c line) mark octets ++ lines_left s l c texts marked
+lines_left s l c (octets ∷ texts) ((line, mark) ∷ marked) =
+    left_of (own_line s l c line) mark octets ++ lines_left s l c texts marked
 
 -- It was told what the script of the lines that are left tells, none of which is marked.
-pub record IsToldAlike (old new : Concentrator) (text : List ℕ) (marked : List (Line × Bool)) (written : List ℕ) (l c : ℕ) (s : LinkSetting) : Type 0 where
+pub record IsToldAlike (r : Replay) (marked : List (Line × Bool)) (p : Pair) : Type 0 where
   pub lines : List Line
-  pub script : IsScript (text_of (lines_left s l c (lines_of text) marked)) lines
-  pub alike : IsTold old new (flat_map (own_line s l c) lines) written l c s
+  pub script : IsScript (text_of (lines_left p.setting p.link p.cid (lines_of r.text) marked)) lines
+  pub alike : IsTold r (flat_map (own_line p.setting p.link p.cid) lines) p
 
--- Isolation, for all links and identifiers at once: the script's lines, each with its mark, and what each pair was told. The
+-- Isolation, for all pairs at once: the script's lines, each with its mark, and what each pair was told. The
 -- settings of each link stay, and a pair of a link that isn't there is told nothing.
-pub record IsIsolated (old : Concentrator) (text written : List ℕ) (new : Concentrator) : Type 0 where
+pub record IsIsolated (r : Replay) : Type 0 where
   pub marked : List (Line × Bool)
-  pub script : IsScript text (map (λ (m : Line × Bool). m.0) marked)
-  pub answered : (l c : ℕ) (s : LinkSetting) → l < 2 ^ 16 → c < 2 ^ 16 → setting_at old l ≡ Some s → IsToldAll old new marked written l c s
-  pub alone : (l c : ℕ) (s : LinkSetting) → l < 2 ^ 16 → c < 2 ^ 16 → setting_at old l ≡ Some s → IsTold old new (own s l c marked) written l c s
-  pub taken_out : (l c : ℕ) (s : LinkSetting) → l < 2 ^ 16 → c < 2 ^ 16 → setting_at old l ≡ Some s → IsToldAlike old new text marked written l c s
-  pub settings : (l : ℕ) → setting_at new l ≡ setting_at old l
-  pub absent : (l c : ℕ) → l < 2 ^ 16 → c < 2 ^ 16 → setting_at old l ≡ None → pair_lines l c written ≡ []
+  pub script : IsScript r.text (map (λ (m : Line × Bool). m.0) marked)
+  pub answered : (p : Pair) → IsPair r.before p → IsToldAll r marked p
+  pub alone : (p : Pair) → IsPair r.before p → IsTold r (own p.setting p.link p.cid marked) p
+  pub taken_out : (p : Pair) → IsPair r.before p → IsToldAlike r marked p
+  pub settings : (l : ℕ) → setting_at r.after l ≡ setting_at r.before l
+  pub absent : (l c : ℕ) → l < 2 ^ 16 → c < 2 ^ 16 → setting_at r.before l ≡ None →
+      pair_lines l c r.written ≡ []
 
--- A replay isolates: what it writes tells each identifier of each link what one context machine run alone tells.
+-- A replay isolates: it tells each identifier of each link what one context machine run alone tells.
 abbrev pub Isolates : Concentrator → List ℕ → Option (List ℕ) → Option (List ℕ) → Concentrator → Type 0
-Isolates old text held holding new = (written : List ℕ) × Appends held holding written × IsIsolated old text written new
+Isolates old text held holding new =
+    (written : List ℕ) × Appends held holding written
+    × IsIsolated (record { before = old; after = new; text = text; written = written })

@@ -1,4 +1,4 @@
--- Promises over two runs, and over a text's one script.
+-- Promises over two runs, and over a text's one script. Words: IsFront; then each law.
 use Rattle.std.specs.Prelude.{◌≡◌, ℕ, ◌<◌, ◌^◌, List, [], ◌∷◌, ◌++◌, Option, Some}
 use Rattle.std.specs.List.{flat_map}
 use Rattle.rohc_concentrator.specs.declared.concentrator.Concentrator.{Concentrator}
@@ -6,8 +6,8 @@ use Rattle.rohc_concentrator.specs.Laws.{Agree, AreAlike}
 use Rattle.rohc_concentrator.specs.Tables.{record_at}
 use Rattle.rohc_replay.specs.Script.{Line, IsScript}
 use Rattle.rohc_replay.specs.AnswerLines.{text_of}
-use Rattle.rohc_replay.specs.Isolation.{IsIsolated, own, own_lines}
-use Rattle.rohc_replay.specs.Run.{Runs, marked_of, ReadFails, WriteFails, FlushFails}
+use Rattle.rohc_replay.specs.Isolation.{Replay, IsIsolated, own, own_lines}
+use Rattle.rohc_replay.specs.Run.{Runs, marked_of, Change, ReadFails, WriteFails, FlushFails}
 
 -- the one list begins with the other
 abbrev pub IsFront : {X : Type 0} → List X → List X → Type 0
@@ -17,34 +17,52 @@ IsFront {X} front whole = (rest : List X) × (whole ≡ front ++ rest)
 abbrev pub HasOneScript : Type 0
 HasOneScript = (text : List ℕ) (a b : List Line) → IsScript text a → IsScript text b → a ≡ b
 
--- Two replays of scripts that agree there, in their own events, their settings and their records, tell an identifier of a link the
--- same lines and leave it equal records, whatever else the scripts hold.
+-- Two replays of scripts that agree there, in their own events, their settings and their records, tell an
+-- identifier of a link the same lines and leave it equal records, whatever else the scripts hold.
 abbrev pub SameLines : Type 0
-SameLines = (a b after_a after_b : Concentrator) (text other written_a written_b : List ℕ) (p : IsIsolated a text written_a after_a) (q : IsIsolated b other written_b after_b)
-    (l c : ℕ) (agree : Agree a b l c) → l < 2 ^ 16 → c < 2 ^ 16 → own agree.here l c p.marked ≡ own agree.there l c q.marked →
-    (own_lines l c written_a ≡ own_lines l c written_b) × (record_at after_a l c ≡ record_at after_b l c)
+SameLines =
+    (a b : Replay) (p : IsIsolated a) (q : IsIsolated b) (l c : ℕ) (agree : Agree a.before b.before l c) →
+    l < 2 ^ 16 → c < 2 ^ 16 → own agree.here l c p.marked ≡ own agree.there l c q.marked →
+    (own_lines l c a.written ≡ own_lines l c b.written) × (record_at a.after l c ≡ record_at b.after l c)
 
--- A whole run of a script begins with what a run of its first lines answers, where the same events want memory.
+-- A whole run of a script begins with what a run of its first lines answers, where the same events want
+-- memory.
 abbrev pub BeginsAlike : Type 0
-BeginsAlike = (a b after_a after_b : Concentrator) (text : List ℕ) (lines more : List Line) (answers others : List (List (List ℕ)))
-    (run : Runs a lines answers after_a) (whole : Runs b (lines ++ more) others after_b) → AreAlike a b → IsScript text (lines ++ more) →
-    IsFront (marked_of a lines answers after_a run) (marked_of b (lines ++ more) others after_b whole) → IsFront answers others
+BeginsAlike = (a b after_a after_b : Concentrator) (text : List ℕ) (lines more : List Line)
+    (answers others : List (List (List ℕ)))
+    (run : Runs a lines answers after_a) (whole : Runs b (lines ++ more) others after_b) →
+    AreAlike a b → IsScript text (lines ++ more) →
+    IsFront (marked_of a lines answers after_a run) (marked_of b (lines ++ more) others after_b whole) →
+    IsFront answers others
 
--- What a failed read leaves written begins what a whole run of the text writes, where the same events want memory.
+-- What a failed read leaves written begins what a whole run of the text writes, where the same events want
+-- memory.
 abbrev pub ReadLeavesFront : Type 0
-ReadLeavesFront = (old new after : Concentrator) (text : List ℕ) (unread held holding : Option (List ℕ)) (written : ℕ) (f : ReadFails old (Some text) unread held holding written new)
-    (lines : List Line) (answers : List (List (List ℕ))) (whole : Runs old lines answers after) → IsScript text lines →
-    IsFront (marked_of old f.lines f.answers new f.run) (marked_of old lines answers after whole) → IsFront (flat_map text_of f.answers) (flat_map text_of answers)
+ReadLeavesFront = (c : Change) (whole_after : Concentrator) (text : List ℕ) (left : Option (List ℕ))
+    (written : ℕ) (f : ReadFails c (Some text) left written)
+    (lines : List Line) (answers : List (List (List ℕ))) (whole : Runs c.before lines answers whole_after) →
+    IsScript text lines →
+    IsFront (marked_of c.before f.lines f.answers c.after f.run)
+    (marked_of c.before lines answers whole_after whole) →
+    IsFront (flat_map text_of f.answers) (flat_map text_of answers)
 
 -- And so does what a failed write leaves.
 abbrev pub WriteLeavesFront : Type 0
-WriteLeavesFront = (old new after : Concentrator) (text : List ℕ) (held holding : Option (List ℕ)) (written : ℕ) (f : WriteFails old text held holding written new)
-    (lines : List Line) (answers : List (List (List ℕ))) (whole : Runs old lines answers after) → IsScript text lines →
-    IsFront (marked_of old (f.stops.earlier ++ f.stops.last ∷ []) (f.stops.answers ++ f.stops.last_answers ∷ []) new f.stops.run) (marked_of old lines answers after whole) →
+WriteLeavesFront = (c : Change) (whole_after : Concentrator) (text : List ℕ) (written : ℕ)
+    (f : WriteFails c text written)
+    (lines : List Line) (answers : List (List (List ℕ))) (whole : Runs c.before lines answers whole_after) →
+    IsScript text lines →
+    IsFront (marked_of c.before (f.stops.earlier ++ f.stops.last ∷ [])
+    (f.stops.answers ++ f.stops.last_answers ∷ []) c.after f.stops.run)
+    (marked_of c.before lines answers whole_after whole) →
     IsFront (flat_map text_of f.stops.answers ++ f.stops.part) (flat_map text_of answers)
 
 -- And what a failed flush leaves is all of it.
 abbrev pub FlushLeavesAll : Type 0
-FlushLeavesAll = (old new after : Concentrator) (text : List ℕ) (held holding : Option (List ℕ)) (written : ℕ) (f : FlushFails old text held holding written new)
-    (lines : List Line) (answers : List (List (List ℕ))) (whole : Runs old lines answers after) → IsScript text lines →
-    IsFront (marked_of old f.lines f.answers new f.run) (marked_of old lines answers after whole) → flat_map text_of f.answers ≡ flat_map text_of answers
+FlushLeavesAll = (c : Change) (whole_after : Concentrator) (text : List ℕ) (written : ℕ)
+    (f : FlushFails c text written)
+    (lines : List Line) (answers : List (List (List ℕ))) (whole : Runs c.before lines answers whole_after) →
+    IsScript text lines →
+    IsFront (marked_of c.before f.lines f.answers c.after f.run)
+    (marked_of c.before lines answers whole_after whole) →
+    flat_map text_of f.answers ≡ flat_map text_of answers

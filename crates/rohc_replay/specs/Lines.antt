@@ -1,4 +1,4 @@
--- A text as finished lines and a rest.
+-- A text as finished lines and a rest. Words: has_newline, Splits.
 use Rattle.std.specs.Prelude.{◌≡◌, ℕ, List, ◌++◌, Bool, false, ◌==◌}
 use Rattle.std.specs.List.{list_any, AllByRecursion}
 use Rattle.rohc_replay.specs.AnswerLines.{text_of}

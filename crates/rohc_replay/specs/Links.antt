@@ -1,4 +1,4 @@
--- What a links file says.
+-- What a links file says. Words: Lists; read_from a table, read_text; fault_name.
 use Rattle.std.specs.Prelude.{ℕ, ◌+◌, ◌==◌, List, [], ◌∷◌, codes, pos, Option, Some, None, if◌then◌else◌, Result, Ok, Err}
 use Rattle.std.specs.Option.{ok_or, option_map_or}
 use Rattle.rohc_concentrator.specs.declared.setting.LinkSetting.{LinkSetting}
@@ -9,7 +9,7 @@ use Rattle.rohc_replay.specs.declared.links.Version.{Version}
 use Rattle.rohc_replay.specs.declared.links.Version.TheVariants.{One, Two}
 use Rattle.rohc_replay.specs.declared.links.fault.Key.TheVariants as key
 use Rattle.rohc_replay.specs.declared.links.fault.LinksFault.{LinksFault}
-use Rattle.rohc_replay.specs.declared.links.fault.LinksFault.TheVariants.{NotToml, BadVersion, UnknownKey, BadKey}
+use Rattle.rohc_replay.specs.declared.links.fault.LinksFault.TheVariants.{NotToml, BadVersion, UnknownKey, BadKey, NoMemory}
 use Rattle.rohc_replay.specs.LinksKeys.{name_of}
 use Rattle.rohc_replay.specs.LinksFields.{found, has_only}
 use Rattle.rohc_replay.specs.LinksRanges.{each}
@@ -57,3 +57,11 @@ read_table ms = do
 -- what the text of a file says, else its first fault
 abbrev pub read_text : List ℕ → Result Lists LinksFault
 read_text text = ok_or (parse_document text) NotToml >>= read_table
+
+-- the names of the faults
+abbrev pub fault_name : LinksFault → List ℕ
+fault_name NotToml = codes "NotToml"
+fault_name BadVersion = codes "BadVersion"
+fault_name (UnknownKey entry) = codes "UnknownKey"
+fault_name (BadKey entry key) = codes "BadKey"
+fault_name NoMemory = codes "NoMemory"

@@ -1,4 +1,4 @@
--- What one entry of a links file sets.
+-- What one entry of a links file sets. Words: has_known_keys; entry_in; numbered, with the entry in a fault.
 use Rattle.std.specs.Prelude.{ℕ, List, [], ◌∷◌, ◌++◌, map, Bool, if◌then◌else◌, Result, Ok, Err, unwrap_or}
 use Rattle.std.specs.Result.{result_map_both}
 use Rattle.arrayvec.specs.ArrayVec.{ArrayVec}
@@ -25,7 +25,9 @@ abbrev pub ◌>>=◌ : {A B E : Type 0} → Result A E → (A → Result B E) �
 
 -- the keys of version 1, in the order in which they are judged
 abbrev pub first_keys : List Key
-first_keys = key.Number ∷ key.Cid ∷ key.MaxCid ∷ key.Mode ∷ key.K1 ∷ key.N1 ∷ key.K2 ∷ key.N2 ∷ key.PacketMs ∷ key.StaticNackMs ∷ key.DeliverPort ∷ key.FeedbackPort ∷ key.RelayPort ∷ []
+first_keys =
+    key.Number ∷ key.Cid ∷ key.MaxCid ∷ key.Mode ∷ key.K1 ∷ key.N1 ∷ key.K2 ∷ key.N2
+    ∷ key.PacketMs ∷ key.StaticNackMs ∷ key.DeliverPort ∷ key.FeedbackPort ∷ key.RelayPort ∷ []
 
 -- the keys that a version knows
 abbrev pub keys : Version → List Key
@@ -73,10 +75,23 @@ entry_in version ms = do
   ports ← ports_in ms
   idle_ms ← idle_in version ms
   ranges ← ranges_in version ms
-  let settings : Settings = record { size = size; max_cid = max_cid; mode = mode; k1 = k1; n1 = n1; k2 = k2; n2 = n2; packet_ms = packet_ms; static_nack_ms = static_nack_ms; idle_ms = idle_ms }
+  let settings : Settings = record {
+    size = size;
+    max_cid = max_cid;
+    mode = mode;
+    k1 = k1;
+    n1 = n1;
+    k2 = k2;
+    n2 = n2;
+    packet_ms = packet_ms;
+    static_nack_ms = static_nack_ms;
+    idle_ms = idle_ms;
+  }
   let setting : LinkSetting = record { link = link; settings = settings; ranges = ranges }
   Ok (setting, ports)
 
 -- what the entry of a number sets, else its first fault
 abbrev pub numbered : Version → ℕ → Members → Result (LinkSetting × Ports) LinksFault
-numbered version n ms = if has_known_keys version ms then result_map_both (λ set. set) (BadKey n) (entry_in version ms) else Err (UnknownKey n)
+numbered version n ms =
+    if has_known_keys version ms then result_map_both (λ set. set) (BadKey n) (entry_in version ms)
+    else Err (UnknownKey n)

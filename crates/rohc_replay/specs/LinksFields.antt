@@ -1,4 +1,4 @@
--- What the tables of a links file hold at their keys.
+-- What the tables of a links file hold at their keys. Words: whole, size, mode; wanted or allowed at a key.
 use Rattle.std.specs.Prelude.{ℕ, List, Bool, true, ◌&&◌, codes, nat_le, Option, Some, None, option_and_then, pos, if◌then◌else◌, Result, Ok}
 use Rattle.std.specs.List.{list_any}
 use Rattle.std.specs.Option.{ok_or, option_map, option_map_or}
@@ -18,7 +18,10 @@ whole least greatest _ = None
 
 -- a text that stands for a kind of identifiers
 abbrev pub size : Data → Option CidKind
-size (string s) = if bytes_eq s (codes "small") then Some Small else if bytes_eq s (codes "large") then Some Large else None
+size (string s) =
+    if bytes_eq s (codes "small") then Some Small
+    else if bytes_eq s (codes "large") then Some Large
+    else None
 size _ = None
 
 -- a text that stands for a mode
@@ -36,7 +39,8 @@ wanted read key ms = ok_or (found read (name_of key) ms) key
 
 -- what they have at a key that may be missing, else that this key is wrong
 abbrev pub allowed : {A : Type 0} → (Data → Option A) → Key → Members → Result (Option A) Key
-allowed {A} read key ms = option_map_or (λ d. ok_or (option_map Some (read d)) key) (get_member (name_of key) ms) (Ok None)
+allowed {A} read key ms =
+    option_map_or (λ d. ok_or (option_map Some (read d)) key) (get_member (name_of key) ms) (Ok None)
 
 -- the name is one of the names
 abbrev pub is_among : List (List ℕ) → List ℕ → Bool

@@ -1,4 +1,4 @@
--- The keys of a links file.
+-- The keys of a links file. Words: name_of.
 use Rattle.std.specs.Prelude.{ℕ, List, codes}
 use Rattle.rohc_replay.specs.declared.links.fault.Key.{Key}
 use Rattle.rohc_replay.specs.declared.links.fault.Key.TheVariants as key

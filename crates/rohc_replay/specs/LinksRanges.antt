@@ -1,4 +1,4 @@
--- The ranges of identifiers that have a mode of their own.
+-- The ranges of identifiers that have a mode of their own. Words: range, ranges.
 use Rattle.std.specs.Prelude.{ℕ, List, [], ◌∷◌, length, codes, nat_le, Option, Some, None, option_and_then, if◌then◌else◌}
 use Rattle.arrayvec.specs.ArrayVec.{ArrayVec}
 use Rattle.rohc_concentrator.specs.declared.setting.CidRange.{CidRange}

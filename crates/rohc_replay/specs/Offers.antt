@@ -1,4 +1,4 @@
--- What a writer took of a text.
+-- What a writer took of a text. Words: counted; TakesAll, TakesPart; Offers.
 use Rattle.std.specs.Prelude.{◌≡◌, ℕ, ◌+◌, ◌-◌, ◌^◌, ◌<◌, List, ◌++◌, length, min, Option, Result, Ok, Err}
 use Rattle.std.specs.Io.KnownBytes.{Appends}
 use Rattle.rohc_replay.specs.declared.output.Stopped.{Stopped}

@@ -1,4 +1,5 @@
--- The run of a script: one turn of the concentrator for each line.
+-- The run of a script, line by line. Words: RunsLine, Runs; line_mark, marked_of; IsTally; Change; Replays;
+-- Fails.
 use Rattle.std.specs.Prelude.{◌≡◌, ℕ, ◌-◌, ◌^◌, List, [], ◌∷◌, ◌++◌, Bool, true, false, not, count_by, min, length, ◌<◌, ◌⊎◌, Option, IfSome}
 use Rattle.std.specs.List.{flat_map}
 use Rattle.std.specs.Io.KnownBytes.{Appends, Consumes}
@@ -15,29 +16,35 @@ use Rattle.rohc_replay.specs.Lines.{Splits}
 use Rattle.rohc_replay.specs.AnswerLines.{report_lines, reset_lines, bad_line, long_line, text_of}
 
 -- one line: the concentrator before it, its answer lines, and the concentrator after it
-abbrev pub Turns : Concentrator → Line → List (List ℕ) → Concentrator → Type 0
-Turns old (Good (Arrive link moment octets)) answers new = (report : Report) × Arrives old link moment octets report new × (answers ≡ report_lines link report)
-Turns old (Good (Reset link)) answers new = Resets old link new × (answers ≡ reset_lines link (setting_at old link))
-Turns old Bad answers new = (new ≡ old) × (answers ≡ bad_line ∷ [])
-Turns old Long answers new = (new ≡ old) × (answers ≡ long_line ∷ [])
+abbrev pub RunsLine : Concentrator → Line → List (List ℕ) → Concentrator → Type 0
+RunsLine old (Good (Arrive link moment octets)) answers new =
+    (report : Report) × Arrives old link moment octets report new × (answers ≡ report_lines link report)
+RunsLine old (Good (Reset link)) answers new =
+    Resets old link new × (answers ≡ reset_lines link (setting_at old link))
+RunsLine old Bad answers new = (new ≡ old) × (answers ≡ bad_line ∷ [])
+RunsLine old Long answers new = (new ≡ old) × (answers ≡ long_line ∷ [])
 
 -- the lines in turn, with the answer lines of each
 abbrev pub Runs : Concentrator → List Line → List (List (List ℕ)) → Concentrator → Type 0
 Runs old [] [] new = new ≡ old
-Runs old (line ∷ lines) (answers ∷ more) new = (mid : Concentrator) × Turns old line answers mid × Runs mid lines more new
+Runs old (line ∷ lines) (answers ∷ more) new =
+    (mid : Concentrator) × RunsLine old line answers mid × Runs mid lines more new
 Runs old [] (answers ∷ more) new = ⊥
 Runs old (line ∷ lines) [] new = ⊥
 
 -- whether an event was answered `NoMemory`
-abbrev pub turn_mark : (old : Concentrator) (e : Event) (answers : List (List ℕ)) (new : Concentrator) → Turns old (Good e) answers new → Bool
-turn_mark old (Arrive link moment octets) answers new turn = wants_memory turn.0
-turn_mark old (Reset link) answers new turn = false
+abbrev pub line_mark : (old : Concentrator) (e : Event) (answers : List (List ℕ)) (new : Concentrator) →
+    RunsLine old (Good e) answers new → Bool
+line_mark old (Arrive link moment octets) answers new turn = wants_memory turn.0
+line_mark old (Reset link) answers new turn = false
 
 -- the lines of a run, each with its mark: true where its event was answered `NoMemory`
-abbrev pub marked_of : (old : Concentrator) (lines : List Line) (answers : List (List (List ℕ))) (new : Concentrator) → Runs old lines answers new → List (Line × Bool)
+abbrev pub marked_of : (old : Concentrator) (lines : List Line) (answers : List (List (List ℕ)))
+    (new : Concentrator) → Runs old lines answers new → List (Line × Bool)
 marked_of old [] answers new run = []
 marked_of old (line ∷ lines) [] new run = []
-marked_of old (Good e ∷ lines) (a ∷ more) new run = (Good e, turn_mark old e a run.0 run.1) ∷ marked_of run.0 lines more new run.2
+marked_of old (Good e ∷ lines) (a ∷ more) new run =
+    (Good e, line_mark old e a run.0 run.1) ∷ marked_of run.0 lines more new run.2
 marked_of old (Bad ∷ lines) (a ∷ more) new run = (Bad, false) ∷ marked_of run.0 lines more new run.2
 marked_of old (Long ∷ lines) (a ∷ more) new run = (Long, false) ∷ marked_of run.0 lines more new run.2
 
@@ -52,64 +59,80 @@ pub record IsTally (lines : List Line) (t : Tally) : Type 0 where
   pub events : t.events ≡ min (count_by is_good_line lines) (2 ^ 64 - 1)
   pub bad : t.bad ≡ min (count_by (λ line. not (is_good_line line)) lines) (2 ^ 64 - 1)
 
+-- what a replay changes: the concentrator, and the octets that the writer holds, before and after
+pub record Change : Type 0 where
+  pub before : Concentrator
+  pub after : Concentrator
+  pub held : Option (List ℕ)
+  pub holding : Option (List ℕ)
+
 -- A whole replay: the script of the text, its answer lines, which are all that was written, the tally, and
 -- where the concentrator stands after all events.
-pub record Replays (old : Concentrator) (text : List ℕ) (held holding : Option (List ℕ)) (t : Tally) (new : Concentrator) : Type 0 where
+pub record Replays (c : Change) (text : List ℕ) (t : Tally) : Type 0 where
   pub lines : List Line
   pub answers : List (List (List ℕ))
   pub script : IsScript text lines
-  pub run : Runs old lines answers new
-  pub written : Appends held holding (flat_map text_of answers)
+  pub run : Runs c.before lines answers c.after
+  pub written : Appends c.held c.holding (flat_map text_of answers)
   pub tally : IsTally lines t
 
--- A read failed: of the octets that were read before it, the finished lines were run and answered, and the writer
--- took all of that.
-pub record ReadFails (old : Concentrator) (before after held holding : Option (List ℕ)) (written : ℕ) (new : Concentrator) : Type 0 where
+-- A read failed: of the octets that were read before it, the finished lines were run and answered, and the
+-- writer took all of that.
+pub record ReadFails (c : Change) (unread left : Option (List ℕ)) (written : ℕ) : Type 0 where
   pub seen : List ℕ
-  pub consumed : Consumes before after seen
+  pub consumed : Consumes unread left seen
   pub finished : List (List ℕ)
   pub rest : List ℕ
   pub splits : Splits seen finished rest
   pub lines : List Line
   pub are_lines : AreLines finished lines
   pub answers : List (List (List ℕ))
-  pub run : Runs old lines answers new
-  pub taken : TakesAll held holding 0 written (flat_map text_of answers)
+  pub run : Runs c.before lines answers c.after
+  pub taken : TakesAll c.held c.holding 0 written (flat_map text_of answers)
 
--- Lines were run one after the other. Of the answers of the last one a part was taken and not all; of those before it, all.
-pub record Stops (old : Concentrator) (texts : List (List ℕ)) (held holding : Option (List ℕ)) (written : ℕ) (new : Concentrator) : Type 0 where
+-- Lines were run one after the other. Of the answers of the last one a part was taken and not all; of those
+-- before it, all.
+pub record Stops (c : Change) (texts : List (List ℕ)) (written : ℕ) : Type 0 where
   pub earlier : List Line
   pub last : Line
   pub are_lines : AreLines texts (earlier ++ last ∷ [])
   pub answers : List (List (List ℕ))
   pub last_answers : List (List ℕ)
-  pub run : Runs old (earlier ++ last ∷ []) (answers ++ last_answers ∷ []) new
+  pub run : Runs c.before (earlier ++ last ∷ []) (answers ++ last_answers ∷ []) c.after
   pub part : List ℕ
   pub rest : List ℕ
   pub parts : text_of last_answers ≡ part ++ rest
   pub some_left : 0 < length rest
-  pub taken : TakesAll held holding 0 written (flat_map text_of answers ++ part)
+  pub taken : TakesAll c.held c.holding 0 written (flat_map text_of answers ++ part)
 
 -- A write failed, at one of the first lines of the text.
-pub record WriteFails (old : Concentrator) (text : List ℕ) (held holding : Option (List ℕ)) (written : ℕ) (new : Concentrator) : Type 0 where
+pub record WriteFails (c : Change) (text : List ℕ) (written : ℕ) : Type 0 where
   pub texts : List (List ℕ)
   pub others : List (List ℕ)
   pub first_lines : lines_of text ≡ texts ++ others
-  pub stops : Stops old texts held holding written new
+  pub stops : Stops c texts written
 
 -- The flush failed: all lines were run, and all their answers taken.
-pub record FlushFails (old : Concentrator) (text : List ℕ) (held holding : Option (List ℕ)) (written : ℕ) (new : Concentrator) : Type 0 where
+pub record FlushFails (c : Change) (text : List ℕ) (written : ℕ) : Type 0 where
   pub lines : List Line
   pub script : IsScript text lines
   pub answers : List (List (List ℕ))
-  pub run : Runs old lines answers new
-  pub taken : TakesAll held holding 0 written (flat_map text_of answers)
+  pub run : Runs c.before lines answers c.after
+  pub taken : TakesAll c.held c.holding 0 written (flat_map text_of answers)
 
 -- What each fault leaves, from the concentrator, the reader and the writer before to those after it.
-abbrev pub Fails : {R W : Type 0} → (R → Option (List ℕ)) → (W → Option (List ℕ)) → Concentrator → R → W → RunFault → Concentrator → R → W → Type 0
-Fails remaining contents old reader writer NoMemory new reader_after writer_after = (new ≡ old) × (reader_after ≡ reader) × (writer_after ≡ writer)
+abbrev pub Fails : {R W : Type 0} → (R → Option (List ℕ)) → (W → Option (List ℕ))
+    → Concentrator → R → W → RunFault → Concentrator → R → W → Type 0
+Fails remaining contents old reader writer NoMemory new reader_after writer_after =
+    (new ≡ old) × (reader_after ≡ reader) × (writer_after ≡ writer)
 Fails remaining contents old reader writer (Read written) new reader_after writer_after =
-    ReadFails old (remaining reader) (remaining reader_after) (contents writer) (contents writer_after) written new
+    ReadFails (record { before = old; after = new; held = contents writer; holding = contents writer_after })
+    (remaining reader) (remaining reader_after) written
 Fails remaining contents old reader writer (Write written) new reader_after writer_after =
-    IfSome (remaining reader) (λ text. WriteFails old text (contents writer) (contents writer_after) written new
-    ⊎ FlushFails old text (contents writer) (contents writer_after) written new)
+    let change : Change = record {
+      before = old;
+      after = new;
+      held = contents writer;
+      holding = contents writer_after;
+    } in
+    IfSome (remaining reader) (λ text. WriteFails change text written ⊎ FlushFails change text written)

@@ -1,4 +1,4 @@
--- What a script is: its lines, and the events of the good ones.
+-- What a script is. Words: Event, spelling; Line, IsLine; lines_of a text, IsScript.
 use Rattle.std.specs.Prelude.{◌≡◌, ◌≢◌, ℕ, ◌^◌, ◌<◌, ◌≤◌, List, [], ◌∷◌, ◌++◌, length, All, ◌==◌, if◌then◌else◌, codes}
 use Rattle.std.specs.Fmt.{decimal}
 use Rattle.hex.specs.Hex.{encode_lower}
@@ -10,7 +10,8 @@ pub data Event : Type 0 where
 
 -- every number of the event fits its field, and a packet has at most 65,535 octets
 abbrev pub IsEvent : Event → Type 0
-IsEvent (Arrive link moment octets) = (link < 2 ^ 16) × (moment < 2 ^ 64) × (length octets ≤ 65535) × All (λ octet. octet < 256) octets
+IsEvent (Arrive link moment octets) =
+    (link < 2 ^ 16) × (moment < 2 ^ 64) × (length octets ≤ 65535) × All (λ octet. octet < 256) octets
 IsEvent (Reset link) = link < 2 ^ 16
 
 -- octets as lower case pairs of digits, and none as `-`
@@ -20,7 +21,8 @@ hex_text (octet ∷ octets) = encode_lower (octet ∷ octets)
 
 -- the one line of an event
 abbrev pub spelling : Event → List ℕ
-spelling (Arrive link moment octets) = codes "arrive " ++ decimal link ++ codes " " ++ decimal moment ++ codes " " ++ hex_text octets
+spelling (Arrive link moment octets) =
+    codes "arrive " ++ decimal link ++ codes " " ++ decimal moment ++ codes " " ++ hex_text octets
 spelling (Reset link) = codes "reset " ++ decimal link
 
 -- the greatest line: `arrive 65535 18446744073709551615 ` and 65,535 pairs are less

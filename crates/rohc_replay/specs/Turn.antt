@@ -1,4 +1,4 @@
--- One line's turn, with what the writer took of its answers.
+-- One line's turn: it is run, and its answers are offered. Words: with_line; TakesTurn, TakesLongTurn.
 use Rattle.std.specs.Prelude.{◌≡◌, ℕ, ◌∷◌, [], List, Option, Result}
 use Rattle.rohc_concentrator.specs.declared.concentrator.Concentrator.{Concentrator}
 use Rattle.rohc_replay.specs.declared.output.Stopped.{Stopped}
@@ -7,7 +7,7 @@ use Rattle.rohc_replay.specs.declared.counts.Counts.{Counts}
 use Rattle.rohc_replay.specs.Script.{Line, Good, Bad, Long, IsLine}
 use Rattle.rohc_replay.specs.AnswerLines.{text_of, long_line}
 use Rattle.rohc_replay.specs.Offers.{Offers, counted}
-use Rattle.rohc_replay.specs.Run.{Turns}
+use Rattle.rohc_replay.specs.Run.{RunsLine}
 
 -- the tally with one line more
 abbrev pub with_line : Tally → Line → Tally
@@ -16,15 +16,17 @@ with_line t Bad = record t { bad = counted t.bad 1 }
 with_line t Long = record t { bad = counted t.bad 1 }
 
 -- a line is run, and its answers are offered: all are taken, or a part of them
-pub record TakesTurn (old new : Concentrator) (held holding : Option (List ℕ)) (before after : Counts) (octets : List ℕ) (result : Result Unit Stopped) : Type 0 where
+pub record TakesTurn (old new : Concentrator) (held holding : Option (List ℕ)) (before after : Counts)
+    (octets : List ℕ) (result : Result Unit Stopped) : Type 0 where
   pub line : Line
   pub answers : List (List ℕ)
   pub is_line : IsLine octets line
-  pub turns : Turns old line answers new
+  pub turns : RunsLine old line answers new
   pub tally : after.tally ≡ with_line before.tally line
   pub offers : Offers held holding before.taken after.taken (text_of answers) result
 
 -- a long line is answered, and nothing is run
-pub record TakesLongTurn (held holding : Option (List ℕ)) (before after : Counts) (result : Result Unit Stopped) : Type 0 where
+pub record TakesLongTurn (held holding : Option (List ℕ)) (before after : Counts)
+    (result : Result Unit Stopped) : Type 0 where
   pub tally : after.tally ≡ with_line before.tally Long
   pub offers : Offers held holding before.taken after.taken (text_of (long_line ∷ [])) result

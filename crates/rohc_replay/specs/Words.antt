@@ -1,3 +1,4 @@
+-- What the words of a line say. Words: event_in, size_in.
 use Rattle.std.specs.Prelude.{ℕ, List, take}
 use Rattle.rohc_replay.specs.declared.words.Words.{Words}
 use Rattle.rohc_replay.specs.declared.words.Words.TheVariants as words

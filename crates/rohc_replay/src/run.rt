@@ -35,7 +35,12 @@ pub fn replay<R: Read, W: Write>(
     writer: &mut W,
 ) -> Result<Tally, RunFault>
     ensures whole { IfOk result (λ tally. IfSome (R.remaining reader.old) (λ input.
-        Replays concentrator.old input (W.contents writer.old) (W.contents writer.new) tally concentrator.new)) }
+        Replays (record {
+          before = concentrator.old;
+          after = concentrator.new;
+          held = W.contents writer.old;
+          holding = W.contents writer.new;
+        }) input tally)) }
     ensures isolated { IfOk result (λ tally. IfSome (R.remaining reader.old) (λ input.
         Isolates concentrator.old input (W.contents writer.old) (W.contents writer.new) concentrator.new)) }
     ensures fault { IfErr result (λ e. Fails R.remaining W.contents concentrator.old reader.old writer.old e concentrator.new reader.new writer.new) }
@@ -73,7 +78,12 @@ fn run_script<R: Read, W: Write>(
     requires line_room { length line.old ≡ longest_line + 1 }
     requires packet_room { length packet.old ≡ 65535 }
     ensures whole { IfOk result (λ tally. IfSome (R.remaining reader.old) (λ input.
-        Replays concentrator.old input (W.contents writer.old) (W.contents writer.new) tally concentrator.new)) }
+        Replays (record {
+          before = concentrator.old;
+          after = concentrator.new;
+          held = W.contents writer.old;
+          holding = W.contents writer.new;
+        }) input tally)) }
     ensures rich { IfErr result (λ e. e ≢ RunFault.NoMemory) }
     ensures fault { IfErr result (λ e. Fails R.remaining W.contents concentrator.old reader.old writer.old e concentrator.new reader.new writer.new) }
 {

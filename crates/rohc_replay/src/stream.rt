@@ -117,7 +117,8 @@ pub(crate) fn end_script<W: Write>(
         Ends first held seen concentrator.new (W.contents writer.new) counts.new) }
     ensures stops { IfErr result (λ _. (first : State) (held : Option (List ℕ)) (seen : List ℕ) →
         Stands first held seen line.now long concentrator.old (W.contents writer.old) counts.old →
-        Stops first (lines_of seen) held (W.contents writer.new) counts.new.taken concentrator.new) }
+        Stops (record { before = first; after = concentrator.new; held = held; holding = W.contents writer.new })
+        (lines_of seen) counts.new.taken) }
 {
     if long {
         take_long_turn(writer, counts)

@@ -46,21 +46,15 @@ pub(crate) fn concentrator_of<R: Files + AllocGlobal>(
 /// The end that a fault of the links file leads to.
 fn links_end(fault: &LinksFault) -> End {
     match fault {
-        LinksFault::NotToml => End::LinksFile("NotToml"),
-        LinksFault::BadVersion => End::LinksFile("BadVersion"),
-        LinksFault::UnknownKey { .. } => End::LinksFile("UnknownKey"),
-        LinksFault::BadKey { .. } => End::LinksFile("BadKey"),
         LinksFault::NoMemory => End::Memory,
+        named => End::LinksFile(named.name()),
     }
 }
 
 /// The end that a fault of the settings leads to.
 fn setup_end(fault: &SetupFault) -> End {
     match fault {
-        SetupFault::NoLinks => End::LinksFile("NoLinks"),
-        SetupFault::TooManyLinks => End::LinksFile("TooManyLinks"),
-        SetupFault::BadSetting { .. } => End::LinksFile("BadSetting"),
-        SetupFault::DuplicateLink { .. } => End::LinksFile("DuplicateLink"),
         SetupFault::NoMemory => End::Memory,
+        named => End::LinksFile(named.name()),
     }
 }

@@ -98,6 +98,23 @@ pub enum LinksFault {
     NoMemory,
 }
 
+impl LinksFault {
+    ghost use Rattle.rohc_replay.specs.Links.{fault_name};
+
+    /// The name of the fault.
+    pub fn name(&self) -> &'static str
+        ensures { result.now ≡ fault_name self.now }
+    {
+        match self {
+            LinksFault::NotToml => "NotToml",
+            LinksFault::BadVersion => "BadVersion",
+            LinksFault::UnknownKey { .. } => "UnknownKey",
+            LinksFault::BadKey { .. } => "BadKey",
+            LinksFault::NoMemory => "NoMemory",
+        }
+    }
+}
+
 impl From<AllocError> for LinksFault {
     ghost from_gives = { λ _ e. e ≡ NoMemory };
 
