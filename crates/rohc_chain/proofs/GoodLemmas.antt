@@ -1,11 +1,6 @@
 -- What octets spell lies in the ranges of its fields.
-<<<<<<< HEAD
-use Rattle.std.proofs.Common.{◌≡◌, ℕ, ◌+◌, ◌/◌, ◌%◌, ◌<◌, ◌≤◌, Bool, true, false, List, [], ◌∷◌, ◌++◌, length, Option, Some, None, sym, subst, arith}
-use Rattle.std.specs.Prelude.{All, Result, Ok, Err, IfOk}
-=======
 use Rattle.std.proofs.Common.{◌≡◌, ℕ, ◌+◌, ◌/◌, ◌%◌, ◌<◌, Bool, true, false, List, [], ◌∷◌, ◌++◌, length, Option, Some, None, sym, subst, arith}
-use Rattle.std.specs.Prelude.{All}
->>>>>>> 6a1d2f93c2d6e9029b2cd71f59a505d8ba5e27b5
+use Rattle.std.specs.Prelude.{All, Result, Ok, Err, IfOk}
 use Rattle.std.proofs.Math.Seq.{take-append_seam}
 use Rattle.std.proofs.lemmas.List.Elements.{All-head, All-tail, All-take}
 use Rattle.rohc_bits.proofs.Values.{value_bound}
@@ -16,13 +11,9 @@ use Rattle.rohc_header.specs.declared.fields.Dynamic.{Dynamic}
 use Rattle.rohc_chain.specs.declared.packet.Ir as lent
 use Rattle.rohc_chain.specs.declared.packet.IrDyn as lent_dyn
 use Rattle.rohc_chain.specs.declared.parts.Kept.{Kept}
-<<<<<<< HEAD
 use Rattle.rohc_chain.specs.declared.refusal.ChainRefusal.{ChainRefusal}
-use Rattle.rohc_chain.specs.ChainText.{word, quad, flag, SpellsStatic, SpellsStride, SpellsGiven, SpellsDynamic}
-=======
 use Rattle.rohc_header.specs.Original.{word, quad, flag}
 use Rattle.rohc_chain.specs.ChainText.{SpellsStatic, SpellsStride, SpellsGiven, SpellsDynamic}
->>>>>>> 6a1d2f93c2d6e9029b2cd71f59a505d8ba5e27b5
 use Rattle.rohc_chain.specs.Good.{IsGoodStatic, IsGoodStride, IsGoodDynamic, IsGoodContent}
 use Rattle.rohc_chain.specs.Packets.{IrContent, Plain, StaticOnly, Whole, ir_content, DynContent, dyn_content, nothing_kept}
 use Rattle.rohc_chain.specs.Texts.{IsIrText, IsIrDynText}

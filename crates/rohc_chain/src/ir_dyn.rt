@@ -4,12 +4,8 @@ ghost use Rattle.std.specs.Prelude.{◌≡◌, ◌≤◌, length, All, IfOk, IfE
 ghost use Rattle.std.specs.Result.{result_map_both};
 ghost use Rattle.rohc_frame.specs.Laws.{IsOctet};
 ghost use Rattle.rohc_frame.specs.Reading.{header_of};
-<<<<<<< HEAD
-ghost use Rattle.rohc_chain.specs.Packets.{IsIrDyn, DynContent, dyn_content, kept_values, ir_dyn_at};
 ghost use Rattle.rohc_chain.specs.Good.{IsGoodStride, IsGoodDynamic};
-=======
 ghost use Rattle.rohc_chain.specs.Packets.{IsIrDyn, DynContent, dyn_content, kept_values, longest_payload, ir_dyn_at};
->>>>>>> 6a1d2f93c2d6e9029b2cd71f59a505d8ba5e27b5
 ghost use Rattle.rohc_chain.specs.Texts.{IsIrDynText, ir_dyn_fault};
 
 use crate::cover::fits_chains;
@@ -60,14 +56,9 @@ pub fn read_ir_dyn<'a>(
     requires kind { IsIrDyn forward.now.kind }
     requires profile { profile ≤ 1 }
     ensures text { IfOk result (λ packet. IsIrDynText (header_of forward.now) profile (kept_values extension stride) (dyn_content packet)) }
-<<<<<<< HEAD
-    ensures short { IfOk result (λ packet. length packet.payload.now ≤ 65495) }
-    ensures good { IfOk result (λ packet. IsGoodStride stride → IsGoodDynamic packet.moving) }
-    ensures only { (content : DynContent) → IsIrDynText (header_of forward.now) profile (kept_values extension stride) content → length content.payload ≤ 65495
-=======
     ensures short { IfOk result (λ packet. length packet.payload.now ≤ longest_payload) }
+    ensures good { IfOk result (λ packet. IsGoodStride stride → IsGoodDynamic packet.moving) }
     ensures only { (content : DynContent) → IsIrDynText (header_of forward.now) profile (kept_values extension stride) content → length content.payload ≤ longest_payload
->>>>>>> 6a1d2f93c2d6e9029b2cd71f59a505d8ba5e27b5
         → result_map_both dyn_content (λ e. e) result ≡ Ok content }
     ensures fault { IfErr result (λ e. ir_dyn_fault (header_of forward.now) profile ≡ Some e) }
     ensures reads { result_map_both dyn_content (λ e. e) result ≡ ir_dyn_at (header_of forward.now) profile (kept_values extension stride) }
