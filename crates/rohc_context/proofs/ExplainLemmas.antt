@@ -1,5 +1,5 @@
 -- A packet means exactly one header against a reference and a shift.
-use Rattle.std.proofs.Common.{◌≡◌, ◌≢◌, ℕ, ◌+◌, ◌<◌, ◌≤◌, ◌^◌, Bool, true, false, List, ◌++◌, length, Option, Some, None, IfSome, refl, sym, ap, subst, ◌∙◌, absurd, arith, ℤ, pos, ◌+ℤ◌, length-append}
+use Rattle.std.proofs.Common.{◌≡◌, ◌≢◌, ℕ, ◌+◌, ◌<◌, ◌≤◌, ◌^◌, Bool, true, false, List, ◌++◌, length, Option, Some, None, IfSome, refl, sym, ap, subst, ◌∙◌, arith, ℤ, pos, ◌+ℤ◌, length-append}
 use Rattle.std.specs.Prelude.{unwrap_or, Ok}
 use Rattle.rohc_bits.specs.LowBits.{LowBits}
 use Rattle.rohc_bits.specs.Bits.{IsOctet}
@@ -9,7 +9,7 @@ use Rattle.rohc_lsb.proofs.Meant.{modulo_below}
 use Rattle.rohc_lsb.proofs.Once.{one_sn, one_timestamp, one_identification}
 use Rattle.rohc_header.specs.declared.fields.Static.{Static}
 use Rattle.rohc_header.specs.declared.fields.Dynamic.{Dynamic}
-use Rattle.rohc_header.specs.Original.{IsOriginal, ip_part, ip_sum, udp_part, rtp_part}
+use Rattle.rohc_header.specs.Original.{IsOriginal, ip_part, ip_sum, addresses, udp_part, rtp_part}
 use Rattle.rohc_chain.specs.Good.{IsGoodStatic, IsGoodDynamic, IsGoodStride}
 use Rattle.rohc_forms.specs.Given.{ValuesSaid}
 use Rattle.rohc_forms.specs.Good.{IsGoodContent, IsGoodValues, IsBits}
@@ -90,10 +90,15 @@ pub original_some : (fixed : Static) (moving : Dynamic) (len : ℕ) → IsGoodSt
 original_some fixed moving len good fits =
     let sum = ip_sum fixed moving len in
     let octets = ip_part fixed moving len sum ++ udp_part fixed moving len ++ rtp_part fixed moving in
-    (octets, record { checksum = sum; fits = fits; forty = ?; summed = refl; whole = refl })
+    let udp : length (udp_part fixed moving len) ≡ 8 = refl in
+    let rtp : length (rtp_part fixed moving) ≡ 12 = refl in
+    let forty : length octets ≡ 40 = omega (arith, length-append (addresses fixed ++ udp_part fixed moving len) (rtp_part fixed moving), length-append (addresses fixed) (udp_part fixed moving len),
+      length-append fixed.source fixed.destination, good.source.four, good.destination.four, udp, rtp) in
+    (octets, record { checksum = sum; fits = fits; forty = forty; summed = refl; whole = refl })
 
-original_one : (fixed : Static) (moving : Dynamic) (len : ℕ) (a b : List ℕ) → IsOriginal fixed moving len a → IsOriginal fixed moving len b → a ≡ b
-original_one fixed moving len a b p q = ?
+pub original_one : (fixed : Static) (moving : Dynamic) (len : ℕ) (a b : List ℕ) → IsOriginal fixed moving len a → IsOriginal fixed moving len b → a ≡ b
+original_one fixed moving len a b p q =
+    p.whole ∙ ap (λ sum. ip_part fixed moving len sum ++ udp_part fixed moving len ++ rtp_part fixed moving) (p.summed ∙ sym q.summed) ∙ sym q.whole
 
 pub explains_some : (first : ℕ) (udp_sum stride_known : Bool) (fixed : Static) (r : Reference) (shift : ℕ) (c : Content) → IsGoodStatic fixed
     → IsGoodContent first udp_sum stride_known c → length c.payload ≤ 65495 → (h : Explained) × Explains fixed r shift c h

@@ -1,0 +1,26 @@
+-- The laws of a step, for the proofs of the crates above: each is its law's statement and nothing else.
+use Rattle.rohc_context.specs.Laws.{HasAnswer, HasNoOther, LeavesGood, BeginsByIr, LeavesNone, NeverPoor, KeepsGood}
+use Rattle.rohc_context.proofs.StepLemmas.{step_some, step_one, step_begins}
+use Rattle.rohc_context.proofs.GoodLemmas.{step_good, context_good}
+use Rattle.rohc_context.proofs.RefusalLemmas.{step_none, step_rich}
+
+pub has_answer : HasAnswer
+has_answer before s moment h good = step_some before s moment h good
+
+pub has_no_other : HasNoOther
+has_no_other before s moment h good a b x y p q = step_one before s moment h a b x y good.header.rest p q
+
+pub leaves_good : LeavesGood
+leaves_good before s moment h good response next step = step_good before s moment h good response next step
+
+pub begins_by_ir : BeginsByIr
+begins_by_ir s moment h response r step = step_begins s moment h response r step
+
+pub leaves_none : LeavesNone
+leaves_none s moment h response next refusal step e = step_none s moment h response next refusal step e
+
+pub never_poor : NeverPoor
+never_poor before s moment h response next step = step_rich before s moment h response next step
+
+pub keeps_good : KeepsGood
+keeps_good c = context_good c
