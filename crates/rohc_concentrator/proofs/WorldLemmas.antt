@@ -24,9 +24,9 @@ use Rattle.rohc_concentrator.specs.Setting.{settings_of}
 use Rattle.rohc_concentrator.specs.Tables.{setting_at, record_at}
 use Rattle.rohc_concentrator.specs.Events.{Arrives, Resets}
 use Rattle.rohc_concentrator.specs.Bears.{borne, header_in, cid_in}
-use Rattle.rohc_concentrator.specs.Report.{Report, Arrived, OwnStep, IsArrival, IsCut, IsRead, IsAnswered, is_no_memory, wants_memory, is_refusal, is_refused}
+use Rattle.rohc_concentrator.specs.Report.{Report, Arrived, OwnStep, IsArrival, IsCut, IsRead, IsAnswered, is_no_memory, wants_memory, is_refusal, is_refused, OnlyFront, Refused}
 use Rattle.rohc_concentrator.specs.LoneRun.{LoneEvent, Arrival, Forget, LoneRun}
-use Rattle.rohc_concentrator.specs.Laws.{TwoWorlds, NoTrace, AreAlike}
+use Rattle.rohc_concentrator.specs.Laws.{TwoWorlds, NoTrace, WantIsRefusal, TakenHasALink, AreAlike}
 use Rattle.rohc_concentrator.proofs.GoodLemmas.{good_arrival}
 
 -- no other outcome is want of memory
@@ -121,6 +121,18 @@ module _ (s : LinkSetting) (m : ℕ) (before after : ℕ → Option Record) (rep
 answered_none : (set : Option LinkSetting) (m : ℕ) (octets : List ℕ) (before after : ℕ → Option Record) (report : Report) → is_refused report ≡ true → (c : ℕ) → before c ≡ None → borne set octets ≡ Some c → IsAnswered set before m octets report after → after c ≡ None
 answered_none None m octets before after report refuses c none bears a = absurd (let f : ◌≡◌ {A = Option ℕ} None (Some c) = bears in cc)
 answered_none (Some s) m octets before after report refuses c none bears a = read_none s m before after report refuses c none (parts_of s.settings.size s.settings.max_cid octets) bears a
+
+pub want_is_refusal : WantIsRefusal
+want_is_refusal (Arrived cid response relayed) wants = ap is_refusal (is_no_memory-only response.outcome wants)
+want_is_refusal (OnlyFront relayed) wants = absurd (let f : false ≡ true = wants in cc)
+want_is_refusal (Refused refusal) wants = refl
+
+taken_on : (set : Option LinkSetting) (m : ℕ) (octets : List ℕ) (before after : ℕ → Option Record) (report : Report) → IsAnswered set before m octets report after → is_refused report ≡ false → (s : LinkSetting) × (set ≡ Some s)
+taken_on (Some s) m octets before after report a taken = (s, refl)
+taken_on None m octets before after report a taken = absurd (let f : true ≡ false = sym (ap is_refused a) ∙ taken in cc)
+
+pub taken_has_a_link : TakenHasALink
+taken_has_a_link old new l m octets report a taken = taken_on (setting_at old l) m octets (record_at old l) (record_at new l) report a.answer taken
 
 -- an identifier is borne or it isn't
 borne_or_not : (b : Option ℕ) (c : ℕ) → (b ≡ Some c) ⊎ (b ≢ Some c)

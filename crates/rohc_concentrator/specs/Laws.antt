@@ -49,6 +49,16 @@ NoTrace = (old new : Concentrator) (l moment : ℕ) (octets : List ℕ) (report 
     Arrives old l moment octets report new → is_refused report ≡ true →
     (c : ℕ) → record_at old l c ≡ None → record_at new l c ≡ None
 
+-- What wants memory is refused.
+abbrev pub WantIsRefusal : Type 0
+WantIsRefusal = (report : Report) → wants_memory report ≡ true → is_refused report ≡ true
+
+-- What isn't refused came on a link that is there.
+abbrev pub TakenHasALink : Type 0
+TakenHasALink = (old new : Concentrator) (l moment : ℕ) (octets : List ℕ) (report : Report) →
+    Arrives old l moment octets report new → is_refused report ≡ false →
+    (s : LinkSetting) × (setting_at old l ≡ Some s)
+
 -- Every record that a concentrator holds is good.
 abbrev pub HoldsGoodRecords : Type 0
 HoldsGoodRecords = (k : Concentrator) (l c : ℕ) → IfSome (record_at k l c) IsGoodRecord
@@ -62,6 +72,10 @@ FaultyIsNotFine = (settings : List LinkSetting) (fault : SetupFault) →
 abbrev pub FineOrFaulty : Type 0
 FineOrFaulty = (settings : List LinkSetting) →
     AreFine settings ⊎ ((fault : SetupFault) × IsFault settings fault)
+
+-- Settings have one fault at most.
+abbrev pub HasOneFault : Type 0
+HasOneFault = (settings : List LinkSetting) (a b : SetupFault) → IsFault settings a → IsFault settings b → a ≡ b
 
 -- the header is of an IR that the lone step accepts where there is no record
 pub record IsAcceptedIr (s : Settings) (moment : ℕ) (h : Header) : Type 0 where

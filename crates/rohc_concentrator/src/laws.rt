@@ -1,7 +1,7 @@
 //! Laws of the concentrator, as contracts of functions that do nothing.
 
 ghost use Rattle.rohc_context.specs.Laws.{HasAnswer, HasNoOther};
-ghost use Rattle.rohc_concentrator.specs.Laws.{TwoWorlds, NoTrace, HoldsGoodRecords, FaultyIsNotFine, FineOrFaulty, MarkedIsAcceptedIr, LoneRunIsUnmarked};
+ghost use Rattle.rohc_concentrator.specs.Laws.{TwoWorlds, NoTrace, WantIsRefusal, TakenHasALink, HoldsGoodRecords, FaultyIsNotFine, FineOrFaulty, HasOneFault, MarkedIsAcceptedIr, LoneRunIsUnmarked};
 
 /// For good values, an arrival has exactly one answer and one record, or none, after it.
 pub fn one_answer()
@@ -22,15 +22,22 @@ pub fn no_trace()
     ensures { NoTrace }
 {}
 
+/// What wants memory is refused, and what isn't refused came on a link that is there.
+pub fn refusals()
+    ensures want { WantIsRefusal }
+    ensures taken { TakenHasALink }
+{}
+
 /// Every record that a concentrator holds is good.
 pub fn good_records()
     ensures { HoldsGoodRecords }
 {}
 
-/// Settings are fine or have a fault, and not both.
+/// Settings are fine or have one fault, and not both.
 pub fn fine_or_faulty()
     ensures exclusive { FaultyIsNotFine }
     ensures either { FineOrFaulty }
+    ensures one { HasOneFault }
 {}
 
 /// Where want of memory is marked, there was an accepted IR for an identifier without a record.

@@ -183,6 +183,7 @@ fn setup_faults(rt: HostRuntime) -> Result<(), Fail> {
             Err(fault) => {
                 let shown = format!(in rt.alloc(); "{fault}")?;
                 assert_eq!(rt; shown.as_str(), name);
+                assert_eq!(rt; fault.name(), name);
                 assert_eq!(rt; place_of(&fault), place);
             }
         }

@@ -140,6 +140,7 @@ fn tells_the_first_fault(rt: HostRuntime) -> Result<(), Fail> {
     for (text, name, fault) in faults {
         let found = read_links(rt.alloc(), text).err().ok_or("no fault")?;
         assert_eq!(rt; found, fault, "at {text}");
+        assert_eq!(rt; found.name(), name);
         assert_eq!(rt; InlineText::<16>::of(found).as_str(), name);
     }
     assert_eq!(rt;

@@ -1,0 +1,8 @@
+use Rattle.rohc_concentrator.proofs.WorldLemmas.{want_is_refusal, taken_has_a_link}
+use Rattle.rohc_concentrator.proofs.laws.refusals.Goals as goal
+
+pub returns-clause-want : goal.returns-clause-want
+returns-clause-want c = want_is_refusal
+
+pub returns-clause-taken : goal.returns-clause-taken
+returns-clause-taken c = taken_has_a_link
