@@ -38,6 +38,15 @@ pub record IsMeaning (size : CidKind) (m : Reading) : Type 0 where
   pub number : GoesWith m.word m.sn
 
 -- FEEDBACK-2: two bits of Acktype, two of Mode, which is 2, twelve of SN, then the options (RFC 3095 5.7.6.1).
+--
+--   0   1   2   3   4   5   6   7
+-- +---+---+---+---+---+---+---+---+
+-- |Acktype| Mode  |    SN (msb)   |
+-- +---+---+---+---+---+---+---+---+
+-- |           SN (lsb)            |
+-- +---+---+---+---+---+---+---+---+
+-- /            options            /
+-- +---+---+---+---+---+---+---+---+
 abbrev pub feedback_2 : ℕ → ℕ → List ℕ → List ℕ
 feedback_2 acktype sn options = (acktype * 64 + 2 * 16 + sn / 256) ∷ (sn % 256) ∷ options
 
@@ -47,8 +56,8 @@ abbrev pub acknowledgement : ℕ → Option ℕ → ℕ → List ℕ
 acknowledgement acktype (Some sn) crc = feedback_2 acktype sn (17 ∷ crc ∷ [])
 acknowledgement acktype None crc = feedback_2 acktype 0 (48 ∷ 17 ∷ crc ∷ [])
 
--- The feedback for a word, with this check octet: FEEDBACK-2 of Acktype 0, 1 or 2, or FEEDBACK-1, octet 00,
--- which has no check (RFC 3095 5.7.6.1).
+-- The feedback for a word, with this check octet: FEEDBACK-2 of Acktype 0, 1 or 2 (RFC 3095 5.7.6.1), or the
+-- FEEDBACK-1 of profile 0x0000, octet 00, which has no check (RFC 3095 5.10.4).
 abbrev pub feedback_octets : Word → Option ℕ → ℕ → List ℕ
 feedback_octets Ack sn crc = acknowledgement 0 sn crc
 feedback_octets Nack sn crc = acknowledgement 1 sn crc

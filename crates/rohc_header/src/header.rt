@@ -2,7 +2,7 @@
 
 ghost use Rattle.std.specs.Prelude.{◌≡◌, ◌<◌, ◌↔◌, IfSome, IsNone};
 ghost use Rattle.rohc_checks.specs.Division.{check, poly3, poly7};
-ghost use Rattle.rohc_header.specs.Original.{IsOriginal};
+ghost use Rattle.rohc_header.specs.Original.{IsOriginal, longest_payload};
 ghost use Rattle.rohc_header.specs.Check.{all_ones, header_check, static_octets, dynamic_octets};
 
 use crate::parts::{Octets, put_ip, put_rtp, put_udp};
@@ -25,7 +25,7 @@ impl Header {
     pub fn build(fixed: &Static, moving: &Dynamic, payload_len: usize) -> Option<Header>
         requires { moving.now.payload_type < 128 }
         ensures header { IfSome result (λ header. IsOriginal fixed.now moving.now payload_len header.octets) }
-        ensures none { IsNone result ↔ (65495 < payload_len) }
+        ensures none { IsNone result ↔ (longest_payload < payload_len) }
     {
         if payload_len > LONGEST_PAYLOAD {
             return None;
