@@ -5,6 +5,7 @@ pub mod fields;
 pub mod header;
 pub mod laws;
 mod parts;
+mod polynomial;
 
 pub use fields::{Dynamic, Static};
 pub use header::Header;
