@@ -8,7 +8,7 @@ ghost use Rattle.rohc_header.specs.Check.{all_ones, header_check, static_octets,
 
 use crate::parts::{Octets, put_ip, put_rtp, put_udp};
 use crate::polynomial::Polynomial::{self, Seven, Three};
-use crate::{Dynamic, Static};
+use crate::{Dynamic, Static, field};
 use rohc_checks::{crc3, crc7};
 
 /// The longest payload of a packet: 65,535 octets hold it behind its header.
@@ -83,22 +83,22 @@ impl Header {
     fn static_register(&self, polynomial: Polynomial) -> u8
         ensures { result ≡ check (coefficients polynomial) (all_ones (coefficients polynomial)) (static_octets self.now.octets) }
     {
-        let reg = crc(polynomial, ones(polynomial), &self.octets[0..2]);
-        let reg = crc(polynomial, reg, &self.octets[6..10]);
-        let reg = crc(polynomial, reg, &self.octets[12..24]);
-        let reg = crc(polynomial, reg, &self.octets[28..29]);
-        crc(polynomial, reg, &self.octets[36..40])
+        let reg = crc(polynomial, ones(polynomial), &self.octets[field::UP_TO_TOS]);
+        let reg = crc(polynomial, reg, &self.octets[field::FRAGMENT_TO_PROTOCOL]);
+        let reg = crc(polynomial, reg, &self.octets[field::ADDRESSES_AND_PORTS]);
+        let reg = crc(polynomial, reg, &self.octets[field::RTP_FLAGS]);
+        crc(polynomial, reg, &self.octets[field::SSRC])
     }
 
     /// The check from the register that the static octets left.
     fn check_from(&self, polynomial: Polynomial, reg: u8) -> u8
         ensures { result ≡ check (coefficients polynomial) reg (dynamic_octets self.now.octets) }
     {
-        let reg = crc(polynomial, reg, &self.octets[2..6]);
-        let reg = crc(polynomial, reg, &self.octets[10..12]);
-        let reg = crc(polynomial, reg, &self.octets[24..28]);
+        let reg = crc(polynomial, reg, &self.octets[field::LENGTH_AND_ID]);
+        let reg = crc(polynomial, reg, &self.octets[field::IP_SUM]);
+        let reg = crc(polynomial, reg, &self.octets[field::UDP_LENGTH_AND_SUM]);
         // Both polynomials divide x^56 + 1: over seven octets a register stays, but for their own check.
-        reg ^ crc(polynomial, 0x00, &self.octets[29..36])
+        reg ^ crc(polynomial, 0x00, &self.octets[field::MARKER_TO_TIMESTAMP])
     }
 }
 
