@@ -8,7 +8,8 @@ use Rattle.rohc_feedback.specs.declared.meaning.Word.{Word}
 use Rattle.rohc_feedback.specs.declared.meaning.Word.TheVariants.{Ack, Nack, StaticNack, Plain}
 use Rattle.rohc_feedback.specs.declared.meaning.Reading.{Reading}
 
--- a feedback element: the type octet, whose low three bits are the size of the data, and the data (RFC 5795 5.2.4.1)
+-- a feedback element: the type octet, whose low three bits are the size of the data, and the data
+-- (RFC 5795 5.2.4.1)
 abbrev pub element_octets : List ℕ → List ℕ
 element_octets octets = (240 + length octets) ∷ octets
 
@@ -37,7 +38,8 @@ pub record IsMeaning (size : CidKind) (m : Reading) : Type 0 where
   pub within : m.cid ≤ greatest_cid size
   pub number : GoesWith m.word m.sn
 
--- FEEDBACK-2: two bits of Acktype, two of Mode, which is 2, twelve of SN, then the options (RFC 3095 5.7.6.1).
+-- FEEDBACK-2: two bits of Acktype, two of Mode, which is 2, twelve of SN, and the options (RFC 3095
+-- 5.7.6.1).
 --
 --   0   1   2   3   4   5   6   7
 -- +---+---+---+---+---+---+---+---+
