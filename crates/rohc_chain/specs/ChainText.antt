@@ -1,5 +1,5 @@
--- The octets that spell what a chain says, bits that a reader ignores being free (RFC 3095 5.7.7.3 to
--- 5.7.7.5).
+-- The octets that spell what a chain says, bits that a reader ignores being free (RFC 3095 5.7.7.4 to
+-- 5.7.7.6).
 use Rattle.std.specs.Prelude.{◌≡◌, ℕ, ◌+◌, ◌*◌, ◌/◌, ◌%◌, ◌<◌, ◌≤◌, List, [], ◌∷◌, ◌++◌, length, Bool, true, false, if◌then◌else◌, Option, Some, None}
 use Rattle.rohc_bits.specs.Spelling.{IsSpelled}
 use Rattle.rohc_header.specs.declared.fields.Static.{Static}
@@ -7,7 +7,12 @@ use Rattle.rohc_header.specs.declared.fields.Dynamic.{Dynamic}
 use Rattle.rohc_header.specs.Original.{word, quad, flag}
 use Rattle.rohc_chain.specs.declared.parts.Kept.{Kept}
 
--- IPv4, static: version 4 and four ignored bits; protocol 17; the addresses.
+-- IPv4, static: version 4 and four ignored bits; protocol 17; the addresses (RFC 3095 5.7.7.4).
+--
+--   |  Version = 4  |       0       |
+--   |           Protocol            |
+--   /        Source Address         /  4 octets
+--   /      Destination Address      /  4 octets
 pub record SpellsIpStatic (source destination : List ℕ) (text : List ℕ) : Type 0 where
   pub ignored : ℕ
   pub four_bits : ignored < 16
@@ -15,14 +20,24 @@ pub record SpellsIpStatic (source destination : List ℕ) (text : List ℕ) : Ty
   pub also_four : length destination ≡ 4
   pub whole : text ≡ (64 + ignored) ∷ 17 ∷ source ++ destination
 
--- IPv4, UDP and RTP, static: behind IPv4's the ports, and the synchronization source.
+-- IPv4, UDP and RTP, static: behind IPv4's the ports, and the synchronization source (RFC 3095 5.7.7.5, 5.7.7.6).
+--
+--   /          Source Port          /  2 octets
+--   /       Destination Port        /  2 octets
+--   /             SSRC              /  4 octets
 pub record SpellsStatic (fixed : Static) (text : List ℕ) : Type 0 where
   pub ip : List ℕ
   pub spells_ip : SpellsIpStatic fixed.source fixed.destination ip
   pub whole : text ≡ ip ++ (word fixed.source_port ++ (word fixed.destination_port ++ quad fixed.ssrc))
 
 -- IPv4, dynamic: TOS; TTL; Identification, as it stands in the IP header; DF, RND, NBO and five ignored
--- bits; an empty list of extension headers.
+-- bits; an empty list of extension headers (RFC 3095 5.7.7.4).
+--
+--   |        Type of Service        |
+--   |         Time to Live          |
+--   /        Identification         /  2 octets
+--   | DF|RND|NBO|         0         |
+--   / Generic extension header list /  an octet 0
 pub record SpellsIpDynamic (moving : Dynamic) (text : List ℕ) : Type 0 where
   pub ignored : ℕ
   pub five_bits : ignored < 32
@@ -39,7 +54,11 @@ abbrev pub SpellsTimeStride : Bool → List ℕ → Type 0
 SpellsTimeStride false text = text ≡ []
 SpellsTimeStride true text = (value : ℕ) × IsSpelled text value
 
--- Three ignored bits, X, Mode, TIS and TSS; the stride, if TSS; the stride of time, if TIS.
+-- Three ignored bits, X, Mode, TIS and TSS; the stride, if TSS; the stride of time, if TIS (RFC 3095 5.7.7.6).
+--
+--   | Reserved  | X | Mode  |TIS|TSS|
+--   :           TS_Stride           :  1 to 4 octets, if TSS = 1
+--   :          Time_Stride          :  1 to 4 octets, if TIS = 1
 pub record SpellsFlags (kept : Option ℕ) (extension : Bool) (stride : Option ℕ) (text : List ℕ) : Type 0 where
   pub ignored : ℕ
   pub mode : ℕ
@@ -59,7 +78,14 @@ SpellsGiven false kept extension stride text = (text ≡ []) × (extension ≡ k
 SpellsGiven true kept extension stride text = SpellsFlags kept.stride extension stride text
 
 -- RTP, dynamic: version 2, P, RX and no contributing sources; M and PT; SN; TS; an empty list of
--- contributing sources; the octet of flags, if RX.
+-- contributing sources; the octet of flags, if RX (RFC 3095 5.7.7.6).
+--
+--   |  V=2  | P | RX|    CC = 0     |
+--   | M |            PT             |
+--   /      RTP Sequence Number      /  2 octets
+--   /         RTP Timestamp         /  4 octets
+--   /       Generic CSRC list       /  an octet 0
+--   :      the octet of flags       :  and what it names, if RX = 1
 pub record SpellsRtpDynamic (kept : Kept) (moving : Dynamic) (text : List ℕ) : Type 0 where
   pub rx : Bool
   pub given : List ℕ
@@ -67,7 +93,7 @@ pub record SpellsRtpDynamic (kept : Kept) (moving : Dynamic) (text : List ℕ) :
   pub spells_given : SpellsGiven rx kept moving.extension moving.stride given
   pub whole : text ≡ (128 + flag moving.padding 32 + flag rx 16) ∷ (flag moving.marker 128 + moving.payload_type) ∷ word moving.sn ++ (quad moving.ts ++ 0 ∷ given)
 
--- IPv4, UDP and RTP, dynamic: between IPv4's and RTP's the UDP checksum.
+-- IPv4, UDP and RTP, dynamic: between IPv4's and RTP's the UDP checksum, of 2 octets (RFC 3095 5.7.7.5).
 pub record SpellsDynamic (kept : Kept) (moving : Dynamic) (text : List ℕ) : Type 0 where
   pub ip : List ℕ
   pub rtp : List ℕ

@@ -7,6 +7,7 @@ use Rattle.rohc_frame.specs.Header.{Header, placed}
 pub use Rattle.rohc_frame.specs.Header.{IsIr, IsIrDyn}
 use Rattle.rohc_header.specs.declared.fields.Static.{Static}
 use Rattle.rohc_header.specs.declared.fields.Dynamic.{Dynamic}
+pub use Rattle.rohc_header.specs.Original.{longest_payload}
 use Rattle.rohc_chain.specs.declared.packet.Ir as lent
 use Rattle.rohc_chain.specs.declared.packet.IrDyn as lent_dyn
 use Rattle.rohc_chain.specs.declared.packet.Ir.TheVariants as code
@@ -72,10 +73,6 @@ nothing_kept = kept_values false None
 -- the octets before these at the end
 abbrev pub before : List ℕ → List ℕ → List ℕ
 before behind text = take (length text - length behind) text
-
--- the longest payload: 65,535 octets hold it behind its header of 40
-abbrev pub longest_payload : ℕ
-longest_payload = 65495
 
 -- a payload isn't too long
 abbrev pub length_fault : List ℕ → Option ChainRefusal

@@ -11,11 +11,20 @@ use Rattle.rohc_chain.specs.Packets.{IrContent, Plain, StaticOnly, Whole, DynCon
 use Rattle.rohc_chain.specs.ChainText.{SpellsStatic, SpellsDynamic}
 use Rattle.rohc_chain.specs.Fields.{after_fields, ir_fields, ir_dyn_fields}
 
+-- An IR begins with FC, or FD where it has a dynamic chain (RFC 3095 5.7.7.1); an IR-DYN with F8, and has no static
+-- chain (5.7.7.2). These stand behind the first octet and a large identifier:
+--
+--   |            Profile            |
+--   |              CRC              |
+--   /         Static chain          /
+--   /         Dynamic chain         /
+--   /            Payload            /
+
 -- the 8-bit check of what it covers
 abbrev pub check_of : List ℕ → ℕ
 check_of covered = check poly8 255 covered
 
--- An IR of profile 0x0000: Profile octet 00, the check, any octets.
+-- An IR of profile 0x0000: Profile octet 00, the check, any octets (RFC 3095 5.10.1).
 pub record IsPlainText (h : Header) (packet : List ℕ) : Type 0 where
   pub kind : h.kind ≡ Ir false
   pub whole : h.rest ≡ 0 ∷ check_of (plain_cover h) ∷ packet

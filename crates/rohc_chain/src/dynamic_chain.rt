@@ -1,4 +1,4 @@
-//! The dynamic chain: what moves from header to header (RFC 3095 5.7.7.3 to 5.7.7.5).
+//! The dynamic chain: what moves from header to header (RFC 3095 5.7.7.4 to 5.7.7.6).
 
 ghost use Rattle.std.specs.Prelude.{◌≤◌, length};
 ghost use Rattle.rohc_chain.specs.Octets.{Reads};

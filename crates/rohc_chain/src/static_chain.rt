@@ -1,4 +1,4 @@
-//! The static chain: what stays as it is in all headers of a call (RFC 3095 5.7.7.3 to 5.7.7.5).
+//! The static chain: what stays as it is in all headers of a call (RFC 3095 5.7.7.4 to 5.7.7.6).
 
 ghost use Rattle.std.specs.Prelude.{◌≤◌, length};
 ghost use Rattle.rohc_chain.specs.Octets.{Reads};

@@ -8,7 +8,8 @@ use Rattle.rohc_feedback.specs.declared.meaning.Word.{Word}
 use Rattle.rohc_feedback.specs.declared.meaning.Word.TheVariants.{Ack, Nack, StaticNack, Plain}
 use Rattle.rohc_feedback.specs.declared.meaning.Reading.{Reading}
 
--- a feedback element: the type octet, whose low three bits are the size of the data, and the data (RFC 5795 5.2.4.1)
+-- a feedback element: the type octet, whose low three bits are the size of the data, and the data
+-- (RFC 5795 5.2.4.1)
 abbrev pub element_octets : List ℕ → List ℕ
 element_octets octets = (240 + length octets) ∷ octets
 
@@ -37,7 +38,17 @@ pub record IsMeaning (size : CidKind) (m : Reading) : Type 0 where
   pub within : m.cid ≤ greatest_cid size
   pub number : GoesWith m.word m.sn
 
--- FEEDBACK-2: two bits of Acktype, two of Mode, which is 2, twelve of SN, then the options (RFC 3095 5.7.6.1).
+-- FEEDBACK-2: two bits of Acktype, two of Mode, which is 2, twelve of SN, and the options (RFC 3095
+-- 5.7.6.1).
+--
+--   0   1   2   3   4   5   6   7
+-- +---+---+---+---+---+---+---+---+
+-- |Acktype| Mode  |    SN (msb)   |
+-- +---+---+---+---+---+---+---+---+
+-- |           SN (lsb)            |
+-- +---+---+---+---+---+---+---+---+
+-- /            options            /
+-- +---+---+---+---+---+---+---+---+
 abbrev pub feedback_2 : ℕ → ℕ → List ℕ → List ℕ
 feedback_2 acktype sn options = (acktype * 64 + 2 * 16 + sn / 256) ∷ (sn % 256) ∷ options
 
@@ -47,8 +58,8 @@ abbrev pub acknowledgement : ℕ → Option ℕ → ℕ → List ℕ
 acknowledgement acktype (Some sn) crc = feedback_2 acktype sn (17 ∷ crc ∷ [])
 acknowledgement acktype None crc = feedback_2 acktype 0 (48 ∷ 17 ∷ crc ∷ [])
 
--- The feedback for a word, with this check octet: FEEDBACK-2 of Acktype 0, 1 or 2, or FEEDBACK-1, octet 00,
--- which has no check (RFC 3095 5.7.6.1).
+-- The feedback for a word, with this check octet: FEEDBACK-2 of Acktype 0, 1 or 2 (RFC 3095 5.7.6.1), or the
+-- FEEDBACK-1 of profile 0x0000, octet 00, which has no check (RFC 3095 5.10.4).
 abbrev pub feedback_octets : Word → Option ℕ → ℕ → List ℕ
 feedback_octets Ack sn crc = acknowledgement 0 sn crc
 feedback_octets Nack sn crc = acknowledgement 1 sn crc

@@ -11,7 +11,9 @@ MeaningsDiffer = (size : CidKind) (a b : Reading) → IsMeaning size a → IsMea
 
 -- the text is one that a call writes for this identifier
 abbrev pub IsWrittenFor : CidKind → ℕ → List ℕ → Type 0
-IsWrittenFor size cid text = ((sn : ℕ) × (text ≡ ack_octets size cid sn)) ⊎ ((sn : Option ℕ) × (text ≡ nack_octets size cid sn)) ⊎
+IsWrittenFor size cid text =
+    ((sn : ℕ) × (text ≡ ack_octets size cid sn)) ⊎
+    ((sn : Option ℕ) × (text ≡ nack_octets size cid sn)) ⊎
     (text ≡ static_nack_octets size cid) ⊎ (text ≡ plain_ack_octets size cid)
 
 -- the texts that have a meaning are those that the four calls write, for the link's identifiers

@@ -31,7 +31,7 @@ pub(crate) const CRC_OPTION: u8 = 0x11;
 /// The register that the check begins from (RFC 3095 5.9.1).
 const ALL_ONES: u8 = 0xff;
 
-/// FEEDBACK-1 of profile 0x0000.
+/// FEEDBACK-1 of profile 0x0000 (RFC 3095 5.10.4).
 pub(crate) const PLAIN: u8 = 0x00;
 
 /// The element that acknowledges a packet with this sequence number, of which it tells the low 12 bits:
@@ -89,7 +89,7 @@ pub fn static_nack(size: CidKind, cid: u16) -> Element
 }
 
 /// The element that carries FEEDBACK-1 with octet 00: a context of profile 0x0000 was made or renewed
-/// (RFC 3095 5.7.6.1).
+/// (RFC 3095 5.10.4).
 ///
 /// The identifier is at most 15 on a small link and 16,383 on a large one.
 pub fn plain_ack(size: CidKind, cid: u16) -> Element

@@ -9,7 +9,7 @@ pub enum Word {
     Nack,
     /// FEEDBACK-2 of Acktype 2: the static part of the context is lost.
     StaticNack,
-    /// FEEDBACK-1 with octet 00: a context of profile 0x0000 was made or renewed.
+    /// FEEDBACK-1 with octet 00: a context of profile 0x0000 was made or renewed (RFC 3095 5.10.4).
     Plain,
 }
 

@@ -8,9 +8,10 @@ use rohc_frame::CidKind::{Large, Small};
 /// The elements of the examples *plain call*, *plain call behind Add-CID*, *plain call on a large
 /// identifier*, *whole IR*, *fall to Static*, *fall to No Context*, *wrong repair and ends of types* and
 /// *static first*: the link, the octets and what they say.
-const EXAMPLES: [(CidKind, &[u8], (u16, Word, Option<u16>)); 9] = [
+const EXAMPLES: [(CidKind, &[u8], (u16, Word, Option<u16>)); 10] = [
     (Small, &[0xf1, 0x00], (0, Word::Plain, None)),
     (Small, &[0xf2, 0xe1, 0x00], (1, Word::Plain, None)),
+    (Small, &[0xf2, 0xe2, 0x00], (2, Word::Plain, None)),
     (Large, &[0xf3, 0x81, 0x2c, 0x00], (300, Word::Plain, None)),
     (
         Small,
@@ -49,6 +50,7 @@ fn written(rt: HostRuntime) {
     let elements = [
         plain_ack(Small, 0),
         plain_ack(Small, 1),
+        plain_ack(Small, 2),
         plain_ack(Large, 300),
         ack(Small, 0, 1),
         ack(Small, 0, 3),

@@ -2,7 +2,7 @@
 use Rattle.std.proofs.Common.{◌≡◌, ℕ, ◌+◌, ◌*◌, ◌≤◌, Bool, true, false, List, [], ◌∷◌, ◌++◌, length, take, drop, Option, Some, None, Result, Ok, Err, refl, sym, ap, subst, ◌∙◌, append_assoc, get_or, Fits, w8, arith}
 use Rattle.std.specs.Prelude.{if◌then◌else◌, All, IfSome}
 use Rattle.std.proofs.lemmas.List.Elements.{All-from_get_or}
-use Rattle.rohc_frame.specs.Laws as frame
+use Rattle.rohc_frame.specs.Laws.{IsOctet}
 use Rattle.rohc_bits.specs.Fronts.{front_value, value_bits}
 use Rattle.rohc_bits.specs.Spelling.{IsSpelled, Spells}
 use Rattle.rohc_bits.proofs.Fronts.{front_read, front_found, drop_front, behind_value, read_is_front}
@@ -10,7 +10,7 @@ use Rattle.rohc_forms.specs.declared.refusal.FormRefusal.{FormRefusal}
 use Rattle.rohc_bits.specs.LowBits.{LowBits}
 use Rattle.rohc_forms.specs.Octets.{◌>>=◌, octet_at, word_at, octet_if, word_if, value_of, value_at}
 use Rattle.rohc_forms.specs.Judging.{judged}
-use Rattle.rohc_forms.specs.Pieces.{IsOctet, IsWord, IsValue, Says, Then, IfNamed, Which, As, NotRefused, Unless}
+use Rattle.rohc_forms.specs.Pieces.{IsOneOctet, IsWord, IsValue, NoMore, Then, IfNamed, Which, As, NotRefused, Unless}
 
 pub ok_is : {A : Type 0} (x y : A) → ◌≡◌ {A = Result A FormRefusal} (Ok x) (Ok y) → x ≡ y
 ok_is x y e = cc
@@ -55,8 +55,8 @@ same_piece f R S to from p = record {
 }
 
 -- nothing is read
-pub exact_says : {A : Type 0} (x : A) → Exact (λ text. Ok (x, text)) (Says x)
-exact_says {A} x = record {
+pub exact_no_more : {A : Type 0} (x : A) → Exact (λ text. Ok (x, text)) (NoMore x)
+exact_no_more {A} x = record {
   found = λ text behind y e. let p = ok_parts x y text behind e in ([], p.1, (refl, sym p.0));
   gives = λ front behind y s. rw (s.0, s.1) refl;
 }
@@ -128,7 +128,7 @@ pub exact_named : {A B : Type 0} (named : Bool) (h : Option A → B) (f : Reader
 exact_named {A} {B} true h f R p =
     same_piece _ (As (λ x. h (Some x)) R) (As h (IfNamed true R)) (λ y text n. (Some n.0, n.1, n.2)) (some_piece h R) (exact_as (λ x. h (Some x)) f R p)
 exact_named {A} {B} false h f R p =
-    same_piece _ (Says (h None)) (As h (IfNamed false R)) (λ y text n. (None, (n.0, refl), n.1)) (λ y text n. (n.1.0, n.2 ∙ ap h n.1.1)) (exact_says (h None))
+    same_piece _ (NoMore (h None)) (As h (IfNamed false R)) (λ y text n. (None, (n.0, refl), n.1)) (λ y text n. (n.1.0, n.2 ∙ ap h n.1.1)) (exact_no_more (h None))
 
 -- the same as it stands
 pub exact_if_named : {A : Type 0} (named : Bool) (f : Reader A) (R : Piece A) → Exact f R →
@@ -136,12 +136,12 @@ pub exact_if_named : {A : Type 0} (named : Bool) (f : Reader A) (R : Piece A) �
 exact_if_named {A} named f R p =
     same_piece _ (As (λ x. x) (IfNamed named R)) (IfNamed named R) (λ y text n. rw n.2 n.1) (λ y text n. (y, n, refl)) (exact_named named (λ x. x) f R p)
 
-octet_found : (text behind : List ℕ) (x : ℕ) → octet_at text ≡ Ok (x, behind) → (front : List ℕ) × (text ≡ front ++ behind) × IsOctet x front
+octet_found : (text behind : List ℕ) (x : ℕ) → octet_at text ≡ Ok (x, behind) → (front : List ℕ) × (text ≡ front ++ behind) × IsOneOctet x front
 unfolding octet_at
 octet_found [] behind x e = cc
 octet_found (a ∷ text) behind x e = let is = ok_parts a x text behind e in (x ∷ [], rw (is.0, is.1) refl, refl)
 
-octet_given : (front behind : List ℕ) (x : ℕ) → IsOctet x front → octet_at (front ++ behind) ≡ Ok (x, behind)
+octet_given : (front behind : List ℕ) (x : ℕ) → IsOneOctet x front → octet_at (front ++ behind) ≡ Ok (x, behind)
 unfolding octet_at
 octet_given front behind x is = rw is refl
 
@@ -155,7 +155,7 @@ word_given : (front behind : List ℕ) (x : ℕ) → IsWord x front → word_at 
 unfolding octet_at word_at
 word_given front behind x n = rw (n.2, n.3) refl
 
-pub exact_octet : Exact octet_at IsOctet
+pub exact_octet : Exact octet_at IsOneOctet
 exact_octet = record {
   found = octet_found;
   gives = octet_given;
@@ -164,9 +164,9 @@ exact_octet = record {
 pub exact_word : Exact word_at IsWord
 exact_word = record { found = word_found; gives = word_given }
 
-pub exact_octet_if : (named : Bool) → Exact (octet_if named) (IfNamed named IsOctet)
+pub exact_octet_if : (named : Bool) → Exact (octet_if named) (IfNamed named IsOneOctet)
 unfolding octet_if
-exact_octet_if named = exact_if_named named octet_at IsOctet exact_octet
+exact_octet_if named = exact_if_named named octet_at IsOneOctet exact_octet
 
 pub exact_word_if : (named : Bool) → Exact (word_if named) (IfNamed named IsWord)
 unfolding word_if
@@ -205,5 +205,5 @@ unfolding value_at
 value_is text read fits within spelled every = ap (value_of text) (sym (read_is_front text read fits within spelled every))
 
 -- octets in memory are below 256
-pub all_octets : (text : List ℕ) → ((i : ℕ) → Fits w8 (get_or text i 0)) → All frame.IsOctet text
-all_octets text fits = All-from_get_or frame.IsOctet text 0 (λ i _. omega (arith, fits i))
+pub all_octets : (text : List ℕ) → ((i : ℕ) → Fits w8 (get_or text i 0)) → All IsOctet text
+all_octets text fits = All-from_get_or IsOctet text 0 (λ i _. omega (arith, fits i))

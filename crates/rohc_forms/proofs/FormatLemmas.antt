@@ -5,13 +5,13 @@ use Rattle.std.proofs.lemmas.Bool.Decides.{nat_tests}
 use Rattle.rohc_forms.specs.declared.form.FormKind.{FormKind}
 use Rattle.rohc_forms.specs.declared.form.FormKind.TheVariants.{Uo0, Uo1, Uo1Id, Uo1Ts, Uor2, Uor2Id, Uor2Ts}
 use Rattle.rohc_forms.specs.Octets.{slice, bit}
-use Rattle.rohc_forms.specs.Content.{kind_of}
+use Rattle.rohc_forms.specs.Content.{form_kind}
 use Rattle.rohc_forms.specs.Formats.{is_found, number_of, begin_with, has_format, base_of, FitsOne, FitsOneExtension}
 use Rattle.rohc_forms.specs.Table.{plus, minus, layout_0, layout_1, layout_2, short_layout, FirstOctet, IpOctet, RtpOctet, TypeOctet, Prefix, S, R-TS, Tsc, I, IP, RTP, TOS, TTL, DF, PR, IPX, NBO, RND, IP2, Mode, R-PT, M, R-X, CSRC, TSS, TIS, P, PT}
 use Rattle.rohc_forms.specs.Laws.{BeginsWith11, HaveEightBits, StandInPlace}
 
 -- the format that fits is the one that is read
-only : (kind : FormKind) (rnd : Bool) (a b c : ℕ) → a < 224 → b < 256 → c < 256 → has_format kind rnd (a ∷ b ∷ c ∷ []) ≡ true → kind ≡ kind_of (base_of a b c) rnd
+only : (kind : FormKind) (rnd : Bool) (a b c : ℕ) → a < 224 → b < 256 → c < 256 → has_format kind rnd (a ∷ b ∷ c ∷ []) ≡ true → kind ≡ form_kind (base_of a b c) rnd
 only Uo0 true a b c l m n e = grind (arith, nat_tests)
 only Uo0 false a b c l m n e = grind (arith, nat_tests)
 only Uo1 true a b c l m n e = grind (arith, nat_tests)
@@ -29,7 +29,7 @@ only Uor2Ts false a b c l m n e = grind (arith, nat_tests)
 
 -- the format that is read fits
 read_by : (rnd uo0 uo1 t1 t2 : Bool) (a b c : ℕ) → a < 224 → b < 256 → c < 256 → nat_lt a 128 ≡ uo0 → nat_lt a 192 ≡ uo1 → bit 5 a ≡ t1 → bit 15 (a * 65536 + (b * 256 + c)) ≡ t2 →
-    has_format (kind_of (base_of a b c) rnd) rnd (a ∷ b ∷ c ∷ []) ≡ true
+    has_format (form_kind (base_of a b c) rnd) rnd (a ∷ b ∷ c ∷ []) ≡ true
 read_by rnd true uo1 t1 t2 a b c l m n e f g h = rw e (grind (arith, nat_tests))
 read_by true false true t1 t2 a b c l m n e f g h = rw (e, f) (grind (arith, nat_tests))
 read_by false false true true t2 a b c l m n e f g h = rw (e, f, g) (grind (arith, nat_tests))

@@ -10,7 +10,7 @@ use Rattle.rohc_bits.specs.Fronts.{value_bits}
 use Rattle.rohc_bits.specs.LowBits.{LowBits}
 use Rattle.rohc_bits.proofs.Values.{value_fits, value_range}
 use Rattle.rohc_bits.proofs.Widths.{joined_fits}
-use Rattle.rohc_frame.specs.Laws as frame
+use Rattle.rohc_frame.specs.Laws.{IsOctet}
 use Rattle.rohc_forms.specs.declared.form.FormKind.{FormKind}
 use Rattle.rohc_forms.specs.declared.form.FormKind.TheVariants.{Uo0, Uo1, Uo1Id, Uo1Ts, Uor2, Uor2Id, Uor2Ts}
 use Rattle.rohc_forms.specs.declared.parts.Base.{Base}
@@ -21,7 +21,7 @@ use Rattle.rohc_forms.specs.declared.refusal.FormRefusal.{FormRefusal}
 use Rattle.rohc_forms.specs.declared.refusal.FormRefusal.TheVariants.{ZeroStride, NoStride}
 use Rattle.rohc_forms.specs.Octets.{slice, bit, behind, and_bits}
 use Rattle.rohc_forms.specs.Table.{Said, Field, Sn, Ts, Id, S, R-TS, Tsc, I, IP, RTP, has, and_said, under, plus, minus, base_said, layout_0, layout_1, layout_2, short_layout}
-use Rattle.rohc_forms.specs.Content.{Head, kind_of, plain_head, id_said, offset_said, whole_said, stride_given, bits_said, whole_content}
+use Rattle.rohc_forms.specs.Content.{Head, form_kind, plain_head, id_said, offset_said, whole_said, stride_given, bits_said, whole_content}
 use Rattle.rohc_forms.specs.Formats.{number_of}
 use Rattle.rohc_forms.specs.Given.{ValuesSaid, RtpSaid, Extended3, ip_values, rtp_values, rtp_flags, rnd_in_force, payload_type_in}
 use Rattle.rohc_forms.specs.Judging.{twice_fault, rtp_fault, stride_fault, no_stride_fault}
@@ -29,25 +29,25 @@ use Rattle.rohc_forms.specs.Laws.{SaysGood}
 use Rattle.rohc_forms.specs.Says.{IsUnder, IsBase, with_sn, with_ts, and_offset, IsIpOctet, IsProtocol, IsIpGiven, stride_of, IsStride, IsTimeStride, IsRtpNamed, IsRtpGiven, IsBehindIp, IsExtension3, IsExtension, IsHead}
 use Rattle.rohc_forms.specs.Good.{IsBits, IsGoodValues, IsGoodContent}
 use Rattle.rohc_forms.specs.Kinds.{is_uor2, check_width}
-use Rattle.rohc_forms.specs.Pieces.{IsOctet, IsWord, IsValue, Says, Then, IfNamed, Which, As, NotRefused, Unless}
+use Rattle.rohc_forms.specs.Pieces.{IsOneOctet, IsWord, IsValue, NoMore, Then, IfNamed, Which, As, NotRefused, Unless}
 use Rattle.rohc_forms.proofs.Exact.{Piece}
 
-all_left : (xs ys : List ℕ) → All frame.IsOctet (xs ++ ys) → All frame.IsOctet xs
-all_left xs ys all = rw take-append_seam at (All-take frame.IsOctet (length xs) (xs ++ ys) all)
+all_left : (xs ys : List ℕ) → All IsOctet (xs ++ ys) → All IsOctet xs
+all_left xs ys all = rw take-append_seam at (All-take IsOctet (length xs) (xs ++ ys) all)
 
-all_right : (xs ys : List ℕ) → All frame.IsOctet (xs ++ ys) → All frame.IsOctet ys
-all_right xs ys all = rw drop-append_seam at (All-drop frame.IsOctet (length xs) (xs ++ ys) all)
+all_right : (xs ys : List ℕ) → All IsOctet (xs ++ ys) → All IsOctet ys
+all_right xs ys all = rw drop-append_seam at (All-drop IsOctet (length xs) (xs ++ ys) all)
 
 -- whatever a piece says of octets is so
 abbrev pub Holds : {A : Type 0} → Piece A → (A → Type 0) → Type 0
-Holds {A} R P = (x : A) (text : List ℕ) → All frame.IsOctet text → R x text → P x
+Holds {A} R P = (x : A) (text : List ℕ) → All IsOctet text → R x text → P x
 
-holds_says : {A : Type 0} (x : A) (P : A → Type 0) → P x → Holds (Says x) P
-holds_says x P p y text all n = subst P (sym n.1) p
+holds_no_more : {A : Type 0} (x : A) (P : A → Type 0) → P x → Holds (NoMore x) P
+holds_no_more x P p y text all n = subst P (sym n.1) p
 
 holds_then : {A B : Type 0} (R : Piece A) (Next : A → Piece B) (P : A → Type 0) (Q : B → Type 0) → Holds R P → ((x : A) → P x → Holds (Next x) Q) → Holds (Then R Next) Q
 holds_then R Next P Q p q y text all n =
-    let whole = subst (λ (t : List ℕ). All frame.IsOctet t) n.3 all in
+    let whole = subst (λ (t : List ℕ). All IsOctet t) n.3 all in
     q n.0 (p n.0 n.1 (all_left n.1 n.2 whole) n.4) y n.2 (all_right n.1 n.2 whole) n.5
 
 holds_as : {A B : Type 0} (f : A → B) (R : Piece A) (P : A → Type 0) (Q : B → Type 0) → Holds R P → ((x : A) → P x → Q (f x)) → Holds (As f R) Q
@@ -69,14 +69,14 @@ holds_named false R P p x text all n = rw n.1 (tt, refl)
 holds_named true R P p None text all n = absurd n
 holds_named true R P p (Some x) text all n = (p x text all n, refl)
 
-octet_good : Holds IsOctet (λ n. n < 256)
-octet_good n text all is = All-head frame.IsOctet n [] (subst (λ (t : List ℕ). All frame.IsOctet t) is all)
+octet_good : Holds IsOneOctet (λ n. n < 256)
+octet_good n text all is = All-head IsOctet n [] (subst (λ (t : List ℕ). All IsOctet t) is all)
 
 word_good : Holds IsWord (λ n. n < 65536)
 word_good n text all is =
-    let whole = subst (λ (t : List ℕ). All frame.IsOctet t) is.2 all in
-    let high : is.0 < 256 = All-head frame.IsOctet is.0 (is.1 ∷ []) whole in
-    let low : is.1 < 256 = All-head frame.IsOctet is.1 [] (All-tail frame.IsOctet is.0 (is.1 ∷ []) whole) in
+    let whole = subst (λ (t : List ℕ). All IsOctet t) is.2 all in
+    let high : is.0 < 256 = All-head IsOctet is.0 (is.1 ∷ []) whole in
+    let low : is.1 < 256 = All-head IsOctet is.1 [] (All-tail IsOctet is.0 (is.1 ∷ []) whole) in
     let e : n ≡ is.0 * 256 + is.1 = is.3 in
     omega arith
 
@@ -215,7 +215,7 @@ base_good Uor2Ts n = record { sn = wider 6 6 1 6 _ (omega arith) (omega arith) (
 
 -- the formats of UOR-2 are those whose first octet is C0 or more
 kind_by : (base : Base) (rnd uo0 uo1 t1 t2 : Bool) → nat_lt base.first 128 ≡ uo0 → nat_lt base.first 192 ≡ uo1 → bit 5 base.first ≡ t1 → bit 15 base.number ≡ t2 →
-    is_uor2 (kind_of base rnd) ≡ not (nat_lt base.first 192)
+    is_uor2 (form_kind base rnd) ≡ not (nat_lt base.first 192)
 kind_by base rnd true uo1 t1 t2 e f g h = let below : nat_lt base.first 192 ≡ true = grind (arith, nat_tests) in rw (e, below) refl
 kind_by base true false true t1 t2 e f g h = rw (e, f) refl
 kind_by base false false true true t2 e f g h = rw (e, f, g) refl
@@ -224,7 +224,7 @@ kind_by base true false false t1 t2 e f g h = rw (e, f) refl
 kind_by base false false false t1 true e f g h = rw (e, f, h) refl
 kind_by base false false false t1 false e f g h = rw (e, f, h) refl
 
-kind_good : (base : Base) (rnd : Bool) → is_uor2 (kind_of base rnd) ≡ not (nat_lt base.first 192)
+kind_good : (base : Base) (rnd : Bool) → is_uor2 (form_kind base rnd) ≡ not (nat_lt base.first 192)
 kind_good base rnd = kind_by base rnd (nat_lt base.first 128) (nat_lt base.first 192) (bit 5 base.first) (bit 15 base.number) refl refl refl refl
 
 -- What extension 3 gives, where a stride of timestamps is known or isn't.
@@ -265,26 +265,26 @@ stride_good named = holds_as stride_of (IfNamed named (NotRefused (λ d. stride_
 
 rtp_named_good : (rtp : RtpFlags) → Holds (IsRtpNamed rtp) IsGoodRtp
 rtp_named_good rtp =
-    holds_then (IfNamed rtp.payload_type IsOctet) _ (λ _. Unit {0}) IsGoodRtp (holds_any _) (λ octet _.
+    holds_then (IfNamed rtp.payload_type IsOneOctet) _ (λ _. Unit {0}) IsGoodRtp (holds_any _) (λ octet _.
     holds_then (IsStride rtp.stride) _ _ IsGoodRtp (stride_good rtp.stride) (λ stride ranged.
     holds_then (IsTimeStride rtp.time_stride) _ (λ _. Unit {0}) IsGoodRtp (holds_any _) (λ _ _.
-    holds_says _ IsGoodRtp (record { payload_type = type_good octet; stride = ranged }))))
+    holds_no_more _ IsGoodRtp (record { payload_type = type_good octet; stride = ranged }))))
 
 rtp_good : (named : Bool) → Holds (IsRtpGiven named) (λ rtp. IfSome rtp IsGoodRtp × (is_some rtp ≡ named))
-rtp_good named = holds_named named (Then (NotRefused rtp_fault IsOctet) (λ octet. IsRtpNamed (rtp_flags octet))) IsGoodRtp
-    (holds_then (NotRefused rtp_fault IsOctet) _ (λ _. Unit {0}) IsGoodRtp (holds_any _) (λ octet _. rtp_named_good (rtp_flags octet)))
+rtp_good named = holds_named named (Then (NotRefused rtp_fault IsOneOctet) (λ octet. IsRtpNamed (rtp_flags octet))) IsGoodRtp
+    (holds_then (NotRefused rtp_fault IsOneOctet) _ (λ _. Unit {0}) IsGoodRtp (holds_any _) (λ octet _. rtp_named_good (rtp_flags octet)))
 
 ip_good : (ip : Option IpFlags) → Holds (IsIpGiven ip) (λ given. IfSome given IsGoodIp)
-ip_good None = holds_says None _ tt
+ip_good None = holds_no_more None _ tt
 ip_good (Some ip) =
-    holds_then (IfNamed ip.tos IsOctet) _ _ _ (holds_named ip.tos IsOctet _ octet_good) (λ tos is_tos.
-    holds_then (IfNamed ip.ttl IsOctet) _ _ _ (holds_named ip.ttl IsOctet _ octet_good) (λ ttl is_ttl.
+    holds_then (IfNamed ip.tos IsOneOctet) _ _ _ (holds_named ip.tos IsOneOctet _ octet_good) (λ tos is_tos.
+    holds_then (IfNamed ip.ttl IsOneOctet) _ _ _ (holds_named ip.ttl IsOneOctet _ octet_good) (λ ttl is_ttl.
     holds_then (IsProtocol ip.protocol) _ (λ _. Unit {0}) _ (holds_any _) (λ _ _.
-    holds_says _ (λ given. IfSome given IsGoodIp) (record { tos = is_tos.0; ttl = is_ttl.0 }))))
+    holds_no_more _ (λ given. IfSome given IsGoodIp) (record { tos = is_tos.0; ttl = is_ttl.0 }))))
 
 -- more bits of SN and of TS, and the whole offset
-sn_good : (named : Bool) (w : ℕ) (said : Said) → IsGoodSaid 6 5 w said → Holds (As (with_sn said) (IfNamed named IsOctet)) (IsGoodSaid 16 5 w)
-sn_good named w said is = holds_as (with_sn said) (IfNamed named IsOctet) _ _ (holds_named named IsOctet _ octet_good) more where
+sn_good : (named : Bool) (w : ℕ) (said : Said) → IsGoodSaid 6 5 w said → Holds (As (with_sn said) (IfNamed named IsOneOctet)) (IsGoodSaid 16 5 w)
+sn_good named w said is = holds_as (with_sn said) (IfNamed named IsOneOctet) _ _ (holds_named named IsOneOctet _ octet_good) more where
   more : (octet : Option ℕ) → (IfSome octet (λ n. n < 256) × (is_some octet ≡ named)) → IsGoodSaid 16 5 w (with_sn said octet)
   more None fits = more_sn 6 16 5 w said is (omega arith)
   more (Some octet) fits = and_sn_good 6 5 w 8 16 (record { count = 8; value = octet }) said is (record { some = omega arith; narrow = omega arith; fits = fits.0 }) (omega arith) (omega arith)
@@ -324,7 +324,7 @@ behind_ip_good flags known ip w said is =
     holds_then _ _ _ _ (offset_good (has I flags) w said is) (λ said is.
     holds_then _ _ _ _ (rtp_good (has RTP flags)) (λ rtp is_rtp.
     holds_unless (no_stride_fault (has Tsc flags) (known || is_some (rtp_values rtp).stride)) _ _ (λ fine.
-    holds_says _ (IsGoodExtended (has Tsc flags) known w) (record {
+    holds_no_more _ (IsGoodExtended (has Tsc flags) known w) (record {
       said = is;
       values = values_good given rtp is_ip is_rtp.0;
       stride = λ scaled. ap (λ (stride : Option ℕ). known || is_some stride) (same_stride given (rtp_values rtp)) ∙ in_force_by (has Tsc flags) (known || is_some (rtp_values rtp).stride) fine scaled;
@@ -340,18 +340,18 @@ pub record IsGoodHead (first : ℕ) (known : Bool) (head : Head) : Type 0 where
 is_true : (b : Bool) → ◌≡◌ {A = Option Bool} (Some b) (Some true) → b ≡ true
 is_true b e = cc
 
-plain_good : (first : ℕ) (base : Base) (rnd known : Bool) (said : Said) → base.first ≡ first → IsGoodSaid 16 16 (check_width (kind_of base rnd)) said →
-    IsGoodHead first known (plain_head (kind_of base rnd) rnd said)
+plain_good : (first : ℕ) (base : Base) (rnd known : Bool) (said : Said) → base.first ≡ first → IsGoodSaid 16 16 (check_width (form_kind base rnd)) said →
+    IsGoodHead first known (plain_head (form_kind base rnd) rnd said)
 plain_good first base rnd known said is good = record { kind = kind_good base rnd ∙ ap (λ n. not (nat_lt n 192)) is; said = good; scaled = λ e. absurd (none_some e); values = tt } where
   none_some : ◌≡◌ {A = Option Bool} None (Some true) → ⊥
   none_some e = cc
 
 extension_3_good : (first : ℕ) (base : Base) (kept known : Bool) (flags : ℕ) → base.first ≡ first → Holds (IsExtension3 base kept known flags) (IsGoodHead first known)
 extension_3_good first base kept known flags is =
-    holds_then (IsIpOctet (has IP flags) (kind_of base kept)) _ (λ _. Unit {0}) _ (holds_any _) (λ ip _.
+    holds_then (IsIpOctet (has IP flags) (form_kind base kept)) _ (λ _. Unit {0}) _ (holds_any _) (λ ip _.
     holds_unless (twice_fault (has I flags) (rnd_in_force kept ip)) _ _ (λ _.
-    holds_then _ _ _ _ (behind_ip_good flags known ip (check_width (kind_of base (rnd_in_force kept ip))) _ (base_good (kind_of base (rnd_in_force kept ip)) base.number)) (λ extended good.
-    holds_says _ (IsGoodHead first known) (record {
+    holds_then _ _ _ _ (behind_ip_good flags known ip (check_width (form_kind base (rnd_in_force kept ip))) _ (base_good (form_kind base (rnd_in_force kept ip)) base.number)) (λ extended good.
+    holds_no_more _ (IsGoodHead first known) (record {
       kind = kind_good base (rnd_in_force kept ip) ∙ ap (λ n. not (nat_lt n 192)) is;
       said = good.said;
       scaled = λ e. good.stride (is_true (has Tsc flags) e);
@@ -370,15 +370,15 @@ under_good kind first n said text all is =
 
 extension_good : (first : ℕ) (base : Base) (rnd known : Bool) (octet : ℕ) → base.first ≡ first → Holds (IsExtension base rnd known octet) (IsGoodHead first known)
 extension_good first base rnd known octet is = holds_which (nat_lt octet 192) _ _ _
-    (holds_as (plain_head (kind_of base rnd) rnd) _ _ _ (under_good (kind_of base rnd) octet base.number) (λ said good. plain_good first base rnd known said is good))
+    (holds_as (plain_head (form_kind base rnd) rnd) _ _ _ (under_good (form_kind base rnd) octet base.number) (λ said good. plain_good first base rnd known said is good))
     (extension_3_good first base rnd known octet is)
 
 head_good : (first : ℕ) (rnd known : Bool) → Holds (IsHead first rnd known) (IsGoodHead first known)
 head_good first rnd known =
     holds_then (IsBase first rnd) _ (λ base. base.first ≡ first) _ (λ base text all is. ap (λ (b : Base). b.first) is.1) (λ base is.
-    holds_which (base_said (kind_of base rnd) base.number).extended _ _ _
-    (holds_then IsOctet _ (λ _. Unit {0}) _ (holds_any _) (λ octet _. extension_good first base rnd known octet is))
-    (holds_says _ (IsGoodHead first known) (plain_good first base rnd known _ is (base_said_good (kind_of base rnd) base.number))))
+    holds_which (base_said (form_kind base rnd) base.number).extended _ _ _
+    (holds_then IsOneOctet _ (λ _. Unit {0}) _ (holds_any _) (λ octet _. extension_good first base rnd known octet is))
+    (holds_no_more _ (IsGoodHead first known) (plain_good first base rnd known _ is (base_said_good (form_kind base rnd) base.number))))
 
 -- the Identification: the whole where it stands in the packet, else bits of its offset
 whole_good : (id : Option ℕ) (bits : Option LowBits) → IfSome id (λ n. n < 65536) → IfSome (whole_said (id_said id bits)) (λ n. n < 65536)
@@ -401,7 +401,7 @@ from_c0 first true is = ((λ e. grind (arith, nat_tests)), λ l. refl)
 from_c0 first false is = ((λ e. cc), λ l. grind (arith, nat_tests))
 
 content_good : (first : ℕ) (udp_sum known : Bool) (head : Head) (id sum : Option ℕ) (payload : List ℕ) → IsGoodHead first known head →
-    IfSome id (λ n. n < 65536) × (is_some id ≡ head.rnd) → IfSome sum (λ n. n < 65536) × (is_some sum ≡ udp_sum) → All frame.IsOctet payload →
+    IfSome id (λ n. n < 65536) × (is_some id ≡ head.rnd) → IfSome sum (λ n. n < 65536) × (is_some sum ≡ udp_sum) → All IsOctet payload →
     IsGoodContent first udp_sum known (whole_content head id sum payload)
 content_good first udp_sum known head id sum payload is is_id is_sum all = record {
   kind = from_c0 first (is_uor2 head.kind) is.kind;

@@ -15,16 +15,16 @@ use Rattle.rohc_forms.specs.Formats.{number_of}
 use Rattle.rohc_forms.specs.Judging.{judged, ip_fault, twice_fault, protocol_fault, rtp_fault, stride_fault, no_stride_fault}
 use Rattle.rohc_forms.specs.Given.{ip_flags, rnd_in_force, rtp_flags, rtp_values}
 use Rattle.rohc_forms.specs.Extension.{judged_octet, ip_octet_at, sn_at, ts_at, behind_protocol, ip_given_at, offset_at, stride_at, behind_time_stride, behind_rtp_octet, rtp_given_at, behind_ip_octet}
-use Rattle.rohc_forms.specs.Content.{Head, Content, kind_of, plain_head, whole_content}
+use Rattle.rohc_forms.specs.Content.{Head, Content, form_kind, plain_head, whole_content}
 use Rattle.rohc_forms.specs.Packets.{base_at, extension_1_at, extension_2_at, short_extension_at, extension_3_at, extension_at, behind_base, head_at, form_at}
-use Rattle.rohc_forms.specs.Pieces.{IsOctet, IsWord, IsValue, Says, Then, IfNamed, Which, As, NotRefused}
+use Rattle.rohc_forms.specs.Pieces.{IsOneOctet, IsWord, IsValue, NoMore, Then, IfNamed, Which, As, NotRefused}
 use Rattle.rohc_forms.specs.Says.{IsUnder, IsBase, with_sn, with_ts, and_offset, IsIpOctet, IsProtocol, IsIpGiven, stride_of, IsStride, IsTimeStride, IsRtpNamed, IsRtpGiven, IsBehindIp, IsExtension3, IsExtension, IsHead, IsPayload, IsForm}
 use Rattle.rohc_forms.specs.Laws.{CountsOctets, ReadsForms, SaysOne}
-use Rattle.rohc_forms.proofs.Exact.{ok_is, bind_ok, Reader, Piece, Exact, same_reader, same_piece, exact_says, exact_then, exact_as, exact_not_refused, exact_unless, exact_which, exact_named, exact_if_named, exact_octet, exact_word, exact_octet_if, exact_word_if, exact_value}
+use Rattle.rohc_forms.proofs.Exact.{ok_is, bind_ok, Reader, Piece, Exact, same_reader, same_piece, exact_no_more, exact_then, exact_as, exact_not_refused, exact_unless, exact_which, exact_named, exact_if_named, exact_octet, exact_word, exact_octet_if, exact_word_if, exact_value}
 
-exact_sn : (named : Bool) (said : Said) → Exact (sn_at named said) (As (with_sn said) (IfNamed named IsOctet))
+exact_sn : (named : Bool) (said : Said) → Exact (sn_at named said) (As (with_sn said) (IfNamed named IsOneOctet))
 unfolding sn_at
-exact_sn named said = exact_named named (with_sn said) octet_at IsOctet exact_octet
+exact_sn named said = exact_named named (with_sn said) octet_at IsOneOctet exact_octet
 
 exact_ts : (named : Bool) (said : Said) → Exact (ts_at named said) (As (with_ts said) (IfNamed named IsValue))
 unfolding ts_at
@@ -36,20 +36,20 @@ exact_offset named said = exact_as (and_offset said) (word_if named) (IfNamed na
 
 exact_ip_octet : (named : Bool) (kind : FormKind) → Exact (ip_octet_at named kind) (IsIpOctet named kind)
 unfolding ip_octet_at
-exact_ip_octet named kind = exact_named named (option_map ip_flags) (judged_octet (ip_fault kind)) (NotRefused (ip_fault kind) IsOctet) (exact_not_refused (ip_fault kind) octet_at IsOctet exact_octet)
+exact_ip_octet named kind = exact_named named (option_map ip_flags) (judged_octet (ip_fault kind)) (NotRefused (ip_fault kind) IsOneOctet) (exact_not_refused (ip_fault kind) octet_at IsOneOctet exact_octet)
 
 exact_protocol : (named : Bool) → Exact (behind_protocol named) (IsProtocol named)
 unfolding behind_protocol
-exact_protocol named = exact_named named (λ _. tt) (judged_octet protocol_fault) (NotRefused protocol_fault IsOctet) (exact_not_refused protocol_fault octet_at IsOctet exact_octet)
+exact_protocol named = exact_named named (λ _. tt) (judged_octet protocol_fault) (NotRefused protocol_fault IsOneOctet) (exact_not_refused protocol_fault octet_at IsOneOctet exact_octet)
 
 exact_ip_given : (ip : Option IpFlags) → Exact (ip_given_at ip) (IsIpGiven ip)
 unfolding ip_given_at
-exact_ip_given None = exact_says None
+exact_ip_given None = exact_no_more None
 exact_ip_given (Some ip) =
-    exact_then (octet_if ip.tos) _ (IfNamed ip.tos IsOctet) _ (exact_octet_if ip.tos) (λ tos.
-    exact_then (octet_if ip.ttl) _ (IfNamed ip.ttl IsOctet) _ (exact_octet_if ip.ttl) (λ ttl.
+    exact_then (octet_if ip.tos) _ (IfNamed ip.tos IsOneOctet) _ (exact_octet_if ip.tos) (λ tos.
+    exact_then (octet_if ip.ttl) _ (IfNamed ip.ttl IsOneOctet) _ (exact_octet_if ip.ttl) (λ ttl.
     exact_then (behind_protocol ip.protocol) _ (IsProtocol ip.protocol) _ (exact_protocol ip.protocol) (λ _.
-    exact_says _)))
+    exact_no_more _)))
 
 exact_time : (named : Bool) → Exact (behind_time_stride named) (IsTimeStride named)
 unfolding behind_time_stride
@@ -78,19 +78,19 @@ exact_stride false = exact_named false stride_of (λ text. value_at text >>= λ 
 exact_rtp_named : (rtp : RtpFlags) → Exact (behind_rtp_octet rtp) (IsRtpNamed rtp)
 unfolding behind_rtp_octet
 exact_rtp_named rtp =
-    exact_then (octet_if rtp.payload_type) _ (IfNamed rtp.payload_type IsOctet) _ (exact_octet_if rtp.payload_type) (λ octet.
+    exact_then (octet_if rtp.payload_type) _ (IfNamed rtp.payload_type IsOneOctet) _ (exact_octet_if rtp.payload_type) (λ octet.
     exact_then (stride_at rtp.stride) _ (IsStride rtp.stride) _ (exact_stride rtp.stride) (λ stride.
     exact_then (behind_time_stride rtp.time_stride) _ (IsTimeStride rtp.time_stride) _ (exact_time rtp.time_stride) (λ _.
-    exact_says _)))
+    exact_no_more _)))
 
 bind_assoc : {A B C : Type 0} (r : Result A FormRefusal) (f : A → Result B FormRefusal) (g : B → Result C FormRefusal) → ((r >>= f) >>= g) ≡ (r >>= λ x. f x >>= g)
 bind_assoc (Ok x) f g = refl
 bind_assoc (Err refusal) f g = refl
 
 -- the rtp octet and what it names
-exact_rtp_whole : Exact (λ text. judged_octet rtp_fault text >>= λ x. behind_rtp_octet (rtp_flags x.0) x.1) (Then (NotRefused rtp_fault IsOctet) (λ octet. IsRtpNamed (rtp_flags octet)))
-exact_rtp_whole = exact_then (judged_octet rtp_fault) (λ octet. behind_rtp_octet (rtp_flags octet)) (NotRefused rtp_fault IsOctet) (λ octet. IsRtpNamed (rtp_flags octet))
-    (exact_not_refused rtp_fault octet_at IsOctet exact_octet) (λ octet. exact_rtp_named (rtp_flags octet))
+exact_rtp_whole : Exact (λ text. judged_octet rtp_fault text >>= λ x. behind_rtp_octet (rtp_flags x.0) x.1) (Then (NotRefused rtp_fault IsOneOctet) (λ octet. IsRtpNamed (rtp_flags octet)))
+exact_rtp_whole = exact_then (judged_octet rtp_fault) (λ octet. behind_rtp_octet (rtp_flags octet)) (NotRefused rtp_fault IsOneOctet) (λ octet. IsRtpNamed (rtp_flags octet))
+    (exact_not_refused rtp_fault octet_at IsOneOctet exact_octet) (λ octet. exact_rtp_named (rtp_flags octet))
 
 exact_rtp_given : (named : Bool) → Exact (rtp_given_at named) (IsRtpGiven named)
 unfolding rtp_given_at
@@ -108,29 +108,29 @@ exact_behind_ip flags known ip said =
     exact_then (offset_at (has I flags) said) _ _ _ (exact_offset (has I flags) said) (λ said.
     exact_then (rtp_given_at (has RTP flags)) _ _ _ (exact_rtp_given (has RTP flags)) (λ rtp.
     exact_unless (no_stride_fault (has Tsc flags) (known || is_some (rtp_values rtp).stride)) _ _ (
-    exact_says _))))))
+    exact_no_more _))))))
 
 exact_extension_3 : (base : Base) (kept known : Bool) (flags : ℕ) → Exact (extension_3_at base kept known flags) (IsExtension3 base kept known flags)
 unfolding extension_3_at
 exact_extension_3 base kept known flags =
-    exact_then (ip_octet_at (has IP flags) (kind_of base kept)) _ _ _ (exact_ip_octet (has IP flags) (kind_of base kept)) (λ ip.
+    exact_then (ip_octet_at (has IP flags) (form_kind base kept)) _ _ _ (exact_ip_octet (has IP flags) (form_kind base kept)) (λ ip.
     exact_unless (twice_fault (has I flags) (rnd_in_force kept ip)) _ _ (
-    exact_then (behind_ip_octet flags known ip (base_said (kind_of base (rnd_in_force kept ip)) base.number)) _ _ _
-    (exact_behind_ip flags known ip (base_said (kind_of base (rnd_in_force kept ip)) base.number)) (λ extended.
-    exact_says _)))
+    exact_then (behind_ip_octet flags known ip (base_said (form_kind base (rnd_in_force kept ip)) base.number)) _ _ _
+    (exact_behind_ip flags known ip (base_said (form_kind base (rnd_in_force kept ip)) base.number)) (λ extended.
+    exact_no_more _)))
 
 -- the octets of an extension 0, 1 or 2, by their number
 abbrev pub ShortPiece : Bool → Bool → FormKind → ℕ → Said → Said → List ℕ → Type 0
 ShortPiece zero_first one_first kind first said =
-    Which zero_first (Says (under (layout_0 kind) first said))
-    (Which one_first (As (λ b. under (layout_1 kind) (first * 256 + b) said) IsOctet) (As (λ low. under (layout_2 kind) (first * 65536 + low) said) IsWord))
+    Which zero_first (NoMore (under (layout_0 kind) first said))
+    (Which one_first (As (λ b. under (layout_1 kind) (first * 256 + b) said) IsOneOctet) (As (λ low. under (layout_2 kind) (first * 65536 + low) said) IsWord))
 
 exact_short_piece : (kind : FormKind) (first : ℕ) (said : Said) → Exact (short_extension_at kind first said) (ShortPiece (nat_lt first 64) (nat_lt first 128) kind first said)
 unfolding short_extension_at extension_1_at extension_2_at
 exact_short_piece kind first said =
-    exact_which (nat_lt first 64) (λ text. Ok (under (layout_0 kind) first said, text)) (λ text. if nat_lt first 128 then extension_1_at kind first said text else extension_2_at kind first said text) _ _ (exact_says _)
+    exact_which (nat_lt first 64) (λ text. Ok (under (layout_0 kind) first said, text)) (λ text. if nat_lt first 128 then extension_1_at kind first said text else extension_2_at kind first said text) _ _ (exact_no_more _)
     (exact_which (nat_lt first 128) (extension_1_at kind first said) (extension_2_at kind first said) _ _
-    (exact_as (λ b. under (layout_1 kind) (first * 256 + b) said) octet_at IsOctet exact_octet)
+    (exact_as (λ b. under (layout_1 kind) (first * 256 + b) said) octet_at IsOneOctet exact_octet)
     (exact_as (λ low. under (layout_2 kind) (first * 65536 + low) said) word_at IsWord exact_word))
 
 short_to : (kind : FormKind) (first : ℕ) (said after : Said) (text : List ℕ) (zero_first one_first : Bool) → nat_lt first 64 ≡ zero_first → nat_lt first 128 ≡ one_first →
@@ -141,12 +141,12 @@ short_to kind first said after text false false e f n =
     rw (n.1.2, e, f) (refl, n.2 ∙ ap (λ k. under (layout_2 kind) k said) (let is : n.0 ≡ n.1.0 * 256 + n.1.1 = n.1.3 in omega arith))
 
 short_0 : (kind : FormKind) (first : ℕ) (said after : Said) (text : List ℕ) → length (first ∷ text) * 8 ≡ 8 → after ≡ under (layout_0 kind) (number_of (first ∷ text)) said →
-    Says (under (layout_0 kind) first said) after text
+    NoMore (under (layout_0 kind) first said) after text
 short_0 kind first said after [] l is = (refl, is ∙ ap (λ k. under (layout_0 kind) k said) (omega arith))
 short_0 kind first said after (a ∷ text) l is = absurd (omega arith)
 
 short_1 : (kind : FormKind) (first : ℕ) (said after : Said) (text : List ℕ) → length (first ∷ text) * 8 ≡ 16 → after ≡ under (layout_1 kind) (number_of (first ∷ text)) said →
-    As (λ b. under (layout_1 kind) (first * 256 + b) said) IsOctet after text
+    As (λ b. under (layout_1 kind) (first * 256 + b) said) IsOneOctet after text
 short_1 kind first said after [] l is = absurd (omega arith)
 short_1 kind first said after (a ∷ []) l is = (a, refl, is ∙ ap (λ k. under (layout_1 kind) k said) (omega arith))
 short_1 kind first said after (a ∷ b ∷ text) l is = absurd (omega arith)
@@ -181,29 +181,29 @@ exact_extension : (base : Base) (rnd known : Bool) (first : ℕ) → Exact (exte
 unfolding extension_at
 exact_extension base rnd known first =
     exact_which (nat_lt first 192)
-    (λ text. short_extension_at (kind_of base rnd) first (base_said (kind_of base rnd) base.number) text >>= λ x. Ok (plain_head (kind_of base rnd) rnd x.0, x.1))
+    (λ text. short_extension_at (form_kind base rnd) first (base_said (form_kind base rnd) base.number) text >>= λ x. Ok (plain_head (form_kind base rnd) rnd x.0, x.1))
     (extension_3_at base rnd known first) _ _
-    (exact_as (plain_head (kind_of base rnd) rnd) _ _ (exact_short (kind_of base rnd) first (base_said (kind_of base rnd) base.number)))
+    (exact_as (plain_head (form_kind base rnd) rnd) _ _ (exact_short (form_kind base rnd) first (base_said (form_kind base rnd) base.number)))
     (exact_extension_3 base rnd known first)
 
 -- the octets before an extension, by their number
 abbrev pub BasePiece : Bool → Bool → ℕ → Base → List ℕ → Type 0
 BasePiece one two first =
-    Which one (Says (record { first = first; number = first }))
-    (Which two (As (λ b. record { first = first; number = first * 256 + b }) IsOctet) (As (λ low. record { first = first; number = first * 65536 + low }) IsWord))
+    Which one (NoMore (record { first = first; number = first }))
+    (Which two (As (λ b. record { first = first; number = first * 256 + b }) IsOneOctet) (As (λ low. record { first = first; number = first * 65536 + low }) IsWord))
 
 exact_base_piece : (first : ℕ) → Exact (base_at first) (BasePiece (nat_lt first 128) (nat_lt first 192) first)
 unfolding base_at
 exact_base_piece first =
     exact_which (nat_lt first 128) (λ text. Ok (record { first = first; number = first }, text))
-    (λ text. if nat_lt first 192 then (octet_at text >>= λ x. Ok (record { first = first; number = first * 256 + x.0 }, x.1)) else (word_at text >>= λ x. Ok (record { first = first; number = first * 65536 + x.0 }, x.1))) _ _ (exact_says _)
+    (λ text. if nat_lt first 192 then (octet_at text >>= λ x. Ok (record { first = first; number = first * 256 + x.0 }, x.1)) else (word_at text >>= λ x. Ok (record { first = first; number = first * 65536 + x.0 }, x.1))) _ _ (exact_no_more _)
     (exact_which (nat_lt first 192) (λ text. octet_at text >>= λ x. Ok (record { first = first; number = first * 256 + x.0 }, x.1)) (λ text. word_at text >>= λ x. Ok (record { first = first; number = first * 65536 + x.0 }, x.1)) _ _
-    (exact_as (λ b. record { first = first; number = first * 256 + b }) octet_at IsOctet exact_octet)
+    (exact_as (λ b. record { first = first; number = first * 256 + b }) octet_at IsOneOctet exact_octet)
     (exact_as (λ low. record { first = first; number = first * 65536 + low }) word_at IsWord exact_word))
 
 -- how many bits the octets before an extension have
 base_width_by : (base : Base) (rnd uo0 uo1 t1 t2 : Bool) → nat_lt base.first 128 ≡ uo0 → nat_lt base.first 192 ≡ uo1 → bit 5 base.first ≡ t1 → bit 15 base.number ≡ t2 →
-    width (layout (kind_of base rnd)) ≡ (if uo0 then 8 else if uo1 then 16 else 24)
+    width (layout (form_kind base rnd)) ≡ (if uo0 then 8 else if uo1 then 16 else 24)
 base_width_by base rnd true uo1 t1 t2 e f g h = rw e refl
 base_width_by base true false true t1 t2 e f g h = rw (e, f) refl
 base_width_by base false false true true t2 e f g h = rw (e, f, g) refl
@@ -213,7 +213,7 @@ base_width_by base false false false t1 true e f g h = rw (e, f, h) refl
 base_width_by base false false false t1 false e f g h = rw (e, f, h) refl
 
 base_width : (first : ℕ) (base : Base) (rnd one two : Bool) → base.first ≡ first → nat_lt first 128 ≡ one → nat_lt first 192 ≡ two →
-    width (layout (kind_of base rnd)) ≡ (if one then 8 else if two then 16 else 24)
+    width (layout (form_kind base rnd)) ≡ (if one then 8 else if two then 16 else 24)
 base_width first base rnd one two is e f =
     base_width_by base rnd one two (bit 5 base.first) (bit 15 base.number) (ap (λ n. nat_lt n 128) is ∙ e) (ap (λ n. nat_lt n 192) is ∙ f) refl refl
 
@@ -232,12 +232,12 @@ base_to first rnd base text false false e f n = (
 )
 
 base_1 : (first : ℕ) (base : Base) (text : List ℕ) → length (first ∷ text) * 8 ≡ 8 → base ≡ record { first = first; number = number_of (first ∷ text) } →
-    Says (record { first = first; number = first }) base text
+    NoMore (record { first = first; number = first }) base text
 base_1 first base [] l is = (refl, is ∙ ap (λ k. record { first = first; number = k }) (omega arith))
 base_1 first base (a ∷ text) l is = absurd (omega arith)
 
 base_2 : (first : ℕ) (base : Base) (text : List ℕ) → length (first ∷ text) * 8 ≡ 16 → base ≡ record { first = first; number = number_of (first ∷ text) } →
-    As (λ b. record { first = first; number = first * 256 + b }) IsOctet base text
+    As (λ b. record { first = first; number = first * 256 + b }) IsOneOctet base text
 base_2 first base [] l is = absurd (omega arith)
 base_2 first base (a ∷ []) l is = (a, refl, is ∙ ap (λ k. record { first = first; number = k }) (omega arith))
 base_2 first base (a ∷ b ∷ text) l is = absurd (omega arith)
@@ -273,11 +273,11 @@ exact_head : (first : ℕ) (rnd known : Bool) → Exact (head_at first rnd known
 unfolding head_at
 exact_head first rnd known =
     exact_then (base_at first) (λ base. behind_base base rnd known) (IsBase first rnd) _ (exact_base first rnd) (λ base.
-    exact_which (base_said (kind_of base rnd) base.number).extended
+    exact_which (base_said (form_kind base rnd) base.number).extended
     (λ text. octet_at text >>= λ x. extension_at base rnd known x.0 x.1)
-    (λ text. Ok (plain_head (kind_of base rnd) rnd (base_said (kind_of base rnd) base.number), text)) _ _
-    (exact_then octet_at (extension_at base rnd known) IsOctet (IsExtension base rnd known) exact_octet (exact_extension base rnd known))
-    (exact_says _))
+    (λ text. Ok (plain_head (form_kind base rnd) rnd (base_said (form_kind base rnd) base.number), text)) _ _
+    (exact_then octet_at (extension_at base rnd known) IsOneOctet (IsExtension base rnd known) exact_octet (exact_extension base rnd known))
+    (exact_no_more _))
 
 -- the same of a reader that goes to the end
 pub record ExactEnd {A : Type 0} (f : List ℕ → Result A FormRefusal) (R : Piece A) : Type 0 where

@@ -10,8 +10,8 @@ use Rattle.rohc_forms.specs.Given.{ValuesSaid}
 
 -- The format of a packet, by the RND in force: the first octet begins with 0, 10 or 110; the T bit of UO-1 is
 -- bit 5 of the first octet, that of UOR-2 bit 7 of the second.
-abbrev pub kind_of : Base → Bool → FormKind
-kind_of base rnd =
+abbrev pub form_kind : Base → Bool → FormKind
+form_kind base rnd =
     if nat_lt base.first 128 then Uo0
     else if nat_lt base.first 192 then (if rnd then Uo1 else if bit 5 base.first then Uo1Ts else Uo1Id)
     else (if rnd then Uor2 else if bit 15 base.number then Uor2Ts else Uor2Id)

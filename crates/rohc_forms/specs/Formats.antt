@@ -5,7 +5,7 @@ use Rattle.rohc_forms.specs.declared.form.FormKind.TheVariants.{Uo0, Uo1, Uo1Id,
 use Rattle.rohc_forms.specs.declared.parts.Base.{Base}
 use Rattle.rohc_forms.specs.Octets.{slice}
 use Rattle.rohc_forms.specs.Table.{Field, Fixed, Sn, Ts, Id, Marker, Extended, Check, Layout, layout, layout_0, layout_1, layout_2, short_layout, width}
-use Rattle.rohc_forms.specs.Content.{kind_of}
+use Rattle.rohc_forms.specs.Content.{form_kind}
 
 -- the number that a field has in each packet of the format, where it has one, is the one that is found
 abbrev pub is_found : Field → ℕ → Bool
@@ -51,7 +51,7 @@ base_of a b c = record { first = a; number = if nat_lt a 128 then a else if nat_
 -- Of a packet whose first octet is below E0 exactly one format fits: the one that is read.
 abbrev pub FitsOne : Type 0
 FitsOne = (rnd : Bool) (a b c : ℕ) → a < 224 → b < 256 → c < 256 → (kind : FormKind) →
-    (has_format kind rnd (a ∷ b ∷ c ∷ []) ≡ true) ↔ (kind ≡ kind_of (base_of a b c) rnd)
+    (has_format kind rnd (a ∷ b ∷ c ∷ []) ≡ true) ↔ (kind ≡ form_kind (base_of a b c) rnd)
 
 -- Of an extension whose first octet is below C0 exactly one of the formats 0, 1 and 2 fits: the one that is read.
 abbrev pub FitsOneExtension : Type 0

@@ -18,7 +18,7 @@ use Rattle.rohc_forms.specs.Octets.{◌>>=◌, octet_at, word_at, word_if}
 use Rattle.rohc_forms.specs.Table.{Said, Tsc, I, IP, has, under, layout_0, layout_1, layout_2, base_said}
 use Rattle.rohc_forms.specs.Judging.{judged, twice_fault}
 use Rattle.rohc_forms.specs.Given.{RtpSaid, ValuesSaid, rnd_in_force, Extended3}
-use Rattle.rohc_forms.specs.Content.{Content, Head, IdSaid, Offset, Same, Whole, kind_of, plain_head, whole_content}
+use Rattle.rohc_forms.specs.Content.{Content, Head, IdSaid, Offset, Same, Whole, form_kind, plain_head, whole_content}
 use Rattle.rohc_forms.specs.Extension.{ip_octet_at, behind_ip_octet}
 
 -- what a reader's fields say
@@ -77,24 +77,24 @@ short_extension_at kind first said text =
 -- An extension 3, whose first octet begins with 11: the RND in force decides the format of the octets before it.
 unfoldable pub extension_3_at : Base → Bool → Bool → ℕ → List ℕ → Result (Head × List ℕ) FormRefusal
 extension_3_at base kept_rnd stride_known flags text = do
-  (ip, text) ← ip_octet_at (has IP flags) (kind_of base kept_rnd) text
+  (ip, text) ← ip_octet_at (has IP flags) (form_kind base kept_rnd) text
   _ ← judged (twice_fault (has I flags) (rnd_in_force kept_rnd ip)) text
-  (extended, text) ← behind_ip_octet flags stride_known ip (base_said (kind_of base (rnd_in_force kept_rnd ip)) base.number) text
-  Ok (record { kind = kind_of base (rnd_in_force kept_rnd ip); rnd = rnd_in_force kept_rnd ip; said = extended.said; tsc = Some (has Tsc flags); marker = extended.marker; values = Some extended.values }, text)
+  (extended, text) ← behind_ip_octet flags stride_known ip (base_said (form_kind base (rnd_in_force kept_rnd ip)) base.number) text
+  Ok (record { kind = form_kind base (rnd_in_force kept_rnd ip); rnd = rnd_in_force kept_rnd ip; said = extended.said; tsc = Some (has Tsc flags); marker = extended.marker; values = Some extended.values }, text)
 
 -- what stands behind the first octet of an extension
 unfoldable pub extension_at : Base → Bool → Bool → ℕ → List ℕ → Result (Head × List ℕ) FormRefusal
 extension_at base rnd stride_known first text =
     if nat_lt first 192
-    then (short_extension_at (kind_of base rnd) first (base_said (kind_of base rnd) base.number) text >>= λ x. Ok (plain_head (kind_of base rnd) rnd x.0, x.1))
+    then (short_extension_at (form_kind base rnd) first (base_said (form_kind base rnd) base.number) text >>= λ x. Ok (plain_head (form_kind base rnd) rnd x.0, x.1))
     else extension_3_at base rnd stride_known first text
 
 -- behind the octets before an extension: the extension, if X
 abbrev pub behind_base : Base → Bool → Bool → List ℕ → Result (Head × List ℕ) FormRefusal
 behind_base base rnd stride_known text =
-    if (base_said (kind_of base rnd) base.number).extended
+    if (base_said (form_kind base rnd) base.number).extended
     then (octet_at text >>= λ x. extension_at base rnd stride_known x.0 x.1)
-    else Ok (plain_head (kind_of base rnd) rnd (base_said (kind_of base rnd) base.number), text)
+    else Ok (plain_head (form_kind base rnd) rnd (base_said (form_kind base rnd) base.number), text)
 
 -- the octets before an extension, and the extension
 unfoldable pub head_at : ℕ → Bool → Bool → List ℕ → Result (Head × List ℕ) FormRefusal

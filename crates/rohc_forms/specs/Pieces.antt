@@ -6,8 +6,8 @@ use Rattle.rohc_forms.specs.declared.refusal.FormRefusal.{FormRefusal}
 use Rattle.rohc_bits.specs.LowBits.{LowBits}
 
 -- an octet
-abbrev pub IsOctet : ℕ → List ℕ → Type 0
-IsOctet n text = text ≡ n ∷ []
+abbrev pub IsOneOctet : ℕ → List ℕ → Type 0
+IsOneOctet n text = text ≡ n ∷ []
 
 -- a number of two octets, most significant first
 abbrev pub IsWord : ℕ → List ℕ → Type 0
@@ -18,8 +18,8 @@ abbrev pub IsValue : LowBits → List ℕ → Type 0
 IsValue d text = Spells text d.value × (d.count ≡ value_bits (length text))
 
 -- no octets: what is said is this
-abbrev pub Says : {A : Type 0} → A → A → List ℕ → Type 0
-Says x y text = (text ≡ []) × (y ≡ x)
+abbrev pub NoMore : {A : Type 0} → A → A → List ℕ → Type 0
+NoMore x y text = (text ≡ []) × (y ≡ x)
 
 -- two pieces, one behind the other; what the second says depends on what the first says
 abbrev pub Then : {A B : Type 0} → (A → List ℕ → Type 0) → (A → B → List ℕ → Type 0) → B → List ℕ → Type 0

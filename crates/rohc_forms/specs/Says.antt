@@ -12,8 +12,8 @@ use Rattle.rohc_forms.specs.Table.{Said, Sn, Ts, Layout, layout, and_said, width
 use Rattle.rohc_forms.specs.Formats.{number_of}
 use Rattle.rohc_forms.specs.Judging.{ip_fault, twice_fault, protocol_fault, rtp_fault, stride_fault, no_stride_fault}
 use Rattle.rohc_forms.specs.Given.{RtpSaid, ip_flags, rnd_in_force, with_offset_if, rtp_flags, padding_in, payload_type_in, ip_values, rtp_values, marker_in, Extended3}
-use Rattle.rohc_forms.specs.Content.{Head, Content, kind_of, plain_head, whole_content}
-use Rattle.rohc_forms.specs.Pieces.{IsOctet, IsWord, IsValue, Says, Then, IfNamed, Which, As, NotRefused, Unless}
+use Rattle.rohc_forms.specs.Content.{Head, Content, form_kind, plain_head, whole_content}
+use Rattle.rohc_forms.specs.Pieces.{IsOneOctet, IsWord, IsValue, NoMore, Then, IfNamed, Which, As, NotRefused, Unless}
 
 -- The octets behind a first one say their fields under a format, behind what is said already.
 abbrev pub IsUnder : Layout → ℕ → Said → Said → List ℕ → Type 0
@@ -22,7 +22,7 @@ IsUnder l first before after text = (length (first ∷ text) * 8 ≡ width l) ×
 -- The octets before an extension are as many as their format has bits for, and one number.
 abbrev pub IsBase : ℕ → Bool → Base → List ℕ → Type 0
 IsBase first rnd base text =
-    (length (first ∷ text) * 8 ≡ width (layout (kind_of base rnd))) × (base ≡ record { first = first; number = number_of (first ∷ text) })
+    (length (first ∷ text) * 8 ≡ width (layout (form_kind base rnd))) × (base ≡ record { first = first; number = number_of (first ∷ text) })
 
 -- eight more bits of SN, if S
 abbrev pub with_sn : Said → Option ℕ → Said
@@ -39,19 +39,19 @@ and_offset said offset = with_offset_if offset said
 
 -- the ip octet, if ip
 abbrev pub IsIpOctet : Bool → FormKind → Option IpFlags → List ℕ → Type 0
-IsIpOctet named kind = As (option_map ip_flags) (IfNamed named (NotRefused (ip_fault kind) IsOctet))
+IsIpOctet named kind = As (option_map ip_flags) (IfNamed named (NotRefused (ip_fault kind) IsOneOctet))
 
 abbrev pub IsProtocol : Bool → Unit {0} → List ℕ → Type 0
-IsProtocol named = As (λ _. tt) (IfNamed named (NotRefused protocol_fault IsOctet))
+IsProtocol named = As (λ _. tt) (IfNamed named (NotRefused protocol_fault IsOneOctet))
 
 -- what the ip octet names: TOS, TTL, protocol
 abbrev pub IsIpGiven : Option IpFlags → Option IpGiven → List ℕ → Type 0
-IsIpGiven None = Says None
+IsIpGiven None = NoMore None
 IsIpGiven (Some ip) =
-    Then (IfNamed ip.tos IsOctet) (λ tos.
-    Then (IfNamed ip.ttl IsOctet) (λ ttl.
+    Then (IfNamed ip.tos IsOneOctet) (λ tos.
+    Then (IfNamed ip.ttl IsOneOctet) (λ ttl.
     Then (IsProtocol ip.protocol) (λ _.
-    Says (Some (record { tos = tos; ttl = ttl; df = ip.df; nbo = ip.nbo; rnd = ip.rnd })))))
+    NoMore (Some (record { tos = tos; ttl = ttl; df = ip.df; nbo = ip.nbo; rnd = ip.rnd })))))
 
 -- the number of a value's bits doesn't matter to a stride
 abbrev pub stride_of : Option LowBits → Option ℕ
@@ -68,49 +68,49 @@ IsTimeStride named = As (λ _. tt) (IfNamed named IsValue)
 -- what the rtp octet names: P and PT, strides
 abbrev pub IsRtpNamed : RtpFlags → RtpSaid → List ℕ → Type 0
 IsRtpNamed rtp =
-    Then (IfNamed rtp.payload_type IsOctet) (λ octet.
+    Then (IfNamed rtp.payload_type IsOneOctet) (λ octet.
     Then (IsStride rtp.stride) (λ stride.
     Then (IsTimeStride rtp.time_stride) (λ _.
-    Says (record { marker = rtp.marker; extension = rtp.extension; padding = padding_in octet; payload_type = payload_type_in octet; stride = stride }))))
+    NoMore (record { marker = rtp.marker; extension = rtp.extension; padding = padding_in octet; payload_type = payload_type_in octet; stride = stride }))))
 
 -- the rtp octet, if rtp, and what it names
 abbrev pub IsRtpGiven : Bool → Option RtpSaid → List ℕ → Type 0
-IsRtpGiven named = IfNamed named (Then (NotRefused rtp_fault IsOctet) (λ octet. IsRtpNamed (rtp_flags octet)))
+IsRtpGiven named = IfNamed named (Then (NotRefused rtp_fault IsOneOctet) (λ octet. IsRtpNamed (rtp_flags octet)))
 
 -- Behind the ip octet: SN, TS, what the ip octet names, the offset of the Identification, the rtp octet and what
 -- it names; a stride is in force, if Tsc.
 abbrev pub IsBehindIp : ℕ → Bool → Option IpFlags → Said → Extended3 → List ℕ → Type 0
 IsBehindIp flags stride_known ip said =
-    Then (As (with_sn said) (IfNamed (has S flags) IsOctet)) (λ said.
+    Then (As (with_sn said) (IfNamed (has S flags) IsOneOctet)) (λ said.
     Then (As (with_ts said) (IfNamed (has R-TS flags) IsValue)) (λ said.
     Then (IsIpGiven ip) (λ given.
     Then (As (and_offset said) (IfNamed (has I flags) IsWord)) (λ said.
     Then (IsRtpGiven (has RTP flags)) (λ rtp.
     Unless (no_stride_fault (has Tsc flags) (stride_known || is_some (rtp_values rtp).stride)) (
-    Says (record { said = said; marker = marker_in said.marker rtp; values = ip_values given (rtp_values rtp) })))))))
+    NoMore (record { said = said; marker = marker_in said.marker rtp; values = ip_values given (rtp_values rtp) })))))))
 
 -- an extension 3 behind its first octet: the RND in force decides the format
 abbrev pub IsExtension3 : Base → Bool → Bool → ℕ → Head → List ℕ → Type 0
 IsExtension3 base kept_rnd stride_known flags =
-    Then (IsIpOctet (has IP flags) (kind_of base kept_rnd)) (λ ip.
+    Then (IsIpOctet (has IP flags) (form_kind base kept_rnd)) (λ ip.
     Unless (twice_fault (has I flags) (rnd_in_force kept_rnd ip)) (
-    Then (IsBehindIp flags stride_known ip (base_said (kind_of base (rnd_in_force kept_rnd ip)) base.number)) (λ extended.
-    Says (record { kind = kind_of base (rnd_in_force kept_rnd ip); rnd = rnd_in_force kept_rnd ip; said = extended.said; tsc = Some (has Tsc flags); marker = extended.marker; values = Some extended.values }))))
+    Then (IsBehindIp flags stride_known ip (base_said (form_kind base (rnd_in_force kept_rnd ip)) base.number)) (λ extended.
+    NoMore (record { kind = form_kind base (rnd_in_force kept_rnd ip); rnd = rnd_in_force kept_rnd ip; said = extended.said; tsc = Some (has Tsc flags); marker = extended.marker; values = Some extended.values }))))
 
 -- an extension behind its first octet
 abbrev pub IsExtension : Base → Bool → Bool → ℕ → Head → List ℕ → Type 0
 IsExtension base rnd stride_known first =
     Which (nat_lt first 192)
-    (As (plain_head (kind_of base rnd) rnd) (IsUnder (short_layout (kind_of base rnd) first) first (base_said (kind_of base rnd) base.number)))
+    (As (plain_head (form_kind base rnd) rnd) (IsUnder (short_layout (form_kind base rnd) first) first (base_said (form_kind base rnd) base.number)))
     (IsExtension3 base rnd stride_known first)
 
 -- The octets before an extension, behind the first; the extension, if their format says X.
 abbrev pub IsHead : ℕ → Bool → Bool → Head → List ℕ → Type 0
 IsHead first rnd stride_known =
     Then (IsBase first rnd) (λ base.
-    Which (base_said (kind_of base rnd) base.number).extended
-    (Then IsOctet (IsExtension base rnd stride_known))
-    (Says (plain_head (kind_of base rnd) rnd (base_said (kind_of base rnd) base.number))))
+    Which (base_said (form_kind base rnd) base.number).extended
+    (Then IsOneOctet (IsExtension base rnd stride_known))
+    (NoMore (plain_head (form_kind base rnd) rnd (base_said (form_kind base rnd) base.number))))
 
 -- the rest is the payload
 abbrev pub IsPayload : Head → Option ℕ → Option ℕ → Content → List ℕ → Type 0

@@ -19,7 +19,21 @@ pub data Field : Type 0 where
 abbrev pub Layout : Type 0
 Layout = List (Field × ℕ)
 
--- The formats of packets.
+-- The formats of packets (RFC 3095 5.7.1 to 5.7.4), most significant bit first.
+--
+--   UO-0        | 0 |      SN       |    CRC    |
+--
+--   UO-1        | 1   0 |          TS           |      UOR-2       | 1   1   0 |        TS         |
+--               | M |      SN       |    CRC    |                  |TS | M |          SN           |
+--                                                                  | X |            CRC            |
+--   UO-1-ID     | 1   0 |T=0|       IP-ID       |
+--               | X |      SN       |    CRC    |      UOR-2-ID    | 1   1   0 |       IP-ID       |
+--                                                                  |T=0| M |          SN           |
+--   UO-1-TS     | 1   0 |T=1|        TS         |                  | X |            CRC            |
+--               | M |      SN       |    CRC    |
+--                                                      UOR-2-TS    | 1   1   0 |        TS         |
+--                                                                  |T=1| M |          SN           |
+--                                                                  | X |            CRC            |
 abbrev pub layout : FormKind → Layout
 layout Uo0 = (Fixed 0, 1) ∷ (Sn, 4) ∷ (Check, 3) ∷ []
 layout Uo1 = (Fixed 2, 2) ∷ (Ts, 6) ∷ (Marker, 1) ∷ (Sn, 4) ∷ (Check, 3) ∷ []
@@ -48,7 +62,13 @@ minus Uor2 = Ts
 minus Uor2Id = Ts
 minus Uor2Ts = Id
 
--- The formats of extensions 0, 1 and 2.
+-- The formats of extensions 0, 1 and 2 (RFC 3095 5.7.5), most significant bit first.
+--
+--   0   | 0   0 |    SN     |    +T     |
+--
+--   1   | 0   1 |    SN     |    +T     |      2   | 1   0 |    SN     |    +T     |
+--       |              -T               |          |              +T               |
+--                                                  |              -T               |
 abbrev pub layout_0 : FormKind → Layout
 layout_0 kind = (Fixed 0, 2) ∷ (Sn, 3) ∷ (plus kind, 3) ∷ []
 

@@ -4,12 +4,13 @@ ghost use Rattle.std.specs.Prelude.{◌≡◌, option_map};
 ghost use Rattle.rohc_bits.specs.LowBits.{low_bits};
 ghost use Rattle.rohc_forms.specs.Octets.{Reads, slice};
 ghost use Rattle.rohc_forms.specs.Table.{base_said, uor2_said};
-ghost use Rattle.rohc_forms.specs.Content.{kind_of};
+ghost use Rattle.rohc_forms.specs.Content.{form_kind};
 ghost use Rattle.rohc_forms.specs.Packets.{said_by, base_at};
 
 use crate::form::FormKind;
 use crate::octets::{bits, is_set, octet, word};
 use crate::parts::{Base, Fields};
+use crate::place;
 use crate::refusal::FormRefusal;
 use rohc_bits::{Bits, Cursor};
 
@@ -30,19 +31,19 @@ pub(crate) fn base(first: u8, cursor: &mut Cursor<'_>) -> Result<Base, FormRefus
 
 /// The format of a packet, by the RND in force.
 pub(crate) fn kind(base: Base, rnd: bool) -> FormKind
-    ensures { result ≡ kind_of base rnd }
+    ensures { result ≡ form_kind base rnd }
 {
     if base.first < 0x80 {
         return FormKind::Uo0;
     }
     if base.first < 0xc0 {
-        return match (rnd, is_set(u32::from(base.first), 5)) {
+        return match (rnd, is_set(u32::from(base.first), place::UO1_T)) {
             (true, _) => FormKind::Uo1,
             (false, true) => FormKind::Uo1Ts,
             (false, false) => FormKind::Uo1Id,
         };
     }
-    match (rnd, is_set(base.number, 15)) {
+    match (rnd, is_set(base.number, place::UOR2_T)) {
         (true, _) => FormKind::Uor2,
         (false, true) => FormKind::Uor2Ts,
         (false, false) => FormKind::Uor2Id,
@@ -69,7 +70,7 @@ pub(crate) fn base_fields(kind: FormKind, number: u32) -> Fields
 {
     match kind {
         FormKind::Uo0 => Fields {
-            sn: bits(number, 3, 4),
+            sn: bits(number, place::UO_SN, 4),
             ts: None,
             id: None,
             marker: false,
@@ -77,32 +78,32 @@ pub(crate) fn base_fields(kind: FormKind, number: u32) -> Fields
             check: check_3(number),
         },
         FormKind::Uo1 => Fields {
-            sn: bits(number, 3, 4),
-            ts: Some(bits(number, 8, 6)),
+            sn: bits(number, place::UO_SN, 4),
+            ts: Some(bits(number, place::UO1_TS, 6)),
             id: None,
-            marker: is_set(number, 7),
+            marker: is_set(number, place::UO1_M),
             extended: false,
             check: check_3(number),
         },
         FormKind::Uo1Id => Fields {
-            sn: bits(number, 3, 4),
+            sn: bits(number, place::UO_SN, 4),
             ts: None,
-            id: Some(bits(number, 8, 5)),
+            id: Some(bits(number, place::UO1_ID, 5)),
             marker: false,
-            extended: is_set(number, 7),
+            extended: is_set(number, place::UO1_X),
             check: check_3(number),
         },
         FormKind::Uo1Ts => Fields {
-            sn: bits(number, 3, 4),
-            ts: Some(bits(number, 8, 5)),
+            sn: bits(number, place::UO_SN, 4),
+            ts: Some(bits(number, place::UO1_TS, 5)),
             id: None,
-            marker: is_set(number, 7),
+            marker: is_set(number, place::UO1_M),
             extended: false,
             check: check_3(number),
         },
-        FormKind::Uor2 => uor2_fields(number, Some(bits(number, 15, 6)), None),
-        FormKind::Uor2Id => uor2_fields(number, None, Some(bits(number, 16, 5))),
-        FormKind::Uor2Ts => uor2_fields(number, Some(bits(number, 16, 5)), None),
+        FormKind::Uor2 => uor2_fields(number, Some(bits(number, place::UOR2_TS, 6)), None),
+        FormKind::Uor2Id => uor2_fields(number, None, Some(bits(number, place::UOR2_BEFORE_T, 5))),
+        FormKind::Uor2Ts => uor2_fields(number, Some(bits(number, place::UOR2_BEFORE_T, 5)), None),
     }
 }
 
@@ -111,11 +112,11 @@ fn uor2_fields(number: u32, ts: Option<Bits>, id: Option<Bits>) -> Fields
     ensures { said_by result ≡ uor2_said number (option_map low_bits ts) (option_map low_bits id) }
 {
     Fields {
-        sn: bits(number, 8, 6),
+        sn: bits(number, place::UOR2_SN, 6),
         ts,
         id,
-        marker: is_set(number, 14),
-        extended: is_set(number, 7),
+        marker: is_set(number, place::UOR2_M),
+        extended: is_set(number, place::UOR2_X),
         check: check_7(number),
     }
 }

@@ -11,6 +11,7 @@ pub mod laws;
 mod octets;
 mod packet;
 pub mod parts;
+mod place;
 mod reading;
 pub mod refusal;
 

@@ -39,11 +39,15 @@ all_contents items = filter_map contents items
 -- an element with as much data as the first octet says, and the octets behind it
 abbrev pub sized : List ℕ → Option (Item × List ℕ)
 sized [] = None
-sized (size ∷ octets) = if nat_le size (length octets) then Some (Sized (take size octets), drop size octets) else None
+sized (size ∷ octets) =
+    if nat_le size (length octets) then Some (Sized (take size octets), drop size octets)
+    else None
 
 -- an element with as much data as this Code says, and the octets behind it
 abbrev pub coded : ℕ → List ℕ → Option (Item × List ℕ)
-coded code octets = if nat_le code (length octets) then Some (Coded (take code octets), drop code octets) else None
+coded code octets =
+    if nat_le code (length octets) then Some (Coded (take code octets), drop code octets)
+    else None
 
 -- the item at the front of the octets, where one stands there whole, and the octets behind it
 unfoldable pub first_item : List ℕ → Option (Item × List ℕ)

@@ -32,7 +32,8 @@ SpellsLarge = (cid : ℕ) (octets : List ℕ) → All IsOctet octets →
 -- octets say exactly the identifiers up to the link's greatest
 abbrev pub SaysEachIdentifier : Type 0
 SaysEachIdentifier = (size : CidKind) (cid : ℕ) →
-    ((octets : List ℕ) × All IsOctet octets × (is_identifier size cid octets ≡ true)) ↔ (cid ≤ greatest_cid size)
+    ((octets : List ℕ) × All IsOctet octets × (is_identifier size cid octets ≡ true)) ↔
+    (cid ≤ greatest_cid size)
 
 -- a header of the link, of octets
 pub record IsGood (size : CidKind) (max_cid : ℕ) (h : Header) : Type 0 where

@@ -22,10 +22,18 @@ kind_of first =
     else Err Segment
 
 -- a header of a small link, where its first octet begins one
-abbrev pub small_header : ℕ → List ℕ → ℕ → List ℕ → Result HeadKind FrameRefusal → Result (Option Header) FrameRefusal
+abbrev pub small_header : ℕ → List ℕ → ℕ → List ℕ → Result HeadKind FrameRefusal →
+    Result (Option Header) FrameRefusal
 small_header cid cid_octets first rest (Err refusal) = Err refusal
 small_header cid cid_octets first rest (Ok kind) =
-    Ok (Some (record { cid = cid; size = Small; kind = kind; first = first; cid_octets = cid_octets; rest = rest }))
+    Ok (Some (record {
+      cid = cid;
+      size = Small;
+      kind = kind;
+      first = first;
+      cid_octets = cid_octets;
+      rest = rest;
+    }))
 
 -- what stands behind an Add-CID octet
 abbrev pub behind_add_cid : ℕ → List ℕ → Result (Option Header) FrameRefusal
@@ -50,14 +58,25 @@ two_octets a (b ∷ octets) = Ok (a % 64 * 256 + b, 2)
 -- a large identifier, and how many octets spell it
 abbrev pub large_cid : List ℕ → Result (ℕ × ℕ) FrameRefusal
 large_cid [] = Err NoHeader
-large_cid (a ∷ octets) = if nat_lt a 128 then Ok (a, 1) else if nat_lt a 192 then two_octets a octets else Err LargeCid
+large_cid (a ∷ octets) =
+    if nat_lt a 128 then Ok (a, 1)
+    else if nat_lt a 192 then two_octets a octets
+    else Err LargeCid
 
 -- a header of a large link, where it may bear the identifier
-abbrev pub large_header : ℕ → HeadKind → ℕ → List ℕ → Result (ℕ × ℕ) FrameRefusal → Result (Option Header) FrameRefusal
+abbrev pub large_header : ℕ → HeadKind → ℕ → List ℕ → Result (ℕ × ℕ) FrameRefusal →
+    Result (Option Header) FrameRefusal
 large_header max_cid kind first octets (Err refusal) = Err refusal
 large_header max_cid kind first octets (Ok (cid, count)) =
     if nat_lt max_cid cid then Err CidRange
-    else Ok (Some (record { cid = cid; size = Large; kind = kind; first = first; cid_octets = take count octets; rest = drop count octets }))
+    else Ok (Some (record {
+      cid = cid;
+      size = Large;
+      kind = kind;
+      first = first;
+      cid_octets = take count octets;
+      rest = drop count octets;
+    }))
 
 abbrev pub behind_kind : ℕ → ℕ → List ℕ → Result HeadKind FrameRefusal → Result (Option Header) FrameRefusal
 behind_kind max_cid first octets (Err refusal) = Err refusal

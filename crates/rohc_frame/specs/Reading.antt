@@ -15,7 +15,14 @@ abbrev pub elements_of : Elements → List (List ℕ)
 elements_of e = elements_in e.octets.now
 
 abbrev pub header_of : Forward → Header
-header_of f = record { cid = f.cid; size = f.size; kind = f.kind; first = f.first; cid_octets = f.cid_octets.now; rest = f.rest.now }
+header_of f = record {
+  cid = f.cid;
+  size = f.size;
+  kind = f.kind;
+  first = f.first;
+  cid_octets = f.cid_octets.now;
+  rest = f.rest.now;
+}
 
 abbrev pub option_header : Option Forward → Option Header
 option_header None = None

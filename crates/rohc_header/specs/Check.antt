@@ -2,7 +2,10 @@ use Rattle.std.specs.Prelude.{ℕ, ◌+◌, ◌-◌, ◌^◌, Bool, List, [], �
 use Rattle.std.specs.List.{flat_map}
 use Rattle.rohc_checks.specs.Division.{check, degree}
 
--- ---- The split of a header's octets for its checks (RFC 3095 5.9.2)
+-- ---- The split of a header's octets for its checks
+--
+-- RFC 3095 5.9.2 takes the static octets first and then the dynamic ones. Which octets of a header are static
+-- is this project's own choice, and not the RFC's.
 
 -- the places of a part from a first to a last one, where the part's first octet is at 1
 pub record Places : Type 0 where

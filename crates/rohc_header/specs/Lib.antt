@@ -1,3 +1,4 @@
 pub mod Original
 pub mod Check
 pub mod Laws
+pub mod Polynomial

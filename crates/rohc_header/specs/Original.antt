@@ -64,12 +64,42 @@ rtp_part fixed moving =
     ++ quad moving.ts
     ++ quad fixed.ssrc
 
+-- The header, in words of 32 bits:
+--
+--  0                   1                   2                   3
+--  0 1 2 3 4 5 6 7 8 9 0 1 2 3 4 5 6 7 8 9 0 1 2 3 4 5 6 7 8 9 0 1
+-- +---------------+---------------+-------------------------------+
+-- | 4       5     |      TOS      |         Total Length          |  IPv4
+-- +---------------+---------------+-----+-------------------------+
+-- |        Identification         |0|D|0|            0            |
+-- +---------------+---------------+-----+-------------------------+
+-- |      TTL      |      17       |           checksum            |
+-- +---------------+---------------+-------------------------------+
+-- |                        source address                         |
+-- +---------------------------------------------------------------+
+-- |                      destination address                      |
+-- +-------------------------------+-------------------------------+
+-- |          source port          |       destination port        |  UDP
+-- +-------------------------------+-------------------------------+
+-- |            Length             |           checksum            |
+-- +---+-+-+-------+-+-------------+-------------------------------+
+-- | 2 |P|X|   0   |M|     PT      |        sequence number        |  RTP
+-- +---+-+-+-------+-+-------------+-------------------------------+
+-- |                           timestamp                           |
+-- +---------------------------------------------------------------+
+-- |                             SSRC                              |
+-- +---------------------------------------------------------------+
+
+-- the longest payload behind it: a packet has at most 65,535 octets
+abbrev pub longest_payload : ℕ
+longest_payload = 65495
+
 -- Forty octets are the original header of these fields and of a payload of this length, which is no longer
 -- than fits a packet of 65,535 octets: the three parts in a row, where the checksum of the IPv4 part is
 -- the header sum of its other nine words.
 pub record IsOriginal (fixed : Static) (moving : Dynamic) (payload_len : ℕ) (octets : List ℕ) : Type 0 where
   pub checksum : ℕ
-  pub fits : payload_len ≤ 65495
+  pub fits : payload_len ≤ longest_payload
   pub forty : length octets ≡ 40
   pub summed : checksum ≡ ip_sum fixed moving payload_len
   pub whole : octets ≡ ip_part fixed moving payload_len checksum ++ udp_part fixed moving payload_len ++ rtp_part fixed moving

@@ -2,11 +2,13 @@
 
 ghost use Rattle.std.specs.Prelude.{◌≡◌, ◌<◌, ◌↔◌, IfSome, IsNone};
 ghost use Rattle.rohc_checks.specs.Division.{check, poly3, poly7};
-ghost use Rattle.rohc_header.specs.Original.{IsOriginal};
+ghost use Rattle.rohc_header.specs.Original.{IsOriginal, longest_payload};
+ghost use Rattle.rohc_header.specs.Polynomial.{coefficients};
 ghost use Rattle.rohc_header.specs.Check.{all_ones, header_check, static_octets, dynamic_octets};
 
 use crate::parts::{Octets, put_ip, put_rtp, put_udp};
-use crate::{Dynamic, Static};
+use crate::polynomial::Polynomial::{self, Seven, Three};
+use crate::{Dynamic, Static, field};
 use rohc_checks::{crc3, crc7};
 
 /// The longest payload of a packet: 65,535 octets hold it behind its header.
@@ -25,7 +27,7 @@ impl Header {
     pub fn build(fixed: &Static, moving: &Dynamic, payload_len: usize) -> Option<Header>
         requires { moving.now.payload_type < 128 }
         ensures header { IfSome result (λ header. IsOriginal fixed.now moving.now payload_len header.octets) }
-        ensures none { IsNone result ↔ (65495 < payload_len) }
+        ensures none { IsNone result ↔ (longest_payload < payload_len) }
     {
         if payload_len > LONGEST_PAYLOAD {
             return None;
@@ -43,14 +45,14 @@ impl Header {
     pub fn check3(&self) -> u8
         ensures { result ≡ header_check poly3 self.now.octets }
     {
-        self.check3_from(self.static3())
+        self.check3_from(self.static_register(Three))
     }
 
     /// The 7-bit check of the header (RFC 3095 5.9.2).
     pub fn check7(&self) -> u8
         ensures { result ≡ header_check poly7 self.now.octets }
     {
-        self.check7_from(self.static7())
+        self.check7_from(self.static_register(Seven))
     }
 
     /// The registers that the static octets leave, of the 3-bit and of the 7-bit check.
@@ -58,7 +60,7 @@ impl Header {
         ensures three { result.0 ≡ check poly3 (all_ones poly3) (static_octets self.now.octets) }
         ensures seven { result.1 ≡ check poly7 (all_ones poly7) (static_octets self.now.octets) }
     {
-        (self.static3(), self.static7())
+        (self.static_register(Three), self.static_register(Seven))
     }
 
     /// The 3-bit check from the register that the static octets left: `check3` from the first of
@@ -66,11 +68,7 @@ impl Header {
     pub fn check3_from(&self, reg: u8) -> u8
         ensures { result ≡ check poly3 reg (dynamic_octets self.now.octets) }
     {
-        let reg = crc3(reg, &self.octets[2..6]);
-        let reg = crc3(reg, &self.octets[10..12]);
-        let reg = crc3(reg, &self.octets[24..28]);
-        // The polynomial divides x^56 + 1: over seven octets a register stays, but for their own check.
-        reg ^ crc3(0x00, &self.octets[29..36])
+        self.check_from(Three, reg)
     }
 
     /// The 7-bit check from the register that the static octets left: `check7` from the second of
@@ -78,32 +76,49 @@ impl Header {
     pub fn check7_from(&self, reg: u8) -> u8
         ensures { result ≡ check poly7 reg (dynamic_octets self.now.octets) }
     {
-        let reg = crc7(reg, &self.octets[2..6]);
-        let reg = crc7(reg, &self.octets[10..12]);
-        let reg = crc7(reg, &self.octets[24..28]);
-        // As above: this polynomial divides x^56 + 1 too.
-        reg ^ crc7(0x00, &self.octets[29..36])
+        self.check_from(Seven, reg)
     }
 
-    /// The 3-bit register after the static octets.
-    fn static3(&self) -> u8
-        ensures { result ≡ check poly3 (all_ones poly3) (static_octets self.now.octets) }
+    /// The register after the static octets, begun from all ones.
+    fn static_register(&self, polynomial: Polynomial) -> u8
+        ensures { result ≡ check (coefficients polynomial) (all_ones (coefficients polynomial)) (static_octets self.now.octets) }
     {
-        let reg = crc3(0x07, &self.octets[0..2]);
-        let reg = crc3(reg, &self.octets[6..10]);
-        let reg = crc3(reg, &self.octets[12..24]);
-        let reg = crc3(reg, &self.octets[28..29]);
-        crc3(reg, &self.octets[36..40])
+        let reg = crc(polynomial, ones(polynomial), &self.octets[field::UP_TO_TOS]);
+        let reg = crc(polynomial, reg, &self.octets[field::FRAGMENT_TO_PROTOCOL]);
+        let reg = crc(polynomial, reg, &self.octets[field::ADDRESSES_AND_PORTS]);
+        let reg = crc(polynomial, reg, &self.octets[field::RTP_FLAGS]);
+        crc(polynomial, reg, &self.octets[field::SSRC])
     }
 
-    /// The 7-bit register after the static octets.
-    fn static7(&self) -> u8
-        ensures { result ≡ check poly7 (all_ones poly7) (static_octets self.now.octets) }
+    /// The check from the register that the static octets left.
+    fn check_from(&self, polynomial: Polynomial, reg: u8) -> u8
+        ensures { result ≡ check (coefficients polynomial) reg (dynamic_octets self.now.octets) }
     {
-        let reg = crc7(0x7f, &self.octets[0..2]);
-        let reg = crc7(reg, &self.octets[6..10]);
-        let reg = crc7(reg, &self.octets[12..24]);
-        let reg = crc7(reg, &self.octets[28..29]);
-        crc7(reg, &self.octets[36..40])
+        let reg = crc(polynomial, reg, &self.octets[field::LENGTH_AND_ID]);
+        let reg = crc(polynomial, reg, &self.octets[field::IP_SUM]);
+        let reg = crc(polynomial, reg, &self.octets[field::UDP_LENGTH_AND_SUM]);
+        // Both polynomials divide x^56 + 1: over seven octets a register stays, but for their own check.
+        reg ^ crc(polynomial, 0x00, &self.octets[field::MARKER_TO_TIMESTAMP])
+    }
+}
+
+/// A register of as many ones as the polynomial's check has bits.
+#[tactic(auto, using(crate::proofs::Checks::ones3, crate::proofs::Checks::ones7))]
+fn ones(polynomial: Polynomial) -> u8
+    ensures { result ≡ all_ones (coefficients polynomial) }
+{
+    match polynomial {
+        Three => 0x07,
+        Seven => 0x7f,
+    }
+}
+
+/// The polynomial's check of the octets, from this register.
+fn crc(polynomial: Polynomial, reg: u8, octets: &[u8]) -> u8
+    ensures { result ≡ check (coefficients polynomial) reg octets.now }
+{
+    match polynomial {
+        Three => crc3(reg, octets),
+        Seven => crc7(reg, octets),
     }
 }

@@ -1,10 +1,12 @@
 //! Whole RTP/UDP/IPv4 headers and their checks (RFC 3095 5.9; RFC 791, 768, 3550). Nothing allocates.
 #![tactic(auto)]
 
+mod field;
 pub mod fields;
 pub mod header;
 pub mod laws;
 mod parts;
+mod polynomial;
 
 pub use fields::{Dynamic, Static};
 pub use header::Header;

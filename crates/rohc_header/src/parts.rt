@@ -1,7 +1,7 @@
 //! The parts of a header, each written behind the octets that are there.
 
 ghost use Rattle.std.specs.Prelude.{◌≡◌, ◌+◌, ◌<◌, ◌≤◌, ◌++◌, length};
-ghost use Rattle.rohc_header.specs.Original.{flag as flag_octet, word as word_octets, quad as quad_octets, ip_front, ip_part, ip_sum, addresses, udp_part, rtp_part};
+ghost use Rattle.rohc_header.specs.Original.{flag as flag_octet, word as word_octets, quad as quad_octets, longest_payload, ip_front, ip_part, ip_sum, addresses, udp_part, rtp_part};
 
 use crate::{Dynamic, Static};
 use arrayvec::ArrayVec;
@@ -13,7 +13,7 @@ pub(crate) type Octets = ArrayVec<u8, 40>;
 /// The IPv4 part (RFC 791 3.1).
 pub(crate) fn put_ip(octets: &mut Octets, fixed: &Static, moving: &Dynamic, payload_len: u16)
     requires room { length octets.old.items + 20 ≤ 40 }
-    requires fits { payload_len ≤ 65495 }
+    requires fits { payload_len ≤ longest_payload }
     ensures { octets.new.items ≡ octets.old.items ++ ip_part fixed.now moving.now payload_len (ip_sum fixed.now moving.now payload_len) }
 {
     let mut summed = Octets::new();
@@ -27,7 +27,7 @@ pub(crate) fn put_ip(octets: &mut Octets, fixed: &Static, moving: &Dynamic, payl
 /// The IPv4 part up to its checksum.
 fn put_ip_front(octets: &mut Octets, moving: &Dynamic, payload_len: u16)
     requires room { length octets.old.items + 10 ≤ 40 }
-    requires fits { payload_len ≤ 65495 }
+    requires fits { payload_len ≤ longest_payload }
     ensures { octets.new.items ≡ octets.old.items ++ ip_front moving.now payload_len }
 {
     octets.push(0x45);
@@ -52,7 +52,7 @@ fn put_addresses(octets: &mut Octets, fixed: &Static)
 /// The UDP part (RFC 768).
 pub(crate) fn put_udp(octets: &mut Octets, fixed: &Static, moving: &Dynamic, payload_len: u16)
     requires room { length octets.old.items + 8 ≤ 40 }
-    requires fits { payload_len ≤ 65495 }
+    requires fits { payload_len ≤ longest_payload }
     ensures { octets.new.items ≡ octets.old.items ++ udp_part fixed.now moving.now payload_len }
 {
     put_word(octets, fixed.source_port);

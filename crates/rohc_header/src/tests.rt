@@ -126,6 +126,120 @@ fn examples(rt: HostRuntime) {
     }
 }
 
+/// Headers that another program made, with each flag set in one and clear in another: their fields, the
+/// payload's length, their octets, and their checks of 3 and of 7 bits. RND and NBO leave no trace in them.
+#[test]
+fn each_flag(rt: HostRuntime) {
+    let rows: [(Static, Dynamic, usize, [u8; 40], u8, u8); 3] = [
+        (
+            Static {
+                source: [0x77, 0x6c, 0x86, 0xcf],
+                destination: [0x65, 0x48, 0xc6, 0x14],
+                source_port: 65_535,
+                destination_port: 65_534,
+                ssrc: 2_147_483_647,
+            },
+            Dynamic {
+                tos: 128,
+                ttl: 128,
+                id: 65_534,
+                df: true,
+                rnd: true,
+                nbo: false,
+                udp_sum: 0,
+                padding: false,
+                extension: false,
+                marker: false,
+                payload_type: 127,
+                sn: 22_444,
+                ts: 2_085_557_100,
+                stride: Some(160),
+            },
+            20,
+            [
+                0x45, 0x80, 0x00, 0x3c, 0xff, 0xfe, 0x40, 0x00, 0x80, 0x11, 0xd0, 0x99, 0x77, 0x6c,
+                0x86, 0xcf, 0x65, 0x48, 0xc6, 0x14, 0xff, 0xff, 0xff, 0xfe, 0x00, 0x28, 0x00, 0x00,
+                0x80, 0x7f, 0x57, 0xac, 0x7c, 0x4f, 0x13, 0x6c, 0x7f, 0xff, 0xff, 0xff,
+            ],
+            0x07,
+            0x7e,
+        ),
+        (
+            Static {
+                source: [0x1b, 0x03, 0xb6, 0xc3],
+                destination: [0x57, 0x9d, 0xab, 0x22],
+                source_port: 32_768,
+                destination_port: 32_768,
+                ssrc: 4_294_967_294,
+            },
+            Dynamic {
+                tos: 7,
+                ttl: 208,
+                id: 8_188,
+                df: false,
+                rnd: false,
+                nbo: false,
+                udp_sum: 2,
+                padding: true,
+                extension: false,
+                marker: true,
+                payload_type: 63,
+                sn: 0,
+                ts: 1_887_688_276,
+                stride: None,
+            },
+            20,
+            [
+                0x45, 0x07, 0x00, 0x3c, 0x1f, 0xfc, 0x00, 0x00, 0xd0, 0x11, 0xf6, 0x27, 0x1b, 0x03,
+                0xb6, 0xc3, 0x57, 0x9d, 0xab, 0x22, 0x80, 0x00, 0x80, 0x00, 0x00, 0x28, 0x00, 0x02,
+                0xa0, 0xbf, 0x00, 0x00, 0x70, 0x83, 0xd6, 0x54, 0xff, 0xff, 0xff, 0xfe,
+            ],
+            0x00,
+            0x63,
+        ),
+        (
+            Static {
+                source: [0xea, 0x2d, 0xf0, 0x52],
+                destination: [0xd2, 0x5a, 0xf4, 0xdb],
+                source_port: 13_597,
+                destination_port: 20_896,
+                ssrc: 1,
+            },
+            Dynamic {
+                tos: 165,
+                ttl: 128,
+                id: 33_897,
+                df: true,
+                rnd: false,
+                nbo: true,
+                udp_sum: 40_324,
+                padding: false,
+                extension: true,
+                marker: false,
+                payload_type: 127,
+                sn: 65_535,
+                ts: 2_147_483_648,
+                stride: None,
+            },
+            1,
+            [
+                0x45, 0xa5, 0x00, 0x29, 0x84, 0x69, 0x40, 0x00, 0x80, 0x11, 0xd3, 0xfe, 0xea, 0x2d,
+                0xf0, 0x52, 0xd2, 0x5a, 0xf4, 0xdb, 0x35, 0x1d, 0x51, 0xa0, 0x00, 0x15, 0x9d, 0x84,
+                0x90, 0x7f, 0xff, 0xff, 0x80, 0x00, 0x00, 0x00, 0x00, 0x00, 0x00, 0x01,
+            ],
+            0x00,
+            0x74,
+        ),
+    ];
+    for (fixed, moving, payload_len, octets, check3, check7) in rows {
+        assert!(rt; moving.payload_type < 128);
+        let header = Header::build(&fixed, &moving, payload_len).expect(&rt, "a payload that fits");
+        assert_eq!(rt; header.octets, octets);
+        assert_eq!(rt; header.check3(), check3);
+        assert_eq!(rt; header.check7(), check7);
+    }
+}
+
 // A packet is of 65,535 octets at most.
 #[test]
 fn longest_payload(rt: HostRuntime) {

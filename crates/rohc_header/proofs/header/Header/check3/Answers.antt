@@ -7,5 +7,5 @@ use Rattle.rohc_header.proofs.header.Header.check3.Goals as goal
 pub returns : goal.returns
 returns c =
     let octets = c.args.self.now.octets in
-    c.check3_from.ensures ∙ ap (λ reg. check poly3 reg (dynamic_octets octets)) c.static3.ensures
+    c.check3_from.ensures ∙ ap (λ reg. check poly3 reg (dynamic_octets octets)) c.static_register.ensures
     ∙ check-append poly3 (all_ones poly3) (static_octets octets) (dynamic_octets octets)

@@ -7,5 +7,5 @@ use Rattle.rohc_header.proofs.header.Header.check7.Goals as goal
 pub returns : goal.returns
 returns c =
     let octets = c.args.self.now.octets in
-    c.check7_from.ensures ∙ ap (λ reg. check poly7 reg (dynamic_octets octets)) c.static7.ensures
+    c.check7_from.ensures ∙ ap (λ reg. check poly7 reg (dynamic_octets octets)) c.static_register.ensures
     ∙ check-append poly7 (all_ones poly7) (static_octets octets) (dynamic_octets octets)
