@@ -1,3 +1,4 @@
 pub mod Fronts
 pub mod Spelling
 pub mod LowBits
+pub mod Reading

@@ -1,14 +1,12 @@
 -- Octets spell each value that lies in its range.
-use Rattle.std.proofs.Common.{◌≡◌, ℕ, ◌+◌, ◌*◌, ◌/◌, ◌%◌, ◌<◌, ◌≤◌, Bool, true, false, List, [], ◌∷◌, ◌++◌, Option, Some, None, refl, arith}
+use Rattle.std.proofs.Common.{ℕ, ◌+◌, ◌*◌, ◌/◌, ◌%◌, ◌<◌, ◌≤◌, Bool, true, false, List, [], ◌∷◌, ◌++◌, Option, Some, None, refl, arith}
 use Rattle.std.specs.Prelude.{All, is_some}
 use Rattle.std.proofs.lemmas.List.Elements.{All-nil, All-cons, All-append}
-use Rattle.rohc_bits.specs.Spelling.{IsSpelled}
 use Rattle.rohc_frame.specs.Laws.{IsOctet}
 use Rattle.rohc_header.specs.Original.{word, quad, flag}
-use Rattle.rohc_header.specs.declared.fields.Static.{Static}
 use Rattle.rohc_header.specs.declared.fields.Dynamic.{Dynamic}
 use Rattle.rohc_chain.specs.ChainText.{SpellsStride}
-use Rattle.rohc_chain.specs.Good.{IsGoodStatic, IsGoodStride, IsGoodDynamic}
+use Rattle.rohc_chain.specs.Good.{IsGoodStride, IsGoodDynamic}
 use Rattle.rohc_chain.specs.Laws.{SpellsEachStatic, SpellsEachDynamic}
 
 behind : (octet : ℕ) (text : List ℕ) → octet < 256 → All IsOctet text → All IsOctet (octet ∷ text)
