@@ -3,3 +3,4 @@ pub mod BitLists
 pub mod Fronts
 pub mod Values
 pub mod Widths
+pub mod ReadingLemmas

@@ -2,3 +2,4 @@ pub mod Bits
 pub mod Fronts
 pub mod Spelling
 pub mod LowBits
+pub mod Reading

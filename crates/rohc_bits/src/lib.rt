@@ -4,6 +4,7 @@
 pub mod bits;
 pub mod cursor;
 pub mod laws;
+pub mod reading;
 pub mod value;
 
 pub use bits::Bits;

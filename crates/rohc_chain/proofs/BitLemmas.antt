@@ -2,7 +2,7 @@
 use Rattle.std.proofs.Common.{◌≡◌, ℕ, ◌+◌, ◌*◌, ◌/◌, ◌%◌, ◌<◌, Bool, true, false, refl, arith}
 use Rattle.std.specs.Prelude.{◌==◌}
 use Rattle.std.proofs.lemmas.Bool.Decides.{nat_tests}
-use Rattle.rohc_chain.specs.Octets.{bit}
+use Rattle.rohc_bits.specs.Reading.{bit}
 use Rattle.rohc_header.specs.Original.{flag}
 
 -- DF, RND and NBO, and five ignored bits

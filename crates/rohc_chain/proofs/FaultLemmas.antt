@@ -4,12 +4,13 @@ use Rattle.std.specs.Prelude.{◌==◌, ◌↔◌, if◌then◌else◌}
 use Rattle.std.specs.Result.{result_err}
 use Rattle.std.proofs.lemmas.Bool.Decides.{nat_tests}
 use Rattle.std.proofs.lemmas.List.{take_all}
+use Rattle.rohc_bits.specs.Reading.{◌>>=◌, judged}
 use Rattle.rohc_frame.specs.Header.{Header}
 use Rattle.rohc_chain.specs.declared.parts.Kept.{Kept}
 use Rattle.rohc_chain.specs.declared.refusal.ChainRefusal.{ChainRefusal}
-use Rattle.rohc_chain.specs.Octets.{◌>>=◌, octet_at}
+use Rattle.rohc_chain.specs.Octets.{octet_at}
 use Rattle.rohc_chain.specs.Faults.{ir_profile_fault, dyn_profile_fault}
-use Rattle.rohc_chain.specs.Chains.{judged, judged_octet, static_at, dynamic_at}
+use Rattle.rohc_chain.specs.Chains.{judged_octet, static_at, dynamic_at}
 use Rattle.rohc_chain.specs.Packets.{IrContent, is_dynamic, cover, plain_cover, before, nothing_kept, length_fault, check_fault, ended, plain_at, static_only_at, whole_at, chains_at, ir_at, ir_dyn_at}
 use Rattle.rohc_chain.specs.Fields.{Fields, Payload, Nothing, Octets, Octet, after_fields, static_fields, dynamic_fields, chain_fields}
 use Rattle.rohc_chain.specs.Texts.{or_else, last_fault, last_ir_fault, fault_among, ir_fault, ir_dyn_fault}

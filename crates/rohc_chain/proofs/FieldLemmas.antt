@@ -1,10 +1,11 @@
 -- Reading a chain goes as far as its fields, and stops at the first fault among them.
 use Rattle.std.proofs.Common.{◌≡◌, ℕ, Bool, true, false, List, [], ◌∷◌, Option, Some, None, Result, Ok, Err, refl, ◌∙◌}
+use Rattle.rohc_bits.specs.Reading.{◌>>=◌, bit, judged, next_octet, next_word}
 use Rattle.rohc_chain.specs.declared.parts.Kept.{Kept}
 use Rattle.rohc_chain.specs.declared.refusal.ChainRefusal.{ChainRefusal}
-use Rattle.rohc_chain.specs.Octets.{◌>>=◌, octet_at, word_at, four_octets_at, quad_at, value_at, bit}
+use Rattle.rohc_chain.specs.Octets.{octet_at, word_at, four_octets_at, quad_at, value_at}
 use Rattle.rohc_chain.specs.Faults.{version_fault, protocol_fault, extension_list_fault, csrc_list_fault, rtp_fault, mode_fault, stride_fault}
-use Rattle.rohc_chain.specs.Chains.{judged, judged_octet, judged_value, ip_static_at, static_at, ip_dynamic_at, stride_at, behind_time_stride, flags_at, rtp_dynamic_at, dynamic_at}
+use Rattle.rohc_chain.specs.Chains.{judged_octet, judged_value, ip_static_at, static_at, ip_dynamic_at, stride_at, behind_time_stride, flags_at, rtp_dynamic_at, dynamic_at}
 use Rattle.rohc_chain.specs.Fields.{Fields, Octets, Octet, Value, after_fields, static_fields, ip_dynamic_fields, time_stride_fields, stride_fields, given_fields, rtp_dynamic_fields, dynamic_fields}
 
 -- Two steps and what follows them, where the second goes on as g does.
@@ -15,18 +16,18 @@ tied (Err refusal) f k g whole e same = e
 
 -- Fields and what a reader gives: they go as far.
 pub octet_fields : (more : Fields) (text : List ℕ) → after_fields (Octets 1 more) text ≡ (octet_at text >>= λ x. after_fields more x.1)
-unfolding octet_at
+unfolding next_octet
 octet_fields more [] = refl
 octet_fields more (a ∷ text) = refl
 
 word_fields : (more : Fields) (text : List ℕ) → after_fields (Octets 2 more) text ≡ (word_at text >>= λ x. after_fields more x.1)
-unfolding octet_at word_at
+unfolding next_octet next_word
 word_fields more [] = refl
 word_fields more (a ∷ []) = refl
 word_fields more (a ∷ b ∷ text) = refl
 
 four_fields : (more : Fields) (text : List ℕ) → after_fields (Octets 4 more) text ≡ (four_octets_at text >>= λ x. after_fields more x.1)
-unfolding octet_at four_octets_at
+unfolding next_octet four_octets_at
 four_fields more [] = refl
 four_fields more (a ∷ []) = refl
 four_fields more (a ∷ b ∷ []) = refl
@@ -34,7 +35,7 @@ four_fields more (a ∷ b ∷ c ∷ []) = refl
 four_fields more (a ∷ b ∷ c ∷ d ∷ text) = refl
 
 quad_fields : (more : Fields) (text : List ℕ) → after_fields (Octets 4 more) text ≡ (quad_at text >>= λ x. after_fields more x.1)
-unfolding octet_at word_at quad_at
+unfolding next_octet next_word quad_at
 quad_fields more [] = refl
 quad_fields more (a ∷ []) = refl
 quad_fields more (a ∷ b ∷ []) = refl
@@ -48,7 +49,7 @@ judged_by (Some refusal) octet text k = refl
 
 pub judged_fields : (fault : ℕ → Option ChainRefusal) (more : ℕ → Fields) (text : List ℕ) →
     after_fields (Octet fault more) text ≡ (judged_octet fault text >>= λ x. after_fields (more x.0) x.1)
-unfolding octet_at
+unfolding next_octet
 judged_fields fault more [] = refl
 judged_fields fault more (a ∷ text) = judged_by (fault a) a text (λ x. after_fields (more x.0) x.1)
 

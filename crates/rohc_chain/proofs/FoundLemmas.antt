@@ -5,6 +5,7 @@ use Rattle.std.proofs.Math.Seq.{drop-append_seam}
 use Rattle.std.proofs.lemmas.Bool.Decides.{nat_tests}
 use Rattle.std.proofs.lemmas.Bool.{eqb-true}
 use Rattle.std.proofs.lemmas.List.Elements.{All-head, All-tail, All-drop}
+use Rattle.rohc_bits.specs.Reading.{bit, next_word}
 use Rattle.rohc_bits.specs.Spelling.{IsSpelled}
 use Rattle.rohc_header.specs.declared.fields.Static.{Static}
 use Rattle.rohc_header.specs.declared.fields.Dynamic.{Dynamic}
@@ -13,7 +14,7 @@ use Rattle.rohc_chain.specs.declared.parts.IpDynamic.{IpDynamic}
 use Rattle.rohc_chain.specs.declared.parts.RtpDynamic.{RtpDynamic}
 use Rattle.rohc_chain.specs.declared.refusal.ChainRefusal.{ChainRefusal}
 use Rattle.rohc_chain.specs.declared.refusal.ChainRefusal.TheVariants.{IpVersion, Protocol, ExtensionList, RtpVersion, Csrc, ZeroStride, ReliableMode}
-use Rattle.rohc_chain.specs.Octets.{octet_at, word_at, four_octets_at, quad_at, value_at, bit}
+use Rattle.rohc_chain.specs.Octets.{octet_at, word_at, four_octets_at, quad_at, value_at}
 use Rattle.rohc_chain.specs.Faults.{unless, version_fault, protocol_fault, extension_list_fault, csrc_list_fault, rtp_fault, mode_fault, stride_fault}
 use Rattle.rohc_chain.specs.Chains.{judged_octet, judged_value, ip_static_at, static_at, ip_dynamic_at, stride_at, behind_time_stride, flags_at, rtp_dynamic_at, joined, dynamic_at}
 use Rattle.rohc_header.specs.Original.{word, quad, flag}
@@ -46,7 +47,7 @@ word_of high low l =
     rw (h, m) refl
 
 word_found : (text : List ℕ) (x : ℕ × List ℕ) → All IsOctet text → word_at text ≡ Ok x → Found text (word x.0) x.1 × (x.0 < 65536)
-unfolding word_at
+unfolding next_word
 word_found text x all e =
     let a = bind_ok (octet_at text) _ x e in
     let b = bind_ok (octet_at a.0.1) _ x a.2 in

@@ -2,12 +2,13 @@
 use Rattle.std.proofs.Common.{◌≡◌, ℕ, ◌+◌, ◌*◌, ◌/◌, ◌%◌, ◌≤◌, Bool, true, false, List, [], ◌∷◌, ◌++◌, length, Option, Some, None, Ok, refl, ap, ◌∙◌, append_assoc, arith}
 use Rattle.std.specs.Prelude.{◌==◌}
 use Rattle.std.proofs.lemmas.Bool.Decides.{nat_tests}
+use Rattle.rohc_bits.specs.Reading.{bit, next_octet, next_word}
 use Rattle.rohc_header.specs.declared.fields.Static.{Static}
 use Rattle.rohc_header.specs.declared.fields.Dynamic.{Dynamic}
 use Rattle.rohc_chain.specs.declared.parts.Kept.{Kept}
 use Rattle.rohc_chain.specs.declared.parts.IpDynamic.{IpDynamic}
 use Rattle.rohc_chain.specs.declared.parts.RtpDynamic.{RtpDynamic}
-use Rattle.rohc_chain.specs.Octets.{octet_at, word_at, four_octets_at, quad_at, bit}
+use Rattle.rohc_chain.specs.Octets.{word_at, four_octets_at, quad_at}
 use Rattle.rohc_chain.specs.Chains.{ip_static_at, static_at, ip_dynamic_at, stride_at, behind_time_stride, flags_at, rtp_dynamic_at, dynamic_at}
 use Rattle.rohc_header.specs.Original.{word, quad, flag}
 use Rattle.rohc_chain.specs.ChainText.{SpellsIpStatic, SpellsStatic, SpellsIpDynamic, SpellsStride, SpellsTimeStride, SpellsFlags, SpellsGiven, SpellsRtpDynamic, SpellsDynamic}
@@ -15,7 +16,7 @@ use Rattle.rohc_chain.proofs.Values.{value_read}
 use Rattle.rohc_chain.proofs.BitLemmas.{IpFlags, ip_flags, RtpFirst, rtp_first, RtpSecond, rtp_second, GivenFlags, given_flags}
 
 word_read : (n : ℕ) (rest : List ℕ) → word_at (word n ++ rest) ≡ Ok (n, rest)
-unfolding octet_at word_at
+unfolding next_octet next_word
 word_read n rest = let is : n / 256 * 256 + n % 256 ≡ n = omega arith in ap (λ (m : ℕ). Ok (m, rest)) is
 
 quad_read : (n : ℕ) (rest : List ℕ) → quad_at (quad n ++ rest) ≡ Ok (n, rest)
@@ -25,7 +26,7 @@ quad_read n rest =
     rw (word_read (n / 65536) (word (n % 65536) ++ rest), word_read (n % 65536) rest) (ap (λ (m : ℕ). Ok (m, rest)) is)
 
 four_read : (octets rest : List ℕ) → length octets ≡ 4 → four_octets_at (octets ++ rest) ≡ Ok (octets, rest)
-unfolding octet_at four_octets_at
+unfolding next_octet four_octets_at
 four_read [] rest l = absurd (omega arith)
 four_read (a ∷ []) rest l = absurd (omega arith)
 four_read (a ∷ b ∷ []) rest l = absurd (omega arith)
@@ -34,7 +35,7 @@ four_read (a ∷ b ∷ c ∷ d ∷ []) rest l = refl
 four_read (a ∷ b ∷ c ∷ d ∷ e ∷ octets) rest l = absurd (omega arith)
 
 ip_static_read : (source destination text rest : List ℕ) → SpellsIpStatic source destination text → ip_static_at (text ++ rest) ≡ Ok ((source, destination), rest)
-unfolding octet_at ip_static_at
+unfolding next_octet ip_static_at
 ip_static_read source destination text rest is =
     let four : ((64 + is.ignored) / 16 == 4) ≡ true = let low = is.four_bits in grind (arith, nat_tests) in
     let parts : source ++ destination ++ rest ≡ source ++ (destination ++ rest) = append_assoc source destination rest in
@@ -55,7 +56,7 @@ abbrev pub ip_part : Dynamic → IpDynamic
 ip_part moving = record { tos = moving.tos; ttl = moving.ttl; id = moving.id; df = moving.df; rnd = moving.rnd; nbo = moving.nbo }
 
 ip_dynamic_read : (moving : Dynamic) (text rest : List ℕ) → SpellsIpDynamic moving text → ip_dynamic_at (text ++ rest) ≡ Ok (ip_part moving, rest)
-unfolding octet_at ip_dynamic_at
+unfolding next_octet ip_dynamic_at
 ip_dynamic_read moving text rest is =
     let flags : ℕ = flag moving.df 128 + flag moving.rnd 64 + flag moving.nbo 32 + is.ignored in
     let found : IpFlags flags moving.df moving.rnd moving.nbo = ip_flags moving.df moving.rnd moving.nbo is.ignored is.five_bits in
@@ -78,7 +79,7 @@ time_read true flags text rest e is = rw (e, value_read text rest is.0 is.1) ref
 
 flags_read : (kept : Kept) (extension : Bool) (stride : Option ℕ) (text rest : List ℕ) → SpellsFlags kept.stride extension stride text →
     flags_at kept true (text ++ rest) ≡ Ok (record { extension = extension; stride = stride }, rest)
-unfolding octet_at flags_at
+unfolding next_octet flags_at
 flags_read kept extension stride text rest is =
     let flags : ℕ = 32 * is.ignored + flag extension 16 + 4 * is.mode + flag is.tis 2 + flag is.tss 1 in
     let low = is.not_reliable in
@@ -99,7 +100,7 @@ abbrev pub rtp_part : Dynamic → RtpDynamic
 rtp_part moving = record { padding = moving.padding; extension = moving.extension; marker = moving.marker; payload_type = moving.payload_type; sn = moving.sn; ts = moving.ts; stride = moving.stride }
 
 rtp_dynamic_read : (kept : Kept) (moving : Dynamic) (text rest : List ℕ) → SpellsRtpDynamic kept moving text → rtp_dynamic_at kept (text ++ rest) ≡ Ok (rtp_part moving, rest)
-unfolding octet_at rtp_dynamic_at
+unfolding next_octet rtp_dynamic_at
 rtp_dynamic_read kept moving text rest is =
     let first : RtpFirst (128 + flag moving.padding 32 + flag is.rx 16) moving.padding is.rx = rtp_first moving.padding is.rx in
     let second : RtpSecond (flag moving.marker 128 + moving.payload_type) moving.marker moving.payload_type = rtp_second moving.marker moving.payload_type is.seven_bits in

@@ -1,8 +1,9 @@
 -- What reading gave, step by step.
 use Rattle.std.proofs.Common.{◌≡◌, ℕ, List, [], ◌∷◌, Option, Some, None, Result, Ok, Err, refl, sym, ap, ◌∙◌}
+use Rattle.rohc_bits.specs.Reading.{◌>>=◌, judged, next_octet}
 use Rattle.rohc_chain.specs.declared.refusal.ChainRefusal.{ChainRefusal}
-use Rattle.rohc_chain.specs.Octets.{◌>>=◌, octet_at}
-use Rattle.rohc_chain.specs.Chains.{judged, judged_octet}
+use Rattle.rohc_chain.specs.Octets.{octet_at}
+use Rattle.rohc_chain.specs.Chains.{judged_octet}
 
 pub ok_is : {A : Type 0} (x y : A) → ◌≡◌ {A = Result A ChainRefusal} (Ok x) (Ok y) → x ≡ y
 ok_is x y e = cc
@@ -20,7 +21,7 @@ bind_ok (Err refusal) f y e = cc
 
 -- an octet that was read stands at the front
 pub octet_found : (text : List ℕ) (x : ℕ × List ℕ) → octet_at text ≡ Ok x → text ≡ x.0 ∷ x.1
-unfolding octet_at
+unfolding next_octet
 octet_found [] x e = cc
 octet_found (octet ∷ text) x e =
     let is : ◌≡◌ {A = ℕ × List ℕ} (octet, text) x = ok_is (octet, text) x e in

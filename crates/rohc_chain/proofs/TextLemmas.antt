@@ -6,6 +6,7 @@ use Rattle.std.proofs.Math.Seq.{take-append_seam}
 use Rattle.std.proofs.lemmas.Bool.{eqb-true, eq-eqb}
 use Rattle.std.proofs.lemmas.Bool.Decides.{nat_tests}
 use Rattle.std.proofs.lemmas.List.{append-nil, nil_from_length}
+use Rattle.rohc_bits.specs.Reading.{judged, next_octet}
 use Rattle.rohc_frame.specs.declared.header.HeadKind.{HeadKind}
 use Rattle.rohc_frame.specs.declared.header.HeadKind.TheVariants.{Ir, IrDyn, Other}
 use Rattle.rohc_frame.specs.Header.{Header}
@@ -18,7 +19,7 @@ use Rattle.rohc_chain.specs.declared.refusal.ChainRefusal.{ChainRefusal}
 use Rattle.rohc_chain.specs.declared.refusal.ChainRefusal.TheVariants.{Profile, ProfileChange, Trailing, TooLong, Check}
 use Rattle.rohc_chain.specs.Octets.{octet_at}
 use Rattle.rohc_chain.specs.Faults.{ir_profile_fault, dyn_profile_fault}
-use Rattle.rohc_chain.specs.Chains.{judged, judged_octet, static_at, dynamic_at}
+use Rattle.rohc_chain.specs.Chains.{judged_octet, static_at, dynamic_at}
 use Rattle.rohc_chain.specs.Packets.{longest_payload, IrContent, Plain, StaticOnly, Whole, ir_content, DynContent, dyn_content, IsIr, IsIrDyn, is_dynamic, plain_cover, cover, fits, before, nothing_kept, length_fault, check_fault, ended, plain_at, static_only_at, whole_at, chains_at, ir_at, ir_dyn_at}
 use Rattle.rohc_chain.specs.ChainText.{SpellsStatic, SpellsDynamic}
 use Rattle.rohc_chain.specs.Texts.{check_of, IsPlainText, IsStaticText, IsWholeText, IsIrText, IsIrDynText, IsShort, ir_fault, ir_dyn_fault}
@@ -40,11 +41,11 @@ check_fits : (covered : List ℕ) → check_fault (check_of covered) covered ≡
 check_fits covered = rw (eq-eqb (check_of covered) (check_of covered) refl) refl
 
 plain_read : (h : Header) (packet : List ℕ) → IsPlainText h packet → ir_at h ≡ Ok (Plain packet)
-unfolding ir_at octet_at
+unfolding ir_at next_octet
 plain_read h packet is = rw (is.whole, is.kind, check_fits (plain_cover h)) refl
 
 static_text_read : (h : Header) (fixed : Static) → IsStaticText h fixed → ir_at h ≡ Ok (StaticOnly fixed)
-unfolding ir_at octet_at static_only_at
+unfolding ir_at next_octet static_only_at
 static_text_read h fixed is =
     let chains : static_at is.chains ≡ Ok (fixed, []) = ap static_at (sym (append-nil is.chains)) ∙ static_read fixed is.chains [] is.spells_static in
     rw (is.whole, is.kind, chains, check_fits (cover h is.chains)) refl
@@ -55,7 +56,7 @@ short payload l =
     rw test refl
 
 whole_text_read : (h : Header) (fixed : Static) (moving : Dynamic) (payload : List ℕ) → IsWholeText h fixed moving payload → length payload ≤ longest_payload → ir_at h ≡ Ok (Whole fixed moving payload)
-unfolding ir_at octet_at whole_at
+unfolding ir_at next_octet whole_at
 whole_text_read h fixed moving payload is l =
     let first : static_at (is.static_chain ++ (is.dynamic_chain ++ payload)) ≡ Ok (fixed, is.dynamic_chain ++ payload) = static_read fixed is.static_chain (is.dynamic_chain ++ payload) is.spells_static in
     let second : dynamic_at nothing_kept (is.dynamic_chain ++ payload) ≡ Ok (moving, payload) = dynamic_read nothing_kept moving is.dynamic_chain payload is.spells_dynamic in
@@ -69,7 +70,7 @@ ir_from_text h (StaticOnly fixed) is l = static_text_read h fixed is
 ir_from_text h (Whole fixed moving payload) is l = whole_text_read h fixed moving payload is l
 
 pub dyn_from_text : (h : Header) (profile : ℕ) (kept : Kept) (packet : DynContent) → IsIrDynText h profile kept packet → length packet.payload ≤ longest_payload → ir_dyn_at h profile kept ≡ Ok packet
-unfolding ir_dyn_at octet_at
+unfolding ir_dyn_at next_octet
 dyn_from_text h profile kept packet is l =
     let read : dynamic_at kept (is.chain ++ packet.payload) ≡ Ok (packet.moving, packet.payload) = dynamic_read kept packet.moving is.chain packet.payload is.spells_dynamic in
     rw (is.for_profile_1, is.whole, read, short packet.payload l, before_end is.chain packet.payload, check_fits (cover h is.chain)) refl

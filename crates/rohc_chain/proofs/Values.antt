@@ -1,17 +1,23 @@
 -- Self-describing values: what stands at the front of a text is read, and what is read stands there.
-use Rattle.std.proofs.Common.{◌≡◌, ℕ, ◌≤◌, List, ◌++◌, length, take, drop, Option, Some, None, Ok, refl, subst, sym, ap, ◌∙◌, get_or, Fits, w8, arith}
-use Rattle.std.specs.Prelude.{All, IfSome}
-use Rattle.std.proofs.lemmas.List.Elements.{All-from_get_or}
+use Rattle.std.proofs.Common.{◌≡◌, ℕ, List, ◌++◌, drop, Option, Some, None, Result, Ok, refl, subst, sym, ap, ◌∙◌}
+use Rattle.std.specs.Prelude.{All}
+use Rattle.rohc_bits.specs.Reading.{◌>>=◌, value_or, next_value}
 use Rattle.rohc_bits.specs.Fronts.{front_value}
 use Rattle.rohc_bits.specs.Spelling.{IsSpelled, Spells}
-use Rattle.rohc_bits.proofs.Fronts.{front_read, front_found, all_front, drop_front, behind_value, read_is_front}
+use Rattle.rohc_bits.proofs.Fronts.{front_read, front_found, all_front, drop_front, behind_value}
 pub use Rattle.rohc_frame.specs.Laws.{IsOctet}
-use Rattle.rohc_chain.specs.Octets.{value_of, value_at}
+use Rattle.rohc_chain.specs.declared.refusal.ChainRefusal.{ChainRefusal}
+use Rattle.rohc_chain.specs.declared.refusal.ChainRefusal.TheVariants.{Truncated}
+use Rattle.rohc_chain.specs.Octets.{value_at}
 use Rattle.rohc_chain.proofs.Steps.{ok_parts}
+
+-- the number that is found at the front of a text, if one is
+abbrev value_of : List ℕ → Option (ℕ × ℕ) → Result (ℕ × List ℕ) ChainRefusal
+value_of text found = value_or Truncated text found >>= λ x. Ok (x.0.value, x.1)
 
 -- a value that stands at the front is read
 pub value_read : (t rest : List ℕ) (v : ℕ) → IsSpelled t v → value_at (t ++ rest) ≡ Ok (v, rest)
-unfolding value_at
+unfolding value_at next_value
 value_read t rest v is = ap (value_of (t ++ rest)) (front_read t rest v is.spells) ∙ ap (λ (behind : List ℕ). Ok (v, behind)) (drop_front t rest)
 
 -- what a value's text is, and what stands behind it
@@ -36,15 +42,5 @@ found_at text v rest (Some (value, count)) all is e =
 
 -- a value that is read stands at the front
 pub value_found : (text : List ℕ) (v : ℕ) (rest : List ℕ) → All IsOctet text → value_at text ≡ Ok (v, rest) → ValueFront text v rest
-unfolding value_at
+unfolding value_at next_value
 value_found text v rest all e = found_at text v rest (front_value text) all refl e
-
--- what answers the value that a front of octets spells, and misses none, reads it
-pub value_is : (text : List ℕ) (read : Option (ℕ × ℕ)) → ((i : ℕ) → Fits w8 (get_or text i 0)) →
-    IfSome read (λ r. r.1 ≤ length text) → IfSome read (λ r. IsSpelled (take r.1 text) r.0) →
-    ((t rest : List ℕ) (v : ℕ) → text ≡ t ++ rest → IsSpelled t v → read ≡ Some (v, length t)) → value_at text ≡ value_of text read
-unfolding value_at
-value_is text read fits within spelled every = ap (value_of text) (sym (read_is_front text read fits within spelled every))
-
-pub all_octets : (text : List ℕ) → ((i : ℕ) → Fits w8 (get_or text i 0)) → All IsOctet text
-all_octets text fits = All-from_get_or IsOctet text 0 (λ i _. omega (arith, fits i))

@@ -1,18 +1,14 @@
 -- The chains of an IR or IR-DYN, read from left to right, with the first fault that is met.
-use Rattle.std.specs.Prelude.{ℕ, ◌%◌, List, Bool, if◌then◌else◌, Option, Some, None, Result, Ok, Err}
+use Rattle.std.specs.Prelude.{ℕ, ◌%◌, List, Bool, if◌then◌else◌, Option, Some, Result, Ok}
+use Rattle.rohc_bits.specs.Reading.{◌>>=◌, judged, bit}
 use Rattle.rohc_header.specs.declared.fields.Static.{Static}
 use Rattle.rohc_header.specs.declared.fields.Dynamic.{Dynamic}
 use Rattle.rohc_chain.specs.declared.parts.IpDynamic.{IpDynamic}
 use Rattle.rohc_chain.specs.declared.parts.RtpDynamic.{RtpDynamic}
 use Rattle.rohc_chain.specs.declared.parts.Kept.{Kept}
 use Rattle.rohc_chain.specs.declared.refusal.ChainRefusal.{ChainRefusal}
-use Rattle.rohc_chain.specs.Octets.{◌>>=◌, octet_at, word_at, four_octets_at, quad_at, value_at, bit}
+use Rattle.rohc_chain.specs.Octets.{octet_at, word_at, four_octets_at, quad_at, value_at}
 use Rattle.rohc_chain.specs.Faults.{version_fault, protocol_fault, extension_list_fault, csrc_list_fault, rtp_fault, mode_fault, stride_fault}
-
--- what was read, or its refusal where there is one
-abbrev pub judged : {A : Type 0} → Option ChainRefusal → A → Result A ChainRefusal
-judged None x = Ok x
-judged (Some refusal) x = Err refusal
 
 -- an octet, where it isn't refused
 abbrev pub judged_octet : (ℕ → Option ChainRefusal) → List ℕ → Result (ℕ × List ℕ) ChainRefusal

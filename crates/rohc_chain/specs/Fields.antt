@@ -1,11 +1,11 @@
 -- The fields of IR and IR-DYN packets in the order of their octets, and the first fault among them (RFC 3095
 -- 5.7.7).
 use Rattle.std.specs.Prelude.{ℕ, zero, suc, List, [], ◌∷◌, Bool, ◌==◌, if◌then◌else◌, Option, None, Result, Ok, Err}
+use Rattle.rohc_bits.specs.Reading.{◌>>=◌, bit, judged}
 use Rattle.rohc_chain.specs.declared.refusal.ChainRefusal.{ChainRefusal}
 use Rattle.rohc_chain.specs.declared.refusal.ChainRefusal.TheVariants.{Truncated, Trailing}
-use Rattle.rohc_chain.specs.Octets.{◌>>=◌, value_at, bit}
+use Rattle.rohc_chain.specs.Octets.{value_at}
 use Rattle.rohc_chain.specs.Faults.{ir_profile_fault, dyn_profile_fault, version_fault, protocol_fault, extension_list_fault, csrc_list_fault, rtp_fault, mode_fault, stride_fault}
-use Rattle.rohc_chain.specs.Chains.{judged}
 
 -- The fields that stand one behind the other: octets that are taken as they are; an octet with its refusal,
 -- which names the fields behind it; a self-describing value with its refusal. Then comes a payload, or

@@ -1,5 +1,6 @@
 -- Whole IR and IR-DYN packets, read from left to right, with the first fault that is met.
 use Rattle.std.specs.Prelude.{ℕ, ◌-◌, List, [], ◌∷◌, ◌++◌, length, take, Bool, false, ◌==◌, nat_le, if◌then◌else◌, Option, None, Result}
+use Rattle.rohc_bits.specs.Reading.{◌>>=◌, judged}
 use Rattle.rohc_checks.specs.Division.{check, poly8}
 use Rattle.rohc_frame.specs.declared.header.HeadKind.{HeadKind}
 use Rattle.rohc_frame.specs.declared.header.HeadKind.TheVariants.{Ir, IrDyn, Other}
@@ -14,9 +15,9 @@ use Rattle.rohc_chain.specs.declared.packet.Ir.TheVariants as code
 use Rattle.rohc_chain.specs.declared.parts.Kept.{Kept}
 use Rattle.rohc_chain.specs.declared.refusal.ChainRefusal.{ChainRefusal}
 use Rattle.rohc_chain.specs.declared.refusal.ChainRefusal.TheVariants.{Trailing, TooLong, Check}
-use Rattle.rohc_chain.specs.Octets.{◌>>=◌, octet_at}
+use Rattle.rohc_chain.specs.Octets.{octet_at}
 use Rattle.rohc_chain.specs.Faults.{ir_profile_fault, dyn_profile_fault, unless}
-use Rattle.rohc_chain.specs.Chains.{judged, judged_octet, static_at, dynamic_at}
+use Rattle.rohc_chain.specs.Chains.{judged_octet, static_at, dynamic_at}
 
 -- What an IR says, apart from where its payload lies in memory.
 pub data IrContent : Type 0 where

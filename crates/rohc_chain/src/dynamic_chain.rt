@@ -1,7 +1,7 @@
 //! The dynamic chain: what moves from header to header (RFC 3095 5.7.7.4 to 5.7.7.6).
 
 ghost use Rattle.std.specs.Prelude.{◌≤◌, length};
-ghost use Rattle.rohc_chain.specs.Octets.{Reads};
+ghost use Rattle.rohc_bits.specs.Reading.{Reads};
 ghost use Rattle.rohc_chain.specs.Chains.{ip_dynamic_at, stride_at, behind_time_stride, flags_at, rtp_dynamic_at, dynamic_at};
 
 use crate::octets::{is_set, octet, quad, value, word};

@@ -10,12 +10,13 @@ ghost use Rattle.rohc_chain.specs.Texts.{IsIrText, IsShort, ir_fault};
 
 use crate::cover::{fits_chains, fits_plain};
 use crate::dynamic_chain::dynamic_chain;
-use crate::octets::{cursor_over, octet};
+use crate::octets::octet;
 use crate::packet::{Ir, LONGEST_PAYLOAD};
 use crate::parts::Kept;
 use crate::refusal::ChainRefusal;
 use crate::static_chain::static_chain;
 use rohc_bits::Cursor;
+use rohc_bits::reading::cursor_over;
 use rohc_frame::{Forward, HeadKind};
 
 /// The Profile octets of the two profiles.

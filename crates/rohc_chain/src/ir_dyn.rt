@@ -10,10 +10,11 @@ ghost use Rattle.rohc_chain.specs.Texts.{IsIrDynText, ir_dyn_fault};
 
 use crate::cover::fits_chains;
 use crate::dynamic_chain::dynamic_chain;
-use crate::octets::{cursor_over, octet};
+use crate::octets::octet;
 use crate::packet::{IrDyn, LONGEST_PAYLOAD};
 use crate::parts::Kept;
 use crate::refusal::ChainRefusal;
+use rohc_bits::reading::cursor_over;
 use rohc_frame::Forward;
 
 /// Reads an IR-DYN from left to right.

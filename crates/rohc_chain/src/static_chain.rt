@@ -1,7 +1,7 @@
 //! The static chain: what stays as it is in all headers of a call (RFC 3095 5.7.7.4 to 5.7.7.6).
 
 ghost use Rattle.std.specs.Prelude.{◌≤◌, length};
-ghost use Rattle.rohc_chain.specs.Octets.{Reads};
+ghost use Rattle.rohc_bits.specs.Reading.{Reads};
 ghost use Rattle.rohc_chain.specs.Chains.{ip_static_at, static_at};
 
 use crate::octets::{four_octets, octet, quad, word};

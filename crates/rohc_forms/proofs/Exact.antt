@@ -1,15 +1,14 @@
 -- A reader reads exactly the texts of a piece.
-use Rattle.std.proofs.Common.{◌≡◌, ℕ, ◌+◌, ◌*◌, ◌≤◌, Bool, true, false, List, [], ◌∷◌, ◌++◌, length, take, drop, Option, Some, None, Result, Ok, Err, refl, sym, ap, subst, ◌∙◌, append_assoc, get_or, Fits, w8, arith}
-use Rattle.std.specs.Prelude.{if◌then◌else◌, All, IfSome}
-use Rattle.std.proofs.lemmas.List.Elements.{All-from_get_or}
-use Rattle.rohc_frame.specs.Laws.{IsOctet}
+use Rattle.std.proofs.Common.{◌≡◌, ℕ, ◌+◌, ◌*◌, Bool, true, false, List, [], ◌∷◌, ◌++◌, length, drop, Option, Some, None, Result, Ok, Err, refl, sym, ap, subst, ◌∙◌, append_assoc}
+use Rattle.std.specs.Prelude.{if◌then◌else◌}
+use Rattle.rohc_forms.specs.declared.refusal.FormRefusal.TheVariants.{Truncated}
+use Rattle.rohc_bits.specs.Reading.{value_or, ◌>>=◌, judged, next_octet, next_word, next_value}
 use Rattle.rohc_bits.specs.Fronts.{front_value, value_bits}
-use Rattle.rohc_bits.specs.Spelling.{IsSpelled, Spells}
-use Rattle.rohc_bits.proofs.Fronts.{front_read, front_found, drop_front, behind_value, read_is_front}
+use Rattle.rohc_bits.specs.Spelling.{Spells}
+use Rattle.rohc_bits.proofs.Fronts.{front_read, front_found, drop_front, behind_value}
 use Rattle.rohc_forms.specs.declared.refusal.FormRefusal.{FormRefusal}
 use Rattle.rohc_bits.specs.LowBits.{LowBits}
-use Rattle.rohc_forms.specs.Octets.{◌>>=◌, octet_at, word_at, octet_if, word_if, value_of, value_at}
-use Rattle.rohc_forms.specs.Judging.{judged}
+use Rattle.rohc_forms.specs.Octets.{octet_at, word_at, octet_if, word_if, value_at}
 use Rattle.rohc_forms.specs.Pieces.{IsOneOctet, IsWord, IsValue, NoMore, Then, IfNamed, Which, As, NotRefused, Unless}
 
 pub ok_is : {A : Type 0} (x y : A) → ◌≡◌ {A = Result A FormRefusal} (Ok x) (Ok y) → x ≡ y
@@ -137,22 +136,22 @@ exact_if_named {A} named f R p =
     same_piece _ (As (λ x. x) (IfNamed named R)) (IfNamed named R) (λ y text n. rw n.2 n.1) (λ y text n. (y, n, refl)) (exact_named named (λ x. x) f R p)
 
 octet_found : (text behind : List ℕ) (x : ℕ) → octet_at text ≡ Ok (x, behind) → (front : List ℕ) × (text ≡ front ++ behind) × IsOneOctet x front
-unfolding octet_at
+unfolding next_octet
 octet_found [] behind x e = cc
 octet_found (a ∷ text) behind x e = let is = ok_parts a x text behind e in (x ∷ [], rw (is.0, is.1) refl, refl)
 
 octet_given : (front behind : List ℕ) (x : ℕ) → IsOneOctet x front → octet_at (front ++ behind) ≡ Ok (x, behind)
-unfolding octet_at
+unfolding next_octet
 octet_given front behind x is = rw is refl
 
 word_found : (text behind : List ℕ) (x : ℕ) → word_at text ≡ Ok (x, behind) → (front : List ℕ) × (text ≡ front ++ behind) × IsWord x front
-unfolding octet_at word_at
+unfolding next_octet next_word
 word_found [] behind x e = cc
 word_found (a ∷ []) behind x e = cc
 word_found (a ∷ b ∷ text) behind x e = let is = ok_parts (a * 256 + b) x text behind e in (a ∷ b ∷ [], ap (λ (t : List ℕ). a ∷ b ∷ t) is.1, (a, b, refl, sym is.0))
 
 word_given : (front behind : List ℕ) (x : ℕ) → IsWord x front → word_at (front ++ behind) ≡ Ok (x, behind)
-unfolding octet_at word_at
+unfolding next_octet next_word
 word_given front behind x n = rw (n.2, n.3) refl
 
 pub exact_octet : Exact octet_at IsOneOctet
@@ -173,7 +172,7 @@ unfolding word_if
 exact_word_if named = exact_if_named named word_at IsWord exact_word
 
 -- what was read of a value
-value_found_at : (text behind : List ℕ) (d : LowBits) (found : Option (ℕ × ℕ)) → front_value text ≡ found → value_of text found ≡ Ok (d, behind) →
+value_found_at : (text behind : List ℕ) (d : LowBits) (found : Option (ℕ × ℕ)) → front_value text ≡ found → value_or Truncated text found ≡ Ok (d, behind) →
     (front : List ℕ) × (text ≡ front ++ behind) × IsValue d front
 value_found_at text behind d None is e = cc
 value_found_at text behind d (Some (value, count)) is e =
@@ -189,21 +188,10 @@ value_found_at text behind d (Some (value, count)) is e =
 
 -- a self-describing value
 pub exact_value : Exact value_at IsValue
-unfolding value_at
+unfolding next_value
 exact_value = record {
   found = λ text behind d e. value_found_at text behind d (front_value text) refl e;
   gives = λ front behind d is.
       let counted : record { count = value_bits (length front); value = d.value } ≡ d = ap (λ n. record { count = n; value = d.value }) (sym is.1) in
-      ap (value_of (front ++ behind)) (front_read front behind d.value is.0) ∙ (λ i. Ok (counted i, drop_front front behind i));
+      ap (value_or Truncated (front ++ behind)) (front_read front behind d.value is.0) ∙ (λ i. Ok (counted i, drop_front front behind i));
 }
-
--- what answers the value that a front of octets spells, and misses none, reads it
-pub value_is : (text : List ℕ) (read : Option (ℕ × ℕ)) → ((i : ℕ) → Fits w8 (get_or text i 0)) →
-    IfSome read (λ r. r.1 ≤ length text) → IfSome read (λ r. IsSpelled (take r.1 text) r.0) →
-    ((t rest : List ℕ) (v : ℕ) → text ≡ t ++ rest → IsSpelled t v → read ≡ Some (v, length t)) → value_at text ≡ value_of text read
-unfolding value_at
-value_is text read fits within spelled every = ap (value_of text) (sym (read_is_front text read fits within spelled every))
-
--- octets in memory are below 256
-pub all_octets : (text : List ℕ) → ((i : ℕ) → Fits w8 (get_or text i 0)) → All IsOctet text
-all_octets text fits = All-from_get_or IsOctet text 0 (λ i _. omega (arith, fits i))

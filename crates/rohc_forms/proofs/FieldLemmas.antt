@@ -2,15 +2,16 @@
 use Rattle.std.proofs.Common.{◌≡◌, ℕ, ◌+◌, ◌*◌, Bool, true, false, List, [], ◌∷◌, Option, Some, None, Result, Ok, Err, refl, sym, ap, ◌∙◌}
 use Rattle.std.specs.Prelude.{◌||◌, is_some, IfErr, nat_lt, if◌then◌else◌}
 use Rattle.std.specs.Result.{result_map_both}
+use Rattle.rohc_bits.specs.Reading.{◌>>=◌, judged, next_octet, next_word}
 use Rattle.rohc_frame.specs.Header.{Header}
 use Rattle.rohc_forms.specs.declared.form.FormKind.{FormKind}
 use Rattle.rohc_forms.specs.declared.parts.Base.{Base}
 use Rattle.rohc_forms.specs.declared.parts.IpFlags.{IpFlags}
 use Rattle.rohc_forms.specs.declared.parts.RtpFlags.{RtpFlags}
 use Rattle.rohc_forms.specs.declared.refusal.FormRefusal.{FormRefusal}
-use Rattle.rohc_forms.specs.Octets.{◌>>=◌, octet_at, word_at, octet_if, word_if, value_at}
+use Rattle.rohc_forms.specs.Octets.{octet_at, word_at, octet_if, word_if, value_at}
 use Rattle.rohc_forms.specs.Table.{Said, S, R-TS, Tsc, I, IP, RTP, has, base_said}
-use Rattle.rohc_forms.specs.Judging.{judged, ip_fault, twice_fault, protocol_fault, rtp_fault, stride_fault, no_stride_fault}
+use Rattle.rohc_forms.specs.Judging.{ip_fault, twice_fault, protocol_fault, rtp_fault, stride_fault, no_stride_fault}
 use Rattle.rohc_forms.specs.Given.{ip_flags, rnd_in_force, rtp_flags, rtp_values}
 use Rattle.rohc_forms.specs.Extension.{judged_octet, ip_octet_at, sn_at, ts_at, behind_protocol, ip_given_at, offset_at, stride_at, behind_time_stride, behind_rtp_octet, rtp_given_at, behind_ip_octet}
 use Rattle.rohc_forms.specs.Content.{Content, form_kind}
@@ -31,18 +32,18 @@ same_steps (Err refusal) f g same = refl
 
 -- FieldList and what a reader gives: they go as far.
 octet_fields : (more : FieldList) (text : List ℕ) → after_fields (Octets 1 more) text ≡ (octet_at text >>= λ x. after_fields more x.1)
-unfolding octet_at
+unfolding next_octet
 octet_fields more [] = refl
 octet_fields more (a ∷ text) = refl
 
 word_fields : (more : FieldList) (text : List ℕ) → after_fields (Octets 2 more) text ≡ (word_at text >>= λ x. after_fields more x.1)
-unfolding octet_at word_at
+unfolding next_octet next_word
 word_fields more [] = refl
 word_fields more (a ∷ []) = refl
 word_fields more (a ∷ b ∷ text) = refl
 
 any_octet_fields : (more : ℕ → FieldList) (text : List ℕ) → after_fields (Octet any more) text ≡ (octet_at text >>= λ x. after_fields (more x.0) x.1)
-unfolding octet_at
+unfolding next_octet
 any_octet_fields more [] = refl
 any_octet_fields more (a ∷ text) = refl
 
@@ -63,7 +64,7 @@ judged_by (Some refusal) octet text k = refl
 
 judged_fields : (fault : ℕ → Option FormRefusal) (more : ℕ → FieldList) (text : List ℕ) →
     after_fields (Octet fault more) text ≡ (judged_octet fault text >>= λ x. after_fields (more x.0) x.1)
-unfolding octet_at
+unfolding next_octet
 judged_fields fault more [] = refl
 judged_fields fault more (a ∷ text) = judged_by (fault a) a text (λ x. after_fields (more x.0) x.1)
 
@@ -202,7 +203,7 @@ base_read base rnd udp_sum known text false e = rw e refl
 
 first_read : (first : ℕ) (more : Base → FieldList) (text : List ℕ) (one two : Bool) → nat_lt first 128 ≡ one → nat_lt first 192 ≡ two →
     after_fields (behind_first first more) text ≡ (base_at first text >>= λ x. after_fields (more x.0) x.1)
-unfolding base_at word_at
+unfolding base_at next_word
 first_read first more text true two e f = rw e refl
 first_read first more text false true e f = rw (e, f) (tied (octet_at text) _ _ _ _ (any_octet_fields (λ second. more (record { first = first; number = first * 256 + second })) text) (λ x. refl))
 first_read first more text false false e f = rw (e, f) (

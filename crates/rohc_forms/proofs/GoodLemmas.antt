@@ -6,6 +6,7 @@ use Rattle.std.proofs.Math.Nat.{pow-le-pow_right}
 use Rattle.std.proofs.lemmas.Nat.{pow_pos, mod_below}
 use Rattle.std.proofs.lemmas.Bool.Decides.{nat_tests}
 use Rattle.std.proofs.lemmas.List.Elements.{All-head, All-tail, All-take, All-drop}
+use Rattle.rohc_bits.specs.Reading.{bit}
 use Rattle.rohc_bits.specs.Fronts.{value_bits}
 use Rattle.rohc_bits.specs.LowBits.{LowBits}
 use Rattle.rohc_bits.proofs.Values.{value_fits, value_range}
@@ -19,7 +20,7 @@ use Rattle.rohc_forms.specs.declared.parts.IpGiven.{IpGiven}
 use Rattle.rohc_forms.specs.declared.parts.RtpFlags.{RtpFlags}
 use Rattle.rohc_forms.specs.declared.refusal.FormRefusal.{FormRefusal}
 use Rattle.rohc_forms.specs.declared.refusal.FormRefusal.TheVariants.{ZeroStride, NoStride}
-use Rattle.rohc_forms.specs.Octets.{slice, bit, behind, and_bits}
+use Rattle.rohc_forms.specs.Octets.{slice, behind, and_bits}
 use Rattle.rohc_forms.specs.Table.{Said, Field, Sn, Ts, Id, S, R-TS, Tsc, I, IP, RTP, has, and_said, under, plus, minus, base_said, layout_0, layout_1, layout_2, short_layout}
 use Rattle.rohc_forms.specs.Content.{Head, form_kind, plain_head, id_said, offset_said, whole_said, stride_given, bits_said, whole_content}
 use Rattle.rohc_forms.specs.Formats.{number_of}

@@ -2,6 +2,7 @@
 use Rattle.std.proofs.Common.{◌≡◌, ℕ, ◌+◌, ◌*◌, Bool, true, false, List, [], ◌∷◌, ◌++◌, length, Option, Some, None, Result, Ok, Err, refl, sym, ap, ◌∙◌, arith}
 use Rattle.std.specs.Prelude.{◌||◌, is_some, option_map, nat_lt, if◌then◌else◌, IfOk}
 use Rattle.std.specs.Result.{result_map_both}
+use Rattle.rohc_bits.specs.Reading.{◌>>=◌, bit, judged}
 use Rattle.rohc_frame.specs.Header.{Header}
 use Rattle.rohc_forms.specs.declared.form.FormKind.{FormKind}
 use Rattle.rohc_forms.specs.declared.parts.Base.{Base}
@@ -9,10 +10,10 @@ use Rattle.rohc_forms.specs.declared.parts.IpFlags.{IpFlags}
 use Rattle.rohc_forms.specs.declared.parts.RtpFlags.{RtpFlags}
 use Rattle.rohc_forms.specs.declared.refusal.FormRefusal.{FormRefusal}
 use Rattle.rohc_bits.specs.LowBits.{LowBits}
-use Rattle.rohc_forms.specs.Octets.{◌>>=◌, bit, octet_at, word_at, octet_if, word_if, value_at}
+use Rattle.rohc_forms.specs.Octets.{octet_at, word_at, octet_if, word_if, value_at}
 use Rattle.rohc_forms.specs.Table.{Said, Layout, layout, width, under, layout_0, layout_1, layout_2, short_layout, S, R-TS, Tsc, I, IP, RTP, has, base_said}
 use Rattle.rohc_forms.specs.Formats.{number_of}
-use Rattle.rohc_forms.specs.Judging.{judged, ip_fault, twice_fault, protocol_fault, rtp_fault, stride_fault, no_stride_fault}
+use Rattle.rohc_forms.specs.Judging.{ip_fault, twice_fault, protocol_fault, rtp_fault, stride_fault, no_stride_fault}
 use Rattle.rohc_forms.specs.Given.{ip_flags, rnd_in_force, rtp_flags, rtp_values}
 use Rattle.rohc_forms.specs.Extension.{judged_octet, ip_octet_at, sn_at, ts_at, behind_protocol, ip_given_at, offset_at, stride_at, behind_time_stride, behind_rtp_octet, rtp_given_at, behind_ip_octet}
 use Rattle.rohc_forms.specs.Content.{Head, Content, form_kind, plain_head, whole_content}

@@ -1,10 +1,10 @@
 -- What a packet of kind Other says (RFC 3095 5.7.1 to 5.7.5).
 use Rattle.std.specs.Prelude.{ℕ, List, Bool, nat_lt, if◌then◌else◌, Option, Some, None}
+use Rattle.rohc_bits.specs.Reading.{bit}
 use Rattle.rohc_forms.specs.declared.form.FormKind.{FormKind}
 use Rattle.rohc_forms.specs.declared.form.FormKind.TheVariants.{Uo0, Uo1, Uo1Id, Uo1Ts, Uor2, Uor2Id, Uor2Ts}
 use Rattle.rohc_forms.specs.declared.parts.Base.{Base}
 use Rattle.rohc_bits.specs.LowBits.{LowBits}
-use Rattle.rohc_forms.specs.Octets.{bit}
 use Rattle.rohc_forms.specs.Table.{Said}
 use Rattle.rohc_forms.specs.Given.{ValuesSaid}
 

@@ -1,14 +1,15 @@
 -- Extension 3 (RFC 3095 5.7.5), read from left to right, with the first fault that is met.
 use Rattle.std.specs.Prelude.{ℕ, ◌||◌, List, Bool, if◌then◌else◌, Option, Some, None, is_some, Result, Ok}
+use Rattle.rohc_bits.specs.Reading.{◌>>=◌, judged}
 use Rattle.rohc_forms.specs.declared.form.FormKind.{FormKind}
 use Rattle.rohc_forms.specs.declared.parts.IpFlags.{IpFlags}
 use Rattle.rohc_forms.specs.declared.parts.IpGiven.{IpGiven}
 use Rattle.rohc_forms.specs.declared.parts.RtpFlags.{RtpFlags}
 use Rattle.rohc_forms.specs.declared.refusal.FormRefusal.{FormRefusal}
-use Rattle.rohc_forms.specs.Octets.{◌>>=◌, octet_at, octet_if, word_if, value_at}
+use Rattle.rohc_forms.specs.Octets.{octet_at, octet_if, word_if, value_at}
 use Rattle.rohc_forms.specs.Table.{Said, Sn, Ts, S, R-TS, Tsc, I, RTP, has, and_said}
 use Rattle.rohc_forms.specs.Given.{Extended3, RtpSaid, ip_flags, ip_values, marker_in, padding_in, payload_type_in, rtp_flags, rtp_values, with_offset_if}
-use Rattle.rohc_forms.specs.Judging.{judged, ip_fault, protocol_fault, rtp_fault, stride_fault, no_stride_fault}
+use Rattle.rohc_forms.specs.Judging.{ip_fault, protocol_fault, rtp_fault, stride_fault, no_stride_fault}
 
 -- an octet, where it isn't refused
 abbrev pub judged_octet : (ℕ → Option FormRefusal) → List ℕ → Result (ℕ × List ℕ) FormRefusal

@@ -1,15 +1,10 @@
 -- Why an octet or a value of an extension 3 is refused, where it is (RFC 3095 5.7.5).
-use Rattle.std.specs.Prelude.{ℕ, Bool, true, false, ◌==◌, ◌&&◌, not, if◌then◌else◌, Option, Some, None, Result, Ok, Err}
+use Rattle.std.specs.Prelude.{ℕ, Bool, true, false, ◌==◌, ◌&&◌, not, if◌then◌else◌, Option, Some, None}
 use Rattle.rohc_forms.specs.declared.form.FormKind.{FormKind}
 use Rattle.rohc_forms.specs.declared.form.FormKind.TheVariants.{Uo0, Uo1, Uo1Id, Uo1Ts, Uor2, Uor2Id, Uor2Ts}
 use Rattle.rohc_forms.specs.declared.refusal.FormRefusal.{FormRefusal}
 use Rattle.rohc_forms.specs.declared.refusal.FormRefusal.TheVariants.{Protocol, ExtensionList, Csrc, ZeroStride, ReliableMode, OuterHeader, NoStride, RndInUo1, IpIdTwice}
 use Rattle.rohc_forms.specs.Table.{IPX, RND, IP2, Mode, CSRC, number_in, has}
-
--- what was read, or its refusal where there is one
-abbrev pub judged : {A : Type 0} → Option FormRefusal → A → Result A FormRefusal
-judged None x = Ok x
-judged (Some refusal) x = Err refusal
 
 -- the refusal, if the test holds
 abbrev pub refused_if : Bool → FormRefusal → Option FormRefusal

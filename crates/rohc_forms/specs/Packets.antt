@@ -1,5 +1,6 @@
 -- Whole packets of kind Other (RFC 3095 5.7.1 to 5.7.5), read from left to right, with the first fault that is met.
 use Rattle.std.specs.Prelude.{ℕ, ◌+◌, ◌*◌, List, Bool, nat_lt, if◌then◌else◌, Option, Some, None, option_map, Result, Ok}
+use Rattle.rohc_bits.specs.Reading.{◌>>=◌, judged}
 use Rattle.rohc_frame.specs.Header.{Header}
 pub use Rattle.rohc_frame.specs.Header.{IsOther}
 use Rattle.rohc_forms.specs.declared.form.FormKind.{FormKind}
@@ -14,9 +15,9 @@ use Rattle.rohc_forms.specs.declared.parts.Head as parts_head
 use Rattle.rohc_forms.specs.declared.parts.RtpGiven.{RtpGiven}
 use Rattle.rohc_forms.specs.declared.refusal.FormRefusal.{FormRefusal}
 use Rattle.rohc_bits.specs.LowBits.{low_bits}
-use Rattle.rohc_forms.specs.Octets.{◌>>=◌, octet_at, word_at, word_if}
+use Rattle.rohc_forms.specs.Octets.{octet_at, word_at, word_if}
 use Rattle.rohc_forms.specs.Table.{Said, Tsc, I, IP, has, under, layout_0, layout_1, layout_2, base_said}
-use Rattle.rohc_forms.specs.Judging.{judged, twice_fault}
+use Rattle.rohc_forms.specs.Judging.{twice_fault}
 use Rattle.rohc_forms.specs.Given.{RtpSaid, ValuesSaid, rnd_in_force, Extended3}
 use Rattle.rohc_forms.specs.Content.{Content, Head, IdSaid, Offset, Same, Whole, form_kind, plain_head, whole_content}
 use Rattle.rohc_forms.specs.Extension.{ip_octet_at, behind_ip_octet}

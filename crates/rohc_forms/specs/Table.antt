@@ -1,9 +1,10 @@
 -- The formats of packets and of extensions 0 to 2 (RFC 3095 5.7.1 to 5.7.5), and what bits under them say.
 use Rattle.std.specs.Prelude.{ℕ, ◌+◌, ◌/◌, ◌%◌, ◌^◌, List, [], ◌∷◌, Bool, false, ◌==◌, nat_lt, if◌then◌else◌, Option, Some, None}
+use Rattle.rohc_bits.specs.Reading.{bit}
 use Rattle.rohc_forms.specs.declared.form.FormKind.{FormKind}
 use Rattle.rohc_forms.specs.declared.form.FormKind.TheVariants.{Uo0, Uo1, Uo1Id, Uo1Ts, Uor2, Uor2Id, Uor2Ts}
 use Rattle.rohc_bits.specs.LowBits.{LowBits}
-use Rattle.rohc_forms.specs.Octets.{slice, bit, and_bits}
+use Rattle.rohc_forms.specs.Octets.{slice, and_bits}
 
 -- A field's name: a number that stands there in each packet of the format, SN, TS, IP-ID, M, X, CRC.
 pub data Field : Type 0 where

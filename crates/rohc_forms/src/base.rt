@@ -1,17 +1,19 @@
 //! The octets before an extension, and their formats (RFC 3095 5.7.1 to 5.7.4).
 
 ghost use Rattle.std.specs.Prelude.{◌≡◌, option_map};
+ghost use Rattle.rohc_bits.specs.Reading.{Reads};
 ghost use Rattle.rohc_bits.specs.LowBits.{low_bits};
-ghost use Rattle.rohc_forms.specs.Octets.{Reads, slice};
+ghost use Rattle.rohc_forms.specs.Octets.{slice};
 ghost use Rattle.rohc_forms.specs.Table.{base_said, uor2_said};
 ghost use Rattle.rohc_forms.specs.Content.{form_kind};
 ghost use Rattle.rohc_forms.specs.Packets.{said_by, base_at};
 
 use crate::form::FormKind;
-use crate::octets::{bits, is_set, octet, word};
+use crate::octets::{bits, octet, word};
 use crate::parts::{Base, Fields};
 use crate::place;
 use crate::refusal::FormRefusal;
+use rohc_bits::reading::is_set;
 use rohc_bits::{Bits, Cursor};
 
 /// The octets before an extension; the first tells how many they are.

@@ -2,16 +2,17 @@
 
 ghost use Rattle.std.specs.Prelude.{◌≡◌, ◌<◌, ◌≤◌, option_map, IfOk};
 ghost use Rattle.std.specs.Option.{ForSome};
-ghost use Rattle.rohc_forms.specs.Octets.{Reads, ReadsAs};
+ghost use Rattle.rohc_bits.specs.Reading.{Reads, ReadsAs};
 ghost use Rattle.rohc_forms.specs.Given.{rnd_in_force, padding_in, payload_type_in, ip_values, rtp_values, marker_in};
 ghost use Rattle.rohc_forms.specs.Extension.{ip_octet_at, sn_at, ts_at, behind_protocol, ip_given_at, offset_at, stride_at, behind_time_stride, behind_rtp_octet, rtp_given_at, behind_ip_octet};
 ghost use Rattle.rohc_forms.specs.Packets.{said_by, rtp_by, values_by, extended_by};
 
 use crate::flag;
 use crate::form::{FormKind, Values};
-use crate::octets::{is_set, octet, optional_octet, optional_word, value};
+use crate::octets::{octet, optional_octet, optional_word, value};
 use crate::parts::{Extension3, Fields, IpFlags, IpGiven, RtpFlags, RtpGiven};
 use crate::refusal::FormRefusal;
+use rohc_bits::reading::is_set;
 use rohc_bits::{Bits, Cursor};
 
 /// The ip octet, if ip: TOS, TTL, DF, PR, IPX, NBO, RND, ip2.

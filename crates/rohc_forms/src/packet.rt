@@ -1,7 +1,7 @@
 //! Packets through their extension (RFC 3095 5.7.1 to 5.7.5).
 
 ghost use Rattle.std.specs.Prelude.{◌≡◌};
-ghost use Rattle.rohc_forms.specs.Octets.{ReadsAs};
+ghost use Rattle.rohc_bits.specs.Reading.{ReadsAs};
 ghost use Rattle.rohc_forms.specs.Table.{under, layout_0};
 ghost use Rattle.rohc_forms.specs.Content.{plain_head};
 ghost use Rattle.rohc_forms.specs.Packets.{said_by, head_by, extension_1_at, extension_2_at, short_extension_at, extension_3_at, extension_at, head_at};
@@ -10,10 +10,11 @@ use crate::base::{base, base_fields, kind};
 use crate::extension::{behind_ip, ip_octet, rnd_of};
 use crate::flag;
 use crate::form::FormKind;
-use crate::octets::{bits, is_set, octet, word};
+use crate::octets::{bits, octet, word};
 use crate::parts::{Base, Fields, Head};
 use crate::refusal::FormRefusal;
 use rohc_bits::Cursor;
+use rohc_bits::reading::is_set;
 
 /// What an extension 0 says behind these fields.
 fn extension_0(kind: FormKind, first: u8, fields: Fields) -> Fields

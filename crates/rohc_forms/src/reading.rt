@@ -11,10 +11,11 @@ ghost use Rattle.rohc_forms.specs.Fields.{form_fault};
 ghost use Rattle.rohc_forms.specs.Says.{IsForm};
 
 use crate::form::{Form, IdBits};
-use crate::octets::{cursor_over, optional_word};
+use crate::octets::optional_word;
 use crate::packet::head;
 use crate::refusal::FormRefusal;
 use rohc_bits::Bits;
+use rohc_bits::reading::cursor_over;
 use rohc_frame::Forward;
 
 /// What is said of the Identification: the whole, where it stands in the packet.
