@@ -30,14 +30,10 @@ fn put_ip_front(octets: &mut Octets, moving: &Dynamic, payload_len: u16)
     requires fits { payload_len ≤ longest_payload }
     ensures { octets.new.items ≡ octets.old.items ++ ip_front moving.now payload_len }
 {
-    octets.push(0x45);
-    octets.push(moving.tos);
+    put(octets, &[0x45, moving.tos]);
     put_word(octets, 40 + payload_len);
     put_word(octets, moving.id);
-    octets.push(flag(moving.df, 0x40));
-    octets.push(0x00);
-    octets.push(moving.ttl);
-    octets.push(17);
+    put(octets, &[flag(moving.df, 0x40), 0x00, moving.ttl, 17]);
 }
 
 /// The addresses behind the checksum of the IPv4 part.
@@ -67,8 +63,9 @@ pub(crate) fn put_rtp(octets: &mut Octets, fixed: &Static, moving: &Dynamic)
     requires narrow { moving.now.payload_type < 128 }
     ensures { octets.new.items ≡ octets.old.items ++ rtp_part fixed.now moving.now }
 {
-    octets.push(0x80 + flag(moving.padding, 0x20) + flag(moving.extension, 0x10));
-    octets.push(flag(moving.marker, 0x80) + moving.payload_type);
+    let first = 0x80 + flag(moving.padding, 0x20) + flag(moving.extension, 0x10);
+    let second = flag(moving.marker, 0x80) + moving.payload_type;
+    put(octets, &[first, second]);
     put_word(octets, moving.sn);
     put_quad(octets, moving.ts);
     put_quad(octets, fixed.ssrc);
