@@ -75,7 +75,8 @@ FineOrFaulty = (settings : List LinkSetting) →
 
 -- Settings have one fault at most.
 abbrev pub HasOneFault : Type 0
-HasOneFault = (settings : List LinkSetting) (a b : SetupFault) → IsFault settings a → IsFault settings b → a ≡ b
+HasOneFault = (settings : List LinkSetting) (a b : SetupFault) →
+    IsFault settings a → IsFault settings b → a ≡ b
 
 -- the header is of an IR that the lone step accepts where there is no record
 pub record IsAcceptedIr (s : Settings) (moment : ℕ) (h : Header) : Type 0 where
