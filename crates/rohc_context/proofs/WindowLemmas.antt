@@ -10,6 +10,8 @@ use Rattle.std.proofs.lemmas.List.{take_all}
 use Rattle.std.proofs.lemmas.List.Recursion.{is_count_by}
 use Rattle.std.proofs.Math.Nat.{mod-eq_of_lt, pow-suc, one-mul}
 use Rattle.std.proofs.Math.Pow.{pow_mono}
+use Rattle.rohc_context.specs.declared.window.Window.{Window}
+use Rattle.rohc_context.specs.Window.{outcomes}
 use Rattle.rohc_checks.specs.Division.{bits, number}
 use Rattle.rohc_checks.proofs.Division.{length-bits, number-bits, bits-number}
 
@@ -119,3 +121,8 @@ failures_low n l w newest small some is =
     let below : 1 * 2 ^ n < 2 ^ 64 = omega (arith, pow_mono {i = suc n} {j = 64} (omega arith), pow-suc 2 n, pow_pos n) in
     let e : newest ≡ w % 2 ^ n = is ∙ ap (λ m. w % m) (mod-eq_of_lt below ∙ one-mul (2 ^ n)) in
     rw e (counted n l w small)
+
+-- a window of no outcomes
+pub none_of : (w : Window) → w.length ≡ 0 → outcomes w ≡ []
+unfolding outcomes bits
+none_of w e = rw e refl

@@ -18,5 +18,6 @@ pub mod Outcomes
 pub mod Renewal
 pub mod Refresh
 pub mod Update
+pub mod Lent
 pub mod Step
 pub mod Laws

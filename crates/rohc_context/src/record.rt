@@ -15,9 +15,17 @@ pub struct Context {
 }
 
 impl Context {
+    ghost use Rattle.std.specs.Prelude.{◌≡◌, option_map};
+    ghost use Rattle.rohc_context.specs.Window.{outcomes};
+    ghost use Rattle.rohc_context.specs.Record.{record_of};
+    ghost use Rattle.rohc_context.specs.Lent.{windows_in, Saves};
+
     /// The windows of recent outcomes, of which the second is empty in Full Context; `None` in No Context and for
     /// profile 0x0000.
-    pub fn windows(&self) -> Option<&(Window, Window)> {
+    #[tactic(auto, unfolding(crate::specs::Record::record_of))]
+    pub fn windows(&self) -> Option<&(Window, Window)>
+        ensures { option_map (λ w. (outcomes w.now.0, outcomes w.now.1)) result ≡ windows_in (record_of self.now).state }
+    {
         match &self.state {
             State::Plain | State::NoContext(_) => None,
             State::Static(context) => Some(&context.windows),
@@ -26,7 +34,10 @@ impl Context {
     }
 
     /// The registers of the 3-bit and the 7-bit check that are kept with the reference, if there is one.
-    pub fn saved(&self) -> Option<&(u8, u8)> {
+    #[tactic(auto, unfolding(crate::specs::Record::record_of))]
+    pub fn saved(&self) -> Option<&(u8, u8)>
+        ensures { Saves (record_of self.now).state (option_map (λ s. s.now) result) }
+    {
         match &self.state {
             State::Plain | State::NoContext(_) => None,
             State::Static(context) => match &context.reference {
