@@ -20,7 +20,8 @@ pub record SpellsIpStatic (source destination : List ℕ) (text : List ℕ) : Ty
   pub also_four : length destination ≡ 4
   pub whole : text ≡ (64 + ignored) ∷ 17 ∷ source ++ destination
 
--- IPv4, UDP and RTP, static: behind IPv4's the ports, and the synchronization source (RFC 3095 5.7.7.5, 5.7.7.6).
+-- IPv4, UDP and RTP, static: behind IPv4's the ports, and the synchronization source (RFC 3095 5.7.7.5 and
+-- 5.7.7.6).
 --
 --   /          Source Port          /  2 octets
 --   /       Destination Port        /  2 octets
@@ -54,7 +55,8 @@ abbrev pub SpellsTimeStride : Bool → List ℕ → Type 0
 SpellsTimeStride false text = text ≡ []
 SpellsTimeStride true text = (value : ℕ) × IsSpelled text value
 
--- Three ignored bits, X, Mode, TIS and TSS; the stride, if TSS; the stride of time, if TIS (RFC 3095 5.7.7.6).
+-- Three ignored bits, X, Mode, TIS and TSS; the stride, if TSS; the stride of time, if TIS (RFC 3095
+-- 5.7.7.6).
 --
 --   | Reserved  | X | Mode  |TIS|TSS|
 --   :           TS_Stride           :  1 to 4 octets, if TSS = 1

@@ -49,8 +49,10 @@ DynSaysGood = (h : Header) (profile : ℕ) (kept : Kept) (packet : DynContent) �
 
 -- and what is good is spelled by octets: each static chain
 abbrev pub SpellsEachStatic : Type 0
-SpellsEachStatic = (fixed : Static) → IsGoodStatic fixed → (text : List ℕ) × All IsOctet text × SpellsStatic fixed text
+SpellsEachStatic = (fixed : Static) → IsGoodStatic fixed →
+    (text : List ℕ) × All IsOctet text × SpellsStatic fixed text
 
 -- and each dynamic chain, with no value that is kept
 abbrev pub SpellsEachDynamic : Type 0
-SpellsEachDynamic = (moving : Dynamic) → IsGoodDynamic moving → (text : List ℕ) × All IsOctet text × SpellsDynamic nothing_kept moving text
+SpellsEachDynamic = (moving : Dynamic) → IsGoodDynamic moving →
+    (text : List ℕ) × All IsOctet text × SpellsDynamic nothing_kept moving text

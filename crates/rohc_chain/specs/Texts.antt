@@ -11,8 +11,8 @@ use Rattle.rohc_chain.specs.Packets.{IrContent, Plain, StaticOnly, Whole, DynCon
 use Rattle.rohc_chain.specs.ChainText.{SpellsStatic, SpellsDynamic}
 use Rattle.rohc_chain.specs.Fields.{after_fields, ir_fields, ir_dyn_fields}
 
--- An IR begins with FC, or FD where it has a dynamic chain (RFC 3095 5.7.7.1); an IR-DYN with F8, and has no static
--- chain (5.7.7.2). These stand behind the first octet and a large identifier:
+-- An IR begins with FC, or FD where it has a dynamic chain (RFC 3095 5.7.7.1); an IR-DYN with F8, and has no
+-- static chain (5.7.7.2). These stand behind the first octet and a large identifier:
 --
 --   |            Profile            |
 --   |              CRC              |

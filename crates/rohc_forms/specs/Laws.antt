@@ -26,11 +26,13 @@ SaysOne = (h : Header) (rnd udp_sum stride_known : Bool) (a b : Content) → IsF
 
 -- what octets say lies in its ranges
 abbrev pub SaysGood : Type 0
-SaysGood = (h : Header) (rnd udp_sum stride_known : Bool) (c : Content) → All IsOctet h.rest → IsForm h rnd udp_sum stride_known c → IsGoodContent h.first udp_sum stride_known c
+SaysGood = (h : Header) (rnd udp_sum stride_known : Bool) (c : Content) → All IsOctet h.rest →
+    IsForm h rnd udp_sum stride_known c → IsGoodContent h.first udp_sum stride_known c
 
 -- the octets before an extension, of three, are as many as the format that is read has bits for
 abbrev pub CountsOctets : Type 0
-CountsOctets = (rnd : Bool) (a b c : ℕ) → (octets : List ℕ) × (behind : List ℕ) × (b ∷ c ∷ [] ≡ octets ++ behind) × IsBase a rnd (base_of a b c) octets
+CountsOctets = (rnd : Bool) (a b c : ℕ) →
+    (octets : List ℕ) × (behind : List ℕ) × (b ∷ c ∷ [] ≡ octets ++ behind) × IsBase a rnd (base_of a b c) octets
 
 -- an octet begins an extension 3 exactly where its prefix is 11
 abbrev pub BeginsWith11 : Type 0
@@ -47,4 +49,5 @@ HaveEightBits = (octet : Extension3Octet) → bits_of (parts octet) ≡ 8
 
 -- and each part stands in one of them, before as many bits as its place says
 abbrev pub StandInPlace : Type 0
-StandInPlace = (part : Part) → (octet : Extension3Octet) × (before : List Part) × (behind : List Part) × (parts octet ≡ before ++ part ∷ behind) × (place part ≡ bits_of behind)
+StandInPlace = (part : Part) → (octet : Extension3Octet) × (before : List Part) × (behind : List Part) ×
+    (parts octet ≡ before ++ part ∷ behind) × (place part ≡ bits_of behind)

@@ -4,9 +4,9 @@
 ghost use Rattle.rohc_forms.specs.Formats.{FitsOne, FitsOneExtension};
 ghost use Rattle.rohc_forms.specs.Laws.{CountsOctets, BeginsWith11, HaveEightBits, StandInPlace, ReadsForms, SaysOne, SaysGood, RefusesForms};
 
-/// Exactly one format fits a packet whose first octet is below E0, under the RND in force, and it has as many
-/// octets as are read. Exactly one of the extensions 0, 1 and 2 fits an extension whose first octet is below C0;
-/// the others are extension 3.
+/// Exactly one format fits a packet whose first octet is below E0, under the RND in force, and it has as
+/// many octets as are read. Exactly one of the extensions 0, 1 and 2 fits an extension whose first octet
+/// is below C0; the others are extension 3.
 pub fn one_format()
     ensures packet { FitsOne }
     ensures counted { CountsOctets }
@@ -26,7 +26,8 @@ pub fn one_form()
     ensures unique { SaysOne }
 {}
 
-/// What a packet of octets says lies in its ranges: the numbers of bits, the values, and which of them are there.
+/// What a packet of octets says lies in its ranges: the numbers of bits, the values, and which of them
+/// are there.
 pub fn good_form()
     ensures { SaysGood }
 {}

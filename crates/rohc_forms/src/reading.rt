@@ -62,9 +62,9 @@ fn in_order<'a>(
 /// What a packet of kind Other says of its header's fields.
 ///
 /// `rnd`, `udp_sum` and `stride_known` are its context's: whether the Identification is random, packets
-/// carry the UDP checksum, and a stride of timestamps is in force. There is a UDP checksum exactly where packets
-/// carry one, and scaled bits only where the context or the packet has a stride. The refusals come in the order of the
-/// octets (RFC 3095 5.7.1 to 5.7.5).
+/// carry the UDP checksum, and a stride of timestamps is in force. There is a UDP checksum exactly where
+/// packets carry one, and scaled bits only where the context or the packet has a stride. The refusals come
+/// in the order of the octets (RFC 3095 5.7.1 to 5.7.5).
 pub fn read_form<'a>(
     forward: &Forward<'a>,
     rnd: bool,
