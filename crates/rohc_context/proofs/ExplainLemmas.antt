@@ -72,15 +72,15 @@ pub means_one : (first : ℕ) (udp_sum stride_known : Bool) (r : Reference) (shi
     → Means r shift c a → Means r shift c b → a ≡ b
 means_one first udp_sum stride_known r shift c a b good p q =
     let numbers : (a.sn, p.steps) ≡ (b.sn, q.steps) =
-      once (λ (number : ℕ × ℤ). AgreesInSn r.moving.sn shift c.sn number.0 number.1) (a.sn, p.steps) (b.sn, q.steps) (one_sn r.moving.sn shift c.sn good.sn.fits) p.sn q.sn in
+    once (λ (number : ℕ × ℤ). AgreesInSn r.moving.sn shift c.sn number.0 number.1) (a.sn, p.steps) (b.sn, q.steps) (one_sn r.moving.sn shift c.sn good.sn.fits) p.sn q.sn in
     let sn : a.sn ≡ b.sn = ap (λ (number : ℕ × ℤ). number.0) numbers in
     let steps : p.steps ≡ q.steps = ap (λ (number : ℕ × ℤ). number.1) numbers in
     let stride = (in_force r.moving c.values).stride in
     let nbo = (in_force r.moving c.values).nbo in
     let ts : a.ts ≡ b.ts = once (AgreesInTs r.moving.ts stride q.steps c.tsc c.ts) a.ts b.ts (ts_once r.moving.ts stride q.steps c.tsc c.ts good.ts)
-      (subst (λ n. AgreesInTs r.moving.ts stride n c.tsc c.ts a.ts) steps p.ts) q.ts in
+    (subst (λ n. AgreesInTs r.moving.ts stride n c.tsc c.ts a.ts) steps p.ts) q.ts in
     let id : a.id ≡ b.id = once (AgreesInId nbo r.moving c.id b.sn) a.id b.id (id_once nbo r.moving c.id b.sn (says_good_id first udp_sum stride_known c good c.id refl))
-      (subst (λ n. AgreesInId nbo r.moving c.id n a.id) sn p.id) q.id in
+    (subst (λ n. AgreesInId nbo r.moving c.id n a.id) sn p.id) q.id in
     p.others ∙ ap (λ n. fields r c n a.ts a.id) sn ∙ ap (λ n. fields r c b.sn n a.id) ts ∙ ap (λ n. fields r c b.sn b.ts n) id ∙ sym q.others
 
 -- ---- The whole header
@@ -92,8 +92,16 @@ original_some fixed moving len good fits =
     let octets = ip_part fixed moving len sum ++ udp_part fixed moving len ++ rtp_part fixed moving in
     let udp : length (udp_part fixed moving len) ≡ 8 = refl in
     let rtp : length (rtp_part fixed moving) ≡ 12 = refl in
-    let forty : length octets ≡ 40 = omega (arith, length-append (addresses fixed ++ udp_part fixed moving len) (rtp_part fixed moving), length-append (addresses fixed) (udp_part fixed moving len),
-      length-append fixed.source fixed.destination, good.source.four, good.destination.four, udp, rtp) in
+    let forty : length octets ≡ 40 = omega (
+      arith,
+      length-append (addresses fixed ++ udp_part fixed moving len) (rtp_part fixed moving),
+      length-append (addresses fixed) (udp_part fixed moving len),
+      length-append fixed.source fixed.destination,
+      good.source.four,
+      good.destination.four,
+      udp,
+      rtp,
+    ) in
     (octets, record { checksum = sum; fits = fits; forty = forty; summed = refl; whole = refl })
 
 pub original_one : (fixed : Static) (moving : Dynamic) (len : ℕ) (a b : List ℕ) → IsOriginal fixed moving len a → IsOriginal fixed moving len b → a ≡ b
@@ -112,7 +120,7 @@ pub explains_one : (first : ℕ) (udp_sum stride_known : Bool) (fixed : Static) 
 explains_one first udp_sum stride_known fixed r shift c a b good p q =
     let moving : a.moving ≡ b.moving = means_one first udp_sum stride_known r shift c a.moving b.moving good p.fields q.fields in
     let octets : a.octets ≡ b.octets = original_one fixed b.moving (length c.payload) a.octets b.octets
-      (subst (λ m. IsOriginal fixed m (length c.payload) a.octets) moving p.octets) q.octets in
+    (subst (λ m. IsOriginal fixed m (length c.payload) a.octets) moving p.octets) q.octets in
     ap (λ m. record { moving = m; octets = a.octets }) moving ∙ ap (λ o. record { moving = b.moving; octets = o }) octets
 
 -- ---- Its fields are good
@@ -161,6 +169,12 @@ means_good first udp_sum stride_known r shift c m good kept p =
     let ts = ts_good r.moving.ts (in_force r.moving c.values).stride p.steps c.tsc c.ts m.ts kept.ts p.ts in
     let id = id_good (in_force r.moving c.values).nbo r.moving c.id m.sn m.id (says_good_id first udp_sum stride_known c good c.id refl) p.id in
     subst IsGoodDynamic (sym p.others) (record {
-      tos = forced.tos; ttl = forced.ttl; id = id; udp_sum = given_below c.udp_sum 0 65536 good.sum (omega arith);
-      payload_type = forced.payload_type; sn = sn; ts = ts; stride = forced.stride;
+      tos = forced.tos;
+      ttl = forced.ttl;
+      id = id;
+      udp_sum = given_below c.udp_sum 0 65536 good.sum (omega arith);
+      payload_type = forced.payload_type;
+      sn = sn;
+      ts = ts;
+      stride = forced.stride;
     })

@@ -53,12 +53,26 @@ window_good failure window = rw (length-take 64 (failure ∷ window)) (omega ari
 
 unmarked_good : (m : Dynamic) → IsGoodDynamic m → IsGoodDynamic (without_marker m)
 unmarked_good m good = record {
-  tos = good.tos; ttl = good.ttl; id = good.id; udp_sum = good.udp_sum; payload_type = good.payload_type; sn = good.sn; ts = good.ts; stride = good.stride;
+  tos = good.tos;
+  ttl = good.ttl;
+  id = good.id;
+  udp_sum = good.udp_sum;
+  payload_type = good.payload_type;
+  sn = good.sn;
+  ts = good.ts;
+  stride = good.stride;
 }
 
 numbers_good : (kept header : Dynamic) → IsGoodDynamic kept → IsGoodDynamic header → IsGoodDynamic (with_numbers kept header)
 numbers_good kept header is good = record {
-  tos = is.tos; ttl = is.ttl; id = good.id; udp_sum = good.udp_sum; payload_type = is.payload_type; sn = good.sn; ts = good.ts; stride = is.stride;
+  tos = is.tos;
+  ttl = is.ttl;
+  id = good.id;
+  udp_sum = good.udp_sum;
+  payload_type = is.payload_type;
+  sn = good.sn;
+  ts = good.ts;
+  stride = is.stride;
 }
 
 first_good : (m : Dynamic) → IsGoodDynamic m → IsGoodReference (first_reference m)
@@ -139,13 +153,13 @@ check_good s m Plain fits good = tt
 check_good s m (NoContext nacked) fits good = good
 check_good s m (FullContext fixed r previous w) fits good =
     if_good (is_filled s.k1 s.n1 (and_outcome true w)) (leads_to (StaticContext fixed (Some r) [] []) (dues.Nack (Some r.moving.sn)))
-      (leads_to (FullContext fixed r previous (and_outcome true w)) dues.Nothing)
-      (good.0, good.1, omega arith, omega arith) (good.0, good.1, good.2, window_good true w)
+    (leads_to (FullContext fixed r previous (and_outcome true w)) dues.Nothing)
+    (good.0, good.1, omega arith, omega arith) (good.0, good.1, good.2, window_good true w)
 check_good s m (StaticContext fixed r f g) fits good =
     let stays = leads_to (StaticContext fixed r (and_outcome true f) (and_outcome true g)) dues.Nothing in
     let asks = leads_to (StaticContext fixed r [] (and_outcome true g)) (dues.Nack (sn_of r)) in
     if_good (is_filled s.k2 s.n2 (and_outcome true g)) (leads_to (NoContext m) dues.StaticNack) (if is_filled s.k1 s.n1 (and_outcome true f) then asks else stays) fits
-      (if_good (is_filled s.k1 s.n1 (and_outcome true f)) asks stays (good.0, good.1, omega arith, window_good true g) (good.0, good.1, window_good true f, window_good true g))
+    (if_good (is_filled s.k1 s.n1 (and_outcome true f)) asks stays (good.0, good.1, omega arith, window_good true g) (good.0, good.1, window_good true f, window_good true g))
 
 low_good : (s : Settings) (m : ℕ) (state : State) → m < 2 ^ 64 → IsGoodState state → IsGoodState (after_low_state s m state).state
 low_good s m Plain fits good = tt
@@ -153,7 +167,7 @@ low_good s m (NoContext nacked) fits good = if_good _ (leads_to (NoContext m) du
 low_good s m (FullContext fixed r previous w) fits good = good
 low_good s m (StaticContext fixed r f g) fits good =
     if_good (is_filled s.k1 s.n1 (and_outcome true f)) (leads_to (StaticContext fixed r [] g) (dues.Nack (sn_of r))) (leads_to (StaticContext fixed r (and_outcome true f) g) dues.Nothing)
-      (good.0, good.1, omega arith, good.3) (good.0, good.1, window_good true f, good.3)
+    (good.0, good.1, omega arith, good.3) (good.0, good.1, window_good true f, good.3)
 
 -- ---- Records
 
@@ -221,32 +235,38 @@ updates_good s m h r (NoContext nacked) a x fits good also all p = absurd p
 updates_good s m h r (StaticContext fixed None f g) a x fits good also all p = absurd p
 updates_good s m h r (StaticContext fixed (Some reference) f g) a x fits good also all (v, judged, accepted) =
     accepts_good s m h r (promoted fixed) acknowledged v a x fits good
-      (judges_good h.first reference.carries_sum (is_some reference.moving.stride) fixed (λ c. static_tries reference) (said_under h reference) v (form_reads h reference all) (λ c. (also.1, tt)) judged)
-      (λ w is. (also.0, next_good w is, tt, omega arith)) accepted
+    (judges_good h.first reference.carries_sum (is_some reference.moving.stride) fixed (λ c. static_tries reference) (said_under h reference) v (form_reads h reference all) (λ c. (also.1, tt)) judged)
+    (λ w is. (also.0, next_good w is, tt, omega arith)) accepted
 updates_good s m h r (FullContext fixed reference previous w) a x fits good also all (v, judged, accepted) =
     accepts_good s m h r (updated fixed reference w) silent v a x fits good
-      (judges_good h.first reference.carries_sum (is_some reference.moving.stride) fixed (full_tries s (m - r.accepted) reference previous) (said_under h reference) v (form_reads h reference all)
-        (λ c. full_good s (m - r.accepted) reference previous c also.1 also.2) judged)
-      (λ u is. (also.0, next_good u is, previous_good reference u is, window_good false w)) accepted
+    (judges_good h.first reference.carries_sum (is_some reference.moving.stride) fixed (full_tries s (m - r.accepted) reference previous) (said_under h reference) v (form_reads h reference all)
+    (λ c. full_good s (m - r.accepted) reference previous c also.1 also.2) judged)
+    (λ u is. (also.0, next_good u is, previous_good reference u is, window_good false w)) accepted
 
 pub step_good : (before : Option Record) (s : Settings) (m : ℕ) (h : Header) → AreGoodValues before s m h → (a : Response) (x : Option Record) → LoneStep before s m h a x → IfSome x IsGoodRecord
 unfolding LoneStep
 step_good before s m h good a x step = go h.kind refl (counting s m before) (counting_holds IsGoodRecord s m before good.record_before) step where
   fits : m < 2 ^ 64
   fits = good.moment_fits
+
   all : All IsOctet h.rest
   all = good.header.rest
+
   low : (r : Record) → IsGoodRecord r → x ≡ Some (record { accepted = r.accepted; state = (after_low_state s m r.state).state }) → IfSome x IsGoodRecord
   low r is e = subst (λ n. IfSome n IsGoodRecord) (sym e) (record { accepted = is.accepted; state = low_good s m r.state fits is.state })
+
   read_good : (dynamic : Bool) → h.kind ≡ Ir dynamic → (read : Result IrContent ChainRefusal) → ir_at h ≡ read → IfOk read chain_good.IsGoodContent
   read_good dynamic is (Ok content) e = (ir_reads h dynamic content is all e).0
   read_good dynamic is (Err refusal) e = tt
+
   dyn : (r : Record) → IsGoodRecord r → h.kind ≡ IrDyn → (taken : Bool) → TakenBy taken s m h IrDyn r a x → IfSome x IsGoodRecord
   dyn r is kind false p = low r is p.1
   dyn r is kind true p = refreshes_good s m h r r.state _ a x fits is is.state kind all refl p
+
   other : (r : Record) → IsGoodRecord r → (taken : Bool) → TakenBy taken s m h Other r a x → IfSome x IsGoodRecord
   other r is false p = low r is p.1
   other r is true p = updates_good s m h r r.state a x fits is is.state all p
+
   go : (kind : HeadKind) → h.kind ≡ kind → (c : Option Record) → IfSome c IsGoodRecord → Turn s m h kind c before a x → IfSome x IsGoodRecord
   go (Ir dynamic) is c counts p = renews_good s m h c before (ir_at h) a x fits counts good.record_before (read_good dynamic is (ir_at h) refl) p
   go IrDyn is None counts p = subst (λ n. IfSome n IsGoodRecord) (sym p.1) good.record_before

@@ -1,6 +1,6 @@
 -- What a refused arrival leaves.
 use Rattle.std.proofs.Common.{◌≡◌, ◌≢◌, ℕ, ◌-◌, List, [], ◌∷◌, Bool, true, false, Option, Some, None, inl, inr, refl, sym, ap, subst, ◌∙◌}
-use Rattle.std.specs.Prelude.{Result, Ok, Err, nat_lt, length}
+use Rattle.std.specs.Prelude.{Result, Ok, Err, IfSome, nat_lt, length, if◌then◌else◌}
 use Rattle.rohc_frame.specs.declared.header.HeadKind.{HeadKind}
 use Rattle.rohc_frame.specs.declared.header.HeadKind.TheVariants.{Ir, IrDyn, Other}
 use Rattle.rohc_frame.specs.Header.{Header}
@@ -32,7 +32,7 @@ use Rattle.rohc_context.specs.Renewal.{full_window, full_window_of, plain_answer
 use Rattle.rohc_context.specs.Refresh.{profile_of, kept_in, dyn_said, RefreshesBy}
 use Rattle.rohc_context.specs.Tries.{Try, Acceptance, Verdict, static_tries, full_tries}
 use Rattle.rohc_context.specs.Update.{said_under, VerdictUnless, Judges, Accepts, promoted, updated, acknowledged, silent, UpdatesBy}
-use Rattle.rohc_context.specs.Step.{counting, TakenBy, Turn, LoneStep}
+use Rattle.rohc_context.specs.Step.{counts, counting, TakenBy, Turn, LoneStep}
 
 -- what is taken is not refused
 plain_not_refused : (packet : List ℕ) (feedback : Option (List ℕ)) (refusal : Refusal) → (plain_answer packet feedback).outcome ≢ outcomes.Refused refusal
@@ -62,6 +62,7 @@ step_none s m h response next refusal step e = go h.kind step where
   renews : (read : Result IrContent ChainRefusal) → Renews s m h None None read response next → next ≡ None
   renews (Ok content) p = absurd (renewed_not_refused s m h None content response next refusal p e)
   renews (Err fault) p = p.1
+
   go : (kind : HeadKind) → Turn s m h kind None None response next → next ≡ None
   go (Ir dynamic) p = renews (ir_at h) p
   go IrDyn p = p.1
@@ -162,20 +163,96 @@ unfolding LoneStep
 step_rich before s m h a x step e = go h.kind (counting s m before) step where
   low : refusals.StateTooLow ≢ refusals.NoMemory
   low f = cc
+
   unknown : refusals.NoContext ≢ refusals.NoMemory
   unknown f = cc
+
   renews : (c : Option Record) (read : Result IrContent ChainRefusal) → Renews s m h c before read a x → ⊥
   renews c (Ok content) p = renewed_not_refused s m h (state_in c) content a x refusals.NoMemory p e
   renews c (Err refusal) p = ends_rich s m h c before (fault_of_chain refusal) a x (chain_rich refusal) p e
+
   dyn : (r : Record) (taken : Bool) → TakenBy taken s m h IrDyn r a x → ⊥
   dyn r false p = refuses_rich refusals.StateTooLow a _ low p.0 refl e
   dyn r true p = refreshes_rich s m h r r.state (dyn_said h (profile_of r.state) (kept_in r.state)) a x p e
+
   other : (r : Record) (taken : Bool) → TakenBy taken s m h Other r a x → ⊥
   other r false p = refuses_rich refusals.StateTooLow a _ low p.0 refl e
   other r true p = updates_rich s m h r r.state a x p e
+
   go : (kind : HeadKind) (c : Option Record) → Turn s m h kind c before a x → ⊥
   go (Ir dynamic) c p = renews c (ir_at h) p
   go IrDyn None p = refuses_rich refusals.NoContext a _ unknown p.0 refl e
   go Other None p = refuses_rich refusals.NoContext a _ unknown p.0 refl e
   go IrDyn (Some r) p = dyn r (takes r.state IrDyn h.first) p
   go Other (Some r) p = other r (takes r.state Other h.first) p
+
+-- ---- A refusal changes nothing, but for a check and a state that is too low
+
+same_refusal : (a b : Refusal) → outcomes.Refused a ≡ outcomes.Refused b → a ≡ b
+same_refusal a b e = cc
+
+ends_keeps : (s : Settings) (m : ℕ) (h : Header) (c before : Option Record) (fault : Fault) (a : Response) (x : Option Record) (refusal : Refusal)
+    → Ends s m h c before fault a x → a.outcome ≡ outcomes.Refused refusal → refusal ≢ refusals.Check → x ≡ before
+ends_keeps s m h None before fault a x refusal p e other = p.1
+ends_keeps s m h (Some r) before (Refused also) a x refusal p e other = p.1
+ends_keeps s m h (Some r) before Unfit a x refusal p e other =
+    absurd (other (sym (same_refusal refusals.Check refusal (outcome_is a _ refusal p.0 e))))
+
+low_keeps : (s : Settings) (h : Header) (r : Record) (consequence : Consequence) (a : Response) (x before : Option Record) (refusal : Refusal)
+    → Fails s h r refusals.StateTooLow consequence a x → a.outcome ≡ outcomes.Refused refusal → refusal ≢ refusals.StateTooLow → x ≡ before
+low_keeps s h r consequence a x before refusal p e other = absurd (other (sym (same_refusal refusals.StateTooLow refusal (outcome_is a _ refusal p.0 e))))
+
+accepts_keeps : (s : Settings) (m : ℕ) (h : Header) (r : Record) (state : Acceptance → State) (due : Acceptance → Due) (verdict : Result Acceptance Fault) (a : Response) (x : Option Record)
+    (refusal : Refusal) → Accepts s m h r state due verdict a x → a.outcome ≡ outcomes.Refused refusal → refusal ≢ refusals.Check → x ≡ Some r
+accepts_keeps s m h r state due (Ok v) a x refusal p e other = absurd (let k = sym (ap (λ (r : Response). r.outcome) p.0) ∙ e in cc)
+accepts_keeps s m h r state due (Err fault) a x refusal p e other = ends_keeps s m h (Some r) (Some r) fault a x refusal p e other
+
+updates_keeps : (s : Settings) (m : ℕ) (h : Header) (r : Record) (state : State) (a : Response) (x : Option Record) (refusal : Refusal) → UpdatesBy s m h r state a x
+    → a.outcome ≡ outcomes.Refused refusal → refusal ≢ refusals.Check → x ≡ Some r
+updates_keeps s m h r Plain a x refusal p e other = absurd (let k = sym (ap (λ (r : Response). r.outcome) p.0) ∙ e in cc)
+updates_keeps s m h r (NoContext nacked) a x refusal p e other = absurd p
+updates_keeps s m h r (StaticContext fixed None f g) a x refusal p e other = absurd p
+updates_keeps s m h r (StaticContext fixed (Some reference) f g) a x refusal (v, judged, accepted) e other =
+    accepts_keeps s m h r (promoted fixed) acknowledged v a x refusal accepted e other
+updates_keeps s m h r (FullContext fixed reference previous w) a x refusal (v, judged, accepted) e other =
+    accepts_keeps s m h r (updated fixed reference w) silent v a x refusal accepted e other
+
+refreshes_keeps : (s : Settings) (m : ℕ) (h : Header) (r : Record) (state : State) (read : Result DynContent ChainRefusal) (a : Response) (x : Option Record) (refusal : Refusal)
+    → RefreshesBy s m h r state read a x → a.outcome ≡ outcomes.Refused refusal → refusal ≢ refusals.Check → x ≡ Some r
+refreshes_keeps s m h r state (Err fault) a x refusal p e other = ends_keeps s m h (Some r) (Some r) (fault_of_chain fault) a x refusal p e other
+refreshes_keeps s m h r Plain (Ok d) a x refusal p e other = absurd p
+refreshes_keeps s m h r (NoContext nacked) (Ok d) a x refusal p e other = absurd p
+refreshes_keeps s m h r (StaticContext fixed reference f g) (Ok d) a x refusal p e other = absurd (delivers_not_refused s m h fixed d.moving d.payload [] a x refusal p e)
+refreshes_keeps s m h r (FullContext fixed reference previous w) (Ok d) a x refusal p e other =
+    absurd (delivers_not_refused s m h fixed d.moving d.payload (full_window r.state) a x refusal p e)
+
+-- the record that counts is the record before
+counting_is : (s : Settings) (m : ℕ) (before : Option Record) → IfSome (counting s m before) (λ r. before ≡ Some r)
+counting_is s m None = tt
+counting_is s m (Some r) = which (counts s m r) where
+  which : (b : Bool) → IfSome (if b then Some r else None) (λ q. Some r ≡ Some q)
+  which true = refl
+  which false = tt
+
+pub step_keeps : (before : Option Record) (s : Settings) (m : ℕ) (h : Header) (a : Response) (x : Option Record) (refusal : Refusal)
+    → LoneStep before s m h a x → a.outcome ≡ outcomes.Refused refusal → refusal ≢ refusals.Check → refusal ≢ refusals.StateTooLow → x ≡ before
+unfolding LoneStep
+step_keeps before s m h a x refusal step e check low = go h.kind (counting s m before) (counting_is s m before) step where
+  renews : (c : Option Record) (read : Result IrContent ChainRefusal) → Renews s m h c before read a x → x ≡ before
+  renews c (Ok content) p = absurd (renewed_not_refused s m h (state_in c) content a x refusal p e)
+  renews c (Err fault) p = ends_keeps s m h c before (fault_of_chain fault) a x refusal p e check
+
+  dyn : (r : Record) → before ≡ Some r → (taken : Bool) → TakenBy taken s m h IrDyn r a x → x ≡ before
+  dyn r is false p = low_keeps s h r _ a x before refusal p e low
+  dyn r is true p = refreshes_keeps s m h r r.state (dyn_said h (profile_of r.state) (kept_in r.state)) a x refusal p e check ∙ sym is
+
+  other : (r : Record) → before ≡ Some r → (taken : Bool) → TakenBy taken s m h Other r a x → x ≡ before
+  other r is false p = low_keeps s h r _ a x before refusal p e low
+  other r is true p = updates_keeps s m h r r.state a x refusal p e check ∙ sym is
+
+  go : (kind : HeadKind) (c : Option Record) → IfSome c (λ r. before ≡ Some r) → Turn s m h kind c before a x → x ≡ before
+  go (Ir dynamic) c is p = renews c (ir_at h) p
+  go IrDyn None is p = p.1
+  go Other None is p = p.1
+  go IrDyn (Some r) is p = dyn r is (takes r.state IrDyn h.first) p
+  go Other (Some r) is p = other r is (takes r.state Other h.first) p

@@ -63,8 +63,14 @@ registers_same fixed kept moving marker sn ts id sum saved e are = record {
 pub kept_first : (fixed : Static) (moving : Dynamic) (saved : ℕ × ℕ) → IsGoodDynamic moving → AreRegisters fixed moving saved → IsKept fixed (without_marker moving) saved
 kept_first fixed moving saved good are = record {
   good = record {
-    tos = good.tos; ttl = good.ttl; id = good.id; udp_sum = good.udp_sum; payload_type = good.payload_type;
-    sn = good.sn; ts = good.ts; stride = good.stride;
+    tos = good.tos;
+    ttl = good.ttl;
+    id = good.id;
+    udp_sum = good.udp_sum;
+    payload_type = good.payload_type;
+    sn = good.sn;
+    ts = good.ts;
+    stride = good.stride;
   };
   unmarked = refl;
   registers = registers_same fixed moving (without_marker moving) false moving.sn moving.ts moving.id moving.udp_sum saved refl are;
@@ -73,8 +79,14 @@ kept_first fixed moving saved good are = record {
 pub kept_next : (fixed : Static) (kept header : Dynamic) (saved : ℕ × ℕ) → IsKept fixed kept saved → IsGoodDynamic header → IsKept fixed (with_numbers kept header) saved
 kept_next fixed kept header saved is good = record {
   good = record {
-    tos = is.good.tos; ttl = is.good.ttl; id = good.id; udp_sum = good.udp_sum; payload_type = is.good.payload_type;
-    sn = good.sn; ts = good.ts; stride = is.good.stride;
+    tos = is.good.tos;
+    ttl = is.good.ttl;
+    id = good.id;
+    udp_sum = good.udp_sum;
+    payload_type = is.good.payload_type;
+    sn = good.sn;
+    ts = good.ts;
+    stride = is.good.stride;
   };
   unmarked = is.unmarked;
   registers = registers_same fixed kept (with_numbers kept header) kept.marker header.sn header.ts header.id header.udp_sum saved refl is.registers;

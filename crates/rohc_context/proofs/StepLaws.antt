@@ -1,8 +1,9 @@
 -- The laws of a step, for the proofs of the crates above: each is its law's statement and nothing else.
-use Rattle.rohc_context.specs.Laws.{HasAnswer, HasNoOther, LeavesGood, BeginsByIr, LeavesNone, NeverPoor, KeepsGood}
+use Rattle.rohc_context.specs.Laws.{HasAnswer, HasNoOther, LeavesGood, BeginsByIr, LeavesNone, NeverPoor, KeepsGood, KeepsRefused, MeansOne, TakesPlain, DeliversHonest}
 use Rattle.rohc_context.proofs.StepLemmas.{step_some, step_one, step_begins}
 use Rattle.rohc_context.proofs.GoodLemmas.{step_good, context_good}
-use Rattle.rohc_context.proofs.RefusalLemmas.{step_none, step_rich}
+use Rattle.rohc_context.proofs.RefusalLemmas.{step_none, step_rich, step_keeps}
+use Rattle.rohc_context.proofs.HonestLemmas.{means_one_header, takes_plain, delivers_honest}
 
 pub has_answer : HasAnswer
 has_answer before s moment h good = step_some before s moment h good
@@ -24,3 +25,15 @@ never_poor before s moment h response next step = step_rich before s moment h re
 
 pub keeps_good : KeepsGood
 keeps_good c = context_good c
+
+pub keeps_refused : KeepsRefused
+keeps_refused before s moment h response next refusal step e check low = step_keeps before s moment h response next refusal step e check low
+
+pub means_one : MeansOne
+means_one = means_one_header
+
+pub takes_plain_ir : TakesPlain
+takes_plain_ir = takes_plain
+
+pub delivers_honest_packet : DeliversHonest
+delivers_honest_packet = delivers_honest

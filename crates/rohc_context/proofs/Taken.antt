@@ -34,7 +34,7 @@ renews s m h false r counting content response next e read is =
 abbrev Settles : code.State → Static → Option Reference → List Bool → Type 0
 Settles st fixed reference window = (a m : ℕ) (s : Settings) (h : Header) (first : ℕ) (refreshed : Result (code.State × Reply) ChainRefusal) (response : Response) (next : Record)
     → IfOk refreshed (λ x. (d : DynContent) × (dyn_said h 1 (kept_by reference) ≡ Ok d)
-      × ((moment : ℕ) → Delivers s moment h fixed d.moving d.payload window (response_of x.1) (Some (record { accepted = moment; state = state_of x.0 }))))
+    × ((moment : ℕ) → Delivers s moment h fixed d.moving d.payload window (response_of x.1) (Some (record { accepted = moment; state = state_of x.0 }))))
     → IfErr refreshed (λ e. dyn_said h 1 (kept_by reference) ≡ Err e)
     → IfOk refreshed (λ x. response ≡ response_of x.1)
     → IfOk refreshed (λ x. next ≡ record { accepted = m; state = state_of x.0 })
@@ -50,7 +50,7 @@ static_settles : (c : code_static.StaticContext) → Settles (states.Static c) c
 static_settles c a m s h first (Ok x) response next taken fault reply kept refused =
     let r : Record = record { accepted = a; state = state_of (states.Static c) } in
     subst (λ read. RefreshesBy s m h r (state_of (states.Static c)) read response (Some next)) (sym taken.1)
-      (delivers_as s m h c.fixed taken.0 [] response (response_of x.1) next (record { accepted = m; state = state_of x.0 }) reply kept (taken.2 m))
+    (delivers_as s m h c.fixed taken.0 [] response (response_of x.1) next (record { accepted = m; state = state_of x.0 }) reply kept (taken.2 m))
 static_settles c a m s h first (Err e) response next taken fault reply kept refused =
     let r : Record = record { accepted = a; state = state_of (states.Static c) } in
     subst (λ read. RefreshesBy s m h r (state_of (states.Static c)) read response (Some next)) (sym fault) refused
@@ -59,7 +59,7 @@ full_settles : (c : code_full.FullContext) → Settles (states.Full c) c.fixed (
 full_settles c a m s h first (Ok x) response next taken fault reply kept refused =
     let r : Record = record { accepted = a; state = state_of (states.Full c) } in
     subst (λ read. RefreshesBy s m h r (state_of (states.Full c)) read response (Some next)) (sym taken.1)
-      (delivers_as s m h c.fixed taken.0 (and_outcome false (outcomes c.windows.0)) response (response_of x.1) next (record { accepted = m; state = state_of x.0 }) reply kept (taken.2 m))
+    (delivers_as s m h c.fixed taken.0 (and_outcome false (outcomes c.windows.0)) response (response_of x.1) next (record { accepted = m; state = state_of x.0 }) reply kept (taken.2 m))
 full_settles c a m s h first (Err e) response next taken fault reply kept refused =
     let r : Record = record { accepted = a; state = state_of (states.Full c) } in
     subst (λ read. RefreshesBy s m h r (state_of (states.Full c)) read response (Some next)) (sym fault) refused

@@ -54,9 +54,9 @@ verdict_some first udp_sum stride_known fixed c (t ∷ more) fixed_good good few
     let (h, explained) = explains_some first udp_sum stride_known fixed t.reference t.shift c fixed_good good few in
     let (rest, later) = verdict_some first udp_sum stride_known fixed c more fixed_good good few in
     ⊎_elim
-      (λ fits. (Ok (record { content = c; reference = t.reference; header = h }), inl (h, fits, refl)))
-      (λ misses. (rest, inr (misses, later)))
-      (tried fixed t c h explained)
+    (λ fits. (Ok (record { content = c; reference = t.reference; header = h }), inl (h, fits, refl)))
+    (λ misses. (rest, inr (misses, later)))
+    (tried fixed t c h explained)
 
 -- ---- Where the packet is read
 

@@ -65,12 +65,12 @@ pub pushed_fits : (l w x m : ℕ) (b : Bool) → l ≤ 64 → w < 2 ^ l → x �
     → (w * 2) % 2 ^ 64 + x < 2 ^ m
 pushed_fits l w x m b few small is long = ⊎_elim
     (λ short.
-      let e : m ≡ suc l = omega arith in
-      rw (is, e, mod-eq_of_lt (room l w short small)) (omega (arith, pow-suc 2 l, bool_small b)))
+    let e : m ≡ suc l = omega arith in
+    rw (is, e, mod-eq_of_lt (room l w short small)) (omega (arith, pow-suc 2 l, bool_small b)))
     (λ full.
-      let e : m ≡ 64 = omega arith in
-      let half : (w * 2) % 2 ^ 64 ≡ (w % 2 ^ 63) * 2 = omega (arith, mod-pow-add (w * 2) 63 1) in
-      rw (is, e, half) (omega (arith, mod_below w (2 ^ 63) (omega arith), bool_small b)))
+    let e : m ≡ 64 = omega arith in
+    let half : (w * 2) % 2 ^ 64 ≡ (w % 2 ^ 63) * 2 = omega (arith, mod-pow-add (w * 2) 63 1) in
+    rw (is, e, half) (omega (arith, mod_below w (2 ^ 63) (omega arith), bool_small b)))
     (cases_lt l 64)
 
 -- the ones of a number are the outcomes that are failures
@@ -97,9 +97,9 @@ ones-number bs = is_count_by (λ bs. count_ones (number bs)) (λ failure. failur
 take_low : (n l w : ℕ) → w < 2 ^ l → number (take n (bits l w)) ≡ w % 2 ^ n
 take_low n l w small = ⊎_elim
     (λ longer.
-      let e = take_all n (bits l w) (omega (arith, length-bits l w)) in
-      let fits : w < 2 ^ n = omega (arith, pow_mono {i = l} {j = n} (omega arith)) in
-      ap number e ∙ number-bits l w ∙ mod-eq_of_lt small ∙ sym (mod-eq_of_lt fits))
+    let e = take_all n (bits l w) (omega (arith, length-bits l w)) in
+    let fits : w < 2 ^ n = omega (arith, pow_mono {i = l} {j = n} (omega arith)) in
+    ap number e ∙ number-bits l w ∙ mod-eq_of_lt small ∙ sym (mod-eq_of_lt fits))
     (λ shorter. ap number (take-bits n l w shorter) ∙ number-bits n w)
     (cases_lt l n)
 

@@ -1,15 +1,26 @@
-use Rattle.std.specs.Prelude.{◌≡◌, ◌≢◌, ℕ, Bool, Option, Some, None, IfSome}
-use Rattle.rohc_frame.specs.declared.header.HeadKind.TheVariants.{Ir}
+use Rattle.std.specs.Prelude.{◌≡◌, ◌≢◌, ℕ, ◌≤◌, List, [], ◌∷◌, length, Bool, true, All, Option, Some, None, IfSome, Ok}
+use Rattle.rohc_bits.specs.Bits.{IsOctet}
+use Rattle.rohc_lsb.specs.Interval.{ExactlyOne}
+use Rattle.rohc_header.specs.declared.fields.Static.{Static}
+use Rattle.rohc_chain.specs.Good.{IsGoodStatic}
+use Rattle.rohc_chain.specs.Packets.{IsIr, Plain as PlainPacket}
+use Rattle.rohc_chain.specs.Texts.{IsIrText}
+use Rattle.rohc_forms.specs.Content.{Content}
+use Rattle.rohc_forms.specs.Good.{IsGoodContent}
+use Rattle.rohc_frame.specs.declared.header.HeadKind.TheVariants.{Ir, Other}
 use Rattle.rohc_frame.specs.Header.{Header}
 use Rattle.rohc_context.specs.declared.refusal.Refusal.{Refusal}
-use Rattle.rohc_context.specs.declared.refusal.Refusal.TheVariants.{NoMemory}
-use Rattle.rohc_context.specs.declared.reply.Outcome.TheVariants.{Refused}
+use Rattle.rohc_context.specs.declared.refusal.Refusal.TheVariants.{NoMemory, Check, StateTooLow}
+use Rattle.rohc_context.specs.declared.reply.Outcome.TheVariants.{Refused, Delivered}
 use Rattle.rohc_context.specs.declared.settings.Settings.{Settings}
 use Rattle.rohc_context.specs.Good.{AreGoodValues, IsGoodRecord}
 use Rattle.rohc_context.specs.declared.record.Context.{Context}
-use Rattle.rohc_context.specs.Record.{Record, record_of}
-use Rattle.rohc_context.specs.Response.{Response}
-use Rattle.rohc_context.specs.Step.{LoneStep}
+use Rattle.rohc_context.specs.Record.{Reference, FullContext, Record, record_of}
+use Rattle.rohc_context.specs.Response.{Packet, Response, delivered}
+use Rattle.rohc_context.specs.Explains.{Explained, Explains}
+use Rattle.rohc_context.specs.Tries.{Acceptance, Fits, unshifted}
+use Rattle.rohc_context.specs.Update.{said_under, updated}
+use Rattle.rohc_context.specs.Step.{LoneStep, counts}
 
 -- a step from good values has an answer and a record, or none, after it
 abbrev pub HasAnswer : Type 0
@@ -44,3 +55,31 @@ NeverPoor = (before : Option Record) (s : Settings) (moment : ℕ) (h : Header) 
 -- every context that a program holds has a good record
 abbrev pub KeepsGood : Type 0
 KeepsGood = (c : Context) → IsGoodRecord (record_of c)
+
+-- what is refused for another reason than Check and StateTooLow changes nothing
+abbrev pub KeepsRefused : Type 0
+KeepsRefused = (before : Option Record) (s : Settings) (moment : ℕ) (h : Header) (response : Response) (next : Option Record) (refusal : Refusal) →
+    LoneStep before s moment h response next → response.outcome ≡ Refused refusal →
+    refusal ≢ Check → refusal ≢ StateTooLow → next ≡ before
+
+-- What a packet that fits says means exactly one header, against any reference and any shift.
+abbrev pub MeansOne : Type 0
+MeansOne = (first : ℕ) (udp_sum stride_known : Bool) (fixed : Static) (r : Reference) (shift : ℕ) (c : Content) → IsGoodStatic fixed →
+    IsGoodContent first udp_sum stride_known c → length c.payload ≤ 65495 → ExactlyOne (Explains fixed r shift c)
+
+-- an IR of profile 0x0000 is taken whatever stands, and delivers the IP packet that its octets spell
+abbrev pub TakesPlain : Type 0
+TakesPlain = (before : Option Record) (s : Settings) (moment : ℕ) (h : Header) (octet : ℕ) (packet : List ℕ) (response : Response) (next : Option Record) →
+    IsIr h.kind → IsIrText h (PlainPacket (octet ∷ packet)) → LoneStep before s moment h response next →
+    (response.packet ≡ Some (record { head = []; payload = octet ∷ packet })) × (response.outcome ≡ Delivered)
+
+-- The honest step: in Full Context, where the record counts, a packet that means a header against the held reference, and
+-- carries that header's check, is delivered as that header; the state stays, with the next reference.
+abbrev pub DeliversHonest : Type 0
+DeliversHonest = (accepted : ℕ) (fixed : Static) (reference : Reference) (previous : Option Reference) (window : List Bool) (s : Settings) (moment : ℕ)
+    (h : Header) (c : Content) (e : Explained) (response : Response) (next : Option Record) →
+    h.kind ≡ Other → All IsOctet h.rest → said_under h reference ≡ Ok c → length c.payload ≤ 65495 → Fits fixed (unshifted reference) c e →
+    counts s moment (record { accepted = accepted; state = FullContext fixed reference previous window }) ≡ true →
+    LoneStep (Some (record { accepted = accepted; state = FullContext fixed reference previous window })) s moment h response next →
+    (response ≡ delivered e.octets c.payload None) ×
+    (next ≡ Some (record { accepted = moment; state = updated fixed reference window (record { content = c; reference = reference; header = e }) }))

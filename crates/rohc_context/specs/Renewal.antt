@@ -50,7 +50,7 @@ abbrev pub Delivers : Settings → (moment : ℕ) → Header → Static → Dyna
 Delivers s moment h fixed moving payload window response next =
     (octets : List ℕ) × IsOriginal fixed moving (length payload) octets
     × Takes moment (FullContext fixed (first_reference moving) None window)
-        (delivered octets payload (sent s.mode h (Ack moving.sn))) response next
+    (delivered octets payload (sent s.mode h (Ack moving.sn))) response next
 
 -- What an IR says is taken in every state, the one that counts if there is one. One of profile 0x0000 leads there; one
 -- without a dynamic chain to Static Context without a reference; one with a dynamic chain to Full Context.

@@ -68,7 +68,7 @@ pub(crate) fn renewal<'a>(
     requires { IsIr forward.now.kind }
     ensures taken { IfOk result (λ x. (content : IrContent) × (ir_at (header_of forward.now) ≡ Ok content)
         × ((moment : ℕ) → Renewed settings.now moment (header_of forward.now) (option_map state_of counting) content
-            (response_of x.1) (Some (record { accepted = moment; state = state_of x.0 })))) }
+        (response_of x.1) (Some (record { accepted = moment; state = state_of x.0 })))) }
     ensures fault { IfErr result (λ e. (refusal : ChainRefusal) × (ir_at (header_of forward.now) ≡ Err refusal) × (e ≡ fault_of_chain refusal)) }
 {
     match read_ir(forward)? {
@@ -87,9 +87,7 @@ pub(crate) fn renewal<'a>(
             payload,
         } => {
             let window = full_window(counting);
-            Ok(FullContext::begin(
-                settings, forward, fixed, moving, payload, window,
-            ))
+            Ok(FullContext::begin(settings, forward, fixed, moving, payload, window))
         }
     }
 }

@@ -60,7 +60,7 @@ pub(crate) fn refresh<'a>(
     ensures taken { IfOk result (λ x. (d : DynContent)
         × (dyn_said (header_of forward.now) 1 (kept_by (option_map reference_of reference)) ≡ Ok d)
         × ((moment : ℕ) → Delivers settings.now moment (header_of forward.now) fixed d.moving d.payload (outcomes window)
-            (response_of x.1) (Some (record { accepted = moment; state = state_of x.0 })))) }
+        (response_of x.1) (Some (record { accepted = moment; state = state_of x.0 })))) }
     ensures fault { IfErr result (λ e. dyn_said (header_of forward.now) 1 (kept_by (option_map reference_of reference)) ≡ Err e) }
 {
     let (extension, stride) = kept(reference);

@@ -1,6 +1,6 @@
 //! Laws of one step, as contracts of functions that do nothing. The crates above know a step by these.
 
-ghost use Rattle.rohc_context.specs.Laws.{HasAnswer, HasNoOther, LeavesGood, BeginsByIr, LeavesNone, NeverPoor, KeepsGood};
+ghost use Rattle.rohc_context.specs.Laws.{HasAnswer, HasNoOther, LeavesGood, BeginsByIr, LeavesNone, NeverPoor, KeepsGood, KeepsRefused, MeansOne, TakesPlain, DeliversHonest};
 
 /// A step from good values has exactly one answer and one record, or none, after it.
 pub fn one_answer()
@@ -31,4 +31,25 @@ pub fn never_poor()
 /// Every context that a program holds has a good record.
 pub fn kept_record()
     ensures { KeepsGood }
+{}
+
+/// What is refused for another reason than `Check` and `StateTooLow` changes nothing.
+pub fn refusal_changes_nothing()
+    ensures { KeepsRefused }
+{}
+
+/// A packet that is read means exactly one header against a reference and a shift (RFC 3095 4.5).
+pub fn one_meaning()
+    ensures { MeansOne }
+{}
+
+/// An IR of profile 0x0000 is taken whatever stands, and delivers its IP packet (RFC 3095 5.10.1).
+pub fn plain_ir_delivered()
+    ensures { TakesPlain }
+{}
+
+/// A packet that means a header against the held reference of Full Context, and carries its check, is delivered
+/// as that header, and Full Context stays.
+pub fn honest_step()
+    ensures { DeliversHonest }
 {}

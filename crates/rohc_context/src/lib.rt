@@ -28,3 +28,6 @@ pub use refusal::Refusal;
 pub use reply::{Delivered, Outcome, Reply};
 pub use settings::{Mode, Settings};
 pub use window::Window;
+
+#[cfg(test)]
+mod tests;

@@ -34,7 +34,12 @@ fn read<'a>(forward: &Forward<'a>, reference: &Reference) -> Result<Form<'a>, Fa
     ensures fault { IfErr result (λ e. (fixed : Static) (tries : Content → List Try) → Judges fixed tries (said_under (header_of forward.now) (reference_of reference.now)) (Err e)) }
 {
     let kept = &reference.moving;
-    let form = read_form(forward, kept.rnd, reference.carries_sum, kept.stride.is_some())?;
+    let form = read_form(
+        forward,
+        kept.rnd,
+        reference.carries_sum,
+        kept.stride.is_some(),
+    )?;
     if form.payload.len() > LONGEST_PAYLOAD {
         return Err(Fault::Refused(Refusal::TooLong));
     }
@@ -75,12 +80,12 @@ impl FullContext {
         requires good { AreGood settings.now }
         ensures taken { IfOk result (λ d. (a : Acceptance)
             × Judges self.old.fixed (full_tries settings.now passed (reference_of self.old.reference) (option_map reference_of self.old.previous))
-                (said_under (header_of forward.now) (reference_of self.old.reference)) (Ok a)
+            (said_under (header_of forward.now) (reference_of self.old.reference)) (Ok a)
             × (d.head.items ≡ a.header.octets) × (d.payload.now ≡ a.content.payload)
             × (state_of (Level self.new) ≡ updated self.old.fixed (reference_of self.old.reference) (outcomes self.old.windows.0) a)) }
         ensures fault { IfErr result (λ e.
             Judges self.old.fixed (full_tries settings.now passed (reference_of self.old.reference) (option_map reference_of self.old.previous))
-                (said_under (header_of forward.now) (reference_of self.old.reference)) (Err e)) }
+            (said_under (header_of forward.now) (reference_of self.old.reference)) (Err e)) }
         ensures stays { IfErr result (λ e. self.new ≡ self.old) }
     {
         let form = read(forward, &self.reference)?;
@@ -117,12 +122,12 @@ impl StaticContext {
         requires kept { IsKept self.now.fixed reference.now.moving reference.now.saved }
         ensures taken { IfOk result (λ x. (a : Acceptance)
             × Judges self.now.fixed (λ c. static_tries (reference_of reference.now))
-                (said_under (header_of forward.now) (reference_of reference.now)) (Ok a)
+            (said_under (header_of forward.now) (reference_of reference.now)) (Ok a)
             × (x.1.head.items ≡ a.header.octets) × (x.1.payload.now ≡ a.content.payload)
             × (state_of (Level x.0) ≡ promoted self.now.fixed a) × (reference_of x.0.reference ≡ next_reference a)) }
         ensures fault { IfErr result (λ e.
             Judges self.now.fixed (λ c. static_tries (reference_of reference.now))
-                (said_under (header_of forward.now) (reference_of reference.now)) (Err e)) }
+            (said_under (header_of forward.now) (reference_of reference.now)) (Err e)) }
     {
         let form = read(forward, reference)?;
         let Some(accepted) = attempt(&self.fixed, reference, 0, &form) else {

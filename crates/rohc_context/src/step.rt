@@ -149,12 +149,7 @@ impl Context {
 
     /// An IR-DYN, for a record that counts.
     #[tactic(auto, unfolding(crate::specs::Record::record_of))]
-    fn refresh<'a>(
-        &mut self,
-        settings: &Settings,
-        moment: u64,
-        forward: &Forward<'a>,
-    ) -> Reply<'a>
+    fn refresh<'a>(&mut self, settings: &Settings, moment: u64, forward: &Forward<'a>) -> Reply<'a>
         requires kind { IsIrDyn forward.now.kind }
         requires good { AreGood settings.now }
         ensures { Turn settings.now moment (header_of forward.now) KindIrDyn (Some (record_of self.old)) (Some (record_of self.old)) (response_of result) (Some (record_of self.new)) }
@@ -215,12 +210,7 @@ impl Context {
 
     /// A packet of kind Other, for a record that counts.
     #[tactic(auto, unfolding(crate::specs::Record::record_of))]
-    fn update<'a>(
-        &mut self,
-        settings: &Settings,
-        moment: u64,
-        forward: &Forward<'a>,
-    ) -> Reply<'a>
+    fn update<'a>(&mut self, settings: &Settings, moment: u64, forward: &Forward<'a>) -> Reply<'a>
         requires kind { IsOther forward.now.kind }
         requires good { AreGood settings.now }
         ensures { Turn settings.now moment (header_of forward.now) KindOther (Some (record_of self.old)) (Some (record_of self.old)) (response_of result) (Some (record_of self.new)) }
@@ -243,12 +233,7 @@ impl Context {
 
     /// A packet of kind Other in Static Context: a UOR-2 kind is taken against the reference, if there is one.
     #[tactic(auto, unfolding(crate::specs::Record::record_of))]
-    fn promote<'a>(
-        &mut self,
-        settings: &Settings,
-        moment: u64,
-        forward: &Forward<'a>,
-    ) -> Reply<'a>
+    fn promote<'a>(&mut self, settings: &Settings, moment: u64, forward: &Forward<'a>) -> Reply<'a>
         requires kind { IsOther forward.now.kind }
         requires good { AreGood settings.now }
         requires state { is_static self.old.state ≡ true }
@@ -289,10 +274,7 @@ impl Context {
     {
         let (state, due) = self.state.after_low_state(settings, moment);
         self.state = state;
-        Reply::failed(
-            Refusal::StateTooLow,
-            due.feedback(settings.mode, forward),
-        )
+        Reply::failed(Refusal::StateTooLow, due.feedback(settings.mode, forward))
     }
 
     /// A fault of an arrival, for a record that counts.

@@ -102,7 +102,7 @@ impl FullContext {
         requires payload { length form.now.payload.now ≤ 65495 }
         ensures verdict { Verdict self.now.fixed (content form.now)
             (second_tries settings.now passed (reference_of self.now.reference) (content form.now)
-                ++ third_tries (option_map reference_of self.now.previous) (content form.now))
+            ++ third_tries (option_map reference_of self.now.previous) (content form.now))
             (verdict_of (content form.now) result) }
         ensures sound { IfSome result (λ a. IsSound self.now.fixed a) }
     {
@@ -117,7 +117,12 @@ impl FullContext {
     }
 
     /// The header of the first try that fits.
-    pub(crate) fn accepted(&self, settings: &Settings, passed: u64, form: &Form<'_>) -> Option<Accepted>
+    pub(crate) fn accepted(
+        &self,
+        settings: &Settings,
+        passed: u64,
+        form: &Form<'_>,
+    ) -> Option<Accepted>
         requires good { AreGood settings.now }
         requires payload { length form.now.payload.now ≤ 65495 }
         ensures verdict { Verdict self.now.fixed (content form.now)

@@ -24,14 +24,14 @@ returns-in-Ok c =
     let t = c.in-Ok.ensures.taken in
     let next = Some (record { accepted = c.args.moment; state = state_of (Level c.in-Ok.context) }) in
     let due : octets_of c.feedback-feedback.result ≡ sent c.args.settings.now.mode h (acknowledged t.0) =
-      c.feedback-feedback.ensures ∙ ap (λ (x : Reference). sent c.args.settings.now.mode h (Ack x.moving.sn)) t.5 in
+    c.feedback-feedback.ensures ∙ ap (λ (x : Reference). sent c.args.settings.now.mode h (Ack x.moving.sn)) t.5 in
     promotes state context.fixed (reference_of c.in-Some.reference) (outcomes context.windows.0) (outcomes context.windows.1)
-      (static_is c.args.self.now.state context c.in-Some.reference c.in-Static.is c.in-Some.is)
-      c.args.self.now.accepted c.args.moment c.args.settings.now h c.args.forward.now.first (Ok t.0) (response_of c.delivered.result) next
-      (from_192 c.args.forward.now.first c.if-forward-lt192.false) t.1
-      (subst (λ x. Accepts c.args.settings.now c.args.moment h r (promoted context.fixed) acknowledged (Ok t.0) x next) (sym c.delivered.ensures)
-        (accepts_as c.args.settings.now c.args.moment h r (promoted context.fixed) acknowledged t.0 c.in-Ok.packet.head.items c.in-Ok.packet.payload.now
-          (octets_of c.feedback-feedback.result) (state_of (Level c.in-Ok.context)) t.2 t.3 due t.4))
+    (static_is c.args.self.now.state context c.in-Some.reference c.in-Static.is c.in-Some.is)
+    c.args.self.now.accepted c.args.moment c.args.settings.now h c.args.forward.now.first (Ok t.0) (response_of c.delivered.result) next
+    (from_192 c.args.forward.now.first c.if-forward-lt192.false) t.1
+    (subst (λ x. Accepts c.args.settings.now c.args.moment h r (promoted context.fixed) acknowledged (Ok t.0) x next) (sym c.delivered.ensures)
+    (accepts_as c.args.settings.now c.args.moment h r (promoted context.fixed) acknowledged t.0 c.in-Ok.packet.head.items c.in-Ok.packet.payload.now
+    (octets_of c.feedback-feedback.result) (state_of (Level c.in-Ok.context)) t.2 t.3 due t.4))
 
 pub returns-in-Err : goal.returns-in-Err
 unfolding record_of
@@ -39,6 +39,6 @@ returns-in-Err c =
     let context = c.in-Static.context in
     let h = header_of c.args.forward.now in
     promotes (state_of c.args.self.now.state) context.fixed (reference_of c.in-Some.reference) (outcomes context.windows.0) (outcomes context.windows.1)
-      (static_is c.args.self.now.state context c.in-Some.reference c.in-Static.is c.in-Some.is)
-      c.args.self.now.accepted c.args.moment c.args.settings.now h c.args.forward.now.first (Err c.in-Err.fault) (response_of c.end.result) (Some (record_of c.end.new.self))
-      (from_192 c.args.forward.now.first c.if-forward-lt192.false) c.in-Err.ensures.fault c.end.ensures
+    (static_is c.args.self.now.state context c.in-Some.reference c.in-Static.is c.in-Some.is)
+    c.args.self.now.accepted c.args.moment c.args.settings.now h c.args.forward.now.first (Err c.in-Err.fault) (response_of c.end.result) (Some (record_of c.end.new.self))
+    (from_192 c.args.forward.now.first c.if-forward-lt192.false) c.in-Err.ensures.fault c.end.ensures

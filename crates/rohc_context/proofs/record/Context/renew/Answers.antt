@@ -10,4 +10,4 @@ unfolding record_of
 returns-in-Ok c =
     let taken = c.in-Ok.ensures.taken in
     renews c.args.settings.now c.args.moment (header_of c.args.forward.now) c.args.counts (record_of c.args.self.now) (option_map state_of c.counting.result) taken.0 _ _
-      c.counting.ensures taken.1 (taken.2 c.args.moment)
+    c.counting.ensures taken.1 (taken.2 c.args.moment)

@@ -14,12 +14,14 @@ pub returns-clause-taken : goal.returns-clause-taken
 returns-clause-taken c =
     let self = c.args.self.now in
     let form = content c.in_ok-form.form in
-    let a = acceptance_of form c.in-Some.accepted in
-    ( a
-    , judged self.fixed (full_tries c.args.settings.now c.args.passed (reference_of self.reference) (option_map reference_of self.previous))
-        (said_under (header_of c.args.forward.now) (reference_of self.reference)) form _ c.in_ok-form.ensures.read c.in_ok-form.ensures.short
-        (subst (λ r. Verdict self.fixed form (full_tries c.args.settings.now c.args.passed (reference_of self.reference) (option_map reference_of self.previous) form) (verdict_of form r))
-          c.in-Some.is c.accepted.ensures.verdict)
-    , c.packet.ensures.head, c.packet.ensures.payload
-    , updated_is self.fixed (reference_of self.reference) (reference_of c.next-next.result) (outcomes self.windows.0) (outcomes c.and-self.result)
-        (option_map reference_of c.previous-self.result) a c.next-next.ensures.reference c.previous-self.ensures.reference c.and-self.ensures )
+    let a = acceptance_of form c.in-Some.accepted in (
+      a,
+      judged self.fixed (full_tries c.args.settings.now c.args.passed (reference_of self.reference) (option_map reference_of self.previous))
+          (said_under (header_of c.args.forward.now) (reference_of self.reference)) form _ c.in_ok-form.ensures.read c.in_ok-form.ensures.short
+          (subst (λ r. Verdict self.fixed form (full_tries c.args.settings.now c.args.passed (reference_of self.reference) (option_map reference_of self.previous) form) (verdict_of form r))
+          c.in-Some.is c.accepted.ensures.verdict),
+      c.packet.ensures.head,
+      c.packet.ensures.payload,
+      updated_is self.fixed (reference_of self.reference) (reference_of c.next-next.result) (outcomes self.windows.0) (outcomes c.and-self.result)
+          (option_map reference_of c.previous-self.result) a c.next-next.ensures.reference c.previous-self.ensures.reference c.and-self.ensures,
+    )

@@ -14,11 +14,13 @@ returns-clause-taken c =
     let reference = reference_of c.args.reference.now in
     let form = content c.in_ok-form.form in
     let accepted = c.in-Some.accepted in
-    let a = acceptance_of form accepted in
-    ( a
-    , judged c.args.self.now.fixed (λ x. static_tries reference) (said_under (header_of c.args.forward.now) reference) form _ c.in_ok-form.ensures.read c.in_ok-form.ensures.short
-        (first_fits c.args.self.now.fixed reference form (explained_of accepted.header) a c.in-Some.ensures.fits
-          (ap (λ r. record { content = form; reference = reference_of r; header = explained_of accepted.header }) c.in-Some.ensures.reference))
-    , c.packet.ensures.head, c.packet.ensures.payload
-    , promoted_is c.args.self.now.fixed (reference_of c.next.result) (outcomes c.empty.result) a c.next.ensures.reference c.empty.ensures.none
-    , c.next.ensures.reference )
+    let a = acceptance_of form accepted in (
+      a,
+      judged c.args.self.now.fixed (λ x. static_tries reference) (said_under (header_of c.args.forward.now) reference) form _ c.in_ok-form.ensures.read c.in_ok-form.ensures.short
+          (first_fits c.args.self.now.fixed reference form (explained_of accepted.header) a c.in-Some.ensures.fits
+          (ap (λ r. record { content = form; reference = reference_of r; header = explained_of accepted.header }) c.in-Some.ensures.reference)),
+      c.packet.ensures.head,
+      c.packet.ensures.payload,
+      promoted_is c.args.self.now.fixed (reference_of c.next.result) (outcomes c.empty.result) a c.next.ensures.reference c.empty.ensures.none,
+      c.next.ensures.reference,
+    )

@@ -1,0 +1,100 @@
+//! Arrivals of one context, from the worked examples.
+
+use crate::{Context, Mode, Outcome, Refusal, Settings};
+use rohc_frame::{CidKind, cut};
+
+const SETTINGS: Settings = Settings {
+    size: CidKind::Small,
+    max_cid: 15,
+    mode: Mode::O,
+    k1: 2,
+    n1: 3,
+    k2: 2,
+    n2: 3,
+    packet_ms: 20,
+    static_nack_ms: 1000,
+    idle_ms: 0,
+};
+
+// Example whole IR.
+const WHOLE_IR: [u8; 42] = [
+    0xfd, 0x01, 0x2b, 0x40, 0x11, 0x0a, 0x00, 0x00, 0x01, 0x0a, 0x00, 0x00, 0x02, 0x13, 0x88, 0x13,
+    0x8a, 0x00, 0x00, 0x00, 0x01, 0x00, 0x40, 0x00, 0x01, 0x20, 0x00, 0x00, 0x00, 0x90, 0x00, 0x00,
+    0x01, 0x00, 0x00, 0x00, 0xa0, 0x00, 0x09, 0x80, 0xa0, 0xab,
+];
+
+// The context that a first packet makes.
+fn first(packet: &[u8]) -> Option<Context> {
+    let forward = cut(CidKind::Small, 15, packet).ok()?.forward?;
+    let (context, _reply) = Context::first(&SETTINGS, 0, &forward).ok()?;
+    Some(context)
+}
+
+// What a packet is answered: its outcome, the sequence number of the rebuilt header, the feedback's type octet.
+fn answer(context: &mut Context, packet: &[u8]) -> Option<(Outcome, Option<u8>, Option<u8>)> {
+    let forward = cut(CidKind::Small, 15, packet).ok()?.forward?;
+    let reply = context.arrive(&SETTINGS, 0, &forward);
+    let sn = match reply.packet {
+        Some(packet) => packet.head.get(31).copied(),
+        None => None,
+    };
+    let feedback = match reply.feedback {
+        Some(element) => element.first().copied(),
+        None => None,
+    };
+    Some((reply.outcome, sn, feedback))
+}
+
+const UNFIT: Outcome = Outcome::Refused(Refusal::Check);
+
+const LOW: Outcome = Outcome::Refused(Refusal::StateTooLow);
+
+// Examples first UO-0, fall to Static and UOR-2-TS jump.
+#[test]
+fn a_call_falls_and_is_taken_up_again(rt: HostRuntime) {
+    let Some(mut context) = first(&WHOLE_IR) else {
+        panic!(rt; "refused");
+    };
+    let answers: [(&[u8], Outcome, Option<u8>, Option<u8>); 7] = [
+        (&[0x10, 0xac], Outcome::Delivered, Some(2), None),
+        (&[0x11, 0xac], UNFIT, None, None),
+        (&[0x11, 0xac], UNFIT, None, Some(0xf4)),
+        (&[0x10, 0xac], LOW, None, None),
+        (&[0x10, 0xac], LOW, None, Some(0xf4)),
+        (
+            &[0xd4, 0xc3, 0x3e, 0xad],
+            Outcome::Delivered,
+            Some(3),
+            Some(0xf4),
+        ),
+        (&WHOLE_IR, Outcome::Delivered, Some(1), Some(0xf4)),
+    ];
+    for (packet, outcome, sn, feedback) in answers {
+        assert_eq!(rt; answer(&mut context, packet), Some((outcome, sn, feedback)));
+    }
+}
+
+// In Full Context the second window is empty; the registers are those of the reference's headers.
+#[test]
+fn what_is_stored_is_lent(rt: HostRuntime) {
+    let Some(mut context) = first(&WHOLE_IR) else {
+        panic!(rt; "refused");
+    };
+    assert!(rt; answer(&mut context, &[0x11, 0xac]).is_some());
+    let Some((window, none)) = context.windows() else {
+        panic!(rt; "no windows");
+    };
+    assert_eq!(rt; (window.word, window.length), (1, 1));
+    assert_eq!(rt; (none.word, none.length), (0, 0));
+    assert!(rt; context.saved().is_some());
+}
+
+// A plain context has neither.
+#[test]
+fn a_plain_context_lends_nothing(rt: HostRuntime) {
+    let Some(context) = first(&[0xfc, 0x00, 0xb7, 0x45, 0xaa]) else {
+        panic!(rt; "refused");
+    };
+    assert!(rt; context.windows().is_none());
+    assert!(rt; context.saved().is_none());
+}
