@@ -1,10 +1,9 @@
 -- A packet means exactly one header against a reference and a shift.
-use Rattle.std.proofs.Common.{◌≡◌, ◌≢◌, ℕ, ◌+◌, ◌<◌, ◌≤◌, ◌^◌, Bool, true, false, List, ◌++◌, length, Option, Some, None, IfSome, refl, sym, ap, subst, ◌∙◌, arith, ℤ, pos, ◌+ℤ◌, length-append}
-use Rattle.std.specs.Prelude.{unwrap_or, Ok}
+use Rattle.std.proofs.Common.{◌≡◌, ℕ, ◌<◌, ◌≤◌, ◌^◌, Bool, List, ◌++◌, length, Option, Some, None, IfSome, refl, sym, ap, subst, ◌∙◌, arith, ℤ, length-append}
+use Rattle.std.specs.Prelude.{unwrap_or}
 use Rattle.rohc_bits.specs.LowBits.{LowBits}
-use Rattle.rohc_bits.specs.Bits.{IsOctet}
-use Rattle.rohc_lsb.specs.Interval.{ExactlyOne, modulo}
-use Rattle.rohc_lsb.specs.Fields.{AgreesInSn, AgreesWithoutBits, AgreesByScaledBits, AgreesByUnscaledBits, offset_of, AgreesInOffset}
+use Rattle.rohc_lsb.specs.Interval.{ExactlyOne}
+use Rattle.rohc_lsb.specs.Fields.{AgreesInSn}
 use Rattle.rohc_lsb.proofs.Meant.{modulo_below}
 use Rattle.rohc_lsb.proofs.Once.{one_sn, one_timestamp, one_identification}
 use Rattle.rohc_header.specs.declared.fields.Static.{Static}

@@ -1,6 +1,6 @@
 -- The record after a step from good values is good.
-use Rattle.std.proofs.Common.{◌≡◌, ℕ, ◌-◌, ◌<◌, ◌≤◌, ◌^◌, List, [], ◌∷◌, ◌++◌, length, take, Bool, true, false, Option, Some, None, IfSome, inl, inr, refl, sym, subst, arith}
-use Rattle.std.specs.Prelude.{All, Result, Ok, Err, IfOk, is_some, nat_lt, if◌then◌else◌, option_map, ◌&&◌}
+use Rattle.std.proofs.Common.{◌≡◌, ℕ, ◌-◌, ◌<◌, ◌^◌, List, [], ◌∷◌, ◌++◌, length, Bool, true, false, Option, Some, None, IfSome, inl, inr, refl, sym, subst, arith}
+use Rattle.std.specs.Prelude.{All, Result, Ok, Err, IfOk, is_some, nat_lt, if◌then◌else◌, option_map}
 use Rattle.std.proofs.lemmas.List.{length-take}
 use Rattle.rohc_bits.specs.Bits.{IsOctet}
 use Rattle.rohc_frame.specs.declared.header.HeadKind.{HeadKind}
@@ -35,9 +35,9 @@ use Rattle.rohc_context.specs.Window.{outcomes, and_outcome, is_filled}
 use Rattle.rohc_context.specs.Good.{AreGoodValues, IsGoodReference, IsGoodState, IsGoodWindow, IsGoodRecord}
 use Rattle.rohc_context.specs.Faults.{fault_of_chain}
 use Rattle.rohc_context.specs.Failures.{takes, Consequence, leads_to, sn_of, after_check, after_low_state}
-use Rattle.rohc_context.specs.Outcomes.{Takes, Ends}
-use Rattle.rohc_context.specs.NextReference.{without_marker, with_numbers, first_reference, counts_once, next_moving, next_reference, same_numbering, kept_previous, next_previous}
-use Rattle.rohc_context.specs.Renewal.{full_window, full_window_of, static_windows_of, Delivers, Renewed, state_in, Renews}
+use Rattle.rohc_context.specs.Outcomes.{Ends}
+use Rattle.rohc_context.specs.NextReference.{without_marker, with_numbers, first_reference, counts_once, next_moving, next_reference, same_numbering, next_previous}
+use Rattle.rohc_context.specs.Renewal.{full_window, full_window_of, static_windows_of, Delivers, state_in, Renews}
 use Rattle.rohc_context.specs.Refresh.{profile_of, kept_by, kept_in, dyn_said, RefreshesBy}
 use Rattle.rohc_context.specs.Tries.{Try, unshifted, has_short_check, second_tries, third_tries, static_tries, full_tries, Acceptance, Verdict}
 use Rattle.rohc_context.specs.Update.{said_under, VerdictUnless, Judges, Accepts, promoted, updated, acknowledged, silent, UpdatesBy}

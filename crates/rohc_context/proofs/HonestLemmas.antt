@@ -1,6 +1,6 @@
 -- Arrivals that are taken for certain.
-use Rattle.std.proofs.Common.{◌≡◌, ℕ, ◌-◌, ◌≤◌, List, [], ◌∷◌, ◌++◌, length, Bool, true, Option, Some, None, inl, refl, sym, ap, subst, ◌∙◌}
-use Rattle.std.specs.Prelude.{All, Result, Ok, if◌then◌else◌}
+use Rattle.std.proofs.Common.{◌≡◌, ℕ, ◌-◌, [], ◌∷◌, true, Option, Some, None, inl, refl, sym, ap, subst, ◌∙◌}
+use Rattle.std.specs.Prelude.{Result, Ok, if◌then◌else◌}
 use Rattle.rohc_frame.specs.declared.header.HeadKind.{HeadKind}
 use Rattle.rohc_frame.specs.declared.header.HeadKind.TheVariants.{Ir, IrDyn, Other}
 use Rattle.rohc_frame.specs.Header.{Header}
@@ -12,14 +12,13 @@ use Rattle.rohc_context.specs.declared.reply.Outcome.TheVariants as outcomes
 use Rattle.rohc_context.specs.declared.settings.Mode.{Mode}
 use Rattle.rohc_context.specs.declared.settings.Mode.TheVariants.{U, O}
 use Rattle.rohc_context.specs.declared.settings.Settings.{Settings}
-use Rattle.rohc_context.specs.Record.{Reference, FullContext, Record}
+use Rattle.rohc_context.specs.Record.{FullContext, Record}
 use Rattle.rohc_context.specs.Response.{Response, delivered}
 use Rattle.rohc_context.specs.Due.{sent}
-use Rattle.rohc_context.specs.Explains.{Explains}
 use Rattle.rohc_context.specs.Laws.{MeansOne, TakesPlain, DeliversHonest}
-use Rattle.rohc_context.specs.Renewal.{plain_answer, Renews}
+use Rattle.rohc_context.specs.Renewal.{Renews}
 use Rattle.rohc_context.specs.Tries.{Acceptance, full_tries}
-use Rattle.rohc_context.specs.Update.{said_under, updated}
+use Rattle.rohc_context.specs.Update.{said_under}
 use Rattle.rohc_context.specs.Step.{counts, counting, Turn, LoneStep}
 use Rattle.rohc_context.proofs.ExplainLemmas.{explains_some, explains_one}
 use Rattle.rohc_context.proofs.UpdateLemmas.{judged}

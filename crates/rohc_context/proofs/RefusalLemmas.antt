@@ -19,15 +19,14 @@ use Rattle.rohc_context.specs.declared.fault.Fault.{Fault}
 use Rattle.rohc_context.specs.declared.fault.Fault.TheVariants.{Unfit, Refused}
 use Rattle.rohc_context.specs.declared.refusal.Refusal.{Refusal}
 use Rattle.rohc_context.specs.declared.refusal.Refusal.TheVariants as refusals
-use Rattle.rohc_context.specs.declared.reply.Outcome.{Outcome}
 use Rattle.rohc_context.specs.declared.reply.Outcome.TheVariants as outcomes
 use Rattle.rohc_context.specs.declared.settings.Settings.{Settings}
-use Rattle.rohc_context.specs.Record.{Reference, State, Plain, NoContext, StaticContext, FullContext, Record}
-use Rattle.rohc_context.specs.Response.{Response, delivered, failed, refused}
+use Rattle.rohc_context.specs.Record.{State, Plain, NoContext, StaticContext, FullContext, Record}
+use Rattle.rohc_context.specs.Response.{Response, delivered, refused}
 use Rattle.rohc_context.specs.Due.{sent}
 use Rattle.rohc_context.specs.Faults.{fault_of_chain, fault_of_form}
 use Rattle.rohc_context.specs.Failures.{takes, Consequence}
-use Rattle.rohc_context.specs.Outcomes.{refusal_of, Takes, Refuses, Fails, Ends}
+use Rattle.rohc_context.specs.Outcomes.{refusal_of, Fails, Ends}
 use Rattle.rohc_context.specs.Renewal.{full_window, full_window_of, plain_answer, Delivers, Renewed, state_in, Renews}
 use Rattle.rohc_context.specs.Refresh.{profile_of, kept_in, dyn_said, RefreshesBy}
 use Rattle.rohc_context.specs.Tries.{Try, Acceptance, Verdict, static_tries, full_tries}

@@ -8,7 +8,7 @@ use Rattle.rohc_header.specs.Original.{IsOriginal}
 use Rattle.rohc_header.specs.Check.{static_octets, dynamic_octets, all_ones, header_check}
 use Rattle.rohc_header.proofs.StaticFields.{has_static_fields}
 use Rattle.rohc_chain.specs.Good.{IsGoodStatic, IsGoodDynamic}
-use Rattle.std.specs.Prelude.{Option, Some, None, IfSome, unwrap_or}
+use Rattle.std.specs.Prelude.{None, unwrap_or}
 use Rattle.rohc_forms.specs.Content.{Content}
 use Rattle.rohc_context.specs.Record.{Reference}
 use Rattle.rohc_context.specs.InForce.{in_force}

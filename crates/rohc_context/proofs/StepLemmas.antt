@@ -1,5 +1,5 @@
 -- A step from good values has one answer and one record after it.
-use Rattle.std.proofs.Common.{◌≡◌, ◌≢◌, ℕ, ◌-◌, ◌<◌, ◌≤◌, ◌^◌, List, [], ◌∷◌, length, Bool, true, false, Option, Some, None, IfSome, refl, sym, ap, subst, ◌∙◌, ◌⊎◌, inl, inr, arith}
+use Rattle.std.proofs.Common.{◌≡◌, ◌≢◌, ℕ, ◌-◌, ◌≤◌, List, [], length, Bool, true, false, Option, Some, None, IfSome, refl, sym, ap, subst, ◌∙◌, ◌⊎◌, inl, inr, arith}
 use Rattle.std.specs.Prelude.{All, Result, Ok, Err, IfOk, is_some, if◌then◌else◌}
 use Rattle.rohc_bits.specs.Bits.{IsOctet}
 use Rattle.rohc_frame.specs.declared.header.HeadKind.{HeadKind}
@@ -7,7 +7,6 @@ use Rattle.rohc_frame.specs.declared.header.HeadKind.TheVariants.{Ir, IrDyn, Oth
 use Rattle.rohc_frame.specs.Header.{Header}
 use Rattle.rohc_header.specs.declared.fields.Static.{Static}
 use Rattle.rohc_header.specs.declared.fields.Dynamic.{Dynamic}
-use Rattle.rohc_header.specs.Original.{IsOriginal}
 use Rattle.rohc_chain.specs.declared.refusal.ChainRefusal.{ChainRefusal}
 use Rattle.rohc_chain.specs.Good.{IsGoodStatic, IsGoodDynamic, IsGoodStride}
 use Rattle.rohc_chain.specs.Packets.{IrContent, IsIr, IsIrDyn, DynContent, kept_values, ir_at, ir_dyn_at, longest_payload}
@@ -25,21 +24,19 @@ use Rattle.rohc_context.specs.declared.due.Due.{Due}
 use Rattle.rohc_context.specs.declared.due.Due.TheVariants as dues
 use Rattle.rohc_context.specs.declared.fault.Fault.{Fault}
 use Rattle.rohc_context.specs.declared.fault.Fault.TheVariants.{Unfit, Refused}
-use Rattle.rohc_context.specs.declared.refusal.Refusal.{Refusal}
 use Rattle.rohc_context.specs.declared.refusal.Refusal.TheVariants as refusals
 use Rattle.rohc_context.specs.declared.settings.Settings.{Settings}
 use Rattle.rohc_context.specs.Record.{Reference, State, Plain, NoContext, StaticContext, FullContext, Record}
-use Rattle.rohc_context.specs.Response.{Response, delivered, stored, failed, refused}
-use Rattle.rohc_context.specs.Good.{AreGoodValues, IsGoodRecord, IsGoodState, IsGoodHeader}
+use Rattle.rohc_context.specs.Response.{Response, delivered, refused}
+use Rattle.rohc_context.specs.Good.{AreGoodValues, IsGoodRecord, IsGoodState}
 use Rattle.rohc_context.specs.Due.{sent}
 use Rattle.rohc_context.specs.Faults.{fault_of_chain}
-use Rattle.rohc_context.specs.Failures.{takes, Consequence, after_check, after_low_state}
-use Rattle.rohc_context.specs.Outcomes.{refusal_of, Takes, Refuses, Fails, Ends}
-use Rattle.rohc_context.specs.NextReference.{first_reference}
-use Rattle.rohc_context.specs.Renewal.{full_window, full_window_of, static_windows_of, plain_answer, Delivers, Renewed, state_in, Renews}
-use Rattle.rohc_context.specs.Refresh.{profile_of, kept_by, kept_in, dyn_said, RefreshesBy, Refreshes}
+use Rattle.rohc_context.specs.Failures.{takes, after_low_state}
+use Rattle.rohc_context.specs.Outcomes.{refusal_of, Fails, Ends}
+use Rattle.rohc_context.specs.Renewal.{full_window, full_window_of, Delivers, Renewed, state_in, Renews}
+use Rattle.rohc_context.specs.Refresh.{profile_of, kept_by, kept_in, dyn_said, RefreshesBy}
 use Rattle.rohc_context.specs.Tries.{Try, Acceptance, static_tries, full_tries}
-use Rattle.rohc_context.specs.Update.{said_under, Judges, Accepts, promoted, updated, acknowledged, silent, UpdatesBy, Updates}
+use Rattle.rohc_context.specs.Update.{said_under, Judges, Accepts, promoted, updated, acknowledged, silent, UpdatesBy}
 use Rattle.rohc_context.specs.Step.{counts, counting, TakenBy, Turn, LoneStep}
 use Rattle.rohc_context.proofs.ExplainLemmas.{original_some, original_one}
 use Rattle.rohc_context.proofs.TryLemmas.{judges_one, judges_some}

@@ -1,6 +1,6 @@
 -- Which state takes which packet, and what a packet that isn't accepted does to a state.
 -- Words: takes, after_check, after_low_state.
-use Rattle.std.specs.Prelude.{ℕ, ◌-◌, List, [], Bool, true, false, nat_le, if◌then◌else◌, Option, Some, None, option_map}
+use Rattle.std.specs.Prelude.{ℕ, ◌-◌, [], Bool, true, false, nat_le, if◌then◌else◌, Option, Some, None, option_map}
 use Rattle.rohc_frame.specs.declared.header.HeadKind.{HeadKind}
 use Rattle.rohc_frame.specs.declared.header.HeadKind.TheVariants.{Ir, IrDyn, Other}
 use Rattle.rohc_context.specs.declared.due.Due.{Due}

@@ -1,13 +1,11 @@
 -- What becomes of a part's refusal: a check that doesn't fit is unfit, and every other is refused under its name.
 -- Words: fault_of_chain, fault_of_form, read_chain, read_form.
-use Rattle.std.specs.Prelude.{Result, Ok, Err}
 use Rattle.rohc_chain.specs.declared.refusal.ChainRefusal.{ChainRefusal}
 use Rattle.rohc_chain.specs.declared.refusal.ChainRefusal.TheVariants as chains
 use Rattle.rohc_forms.specs.declared.refusal.FormRefusal.{FormRefusal}
 use Rattle.rohc_forms.specs.declared.refusal.FormRefusal.TheVariants as forms
 use Rattle.rohc_context.specs.declared.fault.Fault.{Fault}
 use Rattle.rohc_context.specs.declared.fault.Fault.TheVariants.{Unfit, Refused}
-use Rattle.rohc_context.specs.declared.refusal.Refusal.{Refusal}
 use Rattle.rohc_context.specs.declared.refusal.Refusal.TheVariants as refusals
 
 abbrev pub fault_of_chain : ChainRefusal → Fault

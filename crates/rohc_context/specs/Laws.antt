@@ -16,9 +16,9 @@ use Rattle.rohc_context.specs.declared.settings.Settings.{Settings}
 use Rattle.rohc_context.specs.Good.{AreGoodValues, IsGoodRecord}
 use Rattle.rohc_context.specs.declared.record.Context.{Context}
 use Rattle.rohc_context.specs.Record.{Reference, FullContext, Record, record_of}
-use Rattle.rohc_context.specs.Response.{Packet, Response, delivered}
+use Rattle.rohc_context.specs.Response.{Response, delivered}
 use Rattle.rohc_context.specs.Explains.{Explained, Explains}
-use Rattle.rohc_context.specs.Tries.{Acceptance, Fits, unshifted}
+use Rattle.rohc_context.specs.Tries.{Fits, unshifted}
 use Rattle.rohc_context.specs.Update.{said_under, updated}
 use Rattle.rohc_context.specs.Step.{LoneStep, counts}
 

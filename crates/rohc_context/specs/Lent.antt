@@ -1,7 +1,7 @@
 -- What a context lends of what it stores.
 -- Words: windows_in, Saves.
 use Rattle.std.specs.Prelude.{◌≡◌, ℕ, List, [], Bool, Option, Some, None}
-use Rattle.rohc_context.specs.Record.{Reference, State, Plain, NoContext, StaticContext, FullContext}
+use Rattle.rohc_context.specs.Record.{State, Plain, NoContext, StaticContext, FullContext}
 use Rattle.rohc_context.specs.Saved.{AreRegisters}
 
 -- the two windows of a state, of which the second is empty in Full Context

@@ -2,16 +2,15 @@
 -- Words: Takes, Refuses, Fails, Ends.
 use Rattle.std.specs.Prelude.{◌≡◌, ℕ, Option, Some, None}
 use Rattle.rohc_frame.specs.Header.{Header}
-use Rattle.rohc_context.specs.declared.due.Due.{Due}
 use Rattle.rohc_context.specs.declared.fault.Fault.{Fault}
 use Rattle.rohc_context.specs.declared.fault.Fault.TheVariants.{Unfit, Refused}
 use Rattle.rohc_context.specs.declared.refusal.Refusal.{Refusal}
-use Rattle.rohc_context.specs.declared.refusal.Refusal.TheVariants.{Check, StateTooLow}
+use Rattle.rohc_context.specs.declared.refusal.Refusal.TheVariants.{Check}
 use Rattle.rohc_context.specs.declared.settings.Settings.{Settings}
 use Rattle.rohc_context.specs.Record.{State, Record}
 use Rattle.rohc_context.specs.Response.{Response, failed, refused}
 use Rattle.rohc_context.specs.Due.{sent}
-use Rattle.rohc_context.specs.Failures.{Consequence, after_check, after_low_state}
+use Rattle.rohc_context.specs.Failures.{Consequence, after_check}
 
 -- it is taken at this moment with this answer, and leaves this state
 abbrev pub Takes : (moment : ℕ) → State → Response → Response → Option Record → Type 0

@@ -34,11 +34,11 @@ fn first(packet: &[u8]) -> Option<Context> {
 fn answer(context: &mut Context, packet: &[u8]) -> Option<(Outcome, Option<u8>, Option<u8>)> {
     let forward = cut(CidKind::Small, 15, packet).ok()?.forward?;
     let reply = context.arrive(&SETTINGS, 0, &forward);
-    let sn = match reply.packet {
+    let sn = match &reply.packet {
         Some(packet) => packet.head.get(31).copied(),
         None => None,
     };
-    let feedback = match reply.feedback {
+    let feedback = match &reply.feedback {
         Some(element) => element.first().copied(),
         None => None,
     };

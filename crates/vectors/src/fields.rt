@@ -3,7 +3,9 @@
 
 use crate::text::NoAnswer;
 use rohc_bits::Bits;
-use rohc_lsb::{inferred_ts, interval_value, ip_id, scaled, sn_shift, sn_value, ts_shift, unscaled};
+use rohc_lsb::{
+    inferred_ts, interval_value, ip_id, scaled, sn_shift, sn_value, ts_shift, unscaled,
+};
 use std::alloc::Global;
 use std::str::SplitWhitespace;
 

@@ -1,6 +1,5 @@
 use Rattle.std.proofs.Common.{ap, length, option_map}
 use Rattle.rohc_forms.specs.Packets.{content, values_by}
-use Rattle.rohc_header.specs.Original.{IsOriginal}
 use Rattle.rohc_context.specs.Record.{reference_of}
 use Rattle.rohc_context.proofs.Registers.{kept_registers, registers_of}
 use Rattle.rohc_context.proofs.Common.{some_holds}

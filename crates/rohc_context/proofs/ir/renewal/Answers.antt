@@ -1,11 +1,6 @@
-use Rattle.std.proofs.Common.{◌≡◌, Ok, ap, sym, ◌∙◌, subst, refl}
+use Rattle.std.proofs.Common.{◌≡◌, Ok, sym, ◌∙◌, refl}
 use Rattle.std.specs.Result.{result_map_both}
 use Rattle.rohc_chain.specs.Packets.{ir_content, Whole}
-use Rattle.rohc_frame.specs.Reading.{header_of}
-use Rattle.rohc_context.specs.Record.{state_of}
-use Rattle.rohc_context.specs.Renewal.{Delivers}
-use Rattle.rohc_context.specs.Response.{response_of}
-use Rattle.std.specs.Prelude.{Some}
 use Rattle.rohc_context.proofs.ir.renewal.Goals as goal
 
 pub returns-in-Whole-clause-taken : goal.returns-in-Whole-clause-taken

@@ -1,5 +1,4 @@
-use Rattle.std.proofs.Common.{subst, sym}
-use Rattle.std.specs.Prelude.{IfOk}
+use Rattle.std.proofs.Common.{sym}
 use Rattle.rohc_frame.specs.Reading.{header_of}
 use Rattle.rohc_context.specs.Record.{record_of}
 use Rattle.rohc_context.specs.Response.{response_of}

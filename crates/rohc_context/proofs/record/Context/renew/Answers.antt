@@ -1,7 +1,6 @@
-use Rattle.std.proofs.Common.{option_map, Some}
+use Rattle.std.proofs.Common.{option_map}
 use Rattle.rohc_frame.specs.Reading.{header_of}
 use Rattle.rohc_context.specs.Record.{record_of, state_of}
-use Rattle.rohc_context.specs.Response.{response_of}
 use Rattle.rohc_context.proofs.Taken.{renews}
 use Rattle.rohc_context.proofs.record.Context.renew.Goals as goal
 

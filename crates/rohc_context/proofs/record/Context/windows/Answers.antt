@@ -1,4 +1,4 @@
-use Rattle.std.proofs.Common.{◌≡◌, ap, sym, ◌∙◌, Some}
+use Rattle.std.proofs.Common.{ap, sym, ◌∙◌, Some}
 use Rattle.std.specs.Prelude.{List, Bool}
 use Rattle.rohc_context.specs.Window.{outcomes}
 use Rattle.rohc_context.specs.Record.{state_of, record_of}

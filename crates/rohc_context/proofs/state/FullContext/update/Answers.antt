@@ -1,4 +1,4 @@
-use Rattle.std.proofs.Common.{subst, sym, ap}
+use Rattle.std.proofs.Common.{subst}
 use Rattle.std.specs.Prelude.{option_map}
 use Rattle.rohc_frame.specs.Reading.{header_of}
 use Rattle.rohc_forms.specs.Packets.{content}
