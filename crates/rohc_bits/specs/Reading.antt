@@ -38,10 +38,12 @@ next_word short text = do
   (low, text) ← next_octet short text
   Ok (high * 256 + low, text)
 
--- the value at the front of a text, if one stands there, with as many bits as spell it, and the octets behind it
+-- the value at the front of a text, if one stands there, with as many bits as spell it, and the octets behind
+-- it
 abbrev pub value_or : {E : Type 0} → E → List ℕ → Option (ℕ × ℕ) → Result (LowBits × List ℕ) E
 value_or short text None = Err short
-value_or short text (Some (value, count)) = Ok (record { count = value_bits count; value = value }, drop count text)
+value_or short text (Some (value, count)) =
+    Ok (record { count = value_bits count; value = value }, drop count text)
 
 -- a self-describing value (RFC 3095 4.5.6)
 unfoldable pub next_value : {E : Type 0} → E → List ℕ → Result (LowBits × List ℕ) E

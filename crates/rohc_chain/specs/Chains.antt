@@ -34,7 +34,17 @@ static_at text = do
   (source_port, text) ← word_at text
   (destination_port, text) ← word_at text
   (ssrc, text) ← quad_at text
-  Ok (record { source = addresses.0; destination = addresses.1; source_port = source_port; destination_port = destination_port; ssrc = ssrc }, text)
+  Ok (
+    record {
+      source = addresses.0;
+      destination = addresses.1;
+      source_port = source_port;
+      destination_port =
+          destination_port;
+      ssrc = ssrc;
+    },
+    text,
+  )
 
 -- the dynamic chain of IPv4
 unfoldable pub ip_dynamic_at : List ℕ → Result (IpDynamic × List ℕ) ChainRefusal
@@ -80,7 +90,19 @@ rtp_dynamic_at kept text = do
   (ts, text) ← quad_at text
   (sources, text) ← judged_octet csrc_list_fault text
   (given, text) ← flags_at kept (bit 4 first) text
-  Ok (record { padding = bit 5 first; extension = given.extension; marker = bit 7 second; payload_type = second % 128; sn = sn; ts = ts; stride = given.stride }, text)
+  Ok (
+    record {
+      padding = bit 5 first;
+      extension = given.extension;
+      marker = bit 7 second;
+      payload_type =
+          second % 128;
+      sn = sn;
+      ts = ts;
+      stride = given.stride;
+    },
+    text,
+  )
 
 -- the fields of the three chains together
 abbrev pub joined : IpDynamic → ℕ → RtpDynamic → Dynamic

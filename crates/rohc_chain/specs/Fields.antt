@@ -39,7 +39,9 @@ any_value value = None
 
 -- version, protocol, addresses; ports; synchronization source
 abbrev pub static_fields : Fields → Fields
-static_fields more = Octet version_fault (λ _. Octet protocol_fault (λ _. Octets 4 (Octets 4 (Octets 2 (Octets 2 (Octets 4 more))))))
+static_fields more =
+    Octet version_fault (λ _. Octet protocol_fault
+    (λ _. Octets 4 (Octets 4 (Octets 2 (Octets 2 (Octets 4 more))))))
 
 -- TOS, TTL, Identification, flags, list of extension headers
 abbrev pub ip_dynamic_fields : Fields → Fields
@@ -51,7 +53,8 @@ time_stride_fields flags more = if bit 1 flags then Value any_value more else mo
 
 -- and before them the stride of timestamps
 abbrev pub stride_fields : ℕ → Fields → Fields
-stride_fields flags more = if bit 0 flags then Value stride_fault (time_stride_fields flags more) else time_stride_fields flags more
+stride_fields flags more =
+    if bit 0 flags then Value stride_fault (time_stride_fields flags more) else time_stride_fields flags more
 
 -- the octet of flags, if RX, and what it names
 abbrev pub given_fields : Bool → Fields → Fields
@@ -59,7 +62,9 @@ given_fields rx more = if rx then Octet mode_fault (λ flags. stride_fields flag
 
 -- V, P, RX, CC; M, PT; SN; TS; list of contributing sources; octet of flags
 abbrev pub rtp_dynamic_fields : Fields → Fields
-rtp_dynamic_fields more = Octet rtp_fault (λ first. Octets 1 (Octets 2 (Octets 4 (Octet csrc_list_fault (λ _. given_fields (bit 4 first) more)))))
+rtp_dynamic_fields more =
+    Octet rtp_fault (λ first. Octets 1 (Octets 2
+    (Octets 4 (Octet csrc_list_fault (λ _. given_fields (bit 4 first) more)))))
 
 -- UDP's checksum stands between IPv4's and RTP's
 abbrev pub dynamic_fields : Fields → Fields

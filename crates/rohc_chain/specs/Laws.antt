@@ -26,8 +26,10 @@ SaysOne = (h : Header) (a b : IrContent) → IsIrText h a → IsIrText h b → a
 
 -- the same of an IR-DYN for a context of profile 0 or 1
 abbrev pub ReadsIrDyns : Type 0
-ReadsIrDyns = (h : Header) (profile : ℕ) (kept : Kept) (packet : DynContent) → IsIrDyn h.kind → profile ≤ 1 → All IsOctet h.rest →
-    (ir_dyn_at h profile kept ≡ Ok packet) ↔ (IsIrDynText h profile kept packet × (length packet.payload ≤ longest_payload))
+ReadsIrDyns = (h : Header) (profile : ℕ) (kept : Kept) (packet : DynContent) → IsIrDyn h.kind → profile ≤ 1 →
+    All IsOctet h.rest →
+    (ir_dyn_at h profile kept ≡ Ok packet) ↔ (IsIrDynText h profile kept packet
+    × (length packet.payload ≤ longest_payload))
 
 -- and it is refused exactly where that is its first fault
 abbrev pub RefusesIrDyns : Type 0
@@ -36,15 +38,18 @@ RefusesIrDyns = (h : Header) (profile : ℕ) (kept : Kept) (refusal : ChainRefus
 
 -- and says one thing at most
 abbrev pub DynSaysOne : Type 0
-DynSaysOne = (h : Header) (profile : ℕ) (kept : Kept) (a b : DynContent) → IsIrDynText h profile kept a → IsIrDynText h profile kept b → a ≡ b
+DynSaysOne = (h : Header) (profile : ℕ) (kept : Kept) (a b : DynContent) → IsIrDynText h profile kept a →
+    IsIrDynText h profile kept b → a ≡ b
 
 -- what an IR of octets says is good
 abbrev pub SaysGood : Type 0
-SaysGood = (h : Header) (content : IrContent) → All IsOctet h.rest → IsIrText h content → IsGoodContent content
+SaysGood = (h : Header) (content : IrContent) → All IsOctet h.rest → IsIrText h content →
+    IsGoodContent content
 
 -- and what an IR-DYN says, where the stride that is kept is good
 abbrev pub DynSaysGood : Type 0
-DynSaysGood = (h : Header) (profile : ℕ) (kept : Kept) (packet : DynContent) → All IsOctet h.rest → IsGoodStride kept.stride →
+DynSaysGood = (h : Header) (profile : ℕ) (kept : Kept) (packet : DynContent) → All IsOctet h.rest →
+    IsGoodStride kept.stride →
     IsIrDynText h profile kept packet → IsGoodDynamic packet.moving × All IsOctet packet.payload
 
 -- and what is good is spelled by octets: each static chain

@@ -43,7 +43,8 @@ pub record IsWholeText (h : Header) (fixed : Static) (moving : Dynamic) (payload
   pub kind : h.kind ≡ Ir true
   pub spells_static : SpellsStatic fixed static_chain
   pub spells_dynamic : SpellsDynamic nothing_kept moving dynamic_chain
-  pub whole : h.rest ≡ 1 ∷ check_of (cover h (static_chain ++ dynamic_chain)) ∷ static_chain ++ (dynamic_chain ++ payload)
+  pub whole : h.rest ≡ 1 ∷ check_of (cover h (static_chain ++ dynamic_chain)) ∷ static_chain ++
+      (dynamic_chain ++ payload)
 
 -- the packet's octets are those of an IR that says this
 abbrev pub IsIrText : Header → IrContent → Type 0

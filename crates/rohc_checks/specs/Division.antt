@@ -44,7 +44,8 @@ add_front [] ys = ys
 add_front (x ∷ xs) [] = []
 add_front (x ∷ xs) (y ∷ ys) = xor x y ∷ add_front xs ys
 
--- the first k places are dropped in turn, and where one was 1, the lower coefficients are added to the places after it
+-- the first k places are dropped in turn, and where one was 1, the lower coefficients are added to the places
+-- after it
 unfoldable pub divided : List Bool → ℕ → List Bool → List Bool
 divided lower zero places = places
 divided lower (suc k) [] = []
@@ -57,8 +58,12 @@ remainder poly places = divided (drop 1 poly) (length places - degree poly) plac
 
 -- the check: the message with as many zeros as the degree, its first places changed by the register
 unfoldable pub check : List Bool → ℕ → List ℕ → ℕ
-check poly reg octets = number (remainder poly (add_front (bits (degree poly) reg) (message octets ++ replicate (degree poly) false)))
+check poly reg octets =
+    number (remainder poly (add_front (bits (degree poly) reg)
+    (message octets ++ replicate (degree poly) false)))
 
 -- the 256 numbers that a table-driven check looks up, one for each octet
 unfoldable pub table_of : List Bool → List ℕ
-table_of poly = map (λ octet. number (remainder poly (bits 8 octet ++ replicate (degree poly) false))) (range_with_len 0 256)
+table_of poly =
+    map (λ octet. number (remainder poly (bits 8 octet ++ replicate (degree poly) false)))
+    (range_with_len 0 256)

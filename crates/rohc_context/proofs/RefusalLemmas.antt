@@ -1,5 +1,5 @@
 -- What a refused arrival leaves.
-use Rattle.std.proofs.Common.{◌≡◌, ◌≢◌, ℕ, ◌-◌, List, [], ◌∷◌, Bool, true, false, Option, Some, None, inl, inr, refl, sym, ap, subst, ◌∙◌}
+use Rattle.std.proofs.Common.{◌≡◌, ◌≢◌, ℕ, ◌-◌, List, [], ◌∷◌, Bool, true, false, ◌⊎◌, Option, Some, None, inl, inr, refl, sym, ap, subst, ◌∙◌}
 use Rattle.std.specs.Prelude.{Result, Ok, Err, IfSome, nat_lt, length, if◌then◌else◌}
 use Rattle.rohc_frame.specs.declared.header.HeadKind.{HeadKind}
 use Rattle.rohc_frame.specs.declared.header.HeadKind.TheVariants.{Ir, IrDyn, Other}
@@ -25,7 +25,7 @@ use Rattle.rohc_context.specs.Record.{State, Plain, NoContext, StaticContext, Fu
 use Rattle.rohc_context.specs.Response.{Response, delivered, refused}
 use Rattle.rohc_context.specs.Due.{sent}
 use Rattle.rohc_context.specs.Faults.{fault_of_chain, fault_of_form}
-use Rattle.rohc_context.specs.Failures.{takes, Consequence}
+use Rattle.rohc_context.specs.Failures.{takes, Consequence, after_check}
 use Rattle.rohc_context.specs.Outcomes.{refusal_of, Fails, Ends}
 use Rattle.rohc_context.specs.Renewal.{full_window, full_window_of, plain_answer, Delivers, Renewed, state_in, Renews}
 use Rattle.rohc_context.specs.Refresh.{profile_of, kept_in, dyn_said, RefreshesBy}
@@ -253,5 +253,66 @@ step_keeps before s m h a x refusal step e check low = go h.kind (counting s m b
   go (Ir dynamic) c is p = renews c (ir_at h) p
   go IrDyn None is p = p.1
   go Other None is p = p.1
+  go IrDyn (Some r) is p = dyn r is (takes r.state IrDyn h.first) p
+  go Other (Some r) is p = other r is (takes r.state Other h.first) p
+
+-- ---- What a check and a state that is too low change
+
+-- nothing, or what a check that doesn't fit leads to
+abbrev IsChecked : Settings → ℕ → Option Record → Option Record → Type 0
+IsChecked s m before x = (x ≡ before) ⊎ ((r : Record) × (before ≡ Some r) × (x ≡ Some (record { accepted = r.accepted; state = (after_check s m r.state).state })))
+
+ends_check : (s : Settings) (m : ℕ) (h : Header) (c before : Option Record) (fault : Fault) (a : Response) (x : Option Record) → IfSome c (λ r. before ≡ Some r)
+    → Ends s m h c before fault a x → IsChecked s m before x
+ends_check s m h None before fault a x is p = inl p.1
+ends_check s m h (Some r) before (Refused refusal) a x is p = inl p.1
+ends_check s m h (Some r) before Unfit a x is p = inr (r, is, p.1)
+
+accepts_check : (s : Settings) (m : ℕ) (h : Header) (r : Record) (state : Acceptance → State) (due : Acceptance → Due) (verdict : Result Acceptance Fault) (a : Response) (x : Option Record)
+    → Accepts s m h r state due verdict a x → a.outcome ≡ outcomes.Refused refusals.Check → IsChecked s m (Some r) x
+accepts_check s m h r state due (Ok v) a x p e = absurd (let k = sym (ap (λ (r : Response). r.outcome) p.0) ∙ e in cc)
+accepts_check s m h r state due (Err fault) a x p e = ends_check s m h (Some r) (Some r) fault a x refl p
+
+updates_check : (s : Settings) (m : ℕ) (h : Header) (r : Record) (state : State) (a : Response) (x : Option Record) → UpdatesBy s m h r state a x
+    → a.outcome ≡ outcomes.Refused refusals.Check → IsChecked s m (Some r) x
+updates_check s m h r Plain a x p e = absurd (let k = sym (ap (λ (r : Response). r.outcome) p.0) ∙ e in cc)
+updates_check s m h r (NoContext nacked) a x p e = absurd p
+updates_check s m h r (StaticContext fixed None f g) a x p e = absurd p
+updates_check s m h r (StaticContext fixed (Some reference) f g) a x (v, judged, accepted) e = accepts_check s m h r (promoted fixed) acknowledged v a x accepted e
+updates_check s m h r (FullContext fixed reference previous w) a x (v, judged, accepted) e = accepts_check s m h r (updated fixed reference w) silent v a x accepted e
+
+refreshes_check : (s : Settings) (m : ℕ) (h : Header) (r : Record) (state : State) (read : Result DynContent ChainRefusal) (a : Response) (x : Option Record)
+    → RefreshesBy s m h r state read a x → a.outcome ≡ outcomes.Refused refusals.Check → IsChecked s m (Some r) x
+refreshes_check s m h r state (Err fault) a x p e = ends_check s m h (Some r) (Some r) (fault_of_chain fault) a x refl p
+refreshes_check s m h r Plain (Ok d) a x p e = absurd p
+refreshes_check s m h r (NoContext nacked) (Ok d) a x p e = absurd p
+refreshes_check s m h r (StaticContext fixed reference f g) (Ok d) a x p e = absurd (delivers_not_refused s m h fixed d.moving d.payload [] a x refusals.Check p e)
+refreshes_check s m h r (FullContext fixed reference previous w) (Ok d) a x p e =
+    absurd (delivers_not_refused s m h fixed d.moving d.payload (full_window r.state) a x refusals.Check p e)
+
+low_is_no_check : (s : Settings) (h : Header) (r : Record) (consequence : Consequence) (a : Response) (x : Option Record)
+    → Fails s h r refusals.StateTooLow consequence a x → a.outcome ≡ outcomes.Refused refusals.Check → ⊥
+low_is_no_check s h r consequence a x p e = let k = outcome_is a _ refusals.Check p.0 e in cc
+
+pub step_checks : (before : Option Record) (s : Settings) (m : ℕ) (h : Header) (a : Response) (x : Option Record)
+    → LoneStep before s m h a x → a.outcome ≡ outcomes.Refused refusals.Check → IsChecked s m before x
+unfolding LoneStep
+step_checks before s m h a x step e = go h.kind (counting s m before) (counting_is s m before) step where
+  renews : (c : Option Record) → IfSome c (λ r. before ≡ Some r) → (read : Result IrContent ChainRefusal) → Renews s m h c before read a x → IsChecked s m before x
+  renews c is (Ok content) p = absurd (renewed_not_refused s m h (state_in c) content a x refusals.Check p e)
+  renews c is (Err fault) p = ends_check s m h c before (fault_of_chain fault) a x is p
+
+  dyn : (r : Record) → before ≡ Some r → (taken : Bool) → TakenBy taken s m h IrDyn r a x → IsChecked s m before x
+  dyn r is false p = absurd (low_is_no_check s h r _ a x p e)
+  dyn r is true p = subst (λ b. IsChecked s m b x) (sym is) (refreshes_check s m h r r.state (dyn_said h (profile_of r.state) (kept_in r.state)) a x p e)
+
+  other : (r : Record) → before ≡ Some r → (taken : Bool) → TakenBy taken s m h Other r a x → IsChecked s m before x
+  other r is false p = absurd (low_is_no_check s h r _ a x p e)
+  other r is true p = subst (λ b. IsChecked s m b x) (sym is) (updates_check s m h r r.state a x p e)
+
+  go : (kind : HeadKind) (c : Option Record) → IfSome c (λ r. before ≡ Some r) → Turn s m h kind c before a x → IsChecked s m before x
+  go (Ir dynamic) c is p = renews c is (ir_at h) p
+  go IrDyn None is p = inl p.1
+  go Other None is p = inl p.1
   go IrDyn (Some r) is p = dyn r is (takes r.state IrDyn h.first) p
   go Other (Some r) is p = other r is (takes r.state Other h.first) p

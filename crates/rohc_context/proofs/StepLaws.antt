@@ -1,8 +1,9 @@
 -- The laws of a step, for the proofs of the crates above: each is its law's statement and nothing else.
-use Rattle.rohc_context.specs.Laws.{HasAnswer, HasNoOther, LeavesGood, BeginsByIr, LeavesNone, NeverPoor, KeepsGood, KeepsRefused, MeansOne, TakesPlain, DeliversHonest}
+use Rattle.rohc_context.specs.Laws.{HasAnswer, HasNoOther, LeavesGood, BeginsByIr, LeavesNone, NeverPoor, KeepsGood, KeepsRefused, ChecksChange, ComesToOne, MeansOne, TakesPlain, DeliversHonest}
 use Rattle.rohc_context.proofs.StepLemmas.{step_some, step_one, step_begins}
 use Rattle.rohc_context.proofs.GoodLemmas.{step_good, context_good}
-use Rattle.rohc_context.proofs.RefusalLemmas.{step_none, step_rich, step_keeps}
+use Rattle.rohc_context.proofs.RefusalLemmas.{step_none, step_rich, step_keeps, step_checks}
+use Rattle.rohc_context.proofs.TryLemmas.{verdict_one}
 use Rattle.rohc_context.proofs.HonestLemmas.{means_one_header, takes_plain, delivers_honest}
 
 pub has_answer : HasAnswer
@@ -37,3 +38,9 @@ takes_plain_ir = takes_plain
 
 pub delivers_honest_packet : DeliversHonest
 delivers_honest_packet = delivers_honest
+
+pub checks_change : ChecksChange
+checks_change before s moment h response next step e = step_checks before s moment h response next step e
+
+pub comes_to_one : ComesToOne
+comes_to_one = verdict_one

@@ -15,8 +15,8 @@ pub record Explained : Type 0 where
   pub moving : Dynamic
   pub octets : List ℕ
 
--- The stride that bits of a timestamp are scaled by, if they are: Tsc of an extension 3 decides, and without an
--- extension 3 they are scaled wherever there is a stride.
+-- The stride that bits of a timestamp are scaled by, if they are: Tsc of an extension 3 decides, and without
+-- an extension 3 they are scaled wherever there is a stride.
 abbrev pub scale : (tsc : Option Bool) → (stride : Option ℕ) → Option ℕ
 scale None stride = stride
 scale (Some true) stride = stride
@@ -26,8 +26,10 @@ abbrev pub AgreesByBits : (reference : ℕ) (scale : Option ℕ) (bits : LowBits
 AgreesByBits reference None bits ts = AgreesByUnscaledBits reference bits ts
 AgreesByBits reference (Some stride) bits ts = AgreesByScaledBits reference stride bits ts
 
--- the timestamp agrees with the reference's, the stride in force, the steps of the sequence number and the bits
-abbrev pub AgreesInTs : (reference : ℕ) (stride : Option ℕ) (steps : ℤ) (tsc : Option Bool) (bits : Option LowBits) (ts : ℕ) → Type 0
+-- the timestamp agrees with the reference's, the stride in force, the steps of the sequence number and the
+-- bits
+abbrev pub AgreesInTs : (reference : ℕ) (stride : Option ℕ) (steps : ℤ) (tsc : Option Bool)
+    (bits : Option LowBits) (ts : ℕ) → Type 0
 AgreesInTs reference stride steps tsc None ts = AgreesWithoutBits reference stride steps ts
 AgreesInTs reference stride steps tsc (Some bits) ts = AgreesByBits reference (scale tsc stride) bits ts
 
@@ -39,12 +41,14 @@ AgreesInId nbo reference Same sn id =
 AgreesInId nbo reference (Offset bits) sn id =
     (id < 2 ^ 16) × AgreesInOffset (offset_of nbo reference.sn reference.id) (Some bits) (offset_of nbo sn id)
 
--- Against a reference whose SN is moved on by a shift, the packet means a header with these fields. The SN is the one
--- that its bits mean; the steps count from the reference's own SN. All else is in force, or the packet's.
+-- Against a reference whose SN is moved on by a shift, the packet means a header with these fields. The SN is
+-- the one that its bits mean; the steps count from the reference's own SN. All else is in force, or the
+-- packet's.
 pub record Means (reference : Reference) (shift : ℕ) (c : Content) (moving : Dynamic) : Type 0 where
   pub steps : ℤ
   pub sn : AgreesInSn reference.moving.sn shift c.sn moving.sn steps
-  pub ts : AgreesInTs reference.moving.ts (in_force reference.moving c.values).stride steps c.tsc c.ts moving.ts
+  pub ts : AgreesInTs reference.moving.ts (in_force reference.moving c.values).stride steps c.tsc c.ts
+      moving.ts
   pub id : AgreesInId (in_force reference.moving c.values).nbo reference.moving c.id moving.sn moving.id
   pub others : moving ≡ record (in_force reference.moving c.values) {
     sn = moving.sn;
@@ -55,6 +59,7 @@ pub record Means (reference : Reference) (shift : ℕ) (c : Content) (moving : D
   }
 
 -- the packet means this header, the original header of those fields and of its payload
-pub record Explains (fixed : Static) (reference : Reference) (shift : ℕ) (c : Content) (h : Explained) : Type 0 where
+pub record Explains (fixed : Static) (reference : Reference) (shift : ℕ) (c : Content) (h : Explained) : Type
+    0 where
   pub fields : Means reference shift c h.moving
   pub octets : IsOriginal fixed h.moving (length c.payload) h.octets

@@ -1,4 +1,5 @@
--- What becomes of a part's refusal: a check that doesn't fit is unfit, and every other is refused under its name.
+-- What becomes of a part's refusal: a check that doesn't fit is unfit, and every other is refused under its
+-- name.
 -- Words: fault_of_chain, fault_of_form, read_chain, read_form.
 use Rattle.rohc_chain.specs.declared.refusal.ChainRefusal.{ChainRefusal}
 use Rattle.rohc_chain.specs.declared.refusal.ChainRefusal.TheVariants as chains

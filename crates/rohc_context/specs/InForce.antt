@@ -1,4 +1,5 @@
--- The values in force for one packet: those that its extension 3 gives, else the reference's (RFC 3095 5.7.5).
+-- The values in force for one packet: those that its extension 3 gives, else the reference's (RFC 3095
+-- 5.7.5).
 -- Words: in_force.
 use Rattle.std.specs.Prelude.{ℕ, Option, Some, None, unwrap_or}
 use Rattle.rohc_header.specs.declared.fields.Dynamic.{Dynamic}

@@ -1,7 +1,8 @@
-use Rattle.std.specs.Prelude.{◌≡◌, ◌≢◌, ℕ, ◌≤◌, List, [], ◌∷◌, length, Bool, true, All, Option, Some, None, IfSome, Ok}
+use Rattle.std.specs.Prelude.{◌≡◌, ◌≢◌, ℕ, ◌≤◌, List, [], ◌∷◌, length, Bool, true, All, Option, Some, None, IfSome, Result, Ok, ◌⊎◌}
 use Rattle.rohc_bits.specs.Bits.{IsOctet}
 use Rattle.rohc_lsb.specs.Interval.{ExactlyOne}
 use Rattle.rohc_header.specs.declared.fields.Static.{Static}
+use Rattle.rohc_header.specs.Original.{longest_payload}
 use Rattle.rohc_chain.specs.Good.{IsGoodStatic}
 use Rattle.rohc_chain.specs.Packets.{IsIr, Plain as PlainPacket}
 use Rattle.rohc_chain.specs.Texts.{IsIrText}
@@ -9,6 +10,7 @@ use Rattle.rohc_forms.specs.Content.{Content}
 use Rattle.rohc_forms.specs.Good.{IsGoodContent}
 use Rattle.rohc_frame.specs.declared.header.HeadKind.TheVariants.{Ir, Other}
 use Rattle.rohc_frame.specs.Header.{Header}
+use Rattle.rohc_context.specs.declared.fault.Fault.{Fault}
 use Rattle.rohc_context.specs.declared.refusal.Refusal.{Refusal}
 use Rattle.rohc_context.specs.declared.refusal.Refusal.TheVariants.{NoMemory, Check, StateTooLow}
 use Rattle.rohc_context.specs.declared.reply.Outcome.TheVariants.{Refused, Delivered}
@@ -18,24 +20,30 @@ use Rattle.rohc_context.specs.declared.record.Context.{Context}
 use Rattle.rohc_context.specs.Record.{Reference, FullContext, Record, record_of}
 use Rattle.rohc_context.specs.Response.{Response, delivered}
 use Rattle.rohc_context.specs.Explains.{Explained, Explains}
-use Rattle.rohc_context.specs.Tries.{Fits, unshifted}
+use Rattle.rohc_context.specs.Failures.{after_check}
+use Rattle.rohc_context.specs.Tries.{Try, Acceptance, Verdict, Fits, unshifted}
 use Rattle.rohc_context.specs.Update.{said_under, updated}
 use Rattle.rohc_context.specs.Step.{LoneStep, counts}
 
 -- a step from good values has an answer and a record, or none, after it
 abbrev pub HasAnswer : Type 0
-HasAnswer = (before : Option Record) (s : Settings) (moment : ℕ) (h : Header) → AreGoodValues before s moment h →
+HasAnswer = (before : Option Record) (s : Settings) (moment : ℕ) (h : Header) →
+    AreGoodValues before s moment h →
     (response : Response) × (next : Option Record) × LoneStep before s moment h response next
 
 -- and no others
 abbrev pub HasNoOther : Type 0
-HasNoOther = (before : Option Record) (s : Settings) (moment : ℕ) (h : Header) → AreGoodValues before s moment h →
-    (a b : Response) (x y : Option Record) → LoneStep before s moment h a x → LoneStep before s moment h b y → (a ≡ b) × (x ≡ y)
+HasNoOther = (before : Option Record) (s : Settings) (moment : ℕ) (h : Header) →
+    AreGoodValues before s moment h →
+    (a b : Response) (x y : Option Record) → LoneStep before s moment h a x →
+    LoneStep before s moment h b y → (a ≡ b) × (x ≡ y)
 
 -- that record is good
 abbrev pub LeavesGood : Type 0
-LeavesGood = (before : Option Record) (s : Settings) (moment : ℕ) (h : Header) → AreGoodValues before s moment h →
-    (response : Response) (next : Option Record) → LoneStep before s moment h response next → IfSome next IsGoodRecord
+LeavesGood = (before : Option Record) (s : Settings) (moment : ℕ) (h : Header) →
+    AreGoodValues before s moment h →
+    (response : Response) (next : Option Record) → LoneStep before s moment h response next →
+    IfSome next IsGoodRecord
 
 -- from none, only an IR leads to a record
 abbrev pub BeginsByIr : Type 0
@@ -44,12 +52,15 @@ BeginsByIr = (s : Settings) (moment : ℕ) (h : Header) (response : Response) (r
 
 -- from none, what is refused leaves none
 abbrev pub LeavesNone : Type 0
-LeavesNone = (s : Settings) (moment : ℕ) (h : Header) (response : Response) (next : Option Record) (refusal : Refusal) →
-    LoneStep None s moment h response next → response.outcome ≡ Refused refusal → next ≡ None
+LeavesNone =
+    (s : Settings) (moment : ℕ) (h : Header) (response : Response) (next : Option Record) (refusal : Refusal)
+    → LoneStep None s moment h response next → response.outcome ≡ Refused refusal → next ≡ None
 
 -- no step answers want of memory
 abbrev pub NeverPoor : Type 0
-NeverPoor = (before : Option Record) (s : Settings) (moment : ℕ) (h : Header) (response : Response) (next : Option Record) →
+NeverPoor =
+    (before : Option Record) (s : Settings) (moment : ℕ) (h : Header) (response : Response)
+    (next : Option Record) →
     LoneStep before s moment h response next → response.outcome ≢ Refused NoMemory
 
 -- every context that a program holds has a good record
@@ -58,28 +69,63 @@ KeepsGood = (c : Context) → IsGoodRecord (record_of c)
 
 -- what is refused for another reason than Check and StateTooLow changes nothing
 abbrev pub KeepsRefused : Type 0
-KeepsRefused = (before : Option Record) (s : Settings) (moment : ℕ) (h : Header) (response : Response) (next : Option Record) (refusal : Refusal) →
+KeepsRefused =
+    (before : Option Record) (s : Settings) (moment : ℕ) (h : Header) (response : Response)
+    (next : Option Record) (refusal : Refusal) →
     LoneStep before s moment h response next → response.outcome ≡ Refused refusal →
     refusal ≢ Check → refusal ≢ StateTooLow → next ≡ before
 
+-- A refusal for a check changes nothing, or what a check that doesn't fit leads to in the state before.
+abbrev pub ChecksChange : Type 0
+ChecksChange = (before : Option Record) (s : Settings) (moment : ℕ) (h : Header) (response : Response)
+    (next : Option Record) → LoneStep before s moment h response next → response.outcome ≡ Refused Check →
+    (next ≡ before) ⊎ ((r : Record) × (before ≡ Some r) ×
+    (next ≡ Some (record { accepted = r.accepted; state = (after_check s moment r.state).state })))
+
+-- The tries of what a packet says come to one verdict at most: one header, and the reference that it is by.
+abbrev pub ComesToOne : Type 0
+ComesToOne = (first : ℕ) (udp_sum stride_known : Bool) (fixed : Static) (c : Content) (tries : List Try)
+    (a b : Result Acceptance Fault) → IsGoodContent first udp_sum stride_known c →
+    Verdict fixed c tries a → Verdict fixed c tries b → a ≡ b
+
 -- What a packet that fits says means exactly one header, against any reference and any shift.
 abbrev pub MeansOne : Type 0
-MeansOne = (first : ℕ) (udp_sum stride_known : Bool) (fixed : Static) (r : Reference) (shift : ℕ) (c : Content) → IsGoodStatic fixed →
-    IsGoodContent first udp_sum stride_known c → length c.payload ≤ 65495 → ExactlyOne (Explains fixed r shift c)
+MeansOne = (first : ℕ) (udp_sum stride_known : Bool) (fixed : Static) (r : Reference) (shift : ℕ)
+    (c : Content) → IsGoodStatic fixed →
+    IsGoodContent first udp_sum stride_known c → length c.payload ≤ longest_payload →
+    ExactlyOne (Explains fixed r shift c)
 
 -- an IR of profile 0x0000 is taken whatever stands, and delivers the IP packet that its octets spell
 abbrev pub TakesPlain : Type 0
-TakesPlain = (before : Option Record) (s : Settings) (moment : ℕ) (h : Header) (octet : ℕ) (packet : List ℕ) (response : Response) (next : Option Record) →
+TakesPlain =
+    (before : Option Record) (s : Settings) (moment : ℕ) (h : Header) (octet : ℕ) (packet : List ℕ)
+    (response : Response) (next : Option Record) →
     IsIr h.kind → IsIrText h (PlainPacket (octet ∷ packet)) → LoneStep before s moment h response next →
     (response.packet ≡ Some (record { head = []; payload = octet ∷ packet })) × (response.outcome ≡ Delivered)
 
--- The honest step: in Full Context, where the record counts, a packet that means a header against the held reference, and
--- carries that header's check, is delivered as that header; the state stays, with the next reference.
+-- The honest step: in Full Context, where the record counts, a packet that means a header against the held
+-- reference, and carries that header's check, is delivered as that header; the state stays, with the next
+-- reference.
 abbrev pub DeliversHonest : Type 0
-DeliversHonest = (accepted : ℕ) (fixed : Static) (reference : Reference) (previous : Option Reference) (window : List Bool) (s : Settings) (moment : ℕ)
+DeliversHonest =
+    (accepted : ℕ) (fixed : Static) (reference : Reference) (previous : Option Reference) (window : List Bool)
+    (s : Settings) (moment : ℕ)
     (h : Header) (c : Content) (e : Explained) (response : Response) (next : Option Record) →
-    h.kind ≡ Other → All IsOctet h.rest → said_under h reference ≡ Ok c → length c.payload ≤ 65495 → Fits fixed (unshifted reference) c e →
-    counts s moment (record { accepted = accepted; state = FullContext fixed reference previous window }) ≡ true →
-    LoneStep (Some (record { accepted = accepted; state = FullContext fixed reference previous window })) s moment h response next →
+    h.kind ≡ Other → All IsOctet h.rest → said_under h reference ≡ Ok c → length c.payload ≤ longest_payload →
+    Fits fixed (unshifted reference) c e →
+    counts s moment (record {
+      accepted = accepted;
+      state =
+          FullContext fixed reference previous window;
+    }) ≡ true →
+    LoneStep (Some (record {
+      accepted = accepted;
+      state =
+          FullContext fixed reference previous window;
+    })) s moment h response next →
     (response ≡ delivered e.octets c.payload None) ×
-    (next ≡ Some (record { accepted = moment; state = updated fixed reference window (record { content = c; reference = reference; header = e }) }))
+    (next ≡ Some (record {
+      accepted = moment;
+      state =
+          updated fixed reference window (record { content = c; reference = reference; header = e });
+    }))

@@ -11,10 +11,13 @@ windows_in (NoContext nacked) = None
 windows_in (StaticContext fixed reference first second) = Some (first, second)
 windows_in (FullContext fixed reference previous window) = Some (window, [])
 
--- these are the registers over the static octets of headers with the reference's fields, where there is a reference
+-- these are the registers over the static octets of headers with the reference's fields, where there is a
+-- reference
 abbrev pub Saves : State → Option (ℕ × ℕ) → Type 0
 Saves Plain saved = saved ≡ None
 Saves (NoContext nacked) saved = saved ≡ None
 Saves (StaticContext fixed None first second) saved = saved ≡ None
-Saves (StaticContext fixed (Some r) first second) saved = (s : ℕ × ℕ) × (saved ≡ Some s) × AreRegisters fixed r.moving s
-Saves (FullContext fixed r previous window) saved = (s : ℕ × ℕ) × (saved ≡ Some s) × AreRegisters fixed r.moving s
+Saves (StaticContext fixed (Some r) first second) saved = (s : ℕ × ℕ) × (saved ≡ Some s)
+    × AreRegisters fixed r.moving s
+Saves (FullContext fixed r previous window) saved = (s : ℕ × ℕ) × (saved ≡ Some s)
+    × AreRegisters fixed r.moving s

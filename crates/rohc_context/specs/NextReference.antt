@@ -31,13 +31,16 @@ counts_once c = is_uo1_id c.kind && is_some c.values
 
 -- what is kept with the numbers of a header
 abbrev pub with_numbers : Dynamic → Dynamic → Dynamic
-with_numbers kept header = record kept { sn = header.sn; ts = header.ts; id = header.id; udp_sum = header.udp_sum }
+with_numbers kept header =
+    record kept { sn = header.sn; ts = header.ts; id = header.id; udp_sum = header.udp_sum }
 
--- The header's values, with RND, NBO and stride in force. Of an extension 3 in a UO-1-ID the reference takes SN, TS,
--- Identification and UDP checksum, and keeps the rest of the reference against which it was explained.
+-- The header's values, with RND, NBO and stride in force. Of an extension 3 in a UO-1-ID the reference takes
+-- SN, TS, Identification and UDP checksum, and keeps the rest of the reference against which it was
+-- explained.
 abbrev pub next_moving : Acceptance → Dynamic
 next_moving a =
-    if counts_once a.content then with_numbers a.reference.moving a.header.moving else without_marker a.header.moving
+    if counts_once a.content then with_numbers a.reference.moving a.header.moving else without_marker
+    a.header.moving
 
 abbrev pub next_reference : Acceptance → Reference
 next_reference a = record { moving = next_moving a; carries_sum = a.reference.carries_sum }
@@ -56,8 +59,8 @@ same_flag false b = not b
 abbrev pub same_numbering : Dynamic → Dynamic → Bool
 same_numbering a b = same_flag a.rnd b.rnd && same_flag a.nbo b.nbo && same_stride a.stride b.stride
 
--- The reference against which the packet was explained, where it left RND, NBO and stride as the held reference has
--- them; else none.
+-- The reference against which the packet was explained, where it left RND, NBO and stride as the held
+-- reference has them; else none.
 abbrev pub kept_previous : (held : Reference) (next : Dynamic) (explained_by : Reference) → Option Reference
 kept_previous held next explained_by = if same_numbering held.moving next then Some explained_by else None
 

@@ -14,7 +14,8 @@ use Rattle.rohc_context.specs.Failures.{Consequence, after_check}
 
 -- it is taken at this moment with this answer, and leaves this state
 abbrev pub Takes : (moment : ℕ) → State → Response → Response → Option Record → Type 0
-Takes moment state answer response next = (response ≡ answer) × (next ≡ Some (record { accepted = moment; state = state }))
+Takes moment state answer response next = (response ≡ answer)
+    × (next ≡ Some (record { accepted = moment; state = state }))
 
 -- it is refused, and nothing changes
 abbrev pub Refuses : Refusal → Option Record → Response → Option Record → Type 0
@@ -31,8 +32,11 @@ abbrev pub refusal_of : Fault → Refusal
 refusal_of Unfit = Check
 refusal_of (Refused refusal) = refusal
 
--- A fault: a check that doesn't fit is a failure of the record that counts, if there is one; all else changes nothing.
-abbrev pub Ends : Settings → (moment : ℕ) → Header → (counting before : Option Record) → Fault → Response → Option Record → Type 0
+-- A fault: a check that doesn't fit is a failure of the record that counts, if there is one; all else changes
+-- nothing.
+abbrev pub Ends : Settings → (moment : ℕ) → Header → (counting before : Option Record) → Fault → Response →
+    Option Record → Type 0
 Ends s moment h None before fault response next = Refuses (refusal_of fault) before response next
 Ends s moment h (Some r) before (Refused refusal) response next = Refuses refusal before response next
-Ends s moment h (Some r) before Unfit response next = Fails s h r Check (after_check s moment r.state) response next
+Ends s moment h (Some r) before Unfit response next =
+    Fails s h r Check (after_check s moment r.state) response next

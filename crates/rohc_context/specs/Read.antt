@@ -21,7 +21,8 @@ abbrev pub explained_of : code.Explained → Explained
 explained_of h = record { moving = h.moving; octets = h.header.octets }
 
 abbrev pub acceptance_of : Content → Accepted → Acceptance
-acceptance_of c a = record { content = c; reference = reference_of a.reference; header = explained_of a.header }
+acceptance_of c a =
+    record { content = c; reference = reference_of a.reference; header = explained_of a.header }
 
 abbrev pub verdict_of : Content → Option Accepted → Result Acceptance Fault
 verdict_of c None = Err Unfit

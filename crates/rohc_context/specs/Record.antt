@@ -15,9 +15,9 @@ pub record Reference : Type 0 where
   pub moving : Dynamic
   pub carries_sum : Bool
 
--- Profile 0x0000, or one of the three states of a decompressor of profile 0x0001 (RFC 3095 4.3.2): No Context with
--- the moment of the last STATIC-NACK; Static Context with the static part, perhaps a reference, and two windows;
--- Full Context with the static part, the reference, perhaps a previous one, and a window.
+-- Profile 0x0000, or one of the three states of a decompressor of profile 0x0001 (RFC 3095 4.3.2): No Context
+-- with the moment of the last STATIC-NACK; Static Context with the static part, perhaps a reference, and two
+-- windows; Full Context with the static part, the reference, perhaps a previous one, and a window.
 pub data State : Type 0 where
   Plain : State
   NoContext : (nacked : ℕ) → State
@@ -38,7 +38,8 @@ state_of states.Plain = Plain
 state_of (states.NoContext c) = NoContext c.nacked
 state_of (states.Static c) =
     StaticContext c.fixed (option_map reference_of c.reference) (outcomes c.windows.0) (outcomes c.windows.1)
-state_of (states.Full c) = FullContext c.fixed (reference_of c.reference) (option_map reference_of c.previous) (outcomes c.windows.0)
+state_of (states.Full c) =
+    FullContext c.fixed (reference_of c.reference) (option_map reference_of c.previous) (outcomes c.windows.0)
 
 abbrev pub is_static : code.State → Bool
 is_static states.Plain = false

@@ -34,7 +34,8 @@ abbrev pub dyn_said : Header → (profile : ℕ) → (kept : Bool × Option ℕ)
 dyn_said h profile kept = ir_dyn_at h profile (kept_values kept.0 kept.1)
 
 -- An IR-DYN leads to Full Context. One for profile 0x0000 says nothing, and No Context doesn't take it.
-abbrev pub RefreshesBy : Settings → (moment : ℕ) → Header → Record → State → Result DynContent ChainRefusal → Response → Option Record → Type 0
+abbrev pub RefreshesBy : Settings → (moment : ℕ) → Header → Record → State → Result DynContent ChainRefusal →
+    Response → Option Record → Type 0
 RefreshesBy s moment h r state (Err refusal) response next =
     Ends s moment h (Some r) (Some r) (fault_of_chain refusal) response next
 RefreshesBy s moment h r Plain (Ok d) response next = ⊥

@@ -33,7 +33,8 @@ full_window_of (Some state) = full_window state
 abbrev pub static_windows : State → List Bool × List Bool
 static_windows Plain = ([], [])
 static_windows (NoContext nacked) = ([], [])
-static_windows (StaticContext fixed reference first second) = (and_outcome false first, and_outcome false second)
+static_windows (StaticContext fixed reference first second) =
+    (and_outcome false first, and_outcome false second)
 static_windows (FullContext fixed reference previous window) = ([], [])
 
 abbrev pub static_windows_of : Option State → List Bool × List Bool
@@ -46,19 +47,23 @@ plain_answer [] feedback = stored feedback
 plain_answer (octet ∷ packet) feedback = delivered [] (octet ∷ packet) feedback
 
 -- a header of these fields is delivered before the payload, and acknowledged
-abbrev pub Delivers : Settings → (moment : ℕ) → Header → Static → Dynamic → (payload : List ℕ) → (window : List Bool) → Response → Option Record → Type 0
+abbrev pub Delivers : Settings → (moment : ℕ) → Header → Static → Dynamic → (payload : List ℕ) →
+    (window : List Bool) → Response → Option Record → Type 0
 Delivers s moment h fixed moving payload window response next =
     (octets : List ℕ) × IsOriginal fixed moving (length payload) octets
     × Takes moment (FullContext fixed (first_reference moving) None window)
     (delivered octets payload (sent s.mode h (Ack moving.sn))) response next
 
--- What an IR says is taken in every state, the one that counts if there is one. One of profile 0x0000 leads there; one
--- without a dynamic chain to Static Context without a reference; one with a dynamic chain to Full Context.
-abbrev pub Renewed : Settings → (moment : ℕ) → Header → (counting : Option State) → IrContent → Response → Option Record → Type 0
+-- What an IR says is taken in every state, the one that counts if there is one. One of profile 0x0000 leads
+-- there; one without a dynamic chain to Static Context without a reference; one with a dynamic chain to Full
+-- Context.
+abbrev pub Renewed : Settings → (moment : ℕ) → Header → (counting : Option State) → IrContent → Response →
+    Option Record → Type 0
 Renewed s moment h counting (chain.Plain packet) response next =
     Takes moment Plain (plain_answer packet (sent s.mode h PlainAck)) response next
 Renewed s moment h counting (chain.StaticOnly fixed) response next =
-    Takes moment (StaticContext fixed None (static_windows_of counting).0 (static_windows_of counting).1) (stored None) response next
+    Takes moment (StaticContext fixed None (static_windows_of counting).0 (static_windows_of counting).1)
+    (stored None) response next
 Renewed s moment h counting (chain.Whole fixed moving payload) response next =
     Delivers s moment h fixed moving payload (full_window_of counting) response next
 
@@ -66,7 +71,9 @@ abbrev pub state_in : Option Record → Option State
 state_in None = None
 state_in (Some r) = Some r.state
 
-abbrev pub Renews : Settings → (moment : ℕ) → Header → (counting before : Option Record) → Result IrContent ChainRefusal → Response → Option Record → Type 0
-Renews s moment h counting before (Ok content) response next = Renewed s moment h (state_in counting) content response next
+abbrev pub Renews : Settings → (moment : ℕ) → Header → (counting before : Option Record) →
+    Result IrContent ChainRefusal → Response → Option Record → Type 0
+Renews s moment h counting before (Ok content) response next =
+    Renewed s moment h (state_in counting) content response next
 Renews s moment h counting before (Err refusal) response next =
     Ends s moment h counting before (fault_of_chain refusal) response next

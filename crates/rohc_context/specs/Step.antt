@@ -26,16 +26,20 @@ counting s moment None = None
 counting s moment (Some r) = if counts s moment r then Some r else None
 
 -- a packet of a kind that the state takes, or not
-abbrev pub TakenBy : Bool → Settings → (moment : ℕ) → Header → HeadKind → Record → Response → Option Record → Type 0
-TakenBy false s moment h kind r response next = Fails s h r StateTooLow (after_low_state s moment r.state) response next
+abbrev pub TakenBy : Bool → Settings → (moment : ℕ) → Header → HeadKind → Record → Response → Option Record →
+    Type 0
+TakenBy false s moment h kind r response next =
+    Fails s h r StateTooLow (after_low_state s moment r.state) response next
 TakenBy true s moment h (Ir dynamic) r response next = ⊥
 TakenBy true s moment h IrDyn r response next = Refreshes s moment h r response next
 TakenBy true s moment h Other r response next = Updates s moment h r response next
 
--- An IR is taken whatever stands. Without a record that counts every other packet is NoContext; else the state says
--- first whether it takes the packet.
-abbrev pub Turn : Settings → (moment : ℕ) → Header → HeadKind → (counting before : Option Record) → Response → Option Record → Type 0
-Turn s moment h (Ir dynamic) counting before response next = Renews s moment h counting before (ir_at h) response next
+-- An IR is taken whatever stands. Without a record that counts every other packet is NoContext; else the
+-- state says first whether it takes the packet.
+abbrev pub Turn : Settings → (moment : ℕ) → Header → HeadKind → (counting before : Option Record) →
+    Response → Option Record → Type 0
+Turn s moment h (Ir dynamic) counting before response next =
+    Renews s moment h counting before (ir_at h) response next
 Turn s moment h IrDyn None before response next = Refuses NoContext before response next
 Turn s moment h Other None before response next = Refuses NoContext before response next
 Turn s moment h IrDyn (Some r) before response next =

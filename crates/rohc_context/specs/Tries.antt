@@ -29,8 +29,9 @@ pub record Try : Type 0 where
 abbrev pub unshifted : Reference → Try
 unshifted reference = record { reference = reference; shift = 0 }
 
--- The second try takes it that the SN wrapped around once, where enough time passed for it: with k SN bits in the
--- packet, `packet_ms * 2^k` milliseconds or more since the last accepted arrival. It is for short checks alone.
+-- The second try takes it that the SN wrapped around once, where enough time passed for it: with k SN bits in
+-- the packet, `packet_ms * 2^k` milliseconds or more since the last accepted arrival. It is for short checks
+-- alone.
 abbrev pub second_tries : Settings → (passed : ℕ) → Reference → Content → List Try
 second_tries s passed reference c =
     if has_short_check c.kind && nat_le (s.packet_ms * 2 ^ c.sn.count) passed
@@ -43,7 +44,8 @@ third_tries None c = []
 third_tries (Some previous) c = if has_short_check c.kind then unshifted previous ∷ [] else []
 
 -- in Full Context
-abbrev pub full_tries : Settings → (passed : ℕ) → Reference → (previous : Option Reference) → Content → List Try
+abbrev pub full_tries : Settings → (passed : ℕ) → Reference → (previous : Option Reference) → Content →
+    List Try
 full_tries s passed reference previous c =
     unshifted reference ∷ second_tries s passed reference c ++ third_tries previous c
 
@@ -72,5 +74,6 @@ pub record Acceptance : Type 0 where
 abbrev pub Verdict : Static → Content → List Try → Result Acceptance Fault → Type 0
 Verdict fixed c [] verdict = verdict ≡ Err Unfit
 Verdict fixed c (t ∷ more) verdict =
-    ((h : Explained) × Fits fixed t c h × (verdict ≡ Ok (record { content = c; reference = t.reference; header = h })))
+    ((h : Explained) × Fits fixed t c h
+    × (verdict ≡ Ok (record { content = c; reference = t.reference; header = h })))
     ⊎ (Misses fixed t c × Verdict fixed c more verdict)

@@ -3,6 +3,7 @@
 use Rattle.std.specs.Prelude.{◌≡◌, ℕ, ◌-◌, List, [], ◌∷◌, length, Bool, true, false, nat_lt, is_some, Option, Some, None, Result, Ok, Err}
 use Rattle.rohc_frame.specs.Header.{Header}
 use Rattle.rohc_header.specs.declared.fields.Static.{Static}
+use Rattle.rohc_header.specs.Original.{longest_payload}
 use Rattle.rohc_forms.specs.declared.refusal.FormRefusal.{FormRefusal}
 use Rattle.rohc_forms.specs.Content.{Content}
 use Rattle.rohc_forms.specs.Packets.{form_at}
@@ -23,7 +24,8 @@ use Rattle.rohc_context.specs.Outcomes.{Takes, Ends}
 
 -- what a packet says under a reference's RND, UDP checksum and stride
 abbrev pub said_under : Header → Reference → Result Content FormRefusal
-said_under h reference = form_at h reference.moving.rnd reference.carries_sum (is_some reference.moving.stride)
+said_under h reference =
+    form_at h reference.moving.rnd reference.carries_sum (is_some reference.moving.stride)
 
 -- Where the rebuilt packet would be over 65,535 octets, it is TooLong; else the tries decide.
 abbrev pub VerdictUnless : (long : Bool) → Static → Content → List Try → Result Acceptance Fault → Type 0
@@ -31,15 +33,18 @@ VerdictUnless true fixed c tries verdict = verdict ≡ Err (Refused TooLong)
 VerdictUnless false fixed c tries verdict = Verdict fixed c tries verdict
 
 -- what a packet that is read comes to, or its refusal
-abbrev pub Judges : Static → (Content → List Try) → Result Content FormRefusal → Result Acceptance Fault → Type 0
+abbrev pub Judges : Static → (Content → List Try) → Result Content FormRefusal → Result Acceptance Fault →
+    Type 0
 Judges fixed tries (Err refusal) verdict = verdict ≡ Err (fault_of_form refusal)
-Judges fixed tries (Ok c) verdict = VerdictUnless (nat_lt 65495 (length c.payload)) fixed c (tries c) verdict
+Judges fixed tries (Ok c) verdict = VerdictUnless (nat_lt longest_payload (length c.payload)) fixed c (tries c) verdict
 
 -- the accepted header is delivered, and the state is this
-abbrev pub Accepts : Settings → (moment : ℕ) → Header → Record → (Acceptance → State) → (Acceptance → Due) → Result Acceptance Fault → Response → Option Record → Type 0
+abbrev pub Accepts : Settings → (moment : ℕ) → Header → Record → (Acceptance → State) → (Acceptance → Due) →
+    Result Acceptance Fault → Response → Option Record → Type 0
 Accepts s moment h r state due (Ok a) response next =
     Takes moment (state a) (delivered a.header.octets a.content.payload (sent s.mode h (due a))) response next
-Accepts s moment h r state due (Err fault) response next = Ends s moment h (Some r) (Some r) fault response next
+Accepts s moment h r state due (Err fault) response next =
+    Ends s moment h (Some r) (Some r) fault response next
 
 -- the states after it, from Static Context and from Full Context
 abbrev pub promoted : Static → Acceptance → State
@@ -56,10 +61,12 @@ acknowledged a = Ack (next_reference a).moving.sn
 abbrev pub silent : Acceptance → Due
 silent a = Nothing
 
--- A Normal packet of profile 0x0000 is its octets without the identifier's. In profile 0x0001 the packet is read, the
--- tries say which header it means, and the state goes on. A state that doesn't take it isn't met here.
+-- A Normal packet of profile 0x0000 is its octets without the identifier's. In profile 0x0001 the packet is
+-- read, the tries say which header it means, and the state goes on. A state that doesn't take it isn't met
+-- here.
 abbrev pub UpdatesBy : Settings → (moment : ℕ) → Header → Record → State → Response → Option Record → Type 0
-UpdatesBy s moment h r Plain response next = Takes moment Plain (delivered (h.first ∷ []) h.rest None) response next
+UpdatesBy s moment h r Plain response next =
+    Takes moment Plain (delivered (h.first ∷ []) h.rest None) response next
 UpdatesBy s moment h r (NoContext nacked) response next = ⊥
 UpdatesBy s moment h r (StaticContext fixed None first second) response next = ⊥
 UpdatesBy s moment h r (StaticContext fixed (Some reference) first second) response next =

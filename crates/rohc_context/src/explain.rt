@@ -2,6 +2,7 @@
 
 ghost use Rattle.std.specs.Prelude.{◌≡◌, ◌≤◌, length, option_map, IfSome};
 ghost use Rattle.std.specs.Option.{ForSome};
+ghost use Rattle.rohc_header.specs.Original.{longest_payload};
 ghost use Rattle.rohc_bits.specs.LowBits.{low_bits};
 ghost use Rattle.rohc_forms.specs.Kinds.{offset_in};
 ghost use Rattle.rohc_forms.specs.Packets.{content, id_by, values_by};
@@ -126,7 +127,7 @@ pub(crate) fn explain(
     shift: u32,
     form: &Form<'_>,
 ) -> Explained
-    requires fits { length form.now.payload.now ≤ 65495 }
+    requires fits { length form.now.payload.now ≤ longest_payload }
     requires shift { shift ≤ 65536 }
     requires good { IsGoodStatic fixed.now }
     requires kept { IsKept fixed.now reference.now.moving reference.now.saved }

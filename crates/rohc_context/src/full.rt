@@ -12,6 +12,7 @@ use rohc_header::{Dynamic, Header, Static};
 
 impl FullContext {
     ghost use Rattle.std.specs.Prelude.{◌≡◌, ◌≤◌, ℕ, Some, length};
+    ghost use Rattle.rohc_header.specs.Original.{longest_payload};
     ghost use Rattle.rohc_frame.specs.Reading.{header_of};
     ghost use Rattle.rohc_chain.specs.Good.{IsGoodStatic, IsGoodDynamic};
     ghost use Rattle.rohc_context.specs.Window.{outcomes};
@@ -32,7 +33,7 @@ impl FullContext {
     ) -> (State, Reply<'a>)
         requires fixed { IsGoodStatic fixed }
         requires moving { IsGoodDynamic moving }
-        requires payload { length payload.now ≤ 65495 }
+        requires payload { length payload.now ≤ longest_payload }
         ensures { (moment : ℕ) → Delivers settings.now moment (header_of forward.now) fixed moving payload.entry.now (outcomes window)
             (response_of result.1) (Some (record { accepted = moment; state = state_of result.0 })) }
     {

@@ -1,6 +1,6 @@
 //! Laws of one step, as contracts of functions that do nothing. The crates above know a step by these.
 
-ghost use Rattle.rohc_context.specs.Laws.{HasAnswer, HasNoOther, LeavesGood, BeginsByIr, LeavesNone, NeverPoor, KeepsGood, KeepsRefused, MeansOne, TakesPlain, DeliversHonest};
+ghost use Rattle.rohc_context.specs.Laws.{HasAnswer, HasNoOther, LeavesGood, BeginsByIr, LeavesNone, NeverPoor, KeepsGood, KeepsRefused, ChecksChange, ComesToOne, MeansOne, TakesPlain, DeliversHonest};
 
 /// A step from good values has exactly one answer and one record, or none, after it.
 pub fn one_answer()
@@ -36,6 +36,16 @@ pub fn kept_record()
 /// What is refused for another reason than `Check` and `StateTooLow` changes nothing.
 pub fn refusal_changes_nothing()
     ensures { KeepsRefused }
+{}
+
+/// A refusal for a check changes nothing, or the state as a check that doesn't fit does.
+pub fn check_changes_the_state()
+    ensures { ChecksChange }
+{}
+
+/// The tries of a packet come to one verdict at most: one header, and the reference that it is by.
+pub fn one_verdict()
+    ensures { ComesToOne }
 {}
 
 /// A packet that is read means exactly one header against a reference and a shift (RFC 3095 4.5).

@@ -2,6 +2,7 @@
 
 ghost use Rattle.std.specs.Prelude.{◌≡◌, ◌≤◌, List, IfOk, IfErr, Ok, Err, length};
 ghost use Rattle.rohc_frame.specs.Reading.{header_of};
+ghost use Rattle.rohc_header.specs.Original.{longest_payload};
 ghost use Rattle.rohc_header.specs.declared.fields.Static.{Static};
 ghost use Rattle.rohc_forms.specs.Content.{Content};
 ghost use Rattle.rohc_forms.specs.Packets.{IsOther, content};
@@ -30,7 +31,7 @@ const LONGEST_PAYLOAD: usize = 65_495;
 fn read<'a>(forward: &Forward<'a>, reference: &Reference) -> Result<Form<'a>, Fault>
     requires { IsOther forward.now.kind }
     ensures read { IfOk result (λ form. said_under (header_of forward.now) (reference_of reference.now) ≡ Ok (content form)) }
-    ensures short { IfOk result (λ form. length form.payload.now ≤ 65495) }
+    ensures short { IfOk result (λ form. length form.payload.now ≤ longest_payload) }
     ensures fault { IfErr result (λ e. (fixed : Static) (tries : Content → List Try) → Judges fixed tries (said_under (header_of forward.now) (reference_of reference.now)) (Err e)) }
 {
     let kept = &reference.moving;

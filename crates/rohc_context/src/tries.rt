@@ -2,6 +2,7 @@
 
 ghost use Rattle.std.specs.Prelude.{◌≡◌, ◌≤◌, length, IfSome, IfNone};
 ghost use Rattle.rohc_checks.specs.Division.{check, poly3, poly7};
+ghost use Rattle.rohc_header.specs.Original.{longest_payload};
 ghost use Rattle.rohc_header.specs.Check.{all_ones, static_octets};
 ghost use Rattle.rohc_chain.specs.Good.{IsGoodStatic};
 ghost use Rattle.rohc_forms.specs.Packets.{content};
@@ -55,7 +56,7 @@ pub(crate) fn attempt(
     shift: u32,
     form: &Form<'_>,
 ) -> Option<Accepted>
-    requires payload { length form.now.payload.now ≤ 65495 }
+    requires payload { length form.now.payload.now ≤ longest_payload }
     requires shift { shift ≤ 65536 }
     requires good { IsGoodStatic fixed.now }
     requires kept { IsKept fixed.now reference.now.moving reference.now.saved }
@@ -76,6 +77,7 @@ pub(crate) fn attempt(
 
 impl FullContext {
     ghost use Rattle.std.specs.Prelude.{◌≡◌, ◌≤◌, ◌++◌, length, option_map, IfSome};
+    ghost use Rattle.rohc_header.specs.Original.{longest_payload};
     ghost use Rattle.rohc_forms.specs.Packets.{content};
     ghost use Rattle.rohc_context.specs.Settings.{AreGood};
     ghost use Rattle.rohc_context.specs.Record.{reference_of};
@@ -84,7 +86,7 @@ impl FullContext {
 
     /// The third try: against the previous reference.
     fn third_try(&self, form: &Form<'_>) -> Option<Accepted>
-        requires payload { length form.now.payload.now ≤ 65495 }
+        requires payload { length form.now.payload.now ≤ longest_payload }
         ensures verdict { Verdict self.now.fixed (content form.now)
             (third_tries (option_map reference_of self.now.previous) (content form.now))
             (verdict_of (content form.now) result) }
@@ -99,7 +101,7 @@ impl FullContext {
     /// The second try, if enough time passed for it, and the third.
     fn later_tries(&self, settings: &Settings, passed: u64, form: &Form<'_>) -> Option<Accepted>
         requires good { AreGood settings.now }
-        requires payload { length form.now.payload.now ≤ 65495 }
+        requires payload { length form.now.payload.now ≤ longest_payload }
         ensures verdict { Verdict self.now.fixed (content form.now)
             (second_tries settings.now passed (reference_of self.now.reference) (content form.now)
             ++ third_tries (option_map reference_of self.now.previous) (content form.now))
@@ -124,7 +126,7 @@ impl FullContext {
         form: &Form<'_>,
     ) -> Option<Accepted>
         requires good { AreGood settings.now }
-        requires payload { length form.now.payload.now ≤ 65495 }
+        requires payload { length form.now.payload.now ≤ longest_payload }
         ensures verdict { Verdict self.now.fixed (content form.now)
             (full_tries settings.now passed (reference_of self.now.reference) (option_map reference_of self.now.previous) (content form.now))
             (verdict_of (content form.now) result) }

@@ -27,7 +27,8 @@ pub record Head : Type 0 where
 
 -- what is said without an extension 3
 abbrev pub plain_head : FormKind → Bool → Said → Head
-plain_head kind rnd said = record { kind = kind; rnd = rnd; said = said; tsc = None; marker = said.marker; values = None }
+plain_head kind rnd said =
+    record { kind = kind; rnd = rnd; said = said; tsc = None; marker = said.marker; values = None }
 
 -- What is said of the Identification: nothing, bits of its offset, or the whole.
 pub data IdSaid : Type 0 where

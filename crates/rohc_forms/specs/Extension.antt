@@ -76,17 +76,29 @@ behind_rtp_octet rtp text = do
   (octet, text) ← octet_if rtp.payload_type text
   (stride, text) ← stride_at rtp.stride text
   (_, text) ← behind_time_stride rtp.time_stride text
-  Ok (record { marker = rtp.marker; extension = rtp.extension; padding = padding_in octet; payload_type = payload_type_in octet; stride = stride }, text)
+  Ok (
+    record {
+      marker = rtp.marker;
+      extension = rtp.extension;
+      padding = padding_in octet;
+      payload_type =
+          payload_type_in octet;
+      stride = stride;
+    },
+    text,
+  )
 
 -- the rtp octet, if rtp, and what it names
 unfoldable pub rtp_given_at : Bool → List ℕ → Result (Option RtpSaid × List ℕ) FormRefusal
 rtp_given_at present text =
     if present
-    then (judged_octet rtp_fault text >>= λ x. behind_rtp_octet (rtp_flags x.0) x.1 >>= λ y. Ok (Some y.0, y.1))
+    then (judged_octet rtp_fault text >>= λ x. behind_rtp_octet (rtp_flags x.0) x.1 >>= λ y. Ok
+    (Some y.0, y.1))
     else Ok (None, text)
 
 -- What stands behind the ip octet. The flags are the extension's first octet.
-unfoldable pub behind_ip_octet : ℕ → Bool → Option IpFlags → Said → List ℕ → Result (Extended3 × List ℕ) FormRefusal
+unfoldable pub behind_ip_octet : ℕ → Bool → Option IpFlags → Said → List ℕ →
+    Result (Extended3 × List ℕ) FormRefusal
 behind_ip_octet flags stride_known ip said text = do
   (said, text) ← sn_at (has S flags) said text
   (said, text) ← ts_at (has R-TS flags) said text
@@ -94,4 +106,12 @@ behind_ip_octet flags stride_known ip said text = do
   (said, text) ← offset_at (has I flags) said text
   (rtp, text) ← rtp_given_at (has RTP flags) text
   _ ← judged (no_stride_fault (has Tsc flags) (stride_known || is_some (rtp_values rtp).stride)) text
-  Ok (record { said = said; marker = marker_in said.marker rtp; values = ip_values given (rtp_values rtp) }, text)
+  Ok (
+    record {
+      said = said;
+      marker = marker_in said.marker rtp;
+      values =
+          ip_values given (rtp_values rtp);
+    },
+    text,
+  )

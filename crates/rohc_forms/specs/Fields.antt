@@ -1,4 +1,5 @@
--- The fields of a packet in the order of their octets, and the first fault among them (RFC 3095 5.7.1 to 5.7.5).
+-- The fields of a packet in the order of their octets, and the first fault among them (RFC 3095 5.7.1 to
+-- 5.7.5).
 use Rattle.std.specs.Prelude.{ℕ, zero, suc, ◌+◌, ◌*◌, List, [], ◌∷◌, Bool, false, ◌||◌, nat_lt, if◌then◌else◌, Option, Some, None, Result, Ok, Err}
 use Rattle.rohc_bits.specs.Reading.{◌>>=◌, judged}
 use Rattle.rohc_frame.specs.Header.{Header}
@@ -36,7 +37,8 @@ after_fields Payload text = Ok text
 after_fields (Octets count more) text = behind_octets count text >>= after_fields more
 after_fields (Octet fault more) [] = Err Truncated
 after_fields (Octet fault more) (octet ∷ text) = judged (fault octet) text >>= after_fields (more octet)
-after_fields (Value fault more) text = value_at text >>= λ x. judged (fault x.0.value) x.1 >>= after_fields more
+after_fields (Value fault more) text =
+    value_at text >>= λ x. judged (fault x.0.value) x.1 >>= after_fields more
 after_fields (Judged fault more) text = judged fault text >>= after_fields more
 
 -- no refusal
@@ -47,21 +49,28 @@ any n = None
 abbrev pub if_named : Bool → (FieldList → FieldList) → FieldList → FieldList
 if_named named field more = if named then field more else more
 
--- behind an extension: the Identification, if the RND in force is 1, and the UDP checksum, if packets carry one
+-- behind an extension: the Identification, if the RND in force is 1, and the UDP checksum, if packets carry
+-- one
 abbrev pub last_fields : Bool → Bool → FieldList
 last_fields rnd udp_sum = if_named rnd (Octets 2) (if_named udp_sum (Octets 2) Payload)
 
 -- TOS, TTL and protocol
 abbrev pub ip_fields : IpFlags → FieldList → FieldList
-ip_fields ip more = if_named ip.tos (Octets 1) (if_named ip.ttl (Octets 1) (if_named ip.protocol (λ behind_it. Octet protocol_fault (λ _. behind_it)) more))
+ip_fields ip more =
+    if_named ip.tos (Octets 1) (if_named ip.ttl (Octets 1)
+    (if_named ip.protocol (λ behind_it. Octet protocol_fault (λ _. behind_it)) more))
 
 -- P and PT, and the strides
 abbrev pub rtp_fields : RtpFlags → FieldList → FieldList
-rtp_fields rtp more = if_named rtp.payload_type (Octets 1) (if_named rtp.stride (Value stride_fault) (if_named rtp.time_stride (Value any) more))
+rtp_fields rtp more =
+    if_named rtp.payload_type (Octets 1) (if_named rtp.stride (Value stride_fault)
+    (if_named rtp.time_stride (Value any) more))
 
 -- the rtp octet and what it names; it says whether there is a stride
 abbrev pub rtp_octet_fields : Bool → (Bool → FieldList) → FieldList
-rtp_octet_fields named more = if named then Octet rtp_fault (λ octet. rtp_fields (rtp_flags octet) (more (rtp_flags octet).stride)) else more false
+rtp_octet_fields named more =
+    if named then Octet rtp_fault (λ octet. rtp_fields (rtp_flags octet) (more (rtp_flags octet).stride)) else
+    more false
 
 -- S, R-TS, what the ip octet names, I, rtp, and whether a stride is in force if Tsc
 abbrev pub later_fields : ℕ → Bool → (FieldList → FieldList) → FieldList → FieldList
@@ -70,21 +79,25 @@ later_fields flags stride_known ip more =
     (if_named (has R-TS flags) (Value any)
     (ip
     (if_named (has I flags) (Octets 2)
-    (rtp_octet_fields (has RTP flags) (λ given. Judged (no_stride_fault (has Tsc flags) (stride_known || given)) more)))))
+    (rtp_octet_fields (has RTP flags) (λ given. Judged
+    (no_stride_fault (has Tsc flags) (stride_known || given)) more)))))
 
--- Behind the first octet of an extension 3: the ip octet, if ip; whether I and RND are both given; the others.
+-- Behind the first octet of an extension 3: the ip octet, if ip; whether I and RND are both given; the
+-- others.
 abbrev pub extension_3_fields : FormKind → Bool → Bool → Bool → ℕ → FieldList
 extension_3_fields kind rnd udp_sum stride_known flags =
     if has IP flags
     then Octet (ip_fault kind) (λ octet. Judged (twice_fault (has I flags) (ip_flags octet).rnd)
     (later_fields flags stride_known (ip_fields (ip_flags octet)) (last_fields (ip_flags octet).rnd udp_sum)))
-    else Judged (twice_fault (has I flags) rnd) (later_fields flags stride_known (λ more. more) (last_fields rnd udp_sum))
+    else Judged (twice_fault (has I flags) rnd)
+    (later_fields flags stride_known (λ more. more) (last_fields rnd udp_sum))
 
 -- behind the first octet of an extension
 abbrev pub extension_fields : FormKind → Bool → Bool → Bool → ℕ → FieldList
 extension_fields kind rnd udp_sum stride_known first =
     if nat_lt first 192
-    then (if nat_lt first 64 then last_fields rnd udp_sum else if nat_lt first 128 then Octets 1 (last_fields rnd udp_sum) else Octets 2 (last_fields rnd udp_sum))
+    then (if nat_lt first 64 then last_fields rnd udp_sum else if nat_lt first 128 then Octets 1
+    (last_fields rnd udp_sum) else Octets 2 (last_fields rnd udp_sum))
     else extension_3_fields kind rnd udp_sum stride_known first
 
 -- behind the octets before an extension; the format says whether there is one
@@ -98,8 +111,16 @@ behind_base_fields rnd udp_sum stride_known base =
 abbrev pub behind_first : ℕ → (Base → FieldList) → FieldList
 behind_first first more =
     if nat_lt first 128 then more (record { first = first; number = first })
-    else if nat_lt first 192 then Octet any (λ second. more (record { first = first; number = first * 256 + second }))
-    else Octet any (λ second. Octet any (λ third. more (record { first = first; number = first * 65536 + (second * 256 + third) })))
+    else if nat_lt first 192 then Octet any (λ second. more (record {
+      first = first;
+      number =
+          first * 256 + second;
+    }))
+    else Octet any (λ second. Octet any (λ third. more (record {
+      first = first;
+      number =
+          first * 65536 + (second * 256 + third);
+    })))
 
 -- Behind the first octet of a packet.
 abbrev pub form_fields : ℕ → Bool → Bool → Bool → FieldList
@@ -111,4 +132,5 @@ fault_in (Ok payload) = None
 fault_in (Err refusal) = Some refusal
 
 abbrev pub form_fault : Header → Bool → Bool → Bool → Option FormRefusal
-form_fault h rnd udp_sum stride_known = fault_in (after_fields (form_fields h.first rnd udp_sum stride_known) h.rest)
+form_fault h rnd udp_sum stride_known =
+    fault_in (after_fields (form_fields h.first rnd udp_sum stride_known) h.rest)

@@ -27,7 +27,16 @@ pub record RtpSaid : Type 0 where
 
 -- the flags of the ip octet
 abbrev pub ip_flags : ℕ → IpFlags
-ip_flags octet = record { tos = has TOS octet; ttl = has TTL octet; df = has DF octet; protocol = has PR octet; nbo = has NBO octet; rnd = has RND octet }
+ip_flags octet =
+    record {
+      tos = has TOS octet;
+      ttl = has TTL octet;
+      df = has DF octet;
+      protocol = has PR octet;
+      nbo =
+          has NBO octet;
+      rnd = has RND octet;
+    }
 
 -- the RND in force: the one that is given, else the one that is kept
 abbrev pub rnd_in_force : Bool → Option IpFlags → Bool
@@ -36,7 +45,16 @@ rnd_in_force kept (Some ip) = ip.rnd
 
 -- an offset of 16 bits stands in place of those that are said already
 abbrev pub with_offset : ℕ → Said → Said
-with_offset offset s = record { sn = s.sn; ts = s.ts; id = Some (record { count = 16; value = offset }); marker = s.marker; extended = s.extended; check = s.check }
+with_offset offset s =
+    record {
+      sn = s.sn;
+      ts = s.ts;
+      id = Some (record { count = 16; value = offset });
+      marker =
+          s.marker;
+      extended = s.extended;
+      check = s.check;
+    }
 
 abbrev pub with_offset_if : Option ℕ → Said → Said
 with_offset_if None s = s
@@ -44,7 +62,15 @@ with_offset_if (Some offset) s = with_offset offset s
 
 -- the flags of the rtp octet
 abbrev pub rtp_flags : ℕ → RtpFlags
-rtp_flags octet = record { payload_type = has R-PT octet; marker = has M octet; extension = has R-X octet; stride = has TSS octet; time_stride = has TIS octet }
+rtp_flags octet =
+    record {
+      payload_type = has R-PT octet;
+      marker = has M octet;
+      extension = has R-X octet;
+      stride =
+          has TSS octet;
+      time_stride = has TIS octet;
+    }
 
 -- the octet of P and PT
 abbrev pub padding_in : Option ℕ → Option Bool
@@ -71,8 +97,32 @@ ip_values (Some ip) v = record {
 }
 
 abbrev pub rtp_values : Option RtpSaid → ValuesSaid
-rtp_values None = record { tos = None; ttl = None; payload_type = None; stride = None; padding = None; df = None; nbo = None; rnd = None; extension = None }
-rtp_values (Some rtp) = record { tos = None; ttl = None; payload_type = rtp.payload_type; stride = rtp.stride; padding = rtp.padding; df = None; nbo = None; rnd = None; extension = Some rtp.extension }
+rtp_values None =
+    record {
+      tos = None;
+      ttl = None;
+      payload_type = None;
+      stride = None;
+      padding = None;
+      df = None;
+      nbo =
+          None;
+      rnd = None;
+      extension = None;
+    }
+rtp_values (Some rtp) =
+    record {
+      tos = None;
+      ttl = None;
+      payload_type = rtp.payload_type;
+      stride = rtp.stride;
+      padding =
+          rtp.padding;
+      df = None;
+      nbo = None;
+      rnd = None;
+      extension = Some rtp.extension;
+    }
 
 -- the marker of the rtp octet alone, where there is one
 abbrev pub marker_in : Bool → Option RtpSaid → Bool

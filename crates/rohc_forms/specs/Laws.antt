@@ -13,7 +13,8 @@ use Rattle.rohc_forms.specs.Good.{IsGoodContent}
 -- a packet is refused exactly where that is the first fault among its fields
 abbrev pub RefusesForms : Type 0
 RefusesForms = (h : Header) (rnd udp_sum stride_known : Bool) (refusal : FormRefusal) →
-    (form_at h rnd udp_sum stride_known ≡ Err refusal) ↔ (form_fault h rnd udp_sum stride_known ≡ Some refusal)
+    (form_at h rnd udp_sum stride_known ≡ Err refusal) ↔
+    (form_fault h rnd udp_sum stride_known ≡ Some refusal)
 
 -- a packet is read exactly where its octets say what is read
 abbrev pub ReadsForms : Type 0
@@ -22,7 +23,8 @@ ReadsForms = (h : Header) (rnd udp_sum stride_known : Bool) (c : Content) →
 
 -- they say one thing at most
 abbrev pub SaysOne : Type 0
-SaysOne = (h : Header) (rnd udp_sum stride_known : Bool) (a b : Content) → IsForm h rnd udp_sum stride_known a → IsForm h rnd udp_sum stride_known b → a ≡ b
+SaysOne = (h : Header) (rnd udp_sum stride_known : Bool) (a b : Content) →
+    IsForm h rnd udp_sum stride_known a → IsForm h rnd udp_sum stride_known b → a ≡ b
 
 -- what octets say lies in its ranges
 abbrev pub SaysGood : Type 0
@@ -32,7 +34,8 @@ SaysGood = (h : Header) (rnd udp_sum stride_known : Bool) (c : Content) → All 
 -- the octets before an extension, of three, are as many as the format that is read has bits for
 abbrev pub CountsOctets : Type 0
 CountsOctets = (rnd : Bool) (a b c : ℕ) →
-    (octets : List ℕ) × (behind : List ℕ) × (b ∷ c ∷ [] ≡ octets ++ behind) × IsBase a rnd (base_of a b c) octets
+    (octets : List ℕ) × (behind : List ℕ) × (b ∷ c ∷ [] ≡ octets ++ behind)
+    × IsBase a rnd (base_of a b c) octets
 
 -- an octet begins an extension 3 exactly where its prefix is 11
 abbrev pub BeginsWith11 : Type 0

@@ -7,7 +7,12 @@ use Rattle.rohc_forms.specs.declared.refusal.FormRefusal.TheVariants.{Truncated}
 
 -- less significant bits behind others; of more than 32 the low 32 count
 abbrev pub behind : LowBits → LowBits → LowBits
-behind low high = record { count = min (high.count + low.count) 32; value = (high.value * 2 ^ low.count + low.value) % 2 ^ 32 }
+behind low high =
+    record {
+      count = min (high.count + low.count) 32;
+      value =
+          (high.value * 2 ^ low.count + low.value) % 2 ^ 32;
+    }
 
 -- bits behind those that are said already, if any are
 abbrev pub and_bits : Option LowBits → LowBits → Option LowBits

@@ -1,4 +1,5 @@
--- Whole packets of kind Other (RFC 3095 5.7.1 to 5.7.5), read from left to right, with the first fault that is met.
+-- Whole packets of kind Other (RFC 3095 5.7.1 to 5.7.5), read from left to right, with the first fault that
+-- is met.
 use Rattle.std.specs.Prelude.{ℕ, ◌+◌, ◌*◌, List, Bool, nat_lt, if◌then◌else◌, Option, Some, None, option_map, Result, Ok}
 use Rattle.rohc_bits.specs.Reading.{◌>>=◌, judged}
 use Rattle.rohc_frame.specs.Header.{Header}
@@ -24,11 +25,27 @@ use Rattle.rohc_forms.specs.Extension.{ip_octet_at, behind_ip_octet}
 
 -- what a reader's fields say
 abbrev pub said_by : Fields → Said
-said_by f = record { sn = Some (low_bits f.sn); ts = option_map low_bits f.ts; id = option_map low_bits f.id; marker = f.marker; extended = f.extended; check = f.check }
+said_by f =
+    record {
+      sn = Some (low_bits f.sn);
+      ts = option_map low_bits f.ts;
+      id =
+          option_map low_bits f.id;
+      marker = f.marker;
+      extended = f.extended;
+      check = f.check;
+    }
 
 -- what is given of RTP, and all that is given
 abbrev pub rtp_by : RtpGiven → RtpSaid
-rtp_by g = record { marker = g.marker; extension = g.extension; padding = g.padding; payload_type = g.payload_type; stride = g.stride }
+rtp_by g = record {
+  marker = g.marker;
+  extension = g.extension;
+  padding = g.padding;
+  payload_type =
+      g.payload_type;
+  stride = g.stride;
+}
 
 abbrev pub values_by : Values → ValuesSaid
 values_by v = record {
@@ -51,22 +68,41 @@ stride_in (Some v) = v.stride
 abbrev pub extended_by : parts.Extension3 → Extended3
 extended_by e = record { said = said_by e.fields; marker = e.marker; values = values_by e.values }
 
--- The octets before an extension, as one number, most significant first; the first octet tells how many they are.
+-- The octets before an extension, as one number, most significant first; the first octet tells how many they
+-- are.
 unfoldable pub base_at : ℕ → List ℕ → Result (Base × List ℕ) FormRefusal
 base_at first text =
     if nat_lt first 128 then Ok (record { first = first; number = first }, text)
-    else if nat_lt first 192 then (octet_at text >>= λ x. Ok (record { first = first; number = first * 256 + x.0 }, x.1))
+    else if nat_lt first 192 then (octet_at text >>= λ x. Ok (
+      record {
+        first = first;
+        number =
+            first * 256 + x.0;
+      },
+      x.1,
+    ))
     else (word_at text >>= λ x. Ok (record { first = first; number = first * 65536 + x.0 }, x.1))
 
 abbrev pub head_by : parts_head.Head → Head
-head_by h = record { kind = h.kind; rnd = h.rnd; said = said_by h.fields; tsc = h.tsc; marker = h.marker; values = option_map values_by h.values }
+head_by h =
+    record {
+      kind = h.kind;
+      rnd = h.rnd;
+      said = said_by h.fields;
+      tsc = h.tsc;
+      marker = h.marker;
+      values =
+          option_map values_by h.values;
+    }
 
 -- extensions 1 and 2, behind their first octet
 unfoldable pub extension_1_at : FormKind → ℕ → Said → List ℕ → Result (Said × List ℕ) FormRefusal
-extension_1_at kind first said text = octet_at text >>= λ x. Ok (under (layout_1 kind) (first * 256 + x.0) said, x.1)
+extension_1_at kind first said text =
+    octet_at text >>= λ x. Ok (under (layout_1 kind) (first * 256 + x.0) said, x.1)
 
 unfoldable pub extension_2_at : FormKind → ℕ → Said → List ℕ → Result (Said × List ℕ) FormRefusal
-extension_2_at kind first said text = word_at text >>= λ x. Ok (under (layout_2 kind) (first * 65536 + x.0) said, x.1)
+extension_2_at kind first said text =
+    word_at text >>= λ x. Ok (under (layout_2 kind) (first * 65536 + x.0) said, x.1)
 
 -- an extension 0, 1 or 2, whose first octet begins with 00, 01 or 10
 unfoldable pub short_extension_at : FormKind → ℕ → Said → List ℕ → Result (Said × List ℕ) FormRefusal
@@ -75,19 +111,34 @@ short_extension_at kind first said text =
     else if nat_lt first 128 then extension_1_at kind first said text
     else extension_2_at kind first said text
 
--- An extension 3, whose first octet begins with 11: the RND in force decides the format of the octets before it.
+-- An extension 3, whose first octet begins with 11: the RND in force decides the format of the octets before
+-- it.
 unfoldable pub extension_3_at : Base → Bool → Bool → ℕ → List ℕ → Result (Head × List ℕ) FormRefusal
 extension_3_at base kept_rnd stride_known flags text = do
   (ip, text) ← ip_octet_at (has IP flags) (form_kind base kept_rnd) text
   _ ← judged (twice_fault (has I flags) (rnd_in_force kept_rnd ip)) text
-  (extended, text) ← behind_ip_octet flags stride_known ip (base_said (form_kind base (rnd_in_force kept_rnd ip)) base.number) text
-  Ok (record { kind = form_kind base (rnd_in_force kept_rnd ip); rnd = rnd_in_force kept_rnd ip; said = extended.said; tsc = Some (has Tsc flags); marker = extended.marker; values = Some extended.values }, text)
+  (extended, text) ← behind_ip_octet flags stride_known ip
+      (base_said (form_kind base (rnd_in_force kept_rnd ip)) base.number) text
+  Ok (
+    record {
+      kind = form_kind base (rnd_in_force kept_rnd ip);
+      rnd = rnd_in_force kept_rnd ip;
+      said =
+          extended.said;
+      tsc = Some (has Tsc flags);
+      marker = extended.marker;
+      values =
+          Some extended.values;
+    },
+    text,
+  )
 
 -- what stands behind the first octet of an extension
 unfoldable pub extension_at : Base → Bool → Bool → ℕ → List ℕ → Result (Head × List ℕ) FormRefusal
 extension_at base rnd stride_known first text =
     if nat_lt first 192
-    then (short_extension_at (form_kind base rnd) first (base_said (form_kind base rnd) base.number) text >>= λ x. Ok (plain_head (form_kind base rnd) rnd x.0, x.1))
+    then (short_extension_at (form_kind base rnd) first (base_said (form_kind base rnd) base.number) text >>=
+    λ x. Ok (plain_head (form_kind base rnd) rnd x.0, x.1))
     else extension_3_at base rnd stride_known first text
 
 -- behind the octets before an extension: the extension, if X
@@ -121,8 +172,8 @@ content f = record {
   payload = f.payload.now;
 }
 
--- What a packet says, or its first fault: behind its extension come the Identification, if the RND in force is
--- 1, the UDP checksum, if packets carry one, and the payload.
+-- What a packet says, or its first fault: behind its extension come the Identification, if the RND in force
+-- is 1, the UDP checksum, if packets carry one, and the payload.
 unfoldable pub form_at : Header → Bool → Bool → Bool → Result Content FormRefusal
 form_at h rnd udp_sum stride_known = do
   (head, text) ← head_at h.first rnd stride_known h.rest

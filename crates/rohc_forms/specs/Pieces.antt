@@ -23,7 +23,8 @@ NoMore x y text = (text ≡ []) × (y ≡ x)
 
 -- two pieces, one behind the other; what the second says depends on what the first says
 abbrev pub Then : {A B : Type 0} → (A → List ℕ → Type 0) → (A → B → List ℕ → Type 0) → B → List ℕ → Type 0
-Then {A} {B} First Second y text = (x : A) × (front : List ℕ) × (behind : List ℕ) × (text ≡ front ++ behind) × First x front × Second x y behind
+Then {A} {B} First Second y text = (x : A) × (front : List ℕ) × (behind : List ℕ) × (text ≡ front ++ behind)
+    × First x front × Second x y behind
 
 -- a piece that is there if a flag names it
 abbrev pub IfNamed : {A : Type 0} → Bool → (A → List ℕ → Type 0) → Option A → List ℕ → Type 0

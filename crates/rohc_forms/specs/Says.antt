@@ -1,5 +1,5 @@
--- What the octets of a packet say (RFC 3095 5.7.1 to 5.7.5): its pieces stand one behind the other, and of the
--- octets before an extension, and of extensions 0 to 2, each field says its bits under the format.
+-- What the octets of a packet say (RFC 3095 5.7.1 to 5.7.5): its pieces stand one behind the other, and of
+-- the octets before an extension, and of extensions 0 to 2, each field says its bits under the format.
 use Rattle.std.specs.Prelude.{◌≡◌, ℕ, ◌*◌, List, ◌∷◌, length, Bool, ◌||◌, is_some, nat_lt, Option, Some, None, option_map}
 use Rattle.rohc_frame.specs.Header.{Header}
 use Rattle.rohc_forms.specs.declared.form.FormKind.{FormKind}
@@ -17,12 +17,14 @@ use Rattle.rohc_forms.specs.Pieces.{IsOneOctet, IsWord, IsValue, NoMore, Then, I
 
 -- The octets behind a first one say their fields under a format, behind what is said already.
 abbrev pub IsUnder : Layout → ℕ → Said → Said → List ℕ → Type 0
-IsUnder l first before after text = (length (first ∷ text) * 8 ≡ width l) × (after ≡ under l (number_of (first ∷ text)) before)
+IsUnder l first before after text = (length (first ∷ text) * 8 ≡ width l)
+    × (after ≡ under l (number_of (first ∷ text)) before)
 
 -- The octets before an extension are as many as their format has bits for, and one number.
 abbrev pub IsBase : ℕ → Bool → Base → List ℕ → Type 0
 IsBase first rnd base text =
-    (length (first ∷ text) * 8 ≡ width (layout (form_kind base rnd))) × (base ≡ record { first = first; number = number_of (first ∷ text) })
+    (length (first ∷ text) * 8 ≡ width (layout (form_kind base rnd)))
+    × (base ≡ record { first = first; number = number_of (first ∷ text) })
 
 -- eight more bits of SN, if S
 abbrev pub with_sn : Said → Option ℕ → Said
@@ -71,14 +73,22 @@ IsRtpNamed rtp =
     Then (IfNamed rtp.payload_type IsOneOctet) (λ octet.
     Then (IsStride rtp.stride) (λ stride.
     Then (IsTimeStride rtp.time_stride) (λ _.
-    NoMore (record { marker = rtp.marker; extension = rtp.extension; padding = padding_in octet; payload_type = payload_type_in octet; stride = stride }))))
+    NoMore (record {
+      marker = rtp.marker;
+      extension = rtp.extension;
+      padding =
+          padding_in octet;
+      payload_type = payload_type_in octet;
+      stride = stride;
+    }))))
 
 -- the rtp octet, if rtp, and what it names
 abbrev pub IsRtpGiven : Bool → Option RtpSaid → List ℕ → Type 0
-IsRtpGiven named = IfNamed named (Then (NotRefused rtp_fault IsOneOctet) (λ octet. IsRtpNamed (rtp_flags octet)))
+IsRtpGiven named =
+    IfNamed named (Then (NotRefused rtp_fault IsOneOctet) (λ octet. IsRtpNamed (rtp_flags octet)))
 
--- Behind the ip octet: SN, TS, what the ip octet names, the offset of the Identification, the rtp octet and what
--- it names; a stride is in force, if Tsc.
+-- Behind the ip octet: SN, TS, what the ip octet names, the offset of the Identification, the rtp octet and
+-- what it names; a stride is in force, if Tsc.
 abbrev pub IsBehindIp : ℕ → Bool → Option IpFlags → Said → Extended3 → List ℕ → Type 0
 IsBehindIp flags stride_known ip said =
     Then (As (with_sn said) (IfNamed (has S flags) IsOneOctet)) (λ said.
@@ -87,21 +97,38 @@ IsBehindIp flags stride_known ip said =
     Then (As (and_offset said) (IfNamed (has I flags) IsWord)) (λ said.
     Then (IsRtpGiven (has RTP flags)) (λ rtp.
     Unless (no_stride_fault (has Tsc flags) (stride_known || is_some (rtp_values rtp).stride)) (
-    NoMore (record { said = said; marker = marker_in said.marker rtp; values = ip_values given (rtp_values rtp) })))))))
+    NoMore (record {
+      said = said;
+      marker = marker_in said.marker rtp;
+      values =
+          ip_values given (rtp_values rtp);
+    })))))))
 
 -- an extension 3 behind its first octet: the RND in force decides the format
 abbrev pub IsExtension3 : Base → Bool → Bool → ℕ → Head → List ℕ → Type 0
 IsExtension3 base kept_rnd stride_known flags =
     Then (IsIpOctet (has IP flags) (form_kind base kept_rnd)) (λ ip.
     Unless (twice_fault (has I flags) (rnd_in_force kept_rnd ip)) (
-    Then (IsBehindIp flags stride_known ip (base_said (form_kind base (rnd_in_force kept_rnd ip)) base.number)) (λ extended.
-    NoMore (record { kind = form_kind base (rnd_in_force kept_rnd ip); rnd = rnd_in_force kept_rnd ip; said = extended.said; tsc = Some (has Tsc flags); marker = extended.marker; values = Some extended.values }))))
+    Then (IsBehindIp flags stride_known ip (base_said (form_kind base (rnd_in_force kept_rnd ip))
+    base.number)) (λ extended.
+    NoMore (record {
+      kind = form_kind base (rnd_in_force kept_rnd ip);
+      rnd = rnd_in_force kept_rnd ip;
+      said =
+          extended.said;
+      tsc = Some (has Tsc flags);
+      marker = extended.marker;
+      values =
+          Some extended.values;
+    }))))
 
 -- an extension behind its first octet
 abbrev pub IsExtension : Base → Bool → Bool → ℕ → Head → List ℕ → Type 0
 IsExtension base rnd stride_known first =
     Which (nat_lt first 192)
-    (As (plain_head (form_kind base rnd) rnd) (IsUnder (short_layout (form_kind base rnd) first) first (base_said (form_kind base rnd) base.number)))
+    (As (plain_head (form_kind base rnd) rnd)
+    (IsUnder (short_layout (form_kind base rnd) first) first
+    (base_said (form_kind base rnd) base.number)))
     (IsExtension3 base rnd stride_known first)
 
 -- The octets before an extension, behind the first; the extension, if their format says X.
@@ -116,8 +143,8 @@ IsHead first rnd stride_known =
 abbrev pub IsPayload : Head → Option ℕ → Option ℕ → Content → List ℕ → Type 0
 IsPayload head id udp_sum c text = c ≡ whole_content head id udp_sum text
 
--- A packet of kind Other says this: behind the extension stand the Identification, if the RND in force is 1, the
--- UDP checksum, if packets carry one, and the payload.
+-- A packet of kind Other says this: behind the extension stand the Identification, if the RND in force is 1,
+-- the UDP checksum, if packets carry one, and the payload.
 abbrev pub IsForm : Header → Bool → Bool → Bool → Content → Type 0
 IsForm h rnd udp_sum stride_known c =
     Then (IsHead h.first rnd stride_known) (λ head.

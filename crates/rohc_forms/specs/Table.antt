@@ -41,8 +41,10 @@ layout Uo1 = (Fixed 2, 2) ∷ (Ts, 6) ∷ (Marker, 1) ∷ (Sn, 4) ∷ (Check, 3)
 layout Uo1Id = (Fixed 4, 3) ∷ (Id, 5) ∷ (Extended, 1) ∷ (Sn, 4) ∷ (Check, 3) ∷ []
 layout Uo1Ts = (Fixed 5, 3) ∷ (Ts, 5) ∷ (Marker, 1) ∷ (Sn, 4) ∷ (Check, 3) ∷ []
 layout Uor2 = (Fixed 6, 3) ∷ (Ts, 6) ∷ (Marker, 1) ∷ (Sn, 6) ∷ (Extended, 1) ∷ (Check, 7) ∷ []
-layout Uor2Id = (Fixed 6, 3) ∷ (Id, 5) ∷ (Fixed 0, 1) ∷ (Marker, 1) ∷ (Sn, 6) ∷ (Extended, 1) ∷ (Check, 7) ∷ []
-layout Uor2Ts = (Fixed 6, 3) ∷ (Ts, 5) ∷ (Fixed 1, 1) ∷ (Marker, 1) ∷ (Sn, 6) ∷ (Extended, 1) ∷ (Check, 7) ∷ []
+layout Uor2Id =
+    (Fixed 6, 3) ∷ (Id, 5) ∷ (Fixed 0, 1) ∷ (Marker, 1) ∷ (Sn, 6) ∷ (Extended, 1) ∷ (Check, 7) ∷ []
+layout Uor2Ts =
+    (Fixed 6, 3) ∷ (Ts, 5) ∷ (Fixed 1, 1) ∷ (Marker, 1) ∷ (Sn, 6) ∷ (Extended, 1) ∷ (Check, 7) ∷ []
 
 -- The fields that +T and -T of an extension are, by the format before it. UO-0, UO-1 and UO-1-TS have none.
 abbrev pub plus : FormKind → Field
@@ -81,7 +83,8 @@ layout_2 kind = (Fixed 2, 2) ∷ (Sn, 3) ∷ (plus kind, 3) ∷ (plus kind, 8) �
 
 -- the one that an extension's first octet begins, which is below C0
 abbrev pub short_layout : FormKind → ℕ → Layout
-short_layout kind first = if nat_lt first 64 then layout_0 kind else if nat_lt first 128 then layout_1 kind else layout_2 kind
+short_layout kind first =
+    if nat_lt first 64 then layout_0 kind else if nat_lt first 128 then layout_1 kind else layout_2 kind
 
 -- The parts of the octets of an extension 3 (RFC 3095 5.7.5): flags, and numbers of more bits.
 pub data Part : Type 0 where
@@ -185,12 +188,42 @@ nothing = record { sn = None; ts = None; id = None; marker = false; extended = f
 -- more that is said: bits of a number stand behind those that are said already
 abbrev pub and_said : Field → LowBits → Said → Said
 and_said (Fixed n) d s = s
-and_said Sn d s = record { sn = and_bits s.sn d; ts = s.ts; id = s.id; marker = s.marker; extended = s.extended; check = s.check }
-and_said Ts d s = record { sn = s.sn; ts = and_bits s.ts d; id = s.id; marker = s.marker; extended = s.extended; check = s.check }
-and_said Id d s = record { sn = s.sn; ts = s.ts; id = and_bits s.id d; marker = s.marker; extended = s.extended; check = s.check }
-and_said Marker d s = record { sn = s.sn; ts = s.ts; id = s.id; marker = d.value == 1; extended = s.extended; check = s.check }
-and_said Extended d s = record { sn = s.sn; ts = s.ts; id = s.id; marker = s.marker; extended = d.value == 1; check = s.check }
-and_said Check d s = record { sn = s.sn; ts = s.ts; id = s.id; marker = s.marker; extended = s.extended; check = d.value }
+and_said Sn d s =
+    record {
+      sn = and_bits s.sn d;
+      ts = s.ts;
+      id = s.id;
+      marker = s.marker;
+      extended = s.extended;
+      check =
+          s.check;
+    }
+and_said Ts d s =
+    record {
+      sn = s.sn;
+      ts = and_bits s.ts d;
+      id = s.id;
+      marker = s.marker;
+      extended = s.extended;
+      check =
+          s.check;
+    }
+and_said Id d s =
+    record {
+      sn = s.sn;
+      ts = s.ts;
+      id = and_bits s.id d;
+      marker = s.marker;
+      extended = s.extended;
+      check =
+          s.check;
+    }
+and_said Marker d s =
+    record { sn = s.sn; ts = s.ts; id = s.id; marker = d.value == 1; extended = s.extended; check = s.check }
+and_said Extended d s =
+    record { sn = s.sn; ts = s.ts; id = s.id; marker = s.marker; extended = d.value == 1; check = s.check }
+and_said Check d s =
+    record { sn = s.sn; ts = s.ts; id = s.id; marker = s.marker; extended = s.extended; check = d.value }
 
 -- how many bits a format has
 abbrev pub width : Layout → ℕ
@@ -209,4 +242,13 @@ base_said kind n = under (layout kind) n nothing
 
 -- The same of each UOR-2, with its bits of TS or IP-ID.
 abbrev pub uor2_said : ℕ → Option LowBits → Option LowBits → Said
-uor2_said n ts id = record { sn = Some (slice n 8 6); ts = ts; id = id; marker = (slice n 14 1).value == 1; extended = (slice n 7 1).value == 1; check = (slice n 0 7).value }
+uor2_said n ts id =
+    record {
+      sn = Some (slice n 8 6);
+      ts = ts;
+      id = id;
+      marker = (slice n 14 1).value == 1;
+      extended =
+          (slice n 7 1).value == 1;
+      check = (slice n 0 7).value;
+    }

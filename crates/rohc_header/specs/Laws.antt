@@ -13,16 +13,19 @@ HasOneHeader = (fixed : Static) (moving : Dynamic) (payload_len : ℕ) (a b : Li
 
 -- a header and its payload are a packet of 65,535 octets at most
 abbrev pub FitsPacket : Type 0
-FitsPacket = (fixed : Static) (moving : Dynamic) (payload_len : ℕ) (octets : List ℕ) → IsOriginal fixed moving payload_len octets → length octets + payload_len ≤ 65535
+FitsPacket = (fixed : Static) (moving : Dynamic) (payload_len : ℕ) (octets : List ℕ) →
+    IsOriginal fixed moving payload_len octets → length octets + payload_len ≤ 65535
 
 -- the static and the dynamic octets are all forty, each of them once
 abbrev pub SplitsWhole : Type 0
-SplitsWhole = (octets : List ℕ) → length octets ≡ 40 → IsPermutation octets (static_octets octets ++ dynamic_octets octets)
+SplitsWhole = (octets : List ℕ) → length octets ≡ 40 →
+    IsPermutation octets (static_octets octets ++ dynamic_octets octets)
 
 -- the check of a header is that of its dynamic octets from the register that its static octets leave
 abbrev pub ChecksInParts : Type 0
 ChecksInParts = (poly : List Bool) (octets : List ℕ) →
-    check poly (check poly (all_ones poly) (static_octets octets)) (dynamic_octets octets) ≡ header_check poly octets
+    check poly (check poly (all_ones poly) (static_octets octets)) (dynamic_octets octets) ≡ header_check poly
+    octets
 
 -- the octets of the fields that stay while a call lasts, and of TOS, DF, TTL, P and X
 abbrev pub static_fields : (fixed : Static) (moving : Dynamic) → List ℕ

@@ -102,4 +102,5 @@ pub record IsOriginal (fixed : Static) (moving : Dynamic) (payload_len : ℕ) (o
   pub fits : payload_len ≤ longest_payload
   pub forty : length octets ≡ 40
   pub summed : checksum ≡ ip_sum fixed moving payload_len
-  pub whole : octets ≡ ip_part fixed moving payload_len checksum ++ udp_part fixed moving payload_len ++ rtp_part fixed moving
+  pub whole : octets ≡ ip_part fixed moving payload_len checksum ++ udp_part fixed moving payload_len ++
+      rtp_part fixed moving
