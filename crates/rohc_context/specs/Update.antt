@@ -36,7 +36,8 @@ VerdictUnless false fixed c tries verdict = Verdict fixed c tries verdict
 abbrev pub Judges : Static → (Content → List Try) → Result Content FormRefusal → Result Acceptance Fault →
     Type 0
 Judges fixed tries (Err refusal) verdict = verdict ≡ Err (fault_of_form refusal)
-Judges fixed tries (Ok c) verdict = VerdictUnless (nat_lt longest_payload (length c.payload)) fixed c (tries c) verdict
+Judges fixed tries (Ok c) verdict =
+    VerdictUnless (nat_lt longest_payload (length c.payload)) fixed c (tries c) verdict
 
 -- the accepted header is delivered, and the state is this
 abbrev pub Accepts : Settings → (moment : ℕ) → Header → Record → (Acceptance → State) → (Acceptance → Due) →
