@@ -35,7 +35,7 @@ name_of Check = codes "Check"
 name_of NoLink = codes "NoLink"
 name_of NoMemory = codes "NoMemory"
 
--- the numbers of the refusals: framing 1 to 9, then in the order that they are judged but for the last two
+-- the numbers of the refusals, framing first
 abbrev pub number_of : Refusal → ℕ
 number_of Empty = 1
 number_of FeedbackShort = 2
