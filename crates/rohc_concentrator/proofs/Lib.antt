@@ -1,4 +1,5 @@
 pub mod GoodLemmas
+pub mod HonestLemmas
 pub mod MarkedLemmas
 pub mod OrderLemmas
 pub mod SetupLaws

@@ -2,6 +2,7 @@
 
 ghost use Rattle.rohc_context.specs.Laws.{HasAnswer, HasNoOther};
 ghost use Rattle.rohc_concentrator.specs.Laws.{TwoWorlds, NoTrace, WantIsRefusal, TakenHasALink, HoldsGoodRecords, FaultyIsNotFine, FineOrFaulty, HasOneFault, MarkedIsAcceptedIr, LoneRunIsUnmarked};
+ghost use Rattle.rohc_concentrator.specs.Honest.{DeliversWhatWasSent, HasHonestRun, HasHonestSender};
 
 /// For good values, an arrival has exactly one answer and one record, or none, after it.
 pub fn one_answer()
@@ -48,4 +49,13 @@ pub fn marked_is_accepted_ir()
 /// The lone run is the marked run of events without a mark.
 pub fn lone_run_is_unmarked()
     ensures { LoneRunIsUnmarked }
+{}
+
+/// What is delivered was sent: where a sender's packets are written for each of the last w references, fewer than w
+/// of them are lost in a row and none comes too late, one context machine in Full Context delivers exactly the
+/// headers and payloads that they were written for (RFC 3095 4.5.2).
+pub fn honest_runs()
+    ensures delivered { DeliversWhatWasSent }
+    ensures exists { HasHonestRun }
+    ensures sender { HasHonestSender }
 {}

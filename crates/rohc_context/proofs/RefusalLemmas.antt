@@ -25,7 +25,7 @@ use Rattle.rohc_context.specs.Record.{State, Plain, NoContext, StaticContext, Fu
 use Rattle.rohc_context.specs.Response.{Response, delivered, refused}
 use Rattle.rohc_context.specs.Due.{sent}
 use Rattle.rohc_context.specs.Faults.{fault_of_chain, fault_of_form}
-use Rattle.rohc_context.specs.Failures.{takes, Consequence, after_check}
+use Rattle.rohc_context.specs.Failures.{takes, Consequence, after_check, after_low_state}
 use Rattle.rohc_context.specs.Outcomes.{refusal_of, Fails, Ends}
 use Rattle.rohc_context.specs.Renewal.{full_window, full_window_of, plain_answer, Delivers, Renewed, state_in, Renews}
 use Rattle.rohc_context.specs.Refresh.{profile_of, kept_in, dyn_said, RefreshesBy}
@@ -67,94 +67,103 @@ step_none s m h response next refusal step e = go h.kind step where
   go IrDyn p = p.1
   go Other p = p.1
 
--- ---- No refusal of a step is want of memory
+-- ---- What is read, or doesn't fit, is refused neither for want of memory nor for a state that is too low
 
--- the fault's refusal is another
-abbrev IsRich : Fault → Type 0
-IsRich fault = refusal_of fault ≢ refusals.NoMemory
+-- the refusals that octets lead to
+abbrev is_of_octets : Refusal → Bool
+is_of_octets refusals.NoMemory = false
+is_of_octets refusals.StateTooLow = false
+is_of_octets refusal = true
 
-chain_rich : (refusal : ChainRefusal) → IsRich (fault_of_chain refusal)
-chain_rich chains.Profile e = cc
-chain_rich chains.ProfileChange e = cc
-chain_rich chains.Truncated e = cc
-chain_rich chains.IpVersion e = cc
-chain_rich chains.Protocol e = cc
-chain_rich chains.ExtensionList e = cc
-chain_rich chains.RtpVersion e = cc
-chain_rich chains.Csrc e = cc
-chain_rich chains.ZeroStride e = cc
-chain_rich chains.ReliableMode e = cc
-chain_rich chains.Trailing e = cc
-chain_rich chains.TooLong e = cc
-chain_rich chains.Check e = cc
+-- the fault's refusal is one of them
+abbrev IsOfOctets : Fault → Type 0
+IsOfOctets fault = is_of_octets (refusal_of fault) ≡ true
 
-form_rich : (refusal : FormRefusal) → IsRich (fault_of_form refusal)
-form_rich forms.Truncated e = cc
-form_rich forms.Protocol e = cc
-form_rich forms.ExtensionList e = cc
-form_rich forms.Csrc e = cc
-form_rich forms.ZeroStride e = cc
-form_rich forms.ReliableMode e = cc
-form_rich forms.OuterHeader e = cc
-form_rich forms.NoStride e = cc
-form_rich forms.RndInUo1 e = cc
-form_rich forms.IpIdTwice e = cc
+of_chain : (refusal : ChainRefusal) → IsOfOctets (fault_of_chain refusal)
+of_chain chains.Profile = refl
+of_chain chains.ProfileChange = refl
+of_chain chains.Truncated = refl
+of_chain chains.IpVersion = refl
+of_chain chains.Protocol = refl
+of_chain chains.ExtensionList = refl
+of_chain chains.RtpVersion = refl
+of_chain chains.Csrc = refl
+of_chain chains.ZeroStride = refl
+of_chain chains.ReliableMode = refl
+of_chain chains.Trailing = refl
+of_chain chains.TooLong = refl
+of_chain chains.Check = refl
 
--- a verdict's fault, if it has one, is rich
-abbrev IsRichVerdict : Result Acceptance Fault → Type 0
-IsRichVerdict (Ok a) = Unit {0}
-IsRichVerdict (Err fault) = IsRich fault
+of_form : (refusal : FormRefusal) → IsOfOctets (fault_of_form refusal)
+of_form forms.Truncated = refl
+of_form forms.Protocol = refl
+of_form forms.ExtensionList = refl
+of_form forms.Csrc = refl
+of_form forms.ZeroStride = refl
+of_form forms.ReliableMode = refl
+of_form forms.OuterHeader = refl
+of_form forms.NoStride = refl
+of_form forms.RndInUo1 = refl
+of_form forms.IpIdTwice = refl
 
-unfit_rich : IsRich Unfit
-unfit_rich e = cc
+-- a verdict's fault, if it has one, is one of them
+abbrev IsVerdictOfOctets : Result Acceptance Fault → Type 0
+IsVerdictOfOctets (Ok a) = Unit {0}
+IsVerdictOfOctets (Err fault) = IsOfOctets fault
 
-long_rich : IsRich (Refused refusals.TooLong)
-long_rich e = cc
+of_verdict : (fixed : Static) (c : Content) (tries : List Try) (verdict : Result Acceptance Fault) → Verdict fixed c tries verdict → IsVerdictOfOctets verdict
+of_verdict fixed c [] verdict p = subst IsVerdictOfOctets (sym p) refl
+of_verdict fixed c (t ∷ more) verdict (inl (h, fits, e)) = subst IsVerdictOfOctets (sym e) tt
+of_verdict fixed c (t ∷ more) verdict (inr (misses, rest)) = of_verdict fixed c more verdict rest
 
-verdict_rich : (fixed : Static) (c : Content) (tries : List Try) (verdict : Result Acceptance Fault) → Verdict fixed c tries verdict → IsRichVerdict verdict
-verdict_rich fixed c [] verdict p = subst IsRichVerdict (sym p) unfit_rich
-verdict_rich fixed c (t ∷ more) verdict (inl (h, fits, e)) = subst IsRichVerdict (sym e) tt
-verdict_rich fixed c (t ∷ more) verdict (inr (misses, rest)) = verdict_rich fixed c more verdict rest
+of_judged : (fixed : Static) (tries : Content → List Try) (read : Result Content FormRefusal) (verdict : Result Acceptance Fault) → Judges fixed tries read verdict → IsVerdictOfOctets verdict
+of_judged fixed tries (Err refusal) verdict p = subst IsVerdictOfOctets (sym p) (of_form refusal)
+of_judged fixed tries (Ok c) verdict p = unless (nat_lt 65495 (length c.payload)) p where
+  unless : (long : Bool) → VerdictUnless long fixed c (tries c) verdict → IsVerdictOfOctets verdict
+  unless true p = subst IsVerdictOfOctets (sym p) refl
+  unless false p = of_verdict fixed c (tries c) verdict p
 
-judges_rich : (fixed : Static) (tries : Content → List Try) (read : Result Content FormRefusal) (verdict : Result Acceptance Fault) → Judges fixed tries read verdict → IsRichVerdict verdict
-judges_rich fixed tries (Err refusal) verdict p = subst IsRichVerdict (sym p) (form_rich refusal)
-judges_rich fixed tries (Ok c) verdict p = unless (nat_lt 65495 (length c.payload)) p where
-  unless : (long : Bool) → VerdictUnless long fixed c (tries c) verdict → IsRichVerdict verdict
-  unless true p = subst IsRichVerdict (sym p) long_rich
-  unless false p = verdict_rich fixed c (tries c) verdict p
+-- a refusal that octets don't lead to
+abbrev IsApart : Refusal → Type 0
+IsApart target = is_of_octets target ≡ false
 
-refuses_rich : (refusal : Refusal) (a b : Response) → refusal ≢ refusals.NoMemory → a ≡ b → b.outcome ≡ outcomes.Refused refusal → a.outcome ≢ outcomes.Refused refusals.NoMemory
-refuses_rich refusal a b rich e f g =
-    rich (let k : outcomes.Refused refusal ≡ outcomes.Refused refusals.NoMemory = sym f ∙ outcome_is a b refusals.NoMemory e g in cc)
+same_refusal : (a b : Refusal) → outcomes.Refused a ≡ outcomes.Refused b → a ≡ b
+same_refusal a b e = cc
 
-ends_rich : (s : Settings) (m : ℕ) (h : Header) (c before : Option Record) (fault : Fault) (a : Response) (x : Option Record) → IsRich fault
-    → Ends s m h c before fault a x → a.outcome ≢ outcomes.Refused refusals.NoMemory
-ends_rich s m h None before fault a x rich p = refuses_rich (refusal_of fault) a (refused (refusal_of fault)) rich p.0 refl
-ends_rich s m h (Some r) before (Refused refusal) a x rich p = refuses_rich refusal a (refused refusal) rich p.0 refl
-ends_rich s m h (Some r) before Unfit a x rich p = refuses_rich refusals.Check a _ rich p.0 refl
+apart : (refusal target : Refusal) → is_of_octets refusal ≡ true → IsApart target → refusal ≢ target
+apart refusal target rich far e = let k : true ≡ false = sym rich ∙ ap is_of_octets e ∙ far in cc
 
-accepts_rich : (s : Settings) (m : ℕ) (h : Header) (r : Record) (state : Acceptance → State) (due : Acceptance → Due) (verdict : Result Acceptance Fault) (a : Response) (x : Option Record)
-    → IsRichVerdict verdict → Accepts s m h r state due verdict a x → a.outcome ≢ outcomes.Refused refusals.NoMemory
-accepts_rich s m h r state due (Ok v) a x rich p e = let k = sym (ap (λ (r : Response). r.outcome) p.0) ∙ e in cc
-accepts_rich s m h r state due (Err fault) a x rich p e = ends_rich s m h (Some r) (Some r) fault a x rich p e
+refuses_other : (refusal target : Refusal) (a b : Response) → refusal ≢ target → a ≡ b → b.outcome ≡ outcomes.Refused refusal → a.outcome ≢ outcomes.Refused target
+refuses_other refusal target a b other e f g = other (same_refusal refusal target (sym f ∙ outcome_is a b target e g))
 
-updates_rich : (s : Settings) (m : ℕ) (h : Header) (r : Record) (state : State) (a : Response) (x : Option Record) → UpdatesBy s m h r state a x
-    → a.outcome ≢ outcomes.Refused refusals.NoMemory
-updates_rich s m h r Plain a x p e = let k = sym (ap (λ (r : Response). r.outcome) p.0) ∙ e in cc
-updates_rich s m h r (NoContext nacked) a x p e = p
-updates_rich s m h r (StaticContext fixed None f g) a x p e = p
-updates_rich s m h r (StaticContext fixed (Some reference) f g) a x (v, judged, accepted) e =
-    accepts_rich s m h r (promoted fixed) acknowledged v a x (judges_rich fixed (λ c. static_tries reference) (said_under h reference) v judged) accepted e
-updates_rich s m h r (FullContext fixed reference previous w) a x (v, judged, accepted) e =
-    accepts_rich s m h r (updated fixed reference w) silent v a x (judges_rich fixed (full_tries s (m - r.accepted) reference previous) (said_under h reference) v judged) accepted e
+ends_apart : (s : Settings) (m : ℕ) (h : Header) (c before : Option Record) (fault : Fault) (a : Response) (x : Option Record) (target : Refusal) → IsOfOctets fault → IsApart target
+    → Ends s m h c before fault a x → a.outcome ≢ outcomes.Refused target
+ends_apart s m h None before fault a x target rich far p = refuses_other (refusal_of fault) target a (refused (refusal_of fault)) (apart (refusal_of fault) target rich far) p.0 refl
+ends_apart s m h (Some r) before (Refused refusal) a x target rich far p = refuses_other refusal target a (refused refusal) (apart refusal target rich far) p.0 refl
+ends_apart s m h (Some r) before Unfit a x target rich far p = refuses_other refusals.Check target a _ (apart refusals.Check target refl far) p.0 refl
 
-refreshes_rich : (s : Settings) (m : ℕ) (h : Header) (r : Record) (state : State) (read : Result DynContent ChainRefusal) (a : Response) (x : Option Record) → RefreshesBy s m h r state read a x
-    → a.outcome ≢ outcomes.Refused refusals.NoMemory
-refreshes_rich s m h r state (Err refusal) a x p e = ends_rich s m h (Some r) (Some r) (fault_of_chain refusal) a x (chain_rich refusal) p e
-refreshes_rich s m h r Plain (Ok d) a x p e = p
-refreshes_rich s m h r (NoContext nacked) (Ok d) a x p e = p
-refreshes_rich s m h r (StaticContext fixed reference f g) (Ok d) a x p e = delivers_not_refused s m h fixed d.moving d.payload [] a x refusals.NoMemory p e
-refreshes_rich s m h r (FullContext fixed reference previous w) (Ok d) a x p e = delivers_not_refused s m h fixed d.moving d.payload (full_window r.state) a x refusals.NoMemory p e
+accepts_apart : (s : Settings) (m : ℕ) (h : Header) (r : Record) (state : Acceptance → State) (due : Acceptance → Due) (verdict : Result Acceptance Fault) (a : Response) (x : Option Record)
+    (target : Refusal) → IsVerdictOfOctets verdict → IsApart target → Accepts s m h r state due verdict a x → a.outcome ≢ outcomes.Refused target
+accepts_apart s m h r state due (Ok v) a x target rich far p e = let k = sym (ap (λ (r : Response). r.outcome) p.0) ∙ e in cc
+accepts_apart s m h r state due (Err fault) a x target rich far p e = ends_apart s m h (Some r) (Some r) fault a x target rich far p e
+
+updates_apart : (s : Settings) (m : ℕ) (h : Header) (r : Record) (state : State) (a : Response) (x : Option Record) (target : Refusal) → IsApart target
+    → UpdatesBy s m h r state a x → a.outcome ≢ outcomes.Refused target
+updates_apart s m h r Plain a x target far p e = let k = sym (ap (λ (r : Response). r.outcome) p.0) ∙ e in cc
+updates_apart s m h r (NoContext nacked) a x target far p e = p
+updates_apart s m h r (StaticContext fixed None f g) a x target far p e = p
+updates_apart s m h r (StaticContext fixed (Some reference) f g) a x target far (v, judged, accepted) e =
+    accepts_apart s m h r (promoted fixed) acknowledged v a x target (of_judged fixed (λ c. static_tries reference) (said_under h reference) v judged) far accepted e
+updates_apart s m h r (FullContext fixed reference previous w) a x target far (v, judged, accepted) e =
+    accepts_apart s m h r (updated fixed reference w) silent v a x target (of_judged fixed (full_tries s (m - r.accepted) reference previous) (said_under h reference) v judged) far accepted e
+
+refreshes_apart : (s : Settings) (m : ℕ) (h : Header) (r : Record) (state : State) (read : Result DynContent ChainRefusal) (a : Response) (x : Option Record) (target : Refusal)
+    → IsApart target → RefreshesBy s m h r state read a x → a.outcome ≢ outcomes.Refused target
+refreshes_apart s m h r state (Err refusal) a x target far p e = ends_apart s m h (Some r) (Some r) (fault_of_chain refusal) a x target (of_chain refusal) far p e
+refreshes_apart s m h r Plain (Ok d) a x target far p e = p
+refreshes_apart s m h r (NoContext nacked) (Ok d) a x target far p e = p
+refreshes_apart s m h r (StaticContext fixed reference f g) (Ok d) a x target far p e = delivers_not_refused s m h fixed d.moving d.payload [] a x target p e
+refreshes_apart s m h r (FullContext fixed reference previous w) (Ok d) a x target far p e = delivers_not_refused s m h fixed d.moving d.payload (full_window r.state) a x target p e
 
 pub step_rich : (before : Option Record) (s : Settings) (m : ℕ) (h : Header) (response : Response) (next : Option Record)
     → LoneStep before s m h response next → response.outcome ≢ outcomes.Refused refusals.NoMemory
@@ -168,27 +177,24 @@ step_rich before s m h a x step e = go h.kind (counting s m before) step where
 
   renews : (c : Option Record) (read : Result IrContent ChainRefusal) → Renews s m h c before read a x → ⊥
   renews c (Ok content) p = renewed_not_refused s m h (state_in c) content a x refusals.NoMemory p e
-  renews c (Err refusal) p = ends_rich s m h c before (fault_of_chain refusal) a x (chain_rich refusal) p e
+  renews c (Err refusal) p = ends_apart s m h c before (fault_of_chain refusal) a x refusals.NoMemory (of_chain refusal) refl p e
 
   dyn : (r : Record) (taken : Bool) → TakenBy taken s m h IrDyn r a x → ⊥
-  dyn r false p = refuses_rich refusals.StateTooLow a _ low p.0 refl e
-  dyn r true p = refreshes_rich s m h r r.state (dyn_said h (profile_of r.state) (kept_in r.state)) a x p e
+  dyn r false p = refuses_other refusals.StateTooLow refusals.NoMemory a _ low p.0 refl e
+  dyn r true p = refreshes_apart s m h r r.state (dyn_said h (profile_of r.state) (kept_in r.state)) a x refusals.NoMemory refl p e
 
   other : (r : Record) (taken : Bool) → TakenBy taken s m h Other r a x → ⊥
-  other r false p = refuses_rich refusals.StateTooLow a _ low p.0 refl e
-  other r true p = updates_rich s m h r r.state a x p e
+  other r false p = refuses_other refusals.StateTooLow refusals.NoMemory a _ low p.0 refl e
+  other r true p = updates_apart s m h r r.state a x refusals.NoMemory refl p e
 
   go : (kind : HeadKind) (c : Option Record) → Turn s m h kind c before a x → ⊥
   go (Ir dynamic) c p = renews c (ir_at h) p
-  go IrDyn None p = refuses_rich refusals.NoContext a _ unknown p.0 refl e
-  go Other None p = refuses_rich refusals.NoContext a _ unknown p.0 refl e
+  go IrDyn None p = refuses_other refusals.NoContext refusals.NoMemory a _ unknown p.0 refl e
+  go Other None p = refuses_other refusals.NoContext refusals.NoMemory a _ unknown p.0 refl e
   go IrDyn (Some r) p = dyn r (takes r.state IrDyn h.first) p
   go Other (Some r) p = other r (takes r.state Other h.first) p
 
 -- ---- A refusal changes nothing, but for a check and a state that is too low
-
-same_refusal : (a b : Refusal) → outcomes.Refused a ≡ outcomes.Refused b → a ≡ b
-same_refusal a b e = cc
 
 ends_keeps : (s : Settings) (m : ℕ) (h : Header) (c before : Option Record) (fault : Fault) (a : Response) (x : Option Record) (refusal : Refusal)
     → Ends s m h c before fault a x → a.outcome ≡ outcomes.Refused refusal → refusal ≢ refusals.Check → x ≡ before
@@ -316,3 +322,38 @@ step_checks before s m h a x step e = go h.kind (counting s m before) (counting_
   go Other None is p = inl p.1
   go IrDyn (Some r) is p = dyn r is (takes r.state IrDyn h.first) p
   go Other (Some r) is p = other r is (takes r.state Other h.first) p
+
+-- the state doesn't take the packet, and is left as `after_low_state` says
+abbrev IsLow : Settings → ℕ → Header → Option Record → Option Record → Type 0
+IsLow s m h before x = (r : Record) × (before ≡ Some r) × (takes r.state h.kind h.first ≡ false)
+    × (x ≡ Some (record { accepted = r.accepted; state = (after_low_state s m r.state).state }))
+
+pub step_low : (before : Option Record) (s : Settings) (m : ℕ) (h : Header) (a : Response) (x : Option Record)
+    → LoneStep before s m h a x → a.outcome ≡ outcomes.Refused refusals.StateTooLow → IsLow s m h before x
+unfolding LoneStep
+step_low before s m h a x step e = go h.kind refl (counting s m before) (counting_is s m before) step where
+  unknown : refusals.NoContext ≢ refusals.StateTooLow
+  unknown f = cc
+
+  renews : (c : Option Record) (read : Result IrContent ChainRefusal) → Renews s m h c before read a x → ⊥
+  renews c (Ok content) p = renewed_not_refused s m h (state_in c) content a x refusals.StateTooLow p e
+  renews c (Err refusal) p = ends_apart s m h c before (fault_of_chain refusal) a x refusals.StateTooLow (of_chain refusal) refl p e
+
+  low : (r : Record) (kind : HeadKind) → kind ≡ h.kind → before ≡ Some r → takes r.state kind h.first ≡ false → TakenBy false s m h kind r a x → IsLow s m h before x
+  low r kind same is untaken p = (r, is, ap (λ k. takes r.state k h.first) (sym same) ∙ untaken, p.1)
+
+  dyn : (r : Record) → IrDyn ≡ h.kind → before ≡ Some r → (taken : Bool) → takes r.state IrDyn h.first ≡ taken → TakenBy taken s m h IrDyn r a x → IsLow s m h before x
+  dyn r same is false untaken p = low r IrDyn same is untaken p
+  dyn r same is true taken p =
+      absurd (refreshes_apart s m h r r.state (dyn_said h (profile_of r.state) (kept_in r.state)) a x refusals.StateTooLow refl p e)
+
+  other : (r : Record) → Other ≡ h.kind → before ≡ Some r → (taken : Bool) → takes r.state Other h.first ≡ taken → TakenBy taken s m h Other r a x → IsLow s m h before x
+  other r same is false untaken p = low r Other same is untaken p
+  other r same is true taken p = absurd (updates_apart s m h r r.state a x refusals.StateTooLow refl p e)
+
+  go : (kind : HeadKind) → kind ≡ h.kind → (c : Option Record) → IfSome c (λ r. before ≡ Some r) → Turn s m h kind c before a x → IsLow s m h before x
+  go (Ir dynamic) same c is p = absurd (renews c (ir_at h) p)
+  go IrDyn same None is p = absurd (refuses_other refusals.NoContext refusals.StateTooLow a _ unknown p.0 refl e)
+  go Other same None is p = absurd (refuses_other refusals.NoContext refusals.StateTooLow a _ unknown p.0 refl e)
+  go IrDyn same (Some r) is p = dyn r same is (takes r.state IrDyn h.first) refl p
+  go Other same (Some r) is p = other r same is (takes r.state Other h.first) refl p

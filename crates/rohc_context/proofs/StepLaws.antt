@@ -1,10 +1,11 @@
 -- The laws of a step, for the proofs of the crates above: each is its law's statement and nothing else.
-use Rattle.rohc_context.specs.Laws.{HasAnswer, HasNoOther, LeavesGood, BeginsByIr, LeavesNone, NeverPoor, KeepsGood, KeepsRefused, ChecksChange, ComesToOne, MeansOne, TakesPlain, DeliversHonest}
+use Rattle.rohc_context.specs.Laws.{HasAnswer, HasNoOther, LeavesGood, BeginsByIr, LeavesNone, NeverPoor, KeepsGood, KeepsRefused, ChecksChange, LowStatesChange, ComesToOne, MeansOne, TakesPlain, DeliversHonest, PromotesHonest, DeliversWritten, HasWritten}
 use Rattle.rohc_context.proofs.StepLemmas.{step_some, step_one, step_begins}
 use Rattle.rohc_context.proofs.GoodLemmas.{step_good, context_good}
-use Rattle.rohc_context.proofs.RefusalLemmas.{step_none, step_rich, step_keeps, step_checks}
+use Rattle.rohc_context.proofs.RefusalLemmas.{step_none, step_rich, step_keeps, step_checks, step_low}
 use Rattle.rohc_context.proofs.TryLemmas.{verdict_one}
-use Rattle.rohc_context.proofs.HonestLemmas.{means_one_header, takes_plain, delivers_honest}
+use Rattle.rohc_context.proofs.WrittenExample.{call, packet, is_written}
+use Rattle.rohc_context.proofs.HonestLemmas.{means_one_header, takes_plain, delivers_honest, promotes_honest, delivers_written}
 
 pub has_answer : HasAnswer
 has_answer before s moment h good = step_some before s moment h good
@@ -39,8 +40,20 @@ takes_plain_ir = takes_plain
 pub delivers_honest_packet : DeliversHonest
 delivers_honest_packet = delivers_honest
 
+pub promotes_honest_packet : PromotesHonest
+promotes_honest_packet = promotes_honest
+
+pub delivers_written_packet : DeliversWritten
+delivers_written_packet = delivers_written
+
+pub has_written : HasWritten
+has_written = (call, packet, is_written)
+
 pub checks_change : ChecksChange
 checks_change before s moment h response next step e = step_checks before s moment h response next step e
+
+pub low_states_change : LowStatesChange
+low_states_change before s moment h response next step e = step_low before s moment h response next step e
 
 pub comes_to_one : ComesToOne
 comes_to_one = verdict_one

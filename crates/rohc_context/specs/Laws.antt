@@ -1,4 +1,4 @@
-use Rattle.std.specs.Prelude.{◌≡◌, ◌≢◌, ℕ, ◌≤◌, List, [], ◌∷◌, length, Bool, true, All, Option, Some, None, IfSome, Result, Ok, ◌⊎◌}
+use Rattle.std.specs.Prelude.{◌≡◌, ◌≢◌, ℕ, ◌≤◌, List, [], ◌∷◌, length, Bool, true, false, All, Option, Some, None, IfSome, Result, Ok, ◌⊎◌}
 use Rattle.rohc_bits.specs.Bits.{IsOctet}
 use Rattle.rohc_lsb.specs.Interval.{ExactlyOne}
 use Rattle.rohc_header.specs.declared.fields.Static.{Static}
@@ -17,12 +17,15 @@ use Rattle.rohc_context.specs.declared.reply.Outcome.TheVariants.{Refused, Deliv
 use Rattle.rohc_context.specs.declared.settings.Settings.{Settings}
 use Rattle.rohc_context.specs.Good.{AreGoodValues, IsGoodRecord}
 use Rattle.rohc_context.specs.declared.record.Context.{Context}
-use Rattle.rohc_context.specs.Record.{Reference, FullContext, Record, record_of}
+use Rattle.rohc_context.specs.Record.{Reference, StaticContext, FullContext, Record, record_of}
 use Rattle.rohc_context.specs.Response.{Response, delivered}
 use Rattle.rohc_context.specs.Explains.{Explained, Explains}
-use Rattle.rohc_context.specs.Failures.{after_check}
+use Rattle.rohc_context.specs.Failures.{takes, after_check, after_low_state}
 use Rattle.rohc_context.specs.Tries.{Try, Acceptance, Verdict, Fits, unshifted}
-use Rattle.rohc_context.specs.Update.{said_under, updated}
+use Rattle.rohc_context.specs.Update.{said_under, promoted, updated}
+use Rattle.rohc_context.specs.declared.due.Due.TheVariants.{Ack}
+use Rattle.rohc_context.specs.Due.{sent}
+use Rattle.rohc_context.specs.Honest.{Held, held_by, HoldsInFull, Written, IsWrittenFor, delivery_of, IsInTime}
 use Rattle.rohc_context.specs.Step.{LoneStep, counts}
 
 -- a step from good values has an answer and a record, or none, after it
@@ -82,6 +85,15 @@ ChecksChange = (before : Option Record) (s : Settings) (moment : ℕ) (h : Heade
     (next ≡ before) ⊎ ((r : Record) × (before ≡ Some r) ×
     (next ≡ Some (record { accepted = r.accepted; state = (after_check s moment r.state).state })))
 
+-- A refusal for a state that is too low comes from a record whose state doesn't take the packet, and leaves
+-- what such a packet leads to.
+abbrev pub LowStatesChange : Type 0
+LowStatesChange = (before : Option Record) (s : Settings) (moment : ℕ) (h : Header) (response : Response)
+    (next : Option Record) → LoneStep before s moment h response next →
+    response.outcome ≡ Refused StateTooLow →
+    (r : Record) × (before ≡ Some r) × (takes r.state h.kind h.first ≡ false) ×
+    (next ≡ Some (record { accepted = r.accepted; state = (after_low_state s moment r.state).state }))
+
 -- The tries of what a packet says come to one verdict at most: one header, and the reference that it is by.
 abbrev pub ComesToOne : Type 0
 ComesToOne = (first : ℕ) (udp_sum stride_known : Bool) (fixed : Static) (c : Content) (tries : List Try)
@@ -129,3 +141,42 @@ DeliversHonest =
       state =
           updated fixed reference window (record { content = c; reference = reference; header = e });
     }))
+
+-- From Static Context such a packet of a UOR-2 kind is delivered and acknowledged, and leads to Full Context.
+abbrev pub PromotesHonest : Type 0
+PromotesHonest =
+    (accepted : ℕ) (fixed : Static) (reference : Reference) (first second : List Bool)
+    (s : Settings) (moment : ℕ)
+    (h : Header) (content : Content) (header : Explained) (response : Response) (next : Option Record) →
+    h.kind ≡ Other → 192 ≤ h.first → All IsOctet h.rest → said_under h reference ≡ Ok content →
+    length content.payload ≤ longest_payload → Fits fixed (unshifted reference) content header →
+    counts s moment (record {
+      accepted = accepted;
+      state =
+          StaticContext fixed (Some reference) first second;
+    }) ≡ true →
+    LoneStep (Some (record {
+      accepted = accepted;
+      state =
+          StaticContext fixed (Some reference) first second;
+    })) s moment h response next →
+    (response ≡ delivered header.octets content.payload (sent s.mode h (Ack header.moving.sn))) ×
+    (next ≡ Some (record {
+      accepted = moment;
+      state =
+          promoted fixed (record { content = content; reference = reference; header = header });
+    }))
+
+-- A packet written against what Full Context holds is delivered as it was written, and Full Context then
+-- holds its header as the reference.
+abbrev pub DeliversWritten : Type 0
+DeliversWritten = (held : Held) (before : Record) (s : Settings) (moment : ℕ) (p : Written)
+    (response : Response) (next : Option Record) →
+    HoldsInFull held before → IsWrittenFor held p → IsInTime s before.accepted moment →
+    LoneStep (Some before) s moment p.packet response next →
+    (response ≡ delivery_of p) × ((after : Record) × (next ≡ Some after) × (after.accepted ≡ moment) ×
+    HoldsInFull (held_by held p.header) after)
+
+-- There is such a packet.
+abbrev pub HasWritten : Type 0
+HasWritten = (held : Held) × (p : Written) × IsWrittenFor held p

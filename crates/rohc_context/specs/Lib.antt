@@ -20,4 +20,5 @@ pub mod Refresh
 pub mod Update
 pub mod Lent
 pub mod Step
+pub mod Honest
 pub mod Laws

@@ -1,6 +1,6 @@
 //! Laws of one step, as contracts of functions that do nothing. The crates above know a step by these.
 
-ghost use Rattle.rohc_context.specs.Laws.{HasAnswer, HasNoOther, LeavesGood, BeginsByIr, LeavesNone, NeverPoor, KeepsGood, KeepsRefused, ChecksChange, ComesToOne, MeansOne, TakesPlain, DeliversHonest};
+ghost use Rattle.rohc_context.specs.Laws.{HasAnswer, HasNoOther, LeavesGood, BeginsByIr, LeavesNone, NeverPoor, KeepsGood, KeepsRefused, ChecksChange, LowStatesChange, ComesToOne, MeansOne, TakesPlain, DeliversHonest, PromotesHonest, DeliversWritten, HasWritten};
 
 /// A step from good values has exactly one answer and one record, or none, after it.
 pub fn one_answer()
@@ -43,6 +43,11 @@ pub fn check_changes_the_state()
     ensures { ChecksChange }
 {}
 
+/// A refusal for a state that is too low leaves what a packet that the state doesn't take leads to.
+pub fn low_state_changes_the_state()
+    ensures { LowStatesChange }
+{}
+
 /// The tries of a packet come to one verdict at most: one header, and the reference that it is by.
 pub fn one_verdict()
     ensures { ComesToOne }
@@ -58,8 +63,16 @@ pub fn plain_ir_delivered()
     ensures { TakesPlain }
 {}
 
-/// A packet that means a header against the held reference of Full Context, and carries its check, is delivered
-/// as that header, and Full Context stays.
+/// A packet that means a header against the held reference, and carries its check, is delivered as that header. In
+/// Full Context the state stays; from Static Context a UOR-2 kind is acknowledged and leads to Full Context.
 pub fn honest_step()
-    ensures { DeliversHonest }
+    ensures full { DeliversHonest }
+    ensures fixed { PromotesHonest }
+{}
+
+/// A packet that was written against what Full Context holds is delivered as it was written, and Full Context then
+/// holds its header as the reference.
+pub fn written_is_delivered()
+    ensures delivered { DeliversWritten }
+    ensures exists { HasWritten }
 {}

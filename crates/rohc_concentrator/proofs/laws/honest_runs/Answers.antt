@@ -1,0 +1,11 @@
+use Rattle.rohc_concentrator.proofs.HonestLemmas.{delivers_what_was_sent, has_honest_run, has_honest_sender}
+use Rattle.rohc_concentrator.proofs.laws.honest_runs.Goals as goal
+
+pub returns-clause-delivered : goal.returns-clause-delivered
+returns-clause-delivered c = delivers_what_was_sent
+
+pub returns-clause-exists : goal.returns-clause-exists
+returns-clause-exists c = has_honest_run
+
+pub returns-clause-sender : goal.returns-clause-sender
+returns-clause-sender c = has_honest_sender
