@@ -1,5 +1,7 @@
 //! Each public call once, and idle records.
 
+mod honest;
+
 use crate::answer::{Answer, NoLink};
 use crate::concentrator::Concentrator;
 use crate::setting::{CidRange, LinkSetting};
