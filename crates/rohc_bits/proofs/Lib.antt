@@ -4,3 +4,5 @@ pub mod Fronts
 pub mod Values
 pub mod Widths
 pub mod ReadingLemmas
+pub mod Steps
+pub mod FieldLemmas

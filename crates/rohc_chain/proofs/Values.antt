@@ -9,7 +9,7 @@ pub use Rattle.rohc_frame.specs.Laws.{IsOctet}
 use Rattle.rohc_chain.specs.declared.refusal.ChainRefusal.{ChainRefusal}
 use Rattle.rohc_chain.specs.declared.refusal.ChainRefusal.TheVariants.{Truncated}
 use Rattle.rohc_chain.specs.Octets.{value_at}
-use Rattle.rohc_chain.proofs.Steps.{ok_parts}
+use Rattle.rohc_bits.proofs.Steps.{ok_parts}
 
 -- the number that is found at the front of a text, if one is
 abbrev value_of : List ℕ → Option (ℕ × ℕ) → Result (ℕ × List ℕ) ChainRefusal
