@@ -5,4 +5,5 @@ pub mod Values
 pub mod Widths
 pub mod ReadingLemmas
 pub mod Steps
+pub mod ValueSteps
 pub mod FieldLemmas

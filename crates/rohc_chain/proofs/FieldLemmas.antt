@@ -10,6 +10,7 @@ use Rattle.rohc_chain.specs.declared.refusal.ChainRefusal.TheVariants.{Truncated
 use Rattle.rohc_chain.specs.Octets.{octet_at, word_at, four_octets_at, quad_at, value_at}
 use Rattle.rohc_chain.specs.Faults.{version_fault, protocol_fault, extension_list_fault, csrc_list_fault, rtp_fault, mode_fault, stride_fault}
 use Rattle.rohc_chain.specs.Chains.{judged_octet, judged_value, ip_static_at, static_at, ip_dynamic_at, stride_at, behind_time_stride, flags_at, rtp_dynamic_at, dynamic_at}
+use Rattle.rohc_chain.proofs.Values.{numbered}
 use Rattle.rohc_chain.specs.Fields.{ChainFields, static_fields, ip_dynamic_fields, time_stride_fields, stride_fields, given_fields, rtp_dynamic_fields, dynamic_fields}
 
 -- Fields and what a reader gives: they go as far.
@@ -28,10 +29,6 @@ quad_fields more (a ∷ []) = refl
 quad_fields more (a ∷ b ∷ []) = refl
 quad_fields more (a ∷ b ∷ c ∷ []) = refl
 quad_fields more (a ∷ b ∷ c ∷ d ∷ text) = refl
-
--- a value's number
-abbrev numbered : LowBits × List ℕ → Result (ℕ × List ℕ) ChainRefusal
-numbered x = Ok (x.0.value, x.1)
 
 value_by : (fault : ℕ → Option ChainRefusal) (more : ChainFields) (r : Result (LowBits × List ℕ) ChainRefusal) →
     (r >>= λ x. judged (fault x.0.value) x.1 >>= after_fields Truncated more)

@@ -20,7 +20,7 @@ use Rattle.rohc_chain.specs.Chains.{judged_octet, judged_value, ip_static_at, st
 use Rattle.rohc_header.specs.Original.{word, quad, flag}
 use Rattle.rohc_chain.specs.ChainText.{SpellsIpStatic, SpellsStatic, SpellsIpDynamic, SpellsStride, SpellsTimeStride, SpellsFlags, SpellsGiven, SpellsRtpDynamic, SpellsDynamic}
 use Rattle.rohc_bits.proofs.Steps.{ok_is, bind_ok, octet_found, judged_ok, judged_found}
-use Rattle.rohc_chain.proofs.Values.{IsOctet, value_found}
+use Rattle.rohc_chain.proofs.Values.{IsOctet, value_front}
 use Rattle.rohc_chain.proofs.BitLemmas.{ip_octet, rtp_first_octet, rtp_second_octet, given_octet}
 
 -- The text begins with this spelling, and these octets follow it.
@@ -192,7 +192,7 @@ all_right xs ys all = rw drop-append_seam at (All-drop IsOctet (length xs) (xs +
 
 value_spelled : (text : List ℕ) (x : ℕ × List ℕ) → All IsOctet text → value_at text ≡ Ok x → (spelling : List ℕ) × Found text spelling x.1 × IsSpelled spelling x.0
 value_spelled text x all e =
-    let front = value_found text x.0 x.1 all e in
+    let front = value_front text x.0 x.1 all e in
     (front.spelling, record { whole = front.whole; octets = all_right front.spelling x.1 (rw front.whole at all) }, front.spelled)
 
 above_zero : (stride : ℕ) (zero : Bool) → (stride == 0) ≡ zero → (if zero then Some ZeroStride else None) ≡ None → 1 ≤ stride
