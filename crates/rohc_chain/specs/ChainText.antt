@@ -73,8 +73,8 @@ pub record SpellsFlags (kept : Option ℕ) (extension : Bool) (stride : Option �
   pub not_reliable : mode < 3
   pub spells_stride : SpellsStride tss kept stride stride_text
   pub spells_time : SpellsTimeStride tis time_text
-  pub whole : text ≡ (32 * ignored + flag extension 0x10 + 4 * mode + flag tis 2 + flag tss 1) ∷ stride_text ++
-      time_text
+  pub whole : text ≡ (32 * ignored + flag extension 0x10 + 4 * mode + flag tis 2 + flag tss 1) ∷
+      stride_text ++ time_text
 
 -- the octet of these flags and what it names, or nothing where what is kept stays
 abbrev pub SpellsGiven : Bool → Kept → Bool → Option ℕ → List ℕ → Type 0

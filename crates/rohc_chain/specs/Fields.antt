@@ -47,7 +47,8 @@ dynamic_fields more = ip_dynamic_fields (Octets 2 (rtp_dynamic_fields more))
 -- the payload, or nothing.
 abbrev pub chain_fields : Bool → ℕ → ChainFields
 chain_fields dynamic profile =
-    if profile == 0 then Payload else static_fields (if dynamic then dynamic_fields Payload else Nothing Trailing)
+    if profile == 0 then Payload
+    else static_fields (if dynamic then dynamic_fields Payload else Nothing Trailing)
 
 -- the fields of an IR: Profile octet, check octet, chains
 abbrev pub ir_fields : Bool → ChainFields
