@@ -1,7 +1,7 @@
 -- Bits of numbers and of texts, and the numbers that they spell.
 use Rattle.std.proofs.Common.{◌≡◌, ◌==◌, ℕ, zero, suc, ◌+◌, ◌*◌, ◌/◌, ◌%◌, ◌^◌, ◌<◌, Bool, true, false, if◌then◌else◌, List, [], ◌∷◌, ◌++◌, length, refl, sym, ap, ◌∙◌, arith}
 use Rattle.std.proofs.lemmas.List.{length-append}
-use Rattle.std.proofs.lemmas.Nat.{mod-pow-add, pow-add, mod_below}
+use Rattle.std.proofs.lemmas.Nat.{mod-pow-add, pow-add, mod_below, shr-shr}
 use Rattle.std.proofs.Math.Nat.{pow-suc}
 use Rattle.rohc_bits.specs.Bits.{bits, number, bits_of}
 
@@ -48,3 +48,14 @@ length-bits_of (a ∷ text) = length-append (bits 8 a) (bits_of text) ∙ rw (le
 -- the low bits of an octet, and the octets behind it
 pub number-octets : (k a : ℕ) (text : List ℕ) → number (bits k a ++ bits_of text) ≡ a % 2 ^ k * 2 ^ (8 * length text) + number (bits_of text)
 number-octets k a text = number-append (bits k a) (bits_of text) ∙ rw (number-bits k a, length-bits_of text) refl
+
+-- the bits of a number are those before the last k, and these
+pub bits-split : (j k n : ℕ) → bits (j + k) n ≡ bits j (n / 2 ^ k) ++ bits k n
+unfolding bits
+bits-split zero k n =
+    let none : 0 + k ≡ k = omega arith in
+    rw none refl
+bits-split (suc j) k n =
+    let more : suc j + k ≡ suc (j + k) = omega arith in
+    let first : n / 2 ^ (j + k) ≡ n / 2 ^ k / 2 ^ j = ap (λ i. n / 2 ^ i) (omega arith) ∙ sym (shr-shr n k j) in
+    rw more (rw (first, bits-split j k n) refl)

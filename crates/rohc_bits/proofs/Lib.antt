@@ -4,3 +4,6 @@ pub mod Fronts
 pub mod Values
 pub mod Widths
 pub mod ReadingLemmas
+pub mod Steps
+pub mod ValueSteps
+pub mod FieldLemmas

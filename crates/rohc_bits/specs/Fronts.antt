@@ -1,6 +1,6 @@
 -- Self-describing values at the front of a text, read from left to right (RFC 3095 4.5.6).
 use Rattle.std.specs.Prelude.{◌≡◌, ◌<◌, ◌≤◌, ◌↔◌, All, length, take, drop, ℕ, ◌-◌, ◌*◌, ◌^◌, Bool, true, false, List, ◌∷◌, ◌==◌, nat_le, if◌then◌else◌, Option, Some, None}
-use Rattle.rohc_bits.specs.Bits.{bits_of, number}
+use Rattle.rohc_bits.specs.Bits.{IsOctet, bits_of, number}
 use Rattle.rohc_bits.specs.Spelling.{IsSpelled}
 
 -- how many octets the first bits of a text say
@@ -28,7 +28,7 @@ front_value text = value_of (octets_said (bits_of text)) text
 
 -- what stands at the front of octets is exactly the value that a front of them spells
 abbrev pub FrontIsSpelled : Type 0
-FrontIsSpelled = (text : List ℕ) (value count : ℕ) → All (λ octet. octet < 256) text →
+FrontIsSpelled = (text : List ℕ) (value count : ℕ) → All IsOctet text →
     (front_value text ≡ Some (value, count)) ↔ ((count ≤ length text) × IsSpelled (take count text) value)
 
 -- one to four octets spell exactly the values of as many bits as are said

@@ -3,3 +3,4 @@ pub mod Fronts
 pub mod Spelling
 pub mod LowBits
 pub mod Reading
+pub mod FieldList

@@ -1,6 +1,6 @@
 -- Self-describing values (RFC 3095 4.5.6).
-use Rattle.std.specs.Prelude.{◌≡◌, ℕ, ◌<◌, ◌⊎◌, Bool, true, false, List, [], ◌∷◌, ◌++◌, length, All}
-use Rattle.rohc_bits.specs.Bits.{bits_of, number}
+use Rattle.std.specs.Prelude.{◌≡◌, ℕ, ◌⊎◌, Bool, true, false, List, [], ◌∷◌, ◌++◌, length, All}
+use Rattle.rohc_bits.specs.Bits.{IsOctet, bits_of, number}
 
 -- The bits of the text are these first ones, and behind them so many that spell the value.
 pub record StandsBehind (first : List Bool) (count : ℕ) (text : List ℕ) (value : ℕ) : Type 0 where
@@ -19,7 +19,7 @@ Spells text value =
 
 -- The text is octets that spell the value.
 pub record IsSpelled (text : List ℕ) (value : ℕ) : Type 0 where
-  pub octets : All (λ octet. octet < 256) text
+  pub octets : All IsOctet text
   pub spells : Spells text value
 
 -- fronts of one text that spell values are one, and so are the values

@@ -1,11 +1,11 @@
 //! Octets and bits: a cursor, self-describing values and bits with their number (RFC 3095 4.5).
 #![tactic(auto)]
 
-pub mod bits;
-pub mod cursor;
+mod bits;
+mod cursor;
 pub mod laws;
 pub mod reading;
-pub mod value;
+mod value;
 
 pub use bits::Bits;
 pub use cursor::Cursor;

@@ -1,6 +1,7 @@
 //! Octets, numbers and self-describing values off the front of a text.
 
 ghost use Rattle.std.specs.Prelude.{◌≡◌, ◌<◌, ◌≤◌, length, drop, All, Ok, Err, IfOk, MatchResult};
+ghost use Rattle.rohc_bits.specs.Bits.{IsOctet};
 ghost use Rattle.rohc_bits.specs.Fronts.{value_bits};
 ghost use Rattle.rohc_bits.specs.LowBits.{low_bits};
 ghost use Rattle.rohc_bits.specs.Reading.{Reads, ReadsAs, bit, next_octet, next_word, next_value};
@@ -12,7 +13,7 @@ use crate::value::read_value;
 /// A cursor at the front of octets, each of which is below 256.
 pub fn cursor_over<'a>(octets: &'a [u8]) -> Cursor<'a>
     ensures text { result ≡ octets.entry.now }
-    ensures octets { All (λ octet. octet < 256) octets.entry.now }
+    ensures octets { All IsOctet octets.entry.now }
 {
     Cursor::new(octets)
 }

@@ -5,17 +5,20 @@ use Rattle.std.specs.Result.{result_err}
 use Rattle.std.proofs.lemmas.Bool.Decides.{nat_tests}
 use Rattle.std.proofs.lemmas.List.{take_all}
 use Rattle.rohc_bits.specs.Reading.{◌>>=◌, judged}
+use Rattle.rohc_bits.specs.FieldList.{Payload, Nothing, Octets, Octet, after_fields}
 use Rattle.rohc_frame.specs.Header.{Header}
 use Rattle.rohc_chain.specs.declared.parts.Kept.{Kept}
 use Rattle.rohc_chain.specs.declared.refusal.ChainRefusal.{ChainRefusal}
+use Rattle.rohc_chain.specs.declared.refusal.ChainRefusal.TheVariants.{Truncated, Trailing}
 use Rattle.rohc_chain.specs.Octets.{octet_at}
 use Rattle.rohc_chain.specs.Faults.{ir_profile_fault, dyn_profile_fault}
 use Rattle.rohc_chain.specs.Chains.{judged_octet, static_at, dynamic_at}
 use Rattle.rohc_chain.specs.Packets.{IrContent, is_dynamic, cover, plain_cover, before, nothing_kept, length_fault, check_fault, ended, plain_at, static_only_at, whole_at, chains_at, ir_at, ir_dyn_at}
-use Rattle.rohc_chain.specs.Fields.{Fields, Payload, Nothing, Octets, Octet, after_fields, static_fields, dynamic_fields, chain_fields}
+use Rattle.rohc_chain.specs.Fields.{ChainFields, static_fields, dynamic_fields, chain_fields}
 use Rattle.rohc_chain.specs.Texts.{or_else, last_fault, last_ir_fault, fault_among, ir_fault, ir_dyn_fault}
-use Rattle.rohc_chain.proofs.Steps.{octet_found, judged_found}
-use Rattle.rohc_chain.proofs.FieldLemmas.{octet_fields, judged_fields, static_chain_fields, dynamic_chain_fields}
+use Rattle.rohc_bits.proofs.Steps.{octet_found, judged_found}
+use Rattle.rohc_bits.proofs.FieldLemmas.{octet_fields, judged_fields}
+use Rattle.rohc_chain.proofs.FieldLemmas.{static_chain_fields, dynamic_chain_fields}
 
 -- a step that both go
 same_step : {A B : Type 0} (last : List ℕ → Option ChainRefusal) (r : Result A ChainRefusal) (g : A → Result (List ℕ) ChainRefusal) (f : A → Result B ChainRefusal) →
@@ -37,22 +40,22 @@ all_before text = take_all (length text - 0) text (omega arith)
 -- behind the static chain of an IR without a dynamic one
 static_end : (h : Header) (octet : ℕ) (text behind : List ℕ) (content : IrContent) (last : List ℕ → Option ChainRefusal) →
     last [] ≡ check_fault octet (cover h text) →
-    fault_among last (after_fields Nothing behind) ≡ result_err (judged (ended behind) behind >>= λ _. judged (check_fault octet (cover h text)) content)
+    fault_among last (after_fields Truncated (Nothing Trailing) behind) ≡ result_err (judged (ended behind) behind >>= λ _. judged (check_fault octet (cover h text)) content)
 static_end h octet text [] content last e = e ∙ judged_fault (check_fault octet (cover h text)) content
 static_end h octet text (b ∷ behind) content last e =
     let more : (length (b ∷ behind) == 0) ≡ false = grind (arith, nat_tests) in
     rw more refl
 
 static_faults : (h : Header) (octet : ℕ) (text : List ℕ) (last : List ℕ → Option ChainRefusal) → last [] ≡ check_fault octet (cover h text) →
-    fault_among last (after_fields (static_fields Nothing) text) ≡ result_err (static_only_at h octet text)
+    fault_among last (after_fields Truncated (static_fields (Nothing Trailing)) text) ≡ result_err (static_only_at h octet text)
 unfolding static_only_at
 static_faults h octet text last e =
-    ap (fault_among last) (static_chain_fields Nothing text)
+    ap (fault_among last) (static_chain_fields (Nothing Trailing) text)
     ∙ same_step last (static_at text) _ _ (λ x. static_end h octet text x.1 _ last e)
 
 whole_faults : (h : Header) (octet : ℕ) (text : List ℕ) (last : List ℕ → Option ChainRefusal) →
     ((payload : List ℕ) → last payload ≡ or_else (length_fault payload) (check_fault octet (cover h (before payload text)))) →
-    fault_among last (after_fields (static_fields (dynamic_fields Payload)) text) ≡ result_err (whole_at h octet text)
+    fault_among last (after_fields Truncated (static_fields (dynamic_fields Payload)) text) ≡ result_err (whole_at h octet text)
 unfolding whole_at
 whole_faults h octet text last e =
     ap (fault_among last) (static_chain_fields (dynamic_fields Payload) text)
@@ -62,7 +65,7 @@ whole_faults h octet text last e =
 
 -- behind the check octet of an IR
 chain_faults : (h : Header) (dynamic plain : Bool) (profile octet : ℕ) (text : List ℕ) → h.rest ≡ profile ∷ octet ∷ text → (profile == 0) ≡ plain →
-    fault_among (last_ir_fault h) (after_fields (chain_fields dynamic profile) text)
+    fault_among (last_ir_fault h) (after_fields Truncated (chain_fields dynamic profile) text)
     ≡ result_err (if profile == 0 then plain_at h octet text else chains_at h dynamic octet text)
 chain_faults h dynamic true profile octet text is e = rw (e, is, e) (judged_fault (check_fault octet (plain_cover h)) _)
 chain_faults h true false profile octet text is e = rw e (whole_faults h octet text (last_ir_fault h) (λ payload. rw (is, e) refl))
@@ -75,16 +78,16 @@ step_from last (Ok x) g f same = same x refl
 step_from last (Err refusal) g f same = refl
 
 -- the Profile octet and the check octet, and then the same
-two_octets : {B : Type 0} (last : List ℕ → Option ChainRefusal) (fault : ℕ → Option ChainRefusal) (more : ℕ → Fields) (rest : List ℕ) (f : ℕ → ℕ → List ℕ → Result B ChainRefusal) →
-    ((profile octet : ℕ) (text : List ℕ) → rest ≡ profile ∷ octet ∷ text → fault_among last (after_fields (more profile) text) ≡ result_err (f profile octet text)) →
-    fault_among last (after_fields (Octet fault (λ profile. Octets 1 (more profile))) rest)
+two_octets : {B : Type 0} (last : List ℕ → Option ChainRefusal) (fault : ℕ → Option ChainRefusal) (more : ℕ → ChainFields) (rest : List ℕ) (f : ℕ → ℕ → List ℕ → Result B ChainRefusal) →
+    ((profile octet : ℕ) (text : List ℕ) → rest ≡ profile ∷ octet ∷ text → fault_among last (after_fields Truncated (more profile) text) ≡ result_err (f profile octet text)) →
+    fault_among last (after_fields Truncated (Octet fault (λ profile. Octets 1 (more profile))) rest)
     ≡ result_err (judged_octet fault rest >>= λ x. octet_at x.1 >>= λ y. f x.0 y.0 y.1)
 two_octets last fault more rest f same =
-    ap (fault_among last) (judged_fields fault (λ profile. Octets 1 (more profile)) rest)
+    ap (fault_among last) (judged_fields Truncated fault (λ profile. Octets 1 (more profile)) rest)
     ∙ step_from last (judged_octet fault rest) _ _ (λ x found.
-    ap (fault_among last) (octet_fields (more x.0) x.1)
+    ap (fault_among last) (octet_fields Truncated (more x.0) x.1)
     ∙ step_from last (octet_at x.1) _ _ (λ y behind.
-    same x.0 y.0 y.1 ((judged_found fault rest x found).0 ∙ ap (λ text. x.0 ∷ text) (octet_found x.1 y behind))))
+    same x.0 y.0 y.1 ((judged_found Truncated fault rest x found).0 ∙ ap (λ text. x.0 ∷ text) (octet_found Truncated x.1 y behind))))
 
 pub ir_faults : (h : Header) → ir_fault h ≡ result_err (ir_at h)
 unfolding ir_at

@@ -13,14 +13,14 @@ use Rattle.rohc_chain.specs.declared.parts.Kept.{Kept}
 use Rattle.rohc_chain.specs.declared.parts.IpDynamic.{IpDynamic}
 use Rattle.rohc_chain.specs.declared.parts.RtpDynamic.{RtpDynamic}
 use Rattle.rohc_chain.specs.declared.refusal.ChainRefusal.{ChainRefusal}
-use Rattle.rohc_chain.specs.declared.refusal.ChainRefusal.TheVariants.{IpVersion, Protocol, ExtensionList, RtpVersion, Csrc, ZeroStride, ReliableMode}
+use Rattle.rohc_chain.specs.declared.refusal.ChainRefusal.TheVariants.{Truncated, IpVersion, Protocol, ExtensionList, RtpVersion, Csrc, ZeroStride, ReliableMode}
 use Rattle.rohc_chain.specs.Octets.{octet_at, word_at, four_octets_at, quad_at, value_at}
 use Rattle.rohc_chain.specs.Faults.{unless, version_fault, protocol_fault, extension_list_fault, csrc_list_fault, rtp_fault, mode_fault, stride_fault}
 use Rattle.rohc_chain.specs.Chains.{judged_octet, judged_value, ip_static_at, static_at, ip_dynamic_at, stride_at, behind_time_stride, flags_at, rtp_dynamic_at, joined, dynamic_at}
 use Rattle.rohc_header.specs.Original.{word, quad, flag}
 use Rattle.rohc_chain.specs.ChainText.{SpellsIpStatic, SpellsStatic, SpellsIpDynamic, SpellsStride, SpellsTimeStride, SpellsFlags, SpellsGiven, SpellsRtpDynamic, SpellsDynamic}
-use Rattle.rohc_chain.proofs.Steps.{ok_is, bind_ok, octet_found, judged_ok, judged_found}
-use Rattle.rohc_chain.proofs.Values.{IsOctet, value_found}
+use Rattle.rohc_bits.proofs.Steps.{ok_is, bind_ok, octet_found, judged_ok, judged_found}
+use Rattle.rohc_chain.proofs.Values.{IsOctet, value_front}
 use Rattle.rohc_chain.proofs.BitLemmas.{ip_octet, rtp_first_octet, rtp_second_octet, given_octet}
 
 -- The text begins with this spelling, and these octets follow it.
@@ -38,7 +38,7 @@ one_found text octet rest all e =
     (record { whole = e; octets = All-tail IsOctet octet rest cells }, All-head IsOctet octet rest cells)
 
 octet_read : (text : List ℕ) (x : ℕ × List ℕ) → All IsOctet text → octet_at text ≡ Ok x → Found text (x.0 ∷ []) x.1 × (x.0 < 256)
-octet_read text x all e = one_found text x.0 x.1 all (octet_found text x e)
+octet_read text x all e = one_found text x.0 x.1 all (octet_found Truncated text x e)
 
 word_of : (high low : ℕ) → low < 256 → word (high * 256 + low) ≡ high ∷ low ∷ []
 word_of high low l =
@@ -99,7 +99,7 @@ four_found text x all e =
 judged_read : (fault : ℕ → Option ChainRefusal) (text : List ℕ) (x : ℕ × List ℕ) → All IsOctet text → judged_octet fault text ≡ Ok x →
     Found text (x.0 ∷ []) x.1 × (x.0 < 256) × (fault x.0 ≡ None)
 judged_read fault text x all e =
-    let found = judged_found fault text x e in
+    let found = judged_found Truncated fault text x e in
     let one = one_found text x.0 x.1 all found.0 in
     (one.0, one.1, found.1)
 
@@ -192,7 +192,7 @@ all_right xs ys all = rw drop-append_seam at (All-drop IsOctet (length xs) (xs +
 
 value_spelled : (text : List ℕ) (x : ℕ × List ℕ) → All IsOctet text → value_at text ≡ Ok x → (spelling : List ℕ) × Found text spelling x.1 × IsSpelled spelling x.0
 value_spelled text x all e =
-    let front = value_found text x.0 x.1 all e in
+    let front = value_front text x.0 x.1 all e in
     (front.spelling, record { whole = front.whole; octets = all_right front.spelling x.1 (rw front.whole at all) }, front.spelled)
 
 above_zero : (stride : ℕ) (zero : Bool) → (stride == 0) ≡ zero → (if zero then Some ZeroStride else None) ≡ None → 1 ≤ stride

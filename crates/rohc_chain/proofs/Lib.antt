@@ -1,4 +1,3 @@
-pub mod Steps
 pub mod Checks
 pub mod Values
 pub mod FieldLemmas

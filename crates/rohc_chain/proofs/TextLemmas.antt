@@ -16,14 +16,14 @@ use Rattle.rohc_chain.specs.declared.packet.Ir as lent
 use Rattle.rohc_chain.specs.declared.packet.IrDyn as lent_dyn
 use Rattle.rohc_chain.specs.declared.parts.Kept.{Kept}
 use Rattle.rohc_chain.specs.declared.refusal.ChainRefusal.{ChainRefusal}
-use Rattle.rohc_chain.specs.declared.refusal.ChainRefusal.TheVariants.{Profile, ProfileChange, Trailing, TooLong, Check}
+use Rattle.rohc_chain.specs.declared.refusal.ChainRefusal.TheVariants.{Truncated, Profile, ProfileChange, Trailing, TooLong, Check}
 use Rattle.rohc_chain.specs.Octets.{octet_at}
 use Rattle.rohc_chain.specs.Faults.{ir_profile_fault, dyn_profile_fault}
 use Rattle.rohc_chain.specs.Chains.{judged_octet, static_at, dynamic_at}
 use Rattle.rohc_chain.specs.Packets.{longest_payload, IrContent, Plain, StaticOnly, Whole, ir_content, DynContent, dyn_content, IsIr, IsIrDyn, is_dynamic, plain_cover, cover, fits, before, nothing_kept, length_fault, check_fault, ended, plain_at, static_only_at, whole_at, chains_at, ir_at, ir_dyn_at}
 use Rattle.rohc_chain.specs.ChainText.{SpellsStatic, SpellsDynamic}
 use Rattle.rohc_chain.specs.Texts.{check_of, IsPlainText, IsStaticText, IsWholeText, IsIrText, IsIrDynText, IsShort, ir_fault, ir_dyn_fault}
-use Rattle.rohc_chain.proofs.Steps.{ok_parts, bind_ok, octet_found, judged_ok, judged_found}
+use Rattle.rohc_bits.proofs.Steps.{ok_parts, bind_ok, octet_found, judged_ok, judged_found}
 use Rattle.rohc_chain.proofs.Values.{IsOctet}
 use Rattle.rohc_chain.proofs.FaultLemmas.{ir_faults, ir_dyn_faults}
 use Rattle.rohc_chain.proofs.SpelledLemmas.{static_read, dynamic_read}
@@ -161,8 +161,8 @@ unfolding ir_at
 ir_text h content is all e =
     let a = bind_ok (judged_octet (ir_profile_fault (is_dynamic h.kind)) h.rest) _ content e in
     let b = bind_ok (octet_at a.0.1) _ content a.2 in
-    let first = judged_found (ir_profile_fault (is_dynamic h.kind)) h.rest a.0 a.1 in
-    let second = octet_found a.0.1 b.0 b.1 in
+    let first = judged_found Truncated (ir_profile_fault (is_dynamic h.kind)) h.rest a.0 a.1 in
+    let second = octet_found Truncated a.0.1 b.0 b.1 in
     let fa = one_found h.rest a.0.0 a.0.1 all first.0 in
     let fb = one_found a.0.1 b.0.0 b.0.1 fa.0.octets second in
     profile_found h (is_dynamic h.kind) (a.0.0 == 0) a.0.0 b.0.0 b.0.1 content is fb.0.octets refl (first.0 ∙ ap (λ (t : List ℕ). a.0.0 ∷ t) second) refl first.1 b.2
@@ -186,8 +186,8 @@ dyn_text h profile kept packet is low all e =
     let b = bind_ok (octet_at a.0.1) _ packet a.2 in
     let d = bind_ok (dynamic_at kept b.0.1) _ packet b.2 in
     let l = bind_ok (judged (length_fault d.0.1) d.0.1) _ packet d.2 in
-    let first = judged_found (dyn_profile_fault profile) h.rest a.0 a.1 in
-    let second = octet_found a.0.1 b.0 b.1 in
+    let first = judged_found Truncated (dyn_profile_fault profile) h.rest a.0 a.1 in
+    let second = octet_found Truncated a.0.1 b.0 b.1 in
     let fa = one_found h.rest a.0.0 a.0.1 all first.0 in
     let fb = one_found a.0.1 b.0.0 b.0.1 fa.0.octets second in
     let fd = dynamic_found kept b.0.1 d.0 fb.0.octets d.1 in

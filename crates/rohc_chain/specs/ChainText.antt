@@ -18,7 +18,7 @@ pub record SpellsIpStatic (source destination : List ℕ) (text : List ℕ) : Ty
   pub four_bits : ignored < 16
   pub four_octets : length source ≡ 4
   pub also_four : length destination ≡ 4
-  pub whole : text ≡ (64 + ignored) ∷ 17 ∷ source ++ destination
+  pub whole : text ≡ (0x40 + ignored) ∷ 17 ∷ source ++ destination
 
 -- IPv4, UDP and RTP, static: behind IPv4's the ports, and the synchronization source (RFC 3095 5.7.7.5 and
 -- 5.7.7.6).
@@ -43,7 +43,7 @@ pub record SpellsIpDynamic (moving : Dynamic) (text : List ℕ) : Type 0 where
   pub ignored : ℕ
   pub five_bits : ignored < 32
   pub whole : text ≡ moving.tos ∷ moving.ttl ∷ word moving.id ++
-      (flag moving.df 128 + flag moving.rnd 64 + flag moving.nbo 32 + ignored) ∷ 0 ∷ []
+      (flag moving.df 0x80 + flag moving.rnd 0x40 + flag moving.nbo 0x20 + ignored) ∷ 0 ∷ []
 
 -- the stride of timestamps: a value above 0, or none where the one that is kept stays
 abbrev pub SpellsStride : Bool → Option ℕ → Option ℕ → List ℕ → Type 0
@@ -73,8 +73,8 @@ pub record SpellsFlags (kept : Option ℕ) (extension : Bool) (stride : Option �
   pub not_reliable : mode < 3
   pub spells_stride : SpellsStride tss kept stride stride_text
   pub spells_time : SpellsTimeStride tis time_text
-  pub whole : text ≡ (32 * ignored + flag extension 16 + 4 * mode + flag tis 2 + flag tss 1) ∷ stride_text ++
-      time_text
+  pub whole : text ≡ (32 * ignored + flag extension 0x10 + 4 * mode + flag tis 2 + flag tss 1) ∷
+      stride_text ++ time_text
 
 -- the octet of these flags and what it names, or nothing where what is kept stays
 abbrev pub SpellsGiven : Bool → Kept → Bool → Option ℕ → List ℕ → Type 0
@@ -96,8 +96,8 @@ pub record SpellsRtpDynamic (kept : Kept) (moving : Dynamic) (text : List ℕ) :
   pub given : List ℕ
   pub seven_bits : moving.payload_type < 128
   pub spells_given : SpellsGiven rx kept moving.extension moving.stride given
-  pub whole : text ≡ (128 + flag moving.padding 32 + flag rx 16) ∷
-      (flag moving.marker 128 + moving.payload_type) ∷ word moving.sn ++ (quad moving.ts ++ 0 ∷ given)
+  pub whole : text ≡ (0x80 + flag moving.padding 0x20 + flag rx 0x10) ∷
+      (flag moving.marker 0x80 + moving.payload_type) ∷ word moving.sn ++ (quad moving.ts ++ 0 ∷ given)
 
 -- IPv4, UDP and RTP, dynamic: between IPv4's and RTP's the UDP checksum, of 2 octets (RFC 3095 5.7.7.5).
 pub record SpellsDynamic (kept : Kept) (moving : Dynamic) (text : List ℕ) : Type 0 where

@@ -61,7 +61,7 @@ cover h chains = front h ++ 1 ∷ 0 ∷ chains
 
 -- the octet is the 8-bit check of what it covers, begun from all ones (RFC 3095 5.9.1)
 abbrev pub fits : ℕ → List ℕ → Bool
-fits octet covered = check poly8 255 covered == octet
+fits octet covered = check poly8 0xff covered == octet
 
 -- the flag X and the stride that stay where a dynamic chain doesn't give them
 abbrev pub kept_values : Bool → Option ℕ → Kept

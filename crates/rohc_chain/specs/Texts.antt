@@ -9,7 +9,9 @@ use Rattle.rohc_chain.specs.declared.parts.Kept.{Kept}
 use Rattle.rohc_chain.specs.declared.refusal.ChainRefusal.{ChainRefusal}
 use Rattle.rohc_chain.specs.Packets.{IrContent, Plain, StaticOnly, Whole, DynContent, is_dynamic, plain_cover, cover, before, nothing_kept, longest_payload, length_fault, check_fault}
 use Rattle.rohc_chain.specs.ChainText.{SpellsStatic, SpellsDynamic}
-use Rattle.rohc_chain.specs.Fields.{after_fields, ir_fields, ir_dyn_fields}
+use Rattle.rohc_bits.specs.FieldList.{after_fields}
+use Rattle.rohc_chain.specs.declared.refusal.ChainRefusal.TheVariants.{Truncated}
+use Rattle.rohc_chain.specs.Fields.{ir_fields, ir_dyn_fields}
 
 -- An IR begins with FC, or FD where it has a dynamic chain (RFC 3095 5.7.7.1); an IR-DYN with F8, and has no
 -- static chain (5.7.7.2). These stand behind the first octet and a large identifier:
@@ -22,7 +24,7 @@ use Rattle.rohc_chain.specs.Fields.{after_fields, ir_fields, ir_dyn_fields}
 
 -- the 8-bit check of what it covers
 abbrev pub check_of : List ℕ → ℕ
-check_of covered = check poly8 255 covered
+check_of covered = check poly8 0xff covered
 
 -- An IR of profile 0x0000: Profile octet 00, the check, any octets (RFC 3095 5.10.1).
 pub record IsPlainText (h : Header) (packet : List ℕ) : Type 0 where
@@ -97,8 +99,8 @@ fault_among last (Err refusal) = Some refusal
 
 -- why an IR is refused, if it is
 abbrev pub ir_fault : Header → Option ChainRefusal
-ir_fault h = fault_among (last_ir_fault h) (after_fields (ir_fields (is_dynamic h.kind)) h.rest)
+ir_fault h = fault_among (last_ir_fault h) (after_fields Truncated (ir_fields (is_dynamic h.kind)) h.rest)
 
 -- why an IR-DYN is refused by a context of this profile, if it is
 abbrev pub ir_dyn_fault : Header → ℕ → Option ChainRefusal
-ir_dyn_fault h profile = fault_among (last_fault h) (after_fields (ir_dyn_fields profile) h.rest)
+ir_dyn_fault h profile = fault_among (last_fault h) (after_fields Truncated (ir_dyn_fields profile) h.rest)

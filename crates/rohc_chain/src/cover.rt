@@ -10,7 +10,7 @@ use rohc_frame::{CidKind, Forward};
 
 /// The register after the identifier and the first octet.
 fn front_register(forward: &Forward<'_>) -> u8
-    ensures { result ≡ check poly8 255 (front (header_of forward.now)) }
+    ensures { result ≡ check poly8 0xff (front (header_of forward.now)) }
 {
     let first = [forward.first];
     match forward.size {

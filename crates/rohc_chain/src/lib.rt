@@ -8,9 +8,9 @@ mod ir;
 mod ir_dyn;
 pub mod laws;
 mod octets;
-pub mod packet;
-pub mod parts;
-pub mod refusal;
+mod packet;
+mod parts;
+mod refusal;
 mod static_chain;
 
 pub use ir::read_ir;

@@ -1,4 +1,4 @@
-//! What single chains say. The module is open for the definitions, which name its types.
+//! What single chains say.
 
 /// What the dynamic chain of IPv4 says.
 #[derive(Clone, Copy, Debug)]

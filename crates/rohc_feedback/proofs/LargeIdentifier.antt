@@ -93,7 +93,7 @@ read_within read octets feedback cid v n every fits is read_is =
     let same : v ≡ cid = ap (λ (p : ℕ × ℕ). p.0) both in
     omega (arith, same)
 
-behind_front : (octets identifier feedback : List ℕ) (count : ℕ) → octets ≡ identifier ++ feedback → count ≡ length identifier → take (length octets - count) (drop count octets) ≡ feedback
+pub behind_front : (octets identifier feedback : List ℕ) (count : ℕ) → octets ≡ identifier ++ feedback → count ≡ length identifier → take (length octets - count) (drop count octets) ≡ feedback
 behind_front octets identifier feedback count is counted =
     let behind : drop count octets ≡ feedback = rw (counted, is) (drop-append_seam identifier feedback) in
     let left : length feedback ≡ length octets - count = sym (ap length behind) ∙ length-drop count octets in

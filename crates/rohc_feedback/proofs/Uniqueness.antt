@@ -11,7 +11,8 @@ use Rattle.rohc_feedback.specs.declared.meaning.Word.{Word}
 use Rattle.rohc_feedback.specs.declared.meaning.Word.TheVariants.{Ack, Nack, StaticNack, Plain}
 use Rattle.rohc_feedback.specs.declared.meaning.Reading.{Reading}
 use Rattle.rohc_feedback.specs.Element.{GoesWith, IsMeaning, feedback_check, feedback_octets, identifier_octets, octets_of_meaning}
-use Rattle.rohc_feedback.specs.Split.{BeginsFeedback}
+use Rattle.rohc_feedback.specs.Split.{BeginsFeedback, feedback_numbers}
+use Rattle.rohc_feedback.proofs.Spelled.{add_cid_is, feedback_is}
 use Rattle.rohc_feedback.proofs.Parts.{begins_feedback, data_once, word_parts, same_meaning}
 
 -- ---- words by their feedback
@@ -31,20 +32,23 @@ said (a ∷ b ∷ c ∷ []) = (Plain, None)
 said (a ∷ b ∷ c ∷ d ∷ []) = (acknowledged (a / 64), Some (a % 16 * 256 + b))
 said (a ∷ b ∷ c ∷ d ∷ e ∷ octets) = (unnumbered (a / 64), None)
 
-said_feedback : (word : Word) (sn : Option ℕ) (crc : ℕ) → GoesWith word sn → said (feedback_octets word sn crc) ≡ (word, sn)
-said_feedback Ack (Some sn) crc low =
+said_numbers : (word : Word) (sn : Option ℕ) (crc : ℕ) → GoesWith word sn → said (feedback_numbers word sn crc) ≡ (word, sn)
+said_numbers Ack (Some sn) crc low =
     let acktype : (0 * 64 + 2 * 16 + sn / 256) / 64 ≡ 0 = omega arith in
     let number : (0 * 64 + 2 * 16 + sn / 256) % 16 * 256 + sn % 256 ≡ sn = omega arith in
     rw (acktype, number) refl
-said_feedback Ack None crc low = absurd low
-said_feedback Nack (Some sn) crc low =
+said_numbers Ack None crc low = absurd low
+said_numbers Nack (Some sn) crc low =
     let acktype : (1 * 64 + 2 * 16 + sn / 256) / 64 ≡ 1 = omega arith in
     let number : (1 * 64 + 2 * 16 + sn / 256) % 16 * 256 + sn % 256 ≡ sn = omega arith in
     rw (acktype, number) refl
-said_feedback Nack None crc low = refl
-said_feedback StaticNack (Some sn) crc none = absurd cc
-said_feedback StaticNack None crc none = refl
-said_feedback Plain sn crc none = rw none refl
+said_numbers Nack None crc low = refl
+said_numbers StaticNack (Some sn) crc none = absurd cc
+said_numbers StaticNack None crc none = refl
+said_numbers Plain sn crc none = rw none refl
+
+said_feedback : (word : Word) (sn : Option ℕ) (crc : ℕ) → GoesWith word sn → said (feedback_octets word sn crc) ≡ (word, sn)
+said_feedback word sn crc good = ap said (feedback_is word sn crc good) ∙ said_numbers word sn (crc % 256) good
 
 feedback_once : (word other_word : Word) (sn other_sn : Option ℕ) (crc other_crc : ℕ) → GoesWith word sn → GoesWith other_word other_sn
     → feedback_octets word sn crc ≡ feedback_octets other_word other_sn other_crc → (word ≡ other_word) × (sn ≡ other_sn)
@@ -60,28 +64,28 @@ IsOnce size = (cid other : ℕ) (feedback other_feedback : List ℕ) → cid ≤
     identifier_octets size cid ++ feedback ≡ identifier_octets size other ++ other_feedback → (cid ≡ other) × (feedback ≡ other_feedback)
 
 -- a small identifier has no octet, or one
-small_shape : (cid : ℕ) → ((cid ≡ 0) × (identifier_octets Small cid ≡ [])) ⊎ (identifier_octets Small cid ≡ (224 + cid) ∷ [])
+small_shape : (cid : ℕ) → ((cid ≡ 0) × (identifier_octets Small cid ≡ [])) ⊎ (identifier_octets Small cid ≡ (224 + cid % 16) ∷ [])
 small_shape zero = inl (refl, refl)
-small_shape (suc n) = inr (let test : (suc n == 0) ≡ false = grind (arith, nat_tests) in rw test refl)
+small_shape (suc n) = inr (let test : (suc n == 0) ≡ false = grind (arith, nat_tests) in rw test (add_cid_is (suc n)))
 
 -- feedback isn't an Add-CID octet with other feedback behind
-not_add_cid : (feedback other_feedback : List ℕ) (cid : ℕ) → BeginsFeedback feedback → feedback ≡ (224 + cid) ∷ other_feedback → ⊥
+not_add_cid : (feedback other_feedback : List ℕ) (cid : ℕ) → BeginsFeedback feedback → feedback ≡ (224 + cid % 16) ∷ other_feedback → ⊥
 not_add_cid [] other_feedback cid begins is = begins
-not_add_cid (first ∷ rest) other_feedback cid begins is = let same : first ≡ 224 + cid = cc in absurd (omega arith)
+not_add_cid (first ∷ rest) other_feedback cid begins is = let same : first ≡ 224 + cid % 16 = cc in absurd (omega arith)
 
 small_once : IsOnce Small
 small_once cid other feedback other_feedback fits other_fits begins other_begins is = ⊎_elim
     (λ (none : (cid ≡ 0) × (identifier_octets Small cid ≡ [])). ⊎_elim
     (λ (other_none : (other ≡ 0) × (identifier_octets Small other ≡ [])). (none.0 ∙ sym other_none.0, rw (none.1, other_none.1) at is))
-    (λ (other_one : identifier_octets Small other ≡ (224 + other) ∷ []).
+    (λ (other_one : identifier_octets Small other ≡ (224 + other % 16) ∷ []).
     absurd (not_add_cid feedback other_feedback other begins (rw (none.1, other_one) at is)))
     (small_shape other))
-    (λ (one : identifier_octets Small cid ≡ (224 + cid) ∷ []). ⊎_elim
+    (λ (one : identifier_octets Small cid ≡ (224 + cid % 16) ∷ []). ⊎_elim
     (λ (other_none : (other ≡ 0) × (identifier_octets Small other ≡ [])).
     absurd (not_add_cid other_feedback feedback cid other_begins (sym (rw (one, other_none.1) at is))))
-    (λ (other_one : identifier_octets Small other ≡ (224 + other) ∷ []).
-    let octets : (224 + cid) ∷ feedback ≡ (224 + other) ∷ other_feedback = rw (one, other_one) at is in
-    let same : 224 + cid ≡ 224 + other = cc in
+    (λ (other_one : identifier_octets Small other ≡ (224 + other % 16) ∷ []).
+    let octets : (224 + cid % 16) ∷ feedback ≡ (224 + other % 16) ∷ other_feedback = rw (one, other_one) at is in
+    let same : 224 + cid % 16 ≡ 224 + other % 16 = cc in
     (omega arith, cc))
     (small_shape other))
     (small_shape cid)

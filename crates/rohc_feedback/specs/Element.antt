@@ -1,23 +1,42 @@
-use Rattle.std.specs.Prelude.{◌≡◌, ℕ, ◌+◌, ◌*◌, ◌/◌, ◌%◌, ◌<◌, ◌≤◌, List, [], ◌∷◌, ◌++◌, Option, Some, None, length, ◌==◌, nat_lt, if◌then◌else◌}
+use Rattle.std.specs.Prelude.{◌≡◌, ℕ, ◌+◌, ◌/◌, ◌%◌, ◌<◌, ◌≤◌, List, [], ◌∷◌, ◌++◌, Option, Some, None, length, ◌==◌, nat_lt, if◌then◌else◌}
 use Rattle.arrayvec.specs.ArrayVec.{ArrayVec}
 use Rattle.rohc_checks.specs.Division.{check, poly8}
 use Rattle.rohc_frame.specs.declared.header.CidKind.{CidKind}
 use Rattle.rohc_frame.specs.declared.header.CidKind.TheVariants.{Small, Large}
 use Rattle.rohc_frame.specs.Header.{greatest_cid}
+use Rattle.rohc_feedback.specs.Fields.{Fields, Fixed, Code, Cid, Acktype, Mode, Sn, OptType, OptLength, Crc, spelled}
 use Rattle.rohc_feedback.specs.declared.meaning.Word.{Word}
 use Rattle.rohc_feedback.specs.declared.meaning.Word.TheVariants.{Ack, Nack, StaticNack, Plain}
 use Rattle.rohc_feedback.specs.declared.meaning.Reading.{Reading}
 
--- a feedback element: the type octet, whose low three bits are the size of the data, and the data
--- (RFC 5795 5.2.4.1)
+-- A feedback element: the type octet, whose code is the size of the data, and the data (RFC 5795 5.2.4.1).
+--
+--   0   1   2   3   4   5   6   7
+-- +---+---+---+---+---+---+---+---+
+-- | 1   1   1   1   0 |   Code    |
+-- +---+---+---+---+---+---+---+---+
+-- /         feedback data         /
+-- +---+---+---+---+---+---+---+---+
+abbrev pub type_octet : ℕ → Fields
+type_octet size = (Fixed 0b11110, 5) ∷ (Code size, 3) ∷ []
+
 abbrev pub element_octets : List ℕ → List ℕ
-element_octets octets = (240 + length octets) ∷ octets
+element_octets octets = spelled (type_octet (length octets)) ++ octets
+
+-- The Add-CID octet (RFC 5795 5.2.1.2).
+--
+--   0   1   2   3   4   5   6   7
+-- +---+---+---+---+---+---+---+---+
+-- | 1   1   1   0 |      CID      |
+-- +---+---+---+---+---+---+---+---+
+abbrev pub add_cid : ℕ → Fields
+add_cid cid = (Fixed 0b1110, 4) ∷ (Cid cid, 4) ∷ []
 
 -- The identifier's octets in front of feedback (RFC 5795 5.2.1.2): on a small link none for 0, else the
 -- Add-CID octet; on a large one the shortest spelling, one octet below 128 and two from there on.
 abbrev pub identifier_octets : CidKind → ℕ → List ℕ
-identifier_octets Small cid = if cid == 0 then [] else (224 + cid) ∷ []
-identifier_octets Large cid = if nat_lt cid 128 then cid ∷ [] else (128 + cid / 256) ∷ (cid % 256) ∷ []
+identifier_octets Small cid = if cid == 0 then [] else spelled (add_cid cid)
+identifier_octets Large cid = if nat_lt cid 128 then cid ∷ [] else (0x80 + cid / 256) ∷ (cid % 256) ∷ []
 
 -- What an element says: an identifier, a word, and a sequence number (SN) or none.
 abbrev pub meaning : ℕ → Word → Option ℕ → Reading
@@ -38,8 +57,7 @@ pub record IsMeaning (size : CidKind) (m : Reading) : Type 0 where
   pub within : m.cid ≤ greatest_cid size
   pub number : GoesWith m.word m.sn
 
--- FEEDBACK-2: two bits of Acktype, two of Mode, which is 2, twelve of SN, and the options (RFC 3095
--- 5.7.6.1).
+-- FEEDBACK-2, of Mode O, which is 2, and the options behind it (RFC 3095 5.7.6.1).
 --
 --   0   1   2   3   4   5   6   7
 -- +---+---+---+---+---+---+---+---+
@@ -49,14 +67,27 @@ pub record IsMeaning (size : CidKind) (m : Reading) : Type 0 where
 -- +---+---+---+---+---+---+---+---+
 -- /            options            /
 -- +---+---+---+---+---+---+---+---+
-abbrev pub feedback_2 : ℕ → ℕ → List ℕ → List ℕ
-feedback_2 acktype sn options = (acktype * 64 + 2 * 16 + sn / 256) ∷ (sn % 256) ∷ options
+abbrev pub feedback_2 : ℕ → ℕ → Fields → Fields
+feedback_2 acktype sn options = (Acktype acktype, 2) ∷ (Mode 2, 2) ∷ (Sn sn, 12) ∷ options
 
--- The CRC option, octet 11 and the check, stands last. Without a number SN is 0, and the option
--- SN-NOT-VALID, octet 30, says so (RFC 3095 5.7.6.3, 5.7.6.5).
+-- The options CRC and SN-NOT-VALID (RFC 3095 5.7.6.3, 5.7.6.5).
+--
+--   0   1   2   3   4   5   6   7          0   1   2   3   4   5   6   7
+-- +---+---+---+---+---+---+---+---+      +---+---+---+---+---+---+---+---+
+-- |  Opt Type = 1 |  Opt Len = 1  |      |  Opt Type = 3 |  Opt Len = 0  |
+-- +---+---+---+---+---+---+---+---+      +---+---+---+---+---+---+---+---+
+-- |              CRC              |
+-- +---+---+---+---+---+---+---+---+
+abbrev pub crc_option : ℕ → Fields
+crc_option crc = (OptType 1, 4) ∷ (OptLength 1, 4) ∷ (Crc crc, 8) ∷ []
+
+abbrev pub sn_not_valid : Fields → Fields
+sn_not_valid options = (OptType 3, 4) ∷ (OptLength 0, 4) ∷ options
+
+-- The CRC option stands last. Without a number SN is 0, and the option SN-NOT-VALID says so.
 abbrev pub acknowledgement : ℕ → Option ℕ → ℕ → List ℕ
-acknowledgement acktype (Some sn) crc = feedback_2 acktype sn (17 ∷ crc ∷ [])
-acknowledgement acktype None crc = feedback_2 acktype 0 (48 ∷ 17 ∷ crc ∷ [])
+acknowledgement acktype (Some sn) crc = spelled (feedback_2 acktype sn (crc_option crc))
+acknowledgement acktype None crc = spelled (feedback_2 acktype 0 (sn_not_valid (crc_option crc)))
 
 -- The feedback for a word, with this check octet: FEEDBACK-2 of Acktype 0, 1 or 2 (RFC 3095 5.7.6.1), or the
 -- FEEDBACK-1 of profile 0x0000, octet 00, which has no check (RFC 3095 5.10.4).
@@ -64,12 +95,12 @@ abbrev pub feedback_octets : Word → Option ℕ → ℕ → List ℕ
 feedback_octets Ack sn crc = acknowledgement 0 sn crc
 feedback_octets Nack sn crc = acknowledgement 1 sn crc
 feedback_octets StaticNack sn crc = acknowledgement 2 sn crc
-feedback_octets Plain sn crc = 0 ∷ []
+feedback_octets Plain sn crc = 0x00 ∷ []
 
 -- The 8-bit check, begun from all ones, over the identifier's octets and the feedback, in which the check
 -- octet itself stands as 00 (RFC 3095 5.7.6.3, 5.9.1).
 abbrev pub feedback_check : List ℕ → Word → Option ℕ → ℕ
-feedback_check identifier word sn = check poly8 255 (identifier ++ feedback_octets word sn 0)
+feedback_check identifier word sn = check poly8 0xff (identifier ++ feedback_octets word sn 0)
 
 -- an element's data: the identifier's octets, then the feedback with its check
 abbrev pub data_octets : List ℕ → Word → Option ℕ → List ℕ

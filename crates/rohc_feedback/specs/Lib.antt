@@ -1,3 +1,4 @@
+pub mod Fields
 pub mod Element
 pub mod Split
 pub mod Laws

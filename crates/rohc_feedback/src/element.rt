@@ -5,7 +5,8 @@ ghost use Rattle.std.specs.Option.{ForSome};
 ghost use Rattle.arrayvec.specs.ArrayVec.{array_vec_len};
 ghost use Rattle.rohc_checks.specs.Division.{check, poly8};
 ghost use Rattle.rohc_frame.specs.Header.{greatest_cid};
-ghost use Rattle.rohc_feedback.specs.Element.{IsMeaning, acknowledgement, ack_octets, element_octets, feedback_2, identifier_octets, nack_octets, octets_of_meaning, plain_ack_octets, static_nack_octets};
+ghost use Rattle.rohc_feedback.specs.Fields.{spelled};
+ghost use Rattle.rohc_feedback.specs.Element.{IsMeaning, acknowledgement, ack_octets, crc_option, element_octets, feedback_2, identifier_octets, nack_octets, octets_of_meaning, plain_ack_octets, static_nack_octets};
 
 use crate::meaning::{Reading, Word};
 use arrayvec::ArrayVec;
@@ -130,7 +131,7 @@ fn push_acknowledgement(octets: &mut Data, acktype: u8, sn: Option<u16>)
     requires acktype { acktype < 4 }
     requires number { ForSome sn (λ sn. sn < 4096) }
     ensures items { octets.new.items ≡ octets.old.items
-        ++ acknowledgement acktype sn (check poly8 255 (octets.old.items ++ acknowledgement acktype sn 0)) }
+        ++ acknowledgement acktype sn (check poly8 0xff (octets.old.items ++ acknowledgement acktype sn 0)) }
     ensures len { array_vec_len octets.new ≤ 7 }
 {
     match sn {
@@ -148,7 +149,7 @@ fn push_fields(octets: &mut Data, acktype: u8, sn: u16)
     requires room { array_vec_len octets.old ≤ 2 }
     requires acktype { acktype < 4 }
     requires number { sn < 4096 }
-    ensures items { octets.new.items ≡ octets.old.items ++ feedback_2 acktype sn [] }
+    ensures items { octets.new.items ≡ octets.old.items ++ spelled (feedback_2 acktype sn []) }
     ensures len { array_vec_len octets.new ≡ array_vec_len octets.old + 2 }
 {
     let [high, low] = sn.to_be_bytes();
@@ -160,7 +161,7 @@ fn push_fields(octets: &mut Data, acktype: u8, sn: u16)
 fn push_check(octets: &mut Data)
     requires { array_vec_len octets.old ≤ 5 }
     ensures items { octets.new.items ≡ octets.old.items
-        ++ 17 ∷ check poly8 255 (octets.old.items ++ 17 ∷ 0 ∷ []) ∷ [] }
+        ++ spelled (crc_option (check poly8 0xff (octets.old.items ++ spelled (crc_option 0)))) }
     ensures len { array_vec_len octets.new ≡ array_vec_len octets.old + 2 }
 {
     octets.push(CRC_OPTION);
@@ -169,6 +170,7 @@ fn push_check(octets: &mut Data)
 }
 
 /// The element with this data.
+#[tactic(auto, using(crate::proofs::Spelled::type_octet_of))]
 fn element(octets: &[u8]) -> Element
     requires { length octets.now ≤ 7 }
     ensures { result.items ≡ element_octets octets.now }
@@ -180,6 +182,7 @@ fn element(octets: &[u8]) -> Element
 }
 
 /// The identifier's octets in front of feedback.
+#[tactic(auto, using(crate::proofs::Spelled::add_cid_of))]
 fn identifier(size: CidKind, cid: u16) -> ArrayVec<u8, 4>
     requires { cid ≤ greatest_cid size }
     ensures octets { result.items ≡ identifier_octets size cid }

@@ -3,9 +3,9 @@
 //! Nothing allocates.
 #![tactic(auto)]
 
-pub mod element;
+mod element;
 pub mod laws;
-pub mod meaning;
+mod meaning;
 mod reader;
 
 pub use element::{Element, ack, nack, plain_ack, static_nack};

@@ -4,8 +4,8 @@ ghost use Rattle.std.specs.Prelude.{◌≡◌, ◌+◌, ◌*◌, ◌%◌, ◌≤
 ghost use Rattle.rohc_frame.specs.Header.{greatest_cid};
 ghost use Rattle.rohc_feedback.specs.declared.meaning.Reading.{Reading};
 ghost use Rattle.rohc_feedback.specs.declared.meaning.Word.{Word};
-ghost use Rattle.rohc_feedback.specs.Element.{GoesWith, IsMeaning, data_octets, feedback_octets, identifier_octets, octets_of_meaning};
-ghost use Rattle.rohc_feedback.specs.Split.{BeginsFeedback, split_in};
+ghost use Rattle.rohc_feedback.specs.Element.{GoesWith, IsMeaning, data_octets, identifier_octets, octets_of_meaning};
+ghost use Rattle.rohc_feedback.specs.Split.{BeginsFeedback, feedback_numbers, split_in};
 
 use crate::element::{CRC_OPTION, PLAIN, SN_NOT_VALID, write};
 use crate::meaning::{Reading, Word};
@@ -69,7 +69,7 @@ fn split_identifier<'a>(size: CidKind, octets: &'a [u8]) -> Option<(u16, &'a [u8
 fn word_in(feedback: &[u8]) -> Option<(Word, Option<u16>)>
     ensures number { IfSome result (λ said. GoesWith said.0 said.1) }
     ensures every { (word : Word) (sn : Option ℕ) (crc : ℕ) → GoesWith word sn →
-        feedback.now ≡ feedback_octets word sn crc → result ≡ Some (word, sn) }
+        feedback.now ≡ feedback_numbers word sn crc → result ≡ Some (word, sn) }
 {
     match *feedback {
         [PLAIN] => Some((Word::Plain, None)),

@@ -1,34 +1,15 @@
 -- A reader reads exactly the texts of a piece.
-use Rattle.std.proofs.Common.{◌≡◌, ℕ, ◌+◌, ◌*◌, Bool, true, false, List, [], ◌∷◌, ◌++◌, length, drop, Option, Some, None, Result, Ok, Err, refl, sym, ap, subst, ◌∙◌, append_assoc}
+use Rattle.std.proofs.Common.{◌≡◌, ℕ, ◌+◌, ◌*◌, Bool, true, false, List, [], ◌∷◌, ◌++◌, length, Option, Some, None, Result, Ok, refl, sym, ap, ◌∙◌, append_assoc}
 use Rattle.std.specs.Prelude.{if◌then◌else◌}
 use Rattle.rohc_forms.specs.declared.refusal.FormRefusal.TheVariants.{Truncated}
-use Rattle.rohc_bits.specs.Reading.{value_or, ◌>>=◌, judged, next_octet, next_word, next_value}
-use Rattle.rohc_bits.specs.Fronts.{front_value, value_bits}
-use Rattle.rohc_bits.specs.Spelling.{Spells}
-use Rattle.rohc_bits.proofs.Fronts.{front_read, front_found, drop_front, behind_value}
+use Rattle.rohc_bits.specs.Reading.{◌>>=◌, judged, next_octet, next_word}
+use Rattle.rohc_bits.specs.Fronts.{value_bits}
+use Rattle.rohc_bits.proofs.Steps.{ok_parts, bind_ok, judged_ok}
+use Rattle.rohc_bits.proofs.ValueSteps.{value_found, value_given}
 use Rattle.rohc_forms.specs.declared.refusal.FormRefusal.{FormRefusal}
 use Rattle.rohc_bits.specs.LowBits.{LowBits}
 use Rattle.rohc_forms.specs.Octets.{octet_at, word_at, octet_if, word_if, value_at}
 use Rattle.rohc_forms.specs.Pieces.{IsOneOctet, IsWord, IsValue, NoMore, Then, IfNamed, Which, As, NotRefused, Unless}
-
-pub ok_is : {A : Type 0} (x y : A) → ◌≡◌ {A = Result A FormRefusal} (Ok x) (Ok y) → x ≡ y
-ok_is x y e = cc
-
--- what was read, and the octets behind it
-pub ok_parts : {A B : Type 0} (x y : A) (b d : B) → ◌≡◌ {A = Result (A × B) FormRefusal} (Ok (x, b)) (Ok (y, d)) → (x ≡ y) × (b ≡ d)
-ok_parts {A} {B} x y b d e =
-    let both : ◌≡◌ {A = A × B} (x, b) (y, d) = ok_is (x, b) (y, d) e in
-    (ap (λ (p : A × B). p.0) both, ap (λ (p : A × B). p.1) both)
-
--- of two steps that gave something, so did the first
-pub bind_ok : {A B : Type 0} (r : Result A FormRefusal) (f : A → Result B FormRefusal) (y : B) → (r >>= f) ≡ Ok y → (x : A) × (r ≡ Ok x) × (f x ≡ Ok y)
-bind_ok (Ok x) f y e = (x, refl, e)
-bind_ok (Err refusal) f y e = cc
-
--- what wasn't refused
-judged_ok : {A : Type 0} (fault : Option FormRefusal) (x y : A) → judged fault x ≡ Ok y → (fault ≡ None) × (x ≡ y)
-judged_ok None x y e = (refl, ok_is x y e)
-judged_ok (Some refusal) x y e = cc
 
 abbrev pub Reader : Type 0 → Type 0
 Reader A = List ℕ → Result (A × List ℕ) FormRefusal
@@ -171,27 +152,11 @@ pub exact_word_if : (named : Bool) → Exact (word_if named) (IfNamed named IsWo
 unfolding word_if
 exact_word_if named = exact_if_named named word_at IsWord exact_word
 
--- what was read of a value
-value_found_at : (text behind : List ℕ) (d : LowBits) (found : Option (ℕ × ℕ)) → front_value text ≡ found → value_or Truncated text found ≡ Ok (d, behind) →
-    (front : List ℕ) × (text ≡ front ++ behind) × IsValue d front
-value_found_at text behind d None is e = cc
-value_found_at text behind d (Some (value, count)) is e =
-    let front = front_found text value count is in
-    let parts = ok_parts (record { count = value_bits count; value = value }) d (drop count text) behind e in (
-      front.spelling,
-      front.whole ∙ ap (λ (rest : List ℕ). front.spelling ++ rest) (sym (behind_value text value count front) ∙ parts.1),
-      (
-        subst (Spells front.spelling) (ap (λ (x : LowBits). x.value) parts.0) front.spells,
-        sym (ap (λ (x : LowBits). x.count) parts.0) ∙ ap value_bits front.counted,
-      ),
-    )
-
 -- a self-describing value
 pub exact_value : Exact value_at IsValue
-unfolding next_value
 exact_value = record {
-  found = λ text behind d e. value_found_at text behind d (front_value text) refl e;
+  found = λ text behind d e. let v = value_found Truncated text behind d e in (v.spelling, v.whole, (v.spells, v.counted));
   gives = λ front behind d is.
       let counted : record { count = value_bits (length front); value = d.value } ≡ d = ap (λ n. record { count = n; value = d.value }) (sym is.1) in
-      ap (value_or Truncated (front ++ behind)) (front_read front behind d.value is.0) ∙ (λ i. Ok (counted i, drop_front front behind i));
+      value_given Truncated front behind d.value is.0 ∙ ap (λ (x : LowBits). Ok (x, behind)) counted;
 }

@@ -2,5 +2,6 @@ pub mod FormatLemmas
 pub mod FieldLemmas
 pub mod Exact
 pub mod SaysLemmas
+pub mod ShortLemmas
 pub mod GoodLemmas
 pub mod FormLemmas

@@ -21,7 +21,8 @@ use Rattle.rohc_forms.specs.Packets.{base_at, extension_1_at, extension_2_at, sh
 use Rattle.rohc_forms.specs.Pieces.{IsOneOctet, IsWord, IsValue, NoMore, Then, IfNamed, Which, As, NotRefused}
 use Rattle.rohc_forms.specs.Says.{IsUnder, IsBase, with_sn, with_ts, and_offset, IsIpOctet, IsProtocol, IsIpGiven, stride_of, IsStride, IsTimeStride, IsRtpNamed, IsRtpGiven, IsBehindIp, IsExtension3, IsExtension, IsHead, IsPayload, IsForm}
 use Rattle.rohc_forms.specs.Laws.{CountsOctets, ReadsForms, SaysOne}
-use Rattle.rohc_forms.proofs.Exact.{ok_is, bind_ok, Reader, Piece, Exact, same_reader, same_piece, exact_no_more, exact_then, exact_as, exact_not_refused, exact_unless, exact_which, exact_named, exact_if_named, exact_octet, exact_word, exact_octet_if, exact_word_if, exact_value}
+use Rattle.rohc_bits.proofs.Steps.{ok_is, bind_ok}
+use Rattle.rohc_forms.proofs.Exact.{Reader, Piece, Exact, same_reader, same_piece, exact_no_more, exact_then, exact_as, exact_not_refused, exact_unless, exact_which, exact_named, exact_if_named, exact_octet, exact_word, exact_octet_if, exact_word_if, exact_value}
 
 exact_sn : (named : Bool) (said : Said) → Exact (sn_at named said) (As (with_sn said) (IfNamed named IsOneOctet))
 unfolding sn_at

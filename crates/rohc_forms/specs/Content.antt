@@ -12,8 +12,8 @@ use Rattle.rohc_forms.specs.Given.{ValuesSaid}
 -- bit 5 of the first octet, that of UOR-2 bit 7 of the second.
 abbrev pub form_kind : Base → Bool → FormKind
 form_kind base rnd =
-    if nat_lt base.first 128 then Uo0
-    else if nat_lt base.first 192 then (if rnd then Uo1 else if bit 5 base.first then Uo1Ts else Uo1Id)
+    if nat_lt base.first 0x80 then Uo0
+    else if nat_lt base.first 0xc0 then (if rnd then Uo1 else if bit 5 base.first then Uo1Ts else Uo1Id)
     else (if rnd then Uor2 else if bit 15 base.number then Uor2Ts else Uor2Id)
 
 -- What a packet says behind what an extension says, apart from where its payload lies in memory.

@@ -1,7 +1,7 @@
 -- The fields of a packet in the order of their octets, and the first fault among them (RFC 3095 5.7.1 to
 -- 5.7.5).
-use Rattle.std.specs.Prelude.{ℕ, zero, suc, ◌+◌, ◌*◌, List, [], ◌∷◌, Bool, false, ◌||◌, nat_lt, if◌then◌else◌, Option, Some, None, Result, Ok, Err}
-use Rattle.rohc_bits.specs.Reading.{◌>>=◌, judged}
+use Rattle.std.specs.Prelude.{ℕ, ◌+◌, ◌*◌, List, Bool, false, ◌||◌, nat_lt, if◌then◌else◌, Option, Some, None, Result, Ok, Err}
+use Rattle.rohc_bits.specs.FieldList.{FieldList, Payload, Octets, Octet, Value, Judged, after_fields, any, if_named}
 use Rattle.rohc_frame.specs.Header.{Header}
 use Rattle.rohc_forms.specs.declared.form.FormKind.{FormKind}
 use Rattle.rohc_forms.specs.declared.parts.Base.{Base}
@@ -9,71 +9,40 @@ use Rattle.rohc_forms.specs.declared.parts.IpFlags.{IpFlags}
 use Rattle.rohc_forms.specs.declared.parts.RtpFlags.{RtpFlags}
 use Rattle.rohc_forms.specs.declared.refusal.FormRefusal.{FormRefusal}
 use Rattle.rohc_forms.specs.declared.refusal.FormRefusal.TheVariants.{Truncated}
-use Rattle.rohc_forms.specs.Octets.{value_at}
 use Rattle.rohc_forms.specs.Table.{S, R-TS, Tsc, I, IP, RTP, has, base_said}
 use Rattle.rohc_forms.specs.Judging.{ip_fault, twice_fault, protocol_fault, rtp_fault, stride_fault, no_stride_fault}
 use Rattle.rohc_forms.specs.Given.{ip_flags, rtp_flags}
 use Rattle.rohc_forms.specs.Content.{form_kind}
 
--- The fields that stand one behind the other: octets that are taken as they are; an octet with its refusal,
--- which names the fields behind it; a self-describing value with its refusal; what takes no octets, with its
--- refusal. Then comes the payload.
-pub data FieldList : Type 0 where
-  Payload : FieldList
-  Octets : ℕ → FieldList → FieldList
-  Octet : (ℕ → Option FormRefusal) → (ℕ → FieldList) → FieldList
-  Value : (ℕ → Option FormRefusal) → FieldList → FieldList
-  Judged : Option FormRefusal → FieldList → FieldList
-
--- what stands behind so many octets
-abbrev pub behind_octets : ℕ → List ℕ → Result (List ℕ) FormRefusal
-behind_octets zero text = Ok text
-behind_octets (suc count) [] = Err Truncated
-behind_octets (suc count) (octet ∷ text) = behind_octets count text
-
--- The payload, or the first fault: the first field that is cut off or refused.
-abbrev pub after_fields : FieldList → List ℕ → Result (List ℕ) FormRefusal
-after_fields Payload text = Ok text
-after_fields (Octets count more) text = behind_octets count text >>= after_fields more
-after_fields (Octet fault more) [] = Err Truncated
-after_fields (Octet fault more) (octet ∷ text) = judged (fault octet) text >>= after_fields (more octet)
-after_fields (Value fault more) text =
-    value_at text >>= λ x. judged (fault x.0.value) x.1 >>= after_fields more
-after_fields (Judged fault more) text = judged fault text >>= after_fields more
-
--- no refusal
-abbrev pub any : ℕ → Option FormRefusal
-any n = None
-
--- a field, if a flag names it, and the fields behind it
-abbrev pub if_named : Bool → (FieldList → FieldList) → FieldList → FieldList
-if_named named field more = if named then field more else more
+-- the fields of a packet
+abbrev pub FormFields : Type 0
+FormFields = FieldList FormRefusal
 
 -- behind an extension: the Identification, if the RND in force is 1, and the UDP checksum, if packets carry
 -- one
-abbrev pub last_fields : Bool → Bool → FieldList
+abbrev pub last_fields : Bool → Bool → FormFields
 last_fields rnd udp_sum = if_named rnd (Octets 2) (if_named udp_sum (Octets 2) Payload)
 
 -- TOS, TTL and protocol
-abbrev pub ip_fields : IpFlags → FieldList → FieldList
+abbrev pub ip_fields : IpFlags → FormFields → FormFields
 ip_fields ip more =
     if_named ip.tos (Octets 1) (if_named ip.ttl (Octets 1)
     (if_named ip.protocol (λ behind_it. Octet protocol_fault (λ _. behind_it)) more))
 
 -- P and PT, and the strides
-abbrev pub rtp_fields : RtpFlags → FieldList → FieldList
+abbrev pub rtp_fields : RtpFlags → FormFields → FormFields
 rtp_fields rtp more =
     if_named rtp.payload_type (Octets 1) (if_named rtp.stride (Value stride_fault)
     (if_named rtp.time_stride (Value any) more))
 
 -- the rtp octet and what it names; it says whether there is a stride
-abbrev pub rtp_octet_fields : Bool → (Bool → FieldList) → FieldList
+abbrev pub rtp_octet_fields : Bool → (Bool → FormFields) → FormFields
 rtp_octet_fields named more =
     if named then Octet rtp_fault (λ octet. rtp_fields (rtp_flags octet) (more (rtp_flags octet).stride)) else
     more false
 
 -- S, R-TS, what the ip octet names, I, rtp, and whether a stride is in force if Tsc
-abbrev pub later_fields : ℕ → Bool → (FieldList → FieldList) → FieldList → FieldList
+abbrev pub later_fields : ℕ → Bool → (FormFields → FormFields) → FormFields → FormFields
 later_fields flags stride_known ip more =
     if_named (has S flags) (Octets 1)
     (if_named (has R-TS flags) (Value any)
@@ -84,7 +53,7 @@ later_fields flags stride_known ip more =
 
 -- Behind the first octet of an extension 3: the ip octet, if ip; whether I and RND are both given; the
 -- others.
-abbrev pub extension_3_fields : FormKind → Bool → Bool → Bool → ℕ → FieldList
+abbrev pub extension_3_fields : FormKind → Bool → Bool → Bool → ℕ → FormFields
 extension_3_fields kind rnd udp_sum stride_known flags =
     if has IP flags
     then Octet (ip_fault kind) (λ octet. Judged (twice_fault (has I flags) (ip_flags octet).rnd)
@@ -93,25 +62,25 @@ extension_3_fields kind rnd udp_sum stride_known flags =
     (later_fields flags stride_known (λ more. more) (last_fields rnd udp_sum))
 
 -- behind the first octet of an extension
-abbrev pub extension_fields : FormKind → Bool → Bool → Bool → ℕ → FieldList
+abbrev pub extension_fields : FormKind → Bool → Bool → Bool → ℕ → FormFields
 extension_fields kind rnd udp_sum stride_known first =
-    if nat_lt first 192
-    then (if nat_lt first 64 then last_fields rnd udp_sum else if nat_lt first 128 then Octets 1
+    if nat_lt first 0xc0
+    then (if nat_lt first 0x40 then last_fields rnd udp_sum else if nat_lt first 0x80 then Octets 1
     (last_fields rnd udp_sum) else Octets 2 (last_fields rnd udp_sum))
     else extension_3_fields kind rnd udp_sum stride_known first
 
 -- behind the octets before an extension; the format says whether there is one
-abbrev pub behind_base_fields : Bool → Bool → Bool → Base → FieldList
+abbrev pub behind_base_fields : Bool → Bool → Bool → Base → FormFields
 behind_base_fields rnd udp_sum stride_known base =
     if (base_said (form_kind base rnd) base.number).extended
     then Octet any (extension_fields (form_kind base rnd) rnd udp_sum stride_known)
     else last_fields rnd udp_sum
 
 -- behind a packet's first octet, the others before an extension: none, one or two
-abbrev pub behind_first : ℕ → (Base → FieldList) → FieldList
+abbrev pub behind_first : ℕ → (Base → FormFields) → FormFields
 behind_first first more =
-    if nat_lt first 128 then more (record { first = first; number = first })
-    else if nat_lt first 192 then Octet any (λ second. more (record {
+    if nat_lt first 0x80 then more (record { first = first; number = first })
+    else if nat_lt first 0xc0 then Octet any (λ second. more (record {
       first = first;
       number =
           first * 256 + second;
@@ -123,7 +92,7 @@ behind_first first more =
     })))
 
 -- Behind the first octet of a packet.
-abbrev pub form_fields : ℕ → Bool → Bool → Bool → FieldList
+abbrev pub form_fields : ℕ → Bool → Bool → Bool → FormFields
 form_fields first rnd udp_sum stride_known = behind_first first (behind_base_fields rnd udp_sum stride_known)
 
 -- why a packet is refused, if it is
@@ -133,4 +102,4 @@ fault_in (Err refusal) = Some refusal
 
 abbrev pub form_fault : Header → Bool → Bool → Bool → Option FormRefusal
 form_fault h rnd udp_sum stride_known =
-    fault_in (after_fields (form_fields h.first rnd udp_sum stride_known) h.rest)
+    fault_in (after_fields Truncated (form_fields h.first rnd udp_sum stride_known) h.rest)

@@ -50,18 +50,18 @@ base_of a b c =
     record {
       first = a;
       number =
-          if nat_lt a 128 then a else if nat_lt a 192 then a * 256 + b else a * 65536 + (b * 256 + c);
+          if nat_lt a 0x80 then a else if nat_lt a 0xc0 then a * 256 + b else a * 65536 + (b * 256 + c);
     }
 
 -- Of a packet whose first octet is below E0 exactly one format fits: the one that is read.
 abbrev pub FitsOne : Type 0
-FitsOne = (rnd : Bool) (a b c : ℕ) → a < 224 → b < 256 → c < 256 → (kind : FormKind) →
+FitsOne = (rnd : Bool) (a b c : ℕ) → a < 0xe0 → b < 256 → c < 256 → (kind : FormKind) →
     (has_format kind rnd (a ∷ b ∷ c ∷ []) ≡ true) ↔ (kind ≡ form_kind (base_of a b c) rnd)
 
 -- Of an extension whose first octet is below C0 exactly one of the formats 0, 1 and 2 fits: the one that is
 -- read.
 abbrev pub FitsOneExtension : Type 0
-FitsOneExtension = (kind : FormKind) (a b c : ℕ) → a < 192 → b < 256 → c < 256 →
+FitsOneExtension = (kind : FormKind) (a b c : ℕ) → a < 0xc0 → b < 256 → c < 256 →
     ((begin_with (layout_0 kind) (a ∷ b ∷ c ∷ []) ≡ true) ↔ (short_layout kind a ≡ layout_0 kind))
     × ((begin_with (layout_1 kind) (a ∷ b ∷ c ∷ []) ≡ true) ↔ (short_layout kind a ≡ layout_1 kind))
     × ((begin_with (layout_2 kind) (a ∷ b ∷ c ∷ []) ≡ true) ↔ (short_layout kind a ≡ layout_2 kind))

@@ -22,7 +22,7 @@ pub record IsGoodValues (values : ValuesSaid) : Type 0 where
 -- What a packet with this first octet says, where packets carry the UDP checksum or don't, and a stride of
 -- timestamps is known or isn't.
 pub record IsGoodContent (first : ℕ) (udp_sum stride_known : Bool) (c : Content) : Type 0 where
-  pub kind : (is_uor2 c.kind ≡ true) ↔ (192 ≤ first)
+  pub kind : (is_uor2 c.kind ≡ true) ↔ (0xc0 ≤ first)
   pub sn : IsBits 1 16 c.sn
   pub ts : IfSome c.ts (IsBits 2 32)
   pub scaled : c.tsc ≡ Some true → (stride_known || is_some (stride_given c.values)) ≡ true

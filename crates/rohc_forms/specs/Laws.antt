@@ -39,7 +39,7 @@ CountsOctets = (rnd : Bool) (a b c : ℕ) →
 
 -- an octet begins an extension 3 exactly where its prefix is 11
 abbrev pub BeginsWith11 : Type 0
-BeginsWith11 = (first : ℕ) → first < 256 → (192 ≤ first) ↔ (number_in Prefix first ≡ 3)
+BeginsWith11 = (first : ℕ) → first < 256 → (0xc0 ≤ first) ↔ (number_in Prefix first ≡ 3)
 
 -- how many bits these parts have
 abbrev pub bits_of : List Part → ℕ

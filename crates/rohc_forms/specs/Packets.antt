@@ -72,8 +72,8 @@ extended_by e = record { said = said_by e.fields; marker = e.marker; values = va
 -- are.
 unfoldable pub base_at : ℕ → List ℕ → Result (Base × List ℕ) FormRefusal
 base_at first text =
-    if nat_lt first 128 then Ok (record { first = first; number = first }, text)
-    else if nat_lt first 192 then (octet_at text >>= λ x. Ok (
+    if nat_lt first 0x80 then Ok (record { first = first; number = first }, text)
+    else if nat_lt first 0xc0 then (octet_at text >>= λ x. Ok (
       record {
         first = first;
         number =
@@ -107,8 +107,8 @@ extension_2_at kind first said text =
 -- an extension 0, 1 or 2, whose first octet begins with 00, 01 or 10
 unfoldable pub short_extension_at : FormKind → ℕ → Said → List ℕ → Result (Said × List ℕ) FormRefusal
 short_extension_at kind first said text =
-    if nat_lt first 64 then Ok (under (layout_0 kind) first said, text)
-    else if nat_lt first 128 then extension_1_at kind first said text
+    if nat_lt first 0x40 then Ok (under (layout_0 kind) first said, text)
+    else if nat_lt first 0x80 then extension_1_at kind first said text
     else extension_2_at kind first said text
 
 -- An extension 3, whose first octet begins with 11: the RND in force decides the format of the octets before
@@ -136,7 +136,7 @@ extension_3_at base kept_rnd stride_known flags text = do
 -- what stands behind the first octet of an extension
 unfoldable pub extension_at : Base → Bool → Bool → ℕ → List ℕ → Result (Head × List ℕ) FormRefusal
 extension_at base rnd stride_known first text =
-    if nat_lt first 192
+    if nat_lt first 0xc0
     then (short_extension_at (form_kind base rnd) first (base_said (form_kind base rnd) base.number) text >>=
     λ x. Ok (plain_head (form_kind base rnd) rnd x.0, x.1))
     else extension_3_at base rnd stride_known first text

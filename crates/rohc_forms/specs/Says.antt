@@ -125,7 +125,7 @@ IsExtension3 base kept_rnd stride_known flags =
 -- an extension behind its first octet
 abbrev pub IsExtension : Base → Bool → Bool → ℕ → Head → List ℕ → Type 0
 IsExtension base rnd stride_known first =
-    Which (nat_lt first 192)
+    Which (nat_lt first 0xc0)
     (As (plain_head (form_kind base rnd) rnd)
     (IsUnder (short_layout (form_kind base rnd) first) first
     (base_said (form_kind base rnd) base.number)))

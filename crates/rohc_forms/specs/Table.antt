@@ -84,7 +84,7 @@ layout_2 kind = (Fixed 2, 2) ∷ (Sn, 3) ∷ (plus kind, 3) ∷ (plus kind, 8) �
 -- the one that an extension's first octet begins, which is below C0
 abbrev pub short_layout : FormKind → ℕ → Layout
 short_layout kind first =
-    if nat_lt first 64 then layout_0 kind else if nat_lt first 128 then layout_1 kind else layout_2 kind
+    if nat_lt first 0x40 then layout_0 kind else if nat_lt first 0x80 then layout_1 kind else layout_2 kind
 
 -- The parts of the octets of an extension 3 (RFC 3095 5.7.5): flags, and numbers of more bits.
 pub data Part : Type 0 where

@@ -6,14 +6,14 @@ mod base;
 mod extension;
 mod fields;
 mod flag;
-pub mod form;
+mod form;
 pub mod laws;
 mod octets;
 mod packet;
-pub mod parts;
+mod parts;
 mod place;
 mod reading;
-pub mod refusal;
+mod refusal;
 
 pub use form::{Form, FormKind, IdBits, Values};
 pub use reading::read_form;

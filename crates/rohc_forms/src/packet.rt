@@ -4,17 +4,17 @@ ghost use Rattle.std.specs.Prelude.{◌≡◌};
 ghost use Rattle.rohc_bits.specs.Reading.{ReadsAs};
 ghost use Rattle.rohc_forms.specs.Table.{under, layout_0};
 ghost use Rattle.rohc_forms.specs.Content.{plain_head};
-ghost use Rattle.rohc_forms.specs.Packets.{said_by, head_by, extension_1_at, extension_2_at, short_extension_at, extension_3_at, extension_at, head_at};
+ghost use Rattle.rohc_forms.specs.Packets.{said_by, head_by, short_extension_at, extension_3_at, extension_at, head_at};
 
 use crate::base::{base, base_fields, kind};
 use crate::extension::{behind_ip, ip_octet, rnd_of};
 use crate::flag;
 use crate::form::FormKind;
-use crate::octets::{bits, octet, word};
+use crate::octets::{bits, octet};
 use crate::parts::{Base, Fields, Head};
 use crate::refusal::FormRefusal;
-use rohc_bits::Cursor;
 use rohc_bits::reading::is_set;
+use rohc_bits::{Bits, Cursor};
 
 /// What an extension 0 says behind these fields.
 fn extension_0(kind: FormKind, first: u8, fields: Fields) -> Fields
@@ -26,46 +26,8 @@ fn extension_0(kind: FormKind, first: u8, fields: Fields) -> Fields
         .and_plus(kind, bits(number, 0, 3))
 }
 
-/// What an extension 1 says behind these fields.
-#[tactic(auto, unfolding(crate::specs::Packets::extension_1_at))]
-fn extension_1(
-    kind: FormKind,
-    first: u8,
-    fields: Fields,
-    cursor: &mut Cursor<'_>,
-) -> Result<Fields, FormRefusal>
-    ensures { ReadsAs said_by result cursor.new (extension_1_at kind first (said_by fields) cursor.old) }
-{
-    let number = u32::from(first) * 256 + u32::from(octet(cursor)?);
-    Ok(
-        fields
-            .and_sn(bits(number, 11, 3))
-            .and_plus(kind, bits(number, 8, 3))
-            .and_minus(kind, bits(number, 0, 8)),
-    )
-}
-
-/// What an extension 2 says behind these fields.
-#[tactic(auto, unfolding(crate::specs::Packets::extension_2_at))]
-fn extension_2(
-    kind: FormKind,
-    first: u8,
-    fields: Fields,
-    cursor: &mut Cursor<'_>,
-) -> Result<Fields, FormRefusal>
-    ensures { ReadsAs said_by result cursor.new (extension_2_at kind first (said_by fields) cursor.old) }
-{
-    let number = u32::from(first) * 65_536 + u32::from(word(cursor)?);
-    Ok(
-        fields
-            .and_sn(bits(number, 19, 3))
-            .and_plus(kind, bits(number, 16, 3))
-            .and_plus(kind, bits(number, 8, 8))
-            .and_minus(kind, bits(number, 0, 8)),
-    )
-}
-
-/// What an extension 0, 1 or 2 says behind these fields.
+/// What an extension 0, 1 or 2 says behind these fields: SN and +T in the first octet, an octet more of +T
+/// in an extension 2, and an octet of -T in both 1 and 2.
 #[tactic(auto, unfolding(crate::specs::Packets::short_extension_at))]
 fn short_extension(
     kind: FormKind,
@@ -75,13 +37,28 @@ fn short_extension(
 ) -> Result<Fields, FormRefusal>
     ensures { ReadsAs said_by result cursor.new (short_extension_at kind first (said_by fields) cursor.old) }
 {
+    let fields = extension_0(kind, first, fields);
     if first < 0x40 {
-        Ok(extension_0(kind, first, fields))
-    } else if first < 0x80 {
-        extension_1(kind, first, fields, cursor)
-    } else {
-        extension_2(kind, first, fields, cursor)
+        return Ok(fields);
     }
+    let second = octet(cursor)?;
+    if first < 0x80 {
+        return Ok(fields.and_minus(kind, eight_bits(second)));
+    }
+    let third = octet(cursor)?;
+    Ok(
+        fields
+            .and_plus(kind, eight_bits(second))
+            .and_minus(kind, eight_bits(third)),
+    )
+}
+
+/// The bits of an octet.
+fn eight_bits(octet: u8) -> Bits
+    ensures value { result.value ≡ octet }
+    ensures count { result.count ≡ 8 }
+{
+    Bits::new(u32::from(octet), 8)
 }
 
 /// What a packet with an extension 3 says: the RND in force decides its format.

@@ -1,4 +1,4 @@
-//! What single parts of a packet say. The module is open for the definitions, which name its types.
+//! What single parts of a packet say.
 
 ghost use Rattle.std.specs.Prelude.{◌≤◌, ◌<◌};
 ghost use Rattle.std.specs.Option.{ForSome};

@@ -24,9 +24,9 @@ is_within low high n = nat_le low n && nat_le n high
 
 -- the first octet of a header says this kind (RFC 5795 5.2): FC or FD, F8, below E0
 abbrev pub is_kind : HeadKind → ℕ → Bool
-is_kind (Ir dynamic) first = first == (if dynamic then 253 else 252)
-is_kind IrDyn first = first == 248
-is_kind Other first = nat_lt first 224
+is_kind (Ir dynamic) first = first == (if dynamic then 0xfd else 0xfc)
+is_kind IrDyn first = first == 0xf8
+is_kind Other first = nat_lt first 0xe0
 
 -- the header is an IR
 abbrev pub IsIr : HeadKind → Type 0
@@ -50,7 +50,7 @@ IsOther Other = Unit {0}
 -- octet; on a large link a self-describing value of one or two octets.
 abbrev pub is_identifier : CidKind → ℕ → List ℕ → Bool
 is_identifier Small cid [] = cid == 0
-is_identifier Small cid (a ∷ []) = is_within 225 239 a && (a == 224 + cid)
+is_identifier Small cid (a ∷ []) = is_within 0xe1 0xef a && (a == 0xe0 + cid)
 is_identifier Small cid (a ∷ b ∷ octets) = false
 is_identifier Large cid [] = false
 is_identifier Large cid (a ∷ []) = (a / 128 == 0) && (cid == a)

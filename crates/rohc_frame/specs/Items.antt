@@ -18,9 +18,9 @@ IsItem (Sized octets) = Unit {0}
 
 -- an item's octets
 abbrev pub spelled : Item → List ℕ
-spelled Padding = 224 ∷ []
-spelled (Coded octets) = (240 + length octets) ∷ octets
-spelled (Sized octets) = 240 ∷ length octets ∷ octets
+spelled Padding = 0xe0 ∷ []
+spelled (Coded octets) = (0xf0 + length octets) ∷ octets
+spelled (Sized octets) = 0xf0 ∷ length octets ∷ octets
 
 -- the octets of items, one after the other
 abbrev pub all_spelled : List Item → List ℕ
@@ -53,9 +53,9 @@ coded code octets =
 unfoldable pub first_item : List ℕ → Option (Item × List ℕ)
 first_item [] = None
 first_item (octet ∷ octets) =
-    if octet == 224 then Some (Padding, octets)
-    else if octet == 240 then sized octets
-    else if is_within 241 247 octet then coded (octet - 240) octets
+    if octet == 0xe0 then Some (Padding, octets)
+    else if octet == 0xf0 then sized octets
+    else if is_within 0xf1 0xf7 octet then coded (octet - 0xf0) octets
     else None
 
 -- the items at the front of the octets, at most n

@@ -12,13 +12,13 @@ use Rattle.rohc_frame.specs.Reading.{Reading}
 -- the kind of header that an octet begins, or its refusal
 abbrev pub kind_of : ℕ → Result HeadKind FrameRefusal
 kind_of first =
-    if nat_lt first 224 then Ok Other
-    else if nat_lt first 240 then Err AddCidOnLarge
-    else if nat_lt first 248 then Err FeedbackShort
-    else if first == 248 then Ok IrDyn
-    else if nat_lt first 252 then Err ReservedType
-    else if first == 252 then Ok (Ir false)
-    else if first == 253 then Ok (Ir true)
+    if nat_lt first 0xe0 then Ok Other
+    else if nat_lt first 0xf0 then Err AddCidOnLarge
+    else if nat_lt first 0xf8 then Err FeedbackShort
+    else if first == 0xf8 then Ok IrDyn
+    else if nat_lt first 0xfc then Err ReservedType
+    else if first == 0xfc then Ok (Ir false)
+    else if first == 0xfd then Ok (Ir true)
     else Err Segment
 
 -- a header of a small link, where its first octet begins one
@@ -39,16 +39,16 @@ small_header cid cid_octets first rest (Ok kind) =
 abbrev pub behind_add_cid : ℕ → List ℕ → Result (Option Header) FrameRefusal
 behind_add_cid add_cid [] = Err NoHeader
 behind_add_cid add_cid (first ∷ rest) =
-    if is_within 224 239 first then Err ReservedType
-    else if is_within 240 247 first then Err AfterAddCid
-    else small_header (add_cid - 224) (add_cid ∷ []) first rest (kind_of first)
+    if is_within 0xe0 0xef first then Err ReservedType
+    else if is_within 0xf0 0xf7 first then Err AfterAddCid
+    else small_header (add_cid - 0xe0) (add_cid ∷ []) first rest (kind_of first)
 
 -- what stands after the items on a small link
 abbrev pub small_parts : ℕ → List ℕ → Result (Option Header) FrameRefusal
 small_parts max_cid [] = Ok None
 small_parts max_cid (first ∷ rest) =
-    if is_within 225 239 first
-    then (if nat_lt max_cid (first - 224) then Err CidRange else behind_add_cid first rest)
+    if is_within 0xe1 0xef first
+    then (if nat_lt max_cid (first - 0xe0) then Err CidRange else behind_add_cid first rest)
     else small_header 0 [] first rest (kind_of first)
 
 abbrev pub two_octets : ℕ → List ℕ → Result (ℕ × ℕ) FrameRefusal
@@ -59,8 +59,8 @@ two_octets a (b ∷ octets) = Ok (a % 64 * 256 + b, 2)
 abbrev pub large_cid : List ℕ → Result (ℕ × ℕ) FrameRefusal
 large_cid [] = Err NoHeader
 large_cid (a ∷ octets) =
-    if nat_lt a 128 then Ok (a, 1)
-    else if nat_lt a 192 then two_octets a octets
+    if nat_lt a 0x80 then Ok (a, 1)
+    else if nat_lt a 0xc0 then two_octets a octets
     else Err LargeCid
 
 -- a header of a large link, where it may bear the identifier

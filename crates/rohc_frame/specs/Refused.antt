@@ -19,36 +19,36 @@ begins_from low (octet ∷ octets) = nat_le low octet
 -- the identifier that an Add-CID octet says
 abbrev pub add_cid : List ℕ → ℕ
 add_cid [] = 0
-add_cid (octet ∷ octets) = octet - 224
+add_cid (octet ∷ octets) = octet - 0xe0
 
 -- the identifier that one or two octets say, the first below C0
 abbrev pub spelled_cid : List ℕ → ℕ
 spelled_cid [] = 0
 spelled_cid (a ∷ []) = a
-spelled_cid (a ∷ b ∷ octets) = if nat_lt a 128 then a else a % 64 * 256 + b
+spelled_cid (a ∷ b ∷ octets) = if nat_lt a 0x80 then a else a % 64 * 256 + b
 
 -- Why the octets after the longest list of items are no header's, in the order in which it is judged: the
 -- first row whose test holds gives the refusal (RFC 5795 5.2).
 abbrev pub rows : CidKind → ℕ → List ℕ → List (Bool × FrameRefusal)
 rows Small max_cid r =
-    (begins 240 247 r, FeedbackShort)
-    ∷ (begins 225 239 r && nat_lt max_cid (add_cid r), CidRange)
-    ∷ (begins 225 239 r && (length r == 1), NoHeader)
-    ∷ (begins 225 239 r && begins 240 247 (drop 1 r), AfterAddCid)
-    ∷ (begins 225 239 r && begins 224 239 (drop 1 r), ReservedType)
-    ∷ (begins 225 239 r && begins 249 251 (drop 1 r), ReservedType)
-    ∷ (begins 225 239 r && begins_from 254 (drop 1 r), Segment)
-    ∷ (begins 249 251 r, ReservedType)
-    ∷ (begins_from 254 r, Segment)
+    (begins 0xf0 0xf7 r, FeedbackShort)
+    ∷ (begins 0xe1 0xef r && nat_lt max_cid (add_cid r), CidRange)
+    ∷ (begins 0xe1 0xef r && (length r == 1), NoHeader)
+    ∷ (begins 0xe1 0xef r && begins 0xf0 0xf7 (drop 1 r), AfterAddCid)
+    ∷ (begins 0xe1 0xef r && begins 0xe0 0xef (drop 1 r), ReservedType)
+    ∷ (begins 0xe1 0xef r && begins 0xf9 0xfb (drop 1 r), ReservedType)
+    ∷ (begins 0xe1 0xef r && begins_from 0xfe (drop 1 r), Segment)
+    ∷ (begins 0xf9 0xfb r, ReservedType)
+    ∷ (begins_from 0xfe r, Segment)
     ∷ []
 rows Large max_cid r =
-    (begins 240 247 r, FeedbackShort)
-    ∷ (begins 225 239 r, AddCidOnLarge)
-    ∷ (begins 249 251 r, ReservedType)
-    ∷ (begins_from 254 r, Segment)
+    (begins 0xf0 0xf7 r, FeedbackShort)
+    ∷ (begins 0xe1 0xef r, AddCidOnLarge)
+    ∷ (begins 0xf9 0xfb r, ReservedType)
+    ∷ (begins_from 0xfe r, Segment)
     ∷ (length r == 1, NoHeader)
-    ∷ (begins_from 192 (drop 1 r), LargeCid)
-    ∷ (begins 128 191 (drop 1 r) && (length r == 2), NoHeader)
+    ∷ (begins_from 0xc0 (drop 1 r), LargeCid)
+    ∷ (begins 0x80 0xbf (drop 1 r) && (length r == 2), NoHeader)
     ∷ (nat_lt max_cid (spelled_cid (drop 1 r)), CidRange)
     ∷ []
 

@@ -1,12 +1,12 @@
 //! Framing: what a link's packet is made of (RFC 3095 5.2, RFC 5795 5).
 #![tactic(auto)]
 
-pub mod cutting;
-pub mod elements;
-pub mod header;
+mod cutting;
+mod elements;
+mod header;
 mod items;
 pub mod laws;
-pub mod refusal;
+mod refusal;
 
 pub use cutting::cut;
 pub use elements::{Elements, Framed};

@@ -6,7 +6,7 @@ use Rattle.rohc_checks.specs.Division.{check, poly3, poly7}
 use Rattle.rohc_checks.proofs.Division.{check-append, check-lt}
 use Rattle.rohc_header.specs.Check.{all_ones, static_octets, dynamic_octets}
 use Rattle.rohc_header.proofs.Split.{static_ranges, dynamic_ranges}
-use Rattle.rohc_header.proofs.SevenOctets.{IsOctet, HasPeriod, seven_octets}
+use Rattle.rohc_header.proofs.SevenOctets.{HasPeriod, seven_octets}
 
 pub ones3 : all_ones poly3 ≡ 7
 unfolding poly3
@@ -38,7 +38,7 @@ pub dynamic_parted : (poly : List Bool) (reg : ℕ) (octets : List ℕ) → HasP
 dynamic_parted poly reg octets h forty small =
     let before = check poly (check poly reg (take 4 (drop 2 octets))) (take 2 (drop 10 octets)) in
     let seven : length (take 7 (drop 29 octets)) ≡ 7 = length-take-le 7 (drop 29 octets) (omega (arith, length-drop 29 octets)) in
-    let all = All-take IsOctet 7 (drop 29 octets) (All-drop IsOctet 29 octets (All-from_get_or IsOctet octets 0 (λ k inside. small k))) in
+    let all = All-take (λ octet. octet < 256) 7 (drop 29 octets) (All-drop (λ octet. octet < 256) 29 octets (All-from_get_or (λ octet. octet < 256) octets 0 (λ k inside. small k))) in
     sym (seven_octets poly (check poly before (take 4 (drop 24 octets))) (take 7 (drop 29 octets)) h (check-lt poly before (take 4 (drop 24 octets))) seven all)
     ∙ dynamic_checked poly reg octets
 

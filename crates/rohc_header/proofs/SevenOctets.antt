@@ -11,9 +11,6 @@ use Rattle.rohc_checks.specs.declared.tables.TheConstants.{CRC3, CRC7}
 use Rattle.rohc_checks.specs.Division.{bits, number, poly3, poly7, degree, add_front, divided, remainder, check, table_of}
 use Rattle.rohc_checks.proofs.Division.{check-append, check-lt, check-nil, check-table}
 
-abbrev pub IsOctet : ℕ → Type 0
-IsOctet octet = octet < 256
-
 -- ---- For any polynomial whose table keeps sums, and whose registers stay over seven zero octets
 
 -- the table keeps the sum of this register and this octet
@@ -43,7 +40,7 @@ one_parted poly a b octet h low lower small =
     ∙ ap (λ place. bit_xor (get_or (table_of poly) place 0) (get_or (table_of poly) (bit_xor b octet) 0)) (sym (xor_zero_r a))
     ∙ rw (check-table poly a 0 h.narrow low (omega arith), check-table poly b octet h.narrow lower small) refl
 
-parted : (poly : List Bool) (a b : ℕ) (octets : List ℕ) → HasPeriod poly → a < 2 ^ degree poly → b < 2 ^ degree poly → All IsOctet octets
+parted : (poly : List Bool) (a b : ℕ) (octets : List ℕ) → HasPeriod poly → a < 2 ^ degree poly → b < 2 ^ degree poly → All (λ octet. octet < 256) octets
     → check poly (bit_xor a b) octets ≡ bit_xor (check poly a (replicate (length octets) 0)) (check poly b octets)
 parted poly a b [] h low lower small =
     rw (check-nil poly (bit_xor a b) (xor_lt (degree poly) a b low lower), check-nil poly a low, check-nil poly b lower) refl
@@ -51,11 +48,11 @@ parted poly a b (octet ∷ octets) h low lower small =
     let zero = check poly a (0 ∷ []) in
     let one = check poly b (octet ∷ []) in
     sym (check-append poly (bit_xor a b) (octet ∷ []) octets)
-    ∙ ap (λ reg. check poly reg octets) (one_parted poly a b octet h low lower (All-head IsOctet octet octets small))
-    ∙ parted poly zero one octets h (check-lt poly a (0 ∷ [])) (check-lt poly b (octet ∷ [])) (All-tail IsOctet octet octets small)
+    ∙ ap (λ reg. check poly reg octets) (one_parted poly a b octet h low lower (All-head (λ octet. octet < 256) octet octets small))
+    ∙ parted poly zero one octets h (check-lt poly a (0 ∷ [])) (check-lt poly b (octet ∷ [])) (All-tail (λ octet. octet < 256) octet octets small)
     ∙ rw (check-append poly a (0 ∷ []) (replicate (length octets) 0), check-append poly b (octet ∷ []) octets) refl
 
-pub seven_octets : (poly : List Bool) (reg : ℕ) (octets : List ℕ) → HasPeriod poly → reg < 2 ^ degree poly → length octets ≡ 7 → All IsOctet octets
+pub seven_octets : (poly : List Bool) (reg : ℕ) (octets : List ℕ) → HasPeriod poly → reg < 2 ^ degree poly → length octets ≡ 7 → All (λ octet. octet < 256) octets
     → check poly reg octets ≡ bit_xor reg (check poly 0 octets)
 unfolding stays
 seven_octets poly reg octets h low seven small =

@@ -2,8 +2,8 @@
 #![tactic(auto)]
 
 mod field;
-pub mod fields;
-pub mod header;
+mod fields;
+mod header;
 pub mod laws;
 mod parts;
 mod polynomial;

@@ -2,11 +2,11 @@
 //! Identification (RFC 3095 4.5).
 #![tactic(auto)]
 
-pub mod identification;
-pub mod interval;
+mod identification;
+mod interval;
 pub mod laws;
-pub mod sequence;
-pub mod timestamp;
+mod sequence;
+mod timestamp;
 
 pub use identification::ip_id;
 pub use interval::interval_value;

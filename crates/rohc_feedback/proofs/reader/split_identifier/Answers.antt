@@ -1,5 +1,6 @@
-use Rattle.std.proofs.Common.{arith}
-use Rattle.rohc_feedback.proofs.LargeIdentifier.{read_some, read_identifier, read_within}
+use Rattle.std.proofs.Common.{◌+◌, [], ◌∷◌, Some, ap, refl, arith, rules}
+use Rattle.rohc_feedback.proofs.LargeIdentifier.{behind_front, read_some, read_identifier, read_within}
+use Rattle.rohc_feedback.proofs.SmallIdentifier.{small_is, split_small}
 use Rattle.rohc_feedback.proofs.reader.split_identifier.Goals as goal
 
 pub returns-in_err-value-in-Large-clause-every : goal.returns-in_err-value-in-Large-clause-every
@@ -14,3 +15,14 @@ pub returns-then-value-gt-GREATEST_LARGE_CID-clause-every : goal.returns-then-va
 returns-then-value-gt-GREATEST_LARGE_CID-clause-every c = λ cid feedback fits begins is.
     let within = read_within c.read_value.result c.args.octets.now feedback cid _ _ c.read_value.ensures.every (rw c.in-Large.is at fits) (rw c.in-Large.is at is) c.in_ok-value-in-Large.was in
     absurd (omega (arith, within, c.if-value-gt-GREATEST_LARGE_CID.true))
+
+pub returns-in-225-to-239-clause-every : goal.returns-in-225-to-239-clause-every
+returns-in-225-to-239-clause-every c = λ cid feedback fits begins is.
+    let front = split_small cid c.from.result c.args.octets.now feedback (rw c.in-Small.is at fits) (search rules) begins (rw c.in-Small.is at is) c.from.ensures in
+    let behind = behind_front c.args.octets.now ((224 + cid) ∷ []) feedback 1 front.1 refl in
+    ap Some (λ i. (front.0 i, behind i))
+
+pub returns-in_default-clause-every : goal.returns-in_default-clause-every
+returns-in_default-clause-every c = λ cid feedback fits begins is.
+    let plain = small_is cid c.args.octets.now feedback (rw c.in-Small.is at fits) (rw c.in-Small.is at is) in
+    search rules
