@@ -1,3 +1,4 @@
+pub mod EventLemmas
 pub mod GoodLemmas
 pub mod MarkedLemmas
 pub mod OrderLemmas

@@ -15,7 +15,8 @@ use Rattle.rohc_concentrator.specs.Setting.{settings_of}
 use Rattle.rohc_concentrator.specs.Tables.{setting_at, record_at}
 use Rattle.rohc_concentrator.specs.Report.{Report, wants_memory, is_refusal, is_refused}
 use Rattle.rohc_concentrator.specs.Bears.{borne}
-use Rattle.rohc_concentrator.specs.Events.{Arrives}
+use Rattle.rohc_concentrator.specs.Events.{Arrives, RunsEvents}
+use Rattle.rohc_concentrator.specs.Isolation.{EventRun, IsIsolatedRun}
 use Rattle.rohc_concentrator.specs.declared.setup.SetupFault.{SetupFault}
 use Rattle.rohc_concentrator.specs.Setup.{IsFault, AreFine}
 use Rattle.rohc_concentrator.specs.LoneRun.{LoneEvent, LoneRun, MarkedStep, MarkedRun}
@@ -99,3 +100,7 @@ LoneRunIsUnmarked =
     (s : Settings) (before after : Option Record) (events : List LoneEvent) (replies : List Response) →
     LoneRun s before events replies after
     ↔ MarkedRun s before (map (λ (event : LoneEvent). (event, false)) events) replies after
+
+-- Every run of events, whatever they are, isolates each identifier of each link.
+abbrev pub IsolatedEvents : Type 0
+IsolatedEvents = (r : EventRun) → RunsEvents r.before r.turns r.after → IsIsolatedRun r

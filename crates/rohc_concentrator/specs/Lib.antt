@@ -5,4 +5,5 @@ pub mod Report
 pub mod Setup
 pub mod Events
 pub mod LoneRun
+pub mod Isolation
 pub mod Laws

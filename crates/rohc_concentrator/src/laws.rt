@@ -1,7 +1,7 @@
 //! Laws of the concentrator, as contracts of functions that do nothing.
 
 ghost use Rattle.rohc_context.specs.Laws.{HasAnswer, HasNoOther};
-ghost use Rattle.rohc_concentrator.specs.Laws.{TwoWorlds, NoTrace, WantIsRefusal, TakenHasALink, HoldsGoodRecords, FaultyIsNotFine, FineOrFaulty, HasOneFault, MarkedIsAcceptedIr, LoneRunIsUnmarked};
+ghost use Rattle.rohc_concentrator.specs.Laws.{TwoWorlds, NoTrace, WantIsRefusal, TakenHasALink, HoldsGoodRecords, FaultyIsNotFine, FineOrFaulty, HasOneFault, MarkedIsAcceptedIr, LoneRunIsUnmarked, IsolatedEvents};
 
 /// For good values, an arrival has exactly one answer and one record, or none, after it.
 pub fn one_answer()
@@ -48,4 +48,10 @@ pub fn marked_is_accepted_ir()
 /// The lone run is the marked run of events without a mark.
 pub fn lone_run_is_unmarked()
     ensures { LoneRunIsUnmarked }
+{}
+
+/// Whatever events a concentrator takes one after another, each identifier of each link is answered what one
+/// context machine answers, run alone over the identifier's own events.
+pub fn isolated_events()
+    ensures { IsolatedEvents }
 {}

@@ -15,9 +15,11 @@ use Rattle.rohc_concentrator.specs.Bears.{header_in}
 use Rattle.rohc_concentrator.proofs.GoodLemmas.{good_setting, good_settings_of, good_record_at, good_header}
 use Rattle.rohc_concentrator.proofs.WorldLemmas.{IsGoodEvent, lone_run_one}
 use Rattle.rohc_replay.specs.AnswerLines.{response_lines}
-use Rattle.rohc_replay.specs.Isolation.{own, own_event, own_marked}
+use Rattle.rohc_concentrator.specs.Isolation.{own_event}
+use Rattle.rohc_replay.specs.Isolation.{own, own_marked}
 use Rattle.rohc_replay.specs.Laws.{SameLines}
-use Rattle.rohc_replay.specs.Script.{Event, Arrive, Reset, IsEvent, Line, Good, Bad, Long, lines_of}
+use Rattle.rohc_concentrator.specs.Events.{Event, Arrive, Reset}
+use Rattle.rohc_replay.specs.Script.{IsEvent, Line, Good, Bad, Long, lines_of}
 use Rattle.rohc_replay.proofs.ReplayIsolates.{unmarked_with}
 use Rattle.rohc_replay.proofs.ToldLemmas.{AreFit, lines_fit}
 

@@ -1,26 +1,23 @@
--- The run of a script, line by line. Words: RunsLine, Runs; line_mark, marked_of; IsTally; Change; Replays;
--- Fails.
+-- The run of a script, line by line. Words: RunsLine, Runs; marked_of; IsTally; Change; Replays; Fails.
 use Rattle.std.specs.Prelude.{◌≡◌, ℕ, ◌-◌, ◌^◌, List, [], ◌∷◌, ◌++◌, Bool, true, false, not, count_by, min, length, ◌<◌, ◌⊎◌, Option, IfSome}
 use Rattle.std.specs.List.{flat_map}
 use Rattle.std.specs.Io.KnownBytes.{Appends, Consumes}
 use Rattle.rohc_concentrator.specs.declared.concentrator.Concentrator.{Concentrator}
-use Rattle.rohc_concentrator.specs.Tables.{setting_at}
-use Rattle.rohc_concentrator.specs.Report.{Report, wants_memory}
-use Rattle.rohc_concentrator.specs.Events.{Arrives, Resets}
+use Rattle.rohc_concentrator.specs.Report.{Report}
+use Rattle.rohc_concentrator.specs.Events.{RunsEvent}
+use Rattle.rohc_concentrator.specs.Isolation.{is_marked}
 use Rattle.rohc_replay.specs.declared.tally.Tally.{Tally}
 use Rattle.rohc_replay.specs.declared.fault.RunFault.{RunFault}
 use Rattle.rohc_replay.specs.declared.fault.RunFault.TheVariants.{NoMemory, Read, Write}
-use Rattle.rohc_replay.specs.Script.{Event, Arrive, Reset, Line, Good, Bad, Long, AreLines, lines_of, IsScript}
+use Rattle.rohc_replay.specs.Script.{Line, Good, Bad, Long, AreLines, lines_of, IsScript}
 use Rattle.rohc_replay.specs.Offers.{TakesAll}
 use Rattle.rohc_replay.specs.Lines.{Splits}
-use Rattle.rohc_replay.specs.AnswerLines.{report_lines, reset_lines, bad_line, long_line, text_of}
+use Rattle.rohc_replay.specs.AnswerLines.{event_lines, bad_line, long_line, text_of}
 
 -- one line: the concentrator before it, its answer lines, and the concentrator after it
 abbrev pub RunsLine : Concentrator → Line → List (List ℕ) → Concentrator → Type 0
-RunsLine old (Good (Arrive link moment octets)) answers new =
-    (report : Report) × Arrives old link moment octets report new × (answers ≡ report_lines link report)
-RunsLine old (Good (Reset link)) answers new =
-    Resets old link new × (answers ≡ reset_lines link (setting_at old link))
+RunsLine old (Good event) answers new =
+    (report : Option Report) × RunsEvent old event report new × (answers ≡ event_lines event report)
 RunsLine old Bad answers new = (new ≡ old) × (answers ≡ bad_line ∷ [])
 RunsLine old Long answers new = (new ≡ old) × (answers ≡ long_line ∷ [])
 
@@ -32,19 +29,13 @@ Runs old (line ∷ lines) (answers ∷ more) new =
 Runs old [] (answers ∷ more) new = ⊥
 Runs old (line ∷ lines) [] new = ⊥
 
--- whether an event was answered `NoMemory`
-abbrev pub line_mark : (old : Concentrator) (e : Event) (answers : List (List ℕ)) (new : Concentrator) →
-    RunsLine old (Good e) answers new → Bool
-line_mark old (Arrive link moment octets) answers new turn = wants_memory turn.0
-line_mark old (Reset link) answers new turn = false
-
 -- the lines of a run, each with its mark: true where its event was answered `NoMemory`
 abbrev pub marked_of : (old : Concentrator) (lines : List Line) (answers : List (List (List ℕ)))
     (new : Concentrator) → Runs old lines answers new → List (Line × Bool)
 marked_of old [] answers new run = []
 marked_of old (line ∷ lines) [] new run = []
 marked_of old (Good e ∷ lines) (a ∷ more) new run =
-    (Good e, line_mark old e a run.0 run.1) ∷ marked_of run.0 lines more new run.2
+    (Good e, is_marked run.1.0) ∷ marked_of run.0 lines more new run.2
 marked_of old (Bad ∷ lines) (a ∷ more) new run = (Bad, false) ∷ marked_of run.0 lines more new run.2
 marked_of old (Long ∷ lines) (a ∷ more) new run = (Long, false) ∷ marked_of run.0 lines more new run.2
 
