@@ -1,4 +1,4 @@
--- The run of a script, line by line. Words: RunsLine, Runs; marked_of; IsTally; Change; Replays; Fails.
+-- The run of a script, line by line. Words: RunsLine, Runs; marked_of; IsTally; Change; Replays; Work, Fails.
 use Rattle.std.specs.Prelude.{◌≡◌, ℕ, ◌-◌, ◌^◌, List, [], ◌∷◌, ◌++◌, Bool, true, false, not, count_by, min, length, ◌<◌, ◌⊎◌, Option, IfSome}
 use Rattle.std.specs.List.{flat_map}
 use Rattle.std.specs.Io.KnownBytes.{Appends, Consumes}
@@ -57,6 +57,11 @@ pub record Change : Type 0 where
   pub held : Option (List ℕ)
   pub holding : Option (List ℕ)
 
+-- from a concentrator and what the writer held to a concentrator and what it holds
+abbrev pub change : Concentrator → Option (List ℕ) → Concentrator → Option (List ℕ) → Change
+change before held after holding =
+    record { before = before; after = after; held = held; holding = holding }
+
 -- A whole replay: the script of the text, its answer lines, which are all that was written, the tally, and
 -- where the concentrator stands after all events.
 pub record Replays (c : Change) (text : List ℕ) (t : Tally) : Type 0 where
@@ -111,19 +116,23 @@ pub record FlushFails (c : Change) (text : List ℕ) (written : ℕ) : Type 0 wh
   pub run : Runs c.before lines answers c.after
   pub taken : TakesAll c.held c.holding 0 written (flat_map text_of answers)
 
--- What each fault leaves, from the concentrator, the reader and the writer before to those after it.
+-- what a replay works on
+pub record Work (R W : Type 0) : Type 0 where
+  pub concentrator : Concentrator
+  pub reader : R
+  pub writer : W
+
+-- what a replay changes of it, where the writer tells its octets
+abbrev pub change_of : {R W : Type 0} → (W → Option (List ℕ)) → Work R W → Work R W → Change
+change_of contents old new =
+    change old.concentrator (contents old.writer) new.concentrator (contents new.writer)
+
+-- What each fault leaves of it, where the reader tells its octets too: without memory nothing is changed.
 abbrev pub Fails : {R W : Type 0} → (R → Option (List ℕ)) → (W → Option (List ℕ))
-    → Concentrator → R → W → RunFault → Concentrator → R → W → Type 0
-Fails remaining contents old reader writer NoMemory new reader_after writer_after =
-    (new ≡ old) × (reader_after ≡ reader) × (writer_after ≡ writer)
-Fails remaining contents old reader writer (Read written) new reader_after writer_after =
-    ReadFails (record { before = old; after = new; held = contents writer; holding = contents writer_after })
-    (remaining reader) (remaining reader_after) written
-Fails remaining contents old reader writer (Write written) new reader_after writer_after =
-    let change : Change = record {
-      before = old;
-      after = new;
-      held = contents writer;
-      holding = contents writer_after;
-    } in
-    IfSome (remaining reader) (λ text. WriteFails change text written ⊎ FlushFails change text written)
+    → Work R W → RunFault → Work R W → Type 0
+Fails remaining contents old NoMemory new = new ≡ old
+Fails remaining contents old (Read written) new =
+    ReadFails (change_of contents old new) (remaining old.reader) (remaining new.reader) written
+Fails remaining contents old (Write written) new =
+    IfSome (remaining old.reader) (λ text.
+    WriteFails (change_of contents old new) text written ⊎ FlushFails (change_of contents old new) text written)

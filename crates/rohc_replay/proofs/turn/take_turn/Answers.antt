@@ -2,6 +2,7 @@ use Rattle.std.proofs.Common.{rules, refl, take, [], ◌∷◌, Some, None}
 use Rattle.std.proofs.KnownBytes.{Appends-nil}
 use Rattle.rohc_replay.proofs.TurnLemmas.{reset_silent, counted_none}
 use Rattle.rohc_concentrator.specs.Report.{Refused, report_of}
+use Rattle.rohc_concentrator.specs.Tables.{setting_at}
 use Rattle.rohc_context.specs.declared.refusal.Refusal.TheVariants.{NoLink}
 use Rattle.rohc_concentrator.specs.Events.{Arrive, Reset}
 use Rattle.rohc_replay.specs.Script.{Good}
@@ -28,9 +29,9 @@ returns-in-Ok g c =
       line = Good (Reset c.in-Some-Reset.link);
       answers = [];
       is_line = (search rules);
-      turns = (None, (record { forgotten = said.forgotten; settings = said.settings; others = said.others; emptied = said.emptied; order = said.order }, reset_silent _ (λ e. let h = c.in-Ok.ensures.absent.1 e in cc)), refl);
+      turns = (None, (record { forgotten = said.forgotten; settings = said.settings; others = said.others; emptied = said.emptied; order = said.order }, reset_silent (setting_at c.args.concentrator.now c.in-Some-Reset.link) (λ e. let h = c.in-Ok.ensures.absent.1 e in cc)), refl);
       tally = search rules;
-      offers = (Appends-nil _, counted_none _ c.args.counts.now.in_range);
+      offers = (Appends-nil (g.W.Write.contents c.args.writer.now), counted_none c.args.counts.now.taken c.args.counts.now.in_range);
     }
 
 pub returns-in-Err : goal.returns-in-Err
