@@ -1,7 +1,7 @@
 //! Laws of the concentrator, as contracts of functions that do nothing.
 
 ghost use Rattle.rohc_context.specs.Laws.{HasAnswer, HasNoOther};
-ghost use Rattle.rohc_concentrator.specs.Laws.{TwoWorlds, NoTrace, WantIsRefusal, TakenHasALink, HoldsGoodRecords, FaultyIsNotFine, FineOrFaulty, HasOneFault, MarkedIsAcceptedIr, LoneRunIsUnmarked, IsolatedEvents};
+ghost use Rattle.rohc_concentrator.specs.Laws.{TwoWorlds, NoTrace, WantIsRefusal, TakenHasALink, HoldsGoodRecords, FaultyIsNotFine, FineOrFaulty, HasOneFault, MarkedIsAcceptedIr, LoneRunIsUnmarked, IsolatedEvents, SameReplies};
 
 /// For good values, an arrival has exactly one answer and one record, or none, after it.
 pub fn one_answer()
@@ -54,4 +54,10 @@ pub fn lone_run_is_unmarked()
 /// context machine answers, run alone over the identifier's own events.
 pub fn isolated_events()
     ensures { IsolatedEvents }
+{}
+
+/// Two runs of events that agree on an identifier of a link, in its own events, its settings and its record
+/// before, answer it alike and leave it equal records, want of memory aside, whatever else they hold.
+pub fn same_replies()
+    ensures { SameReplies }
 {}

@@ -10,7 +10,8 @@ use Rattle.rohc_concentrator.specs.Report.{Report, is_no_memory}
 use Rattle.rohc_concentrator.specs.Events.{Event}
 use Rattle.rohc_concentrator.specs.Isolation.{Pair, own_events, own_replies, is_rich, IsAnsweredAlone}
 use Rattle.rohc_concentrator.specs.LoneRun.{LoneEvent, LoneRun, MarkedRun, unmarked}
-use Rattle.rohc_concentrator.proofs.EventLemmas.{with_mark, is_no_memory-not, IsRichOrPoor, each_rich_or_poor, isolated_events}
+use Rattle.rohc_concentrator.proofs.EventLemmas.{is_no_memory-not, IsRichOrPoor, each_rich_or_poor, isolated_events}
+use Rattle.rohc_concentrator.proofs.SameLemmas.{unmarked_with}
 use Rattle.rohc_replay.specs.declared.tally.Tally.{Tally}
 use Rattle.rohc_replay.specs.declared.fault.RunFault.{RunFault}
 use Rattle.rohc_replay.specs.AnswerLines.{response_lines, text_of}
@@ -71,12 +72,6 @@ module _ (s : LinkSetting) (l c : ℕ) where
         unfinished = refl;
       }) ∙ append-nil texts in
       subst (λ ts. AreLines ts (left_lines marked)) (sym cut) (are_left (lines_of text) marked script)
-
-  pub unmarked_with : (mark : Bool) (events : List LoneEvent) (more : List (LoneEvent × Bool)) → unmarked (with_mark mark events ++ more) ≡ (if mark then [] else events) ++ unmarked more
-  unmarked_with true [] more = refl
-  unmarked_with false [] more = refl
-  unmarked_with true (event ∷ events) more = unmarked_with true events more
-  unmarked_with false (event ∷ events) more = ap (λ es. event ∷ es) (unmarked_with false events more)
 
   line_own : (line : Line) (events : List LoneEvent) (mark : Bool) (more : List Line) → own_line s l c line ≡ events → (if mark then [] else events) ++ flat_map (own_line s l c) more ≡ flat_map (own_line s l c) (left_of events mark line ++ more)
   line_own line [] true more same = refl
