@@ -112,7 +112,7 @@ IsFit (Arrive link moment octets) = (moment < 2 ^ 64) × All IsOctet octets
 IsFit (Reset link) = Unit {0}
 
 -- Two runs of events that agree there, in their own events without a mark, their settings and their records,
--- answer an identifier of a link alike and leave it equal records, whatever else they hold, want of memory aside.
+-- answer an identifier of a link alike, want of memory aside, and leave it equal records.
 abbrev pub SameReplies : Type 0
 SameReplies = (a b : EventRun) (l c : ℕ) (agree : Agree a.before b.before l c) →
     AllByRecursion (λ (turn : Event × Option Report). IsFit turn.0) a.turns →

@@ -134,5 +134,5 @@ Fails remaining contents old NoMemory new = new ≡ old
 Fails remaining contents old (Read written) new =
     ReadFails (change_of contents old new) (remaining old.reader) (remaining new.reader) written
 Fails remaining contents old (Write written) new =
-    IfSome (remaining old.reader) (λ text.
-    WriteFails (change_of contents old new) text written ⊎ FlushFails (change_of contents old new) text written)
+    let c : Change = change_of contents old new in
+    IfSome (remaining old.reader) (λ text. WriteFails c text written ⊎ FlushFails c text written)
