@@ -1,7 +1,9 @@
+pub mod EventLemmas
 pub mod GoodLemmas
 pub mod HonestLemmas
 pub mod MarkedLemmas
 pub mod OrderLemmas
+pub mod SameLemmas
 pub mod SetupLaws
 pub mod SetupLemmas
 pub mod WorldLemmas

@@ -1,8 +1,10 @@
--- The two events of a concentrator, each as one fact. Words: Arrives, Resets.
-use Rattle.std.specs.Prelude.{◌≡◌, ◌≢◌, ℕ, List, [], None}
+-- The events of a concentrator. Words: Arrives, Resets, each event as one fact; Event, RunsEvent, RunsEvents.
+use Rattle.std.specs.Prelude.{◌≡◌, ◌≢◌, ℕ, List, [], ◌∷◌, Option, Some, None}
+use Rattle.rohc_context.specs.declared.refusal.Refusal.TheVariants.{NoLink}
 use Rattle.rohc_concentrator.specs.declared.concentrator.Concentrator.{Concentrator}
+use Rattle.rohc_concentrator.specs.declared.setting.LinkSetting.{LinkSetting}
 use Rattle.rohc_concentrator.specs.Tables.{setting_at, record_at, identifiers_at, KeepsSettings, KeepsOthers, KeepsOrder}
-use Rattle.rohc_concentrator.specs.Report.{Report, IsAnswered}
+use Rattle.rohc_concentrator.specs.Report.{Report, Refused, IsAnswered}
 use Rattle.rohc_concentrator.specs.Bears.{borne}
 
 -- a packet of a link arrives at a moment and is answered
@@ -21,3 +23,26 @@ pub record Resets (old : Concentrator) (link : ℕ) (new : Concentrator) : Type 
   pub others : (l cid : ℕ) → l ≢ link → record_at new l cid ≡ record_at old l cid
   pub emptied : identifiers_at new link ≡ []
   pub order : (l : ℕ) → l ≢ link → identifiers_at new l ≡ identifiers_at old l
+
+-- one call of a concentrator: a packet of a link at a moment, or a reset of a link
+pub data Event : Type 0 where
+  Arrive : ℕ → ℕ → List ℕ → Event
+  Reset : ℕ → Event
+
+-- what a reset is answered: nothing, or that its link isn't there
+abbrev pub reset_report : Option LinkSetting → Option Report
+reset_report (Some s) = None
+reset_report None = Some (Refused NoLink)
+
+-- one event: the concentrator before it, what it was answered, if anything, and the concentrator after it
+abbrev pub RunsEvent : Concentrator → Event → Option Report → Concentrator → Type 0
+RunsEvent old (Arrive link moment octets) None new = ⊥
+RunsEvent old (Arrive link moment octets) (Some report) new = Arrives old link moment octets report new
+RunsEvent old (Reset link) report new =
+    Resets old link new × (report ≡ reset_report (setting_at old link))
+
+-- events in turn, each with what it was answered
+abbrev pub RunsEvents : Concentrator → List (Event × Option Report) → Concentrator → Type 0
+RunsEvents old [] new = new ≡ old
+RunsEvents old ((event, report) ∷ turns) new =
+    (mid : Concentrator) × RunsEvent old event report mid × RunsEvents mid turns new

@@ -1,6 +1,7 @@
 -- Promises over two concentrators, over what is refused, and over the definitions themselves.
--- Words: Agree (on one identifier), AreAlike (on all), IsAcceptedIr; then each law.
-use Rattle.std.specs.Prelude.{◌≡◌, ℕ, ◌<◌, ◌^◌, List, map, All, Bool, true, false, Option, Some, None, IfSome, ◌⊎◌, ◌↔◌}
+-- Words: Agree (on one identifier), AreAlike (on all), IsAcceptedIr, IsFit; then each law.
+use Rattle.std.specs.Prelude.{◌≡◌, ℕ, ◌<◌, ◌^◌, List, map, filter, All, Bool, true, false, Option, Some, None, IfSome, ◌⊎◌, ◌↔◌}
+use Rattle.std.specs.List.{AllByRecursion}
 use Rattle.rohc_frame.specs.Header.{Header}
 use Rattle.rohc_frame.specs.Laws.{IsOctet}
 use Rattle.rohc_frame.specs.declared.header.HeadKind.TheVariants.{Ir}
@@ -15,10 +16,11 @@ use Rattle.rohc_concentrator.specs.Setting.{settings_of}
 use Rattle.rohc_concentrator.specs.Tables.{setting_at, record_at}
 use Rattle.rohc_concentrator.specs.Report.{Report, wants_memory, is_refusal, is_refused}
 use Rattle.rohc_concentrator.specs.Bears.{borne}
-use Rattle.rohc_concentrator.specs.Events.{Arrives}
+use Rattle.rohc_concentrator.specs.Events.{Arrives, Event, Arrive, Reset, RunsEvents}
+use Rattle.rohc_concentrator.specs.Isolation.{EventRun, own_events, own_replies, is_rich, IsIsolatedRun}
 use Rattle.rohc_concentrator.specs.declared.setup.SetupFault.{SetupFault}
 use Rattle.rohc_concentrator.specs.Setup.{IsFault, AreFine}
-use Rattle.rohc_concentrator.specs.LoneRun.{LoneEvent, LoneRun, MarkedStep, MarkedRun}
+use Rattle.rohc_concentrator.specs.LoneRun.{LoneEvent, LoneRun, MarkedStep, MarkedRun, unmarked}
 
 -- two concentrators agree on an identifier of a link: on its settings there, and on its record or on none
 pub record Agree (a b : Concentrator) (l c : ℕ) : Type 0 where
@@ -99,3 +101,22 @@ LoneRunIsUnmarked =
     (s : Settings) (before after : Option Record) (events : List LoneEvent) (replies : List Response) →
     LoneRun s before events replies after
     ↔ MarkedRun s before (map (λ (event : LoneEvent). (event, false)) events) replies after
+
+-- Every run of events, whatever they are, isolates each identifier of each link.
+abbrev pub IsolatedEvents : Type 0
+IsolatedEvents = (r : EventRun) → RunsEvents r.before r.turns r.after → IsIsolatedRun r
+
+-- the moment has 64 bits, and the packet is of octets
+abbrev pub IsFit : Event → Type 0
+IsFit (Arrive link moment octets) = (moment < 2 ^ 64) × All IsOctet octets
+IsFit (Reset link) = Unit {0}
+
+-- Two runs of events that agree there, in their own events without a mark, their settings and their records,
+-- answer an identifier of a link alike, want of memory aside, and leave it equal records.
+abbrev pub SameReplies : Type 0
+SameReplies = (a b : EventRun) (l c : ℕ) (agree : Agree a.before b.before l c) →
+    AllByRecursion (λ (turn : Event × Option Report). IsFit turn.0) a.turns →
+    RunsEvents a.before a.turns a.after → RunsEvents b.before b.turns b.after →
+    unmarked (own_events agree.here l c a.turns) ≡ unmarked (own_events agree.there l c b.turns) →
+    (filter is_rich (own_replies l c a.turns) ≡ filter is_rich (own_replies l c b.turns))
+    × (record_at a.after l c ≡ record_at b.after l c)

@@ -5,5 +5,6 @@ pub mod Report
 pub mod Setup
 pub mod Events
 pub mod LoneRun
+pub mod Isolation
 pub mod Honest
 pub mod Laws

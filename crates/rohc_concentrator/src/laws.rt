@@ -1,7 +1,7 @@
 //! Laws of the concentrator, as contracts of functions that do nothing.
 
 ghost use Rattle.rohc_context.specs.Laws.{HasAnswer, HasNoOther};
-ghost use Rattle.rohc_concentrator.specs.Laws.{TwoWorlds, NoTrace, WantIsRefusal, TakenHasALink, HoldsGoodRecords, FaultyIsNotFine, FineOrFaulty, HasOneFault, MarkedIsAcceptedIr, LoneRunIsUnmarked};
+ghost use Rattle.rohc_concentrator.specs.Laws.{TwoWorlds, NoTrace, WantIsRefusal, TakenHasALink, HoldsGoodRecords, FaultyIsNotFine, FineOrFaulty, HasOneFault, MarkedIsAcceptedIr, LoneRunIsUnmarked, IsolatedEvents, SameReplies};
 ghost use Rattle.rohc_concentrator.specs.Honest.{DeliversWhatWasSent, HasHonestRun, HasHonestSender};
 
 /// For good values, an arrival has exactly one answer and one record, or none, after it.
@@ -49,6 +49,18 @@ pub fn marked_is_accepted_ir()
 /// The lone run is the marked run of events without a mark.
 pub fn lone_run_is_unmarked()
     ensures { LoneRunIsUnmarked }
+{}
+
+/// Whatever events a concentrator takes one after another, each identifier of each link is answered what one
+/// context machine answers, run alone over the identifier's own events.
+pub fn isolated_events()
+    ensures { IsolatedEvents }
+{}
+
+/// Two runs of events that agree on an identifier of a link, in its own events, its settings and its record
+/// before, answer it alike and leave it equal records, want of memory aside, whatever else they hold.
+pub fn same_replies()
+    ensures { SameReplies }
 {}
 
 /// What is delivered was sent: where a sender's packets are written for each of the last w references, fewer than w

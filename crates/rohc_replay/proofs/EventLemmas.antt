@@ -1,63 +1,59 @@
--- What each event of a script tells a pair.
-use Rattle.std.proofs.Common.{◌≡◌, ◌≢◌, ℕ, ◌<◌, ◌^◌, List, [], ◌∷◌, map, filter, true, false, ◌==◌, Option, Some, None, All, inl, inr, ⊎_elim, eq-eqb, ne_eqb, refl, sym, ◌∙◌, subst}
+-- Which lines of an event's answer are a pair's: those of the reply that it got.
+use Rattle.std.proofs.Common.{◌≡◌, ℕ, ◌<◌, ◌^◌, List, [], ◌∷◌, ◌++◌, map, filter, Bool, true, false, ◌==◌, if◌then◌else◌, Option, Some, None, ⊎_elim, append-nil, eq-eqb, ne_eqb, refl, sym, ◌∙◌, ap}
+use Rattle.std.specs.List.{flat_map}
 use Rattle.std.proofs.lemmas.Bool.{cases_eq}
-use Rattle.rohc_frame.specs.Laws.{IsOctet}
-use Rattle.rohc_frame.specs.Parts.{parts_of}
+use Rattle.rohc_context.specs.Response.{Response}
 use Rattle.rohc_context.specs.declared.refusal.Refusal.TheVariants as refusals
-use Rattle.rohc_concentrator.proofs.GoodLemmas.{good_setting}
+use Rattle.rohc_concentrator.proofs.GoodLemmas.{HasFitCid, report_fits}
 use Rattle.rohc_concentrator.specs.declared.concentrator.Concentrator.{Concentrator}
 use Rattle.rohc_concentrator.specs.declared.setting.LinkSetting.{LinkSetting}
-use Rattle.rohc_concentrator.specs.Setting.{settings_of}
 use Rattle.rohc_concentrator.specs.Tables.{setting_at, record_at}
-use Rattle.rohc_concentrator.specs.Report.{Report, Arrived, OnlyFront, Refused, IsAnswered, wants_memory}
-use Rattle.rohc_concentrator.specs.Bears.{borne}
-use Rattle.rohc_concentrator.specs.Events.{Arrives, Resets}
-use Rattle.rohc_concentrator.specs.LoneRun.{own_arrival}
-use Rattle.rohc_replay.specs.AnswerLines.{report_lines, reset_lines, response_lines, relay_line, bad_line, long_line}
-use Rattle.rohc_replay.specs.Isolation.{is_pair_line, own_event}
-use Rattle.rohc_replay.specs.Script.{Arrive, Reset}
-use Rattle.rohc_replay.proofs.OwnLines.{filter-append, filter-left_out, relays_left_out, refusal_left_out, reply_left_out}
-use Rattle.rohc_replay.proofs.PairLemmas.{other_link, no_link}
-use Rattle.rohc_replay.proofs.IsolationLemmas.{with_mark, Tells, tells_nothing, none_told, read_told, cid_fits}
+use Rattle.rohc_concentrator.specs.Report.{Report, Arrived, OnlyFront, Refused}
+use Rattle.rohc_concentrator.specs.Events.{Event, Arrive, Reset, reset_report, RunsEvent}
+use Rattle.rohc_concentrator.specs.Isolation.{reply_of, own_reply}
+use Rattle.rohc_replay.specs.AnswerLines.{report_lines, event_lines, response_lines, relay_line, bad_line, long_line}
+use Rattle.rohc_replay.specs.Isolation.{is_pair_line}
+use Rattle.rohc_replay.specs.Script.{IsEvent}
+use Rattle.rohc_replay.proofs.OwnLines.{filter-append, filter-left_out, relays_left_out, refusal_left_out, reply_left_out, reply_whole_kept}
+use Rattle.rohc_replay.proofs.PairLemmas.{other_pair, no_link}
 
--- the answer on another link is left out
-pub report_left_out : (l c k : ℕ) (report : Report) → l < 2 ^ 16 → c < 2 ^ 16 → k < 2 ^ 16 → k ≢ l → filter (is_pair_line l c) (report_lines k report) ≡ []
-report_left_out l c k (Arrived d response relayed) lf cf kf apart =
-    filter-append (is_pair_line l c) (map (relay_line k) relayed) (response_lines k d response)
-    ∙ rw (relays_left_out l c k relayed lf cf kf, reply_left_out l c k d (λ rest. other_link l c k d rest lf kf (λ e. apart (sym e))) response) refl
-report_left_out l c k (OnlyFront relayed) lf cf kf apart = relays_left_out l c k relayed lf cf kf
-report_left_out l c k (Refused refusal) lf cf kf apart = refusal_left_out l c k refusal lf cf kf
+module _ (l c : ℕ) (lf : l < 2 ^ 16) (cf : c < 2 ^ 16) where
+  -- the pair's own reply
+  own_kept : (relayed : List (List ℕ)) (response : Response) → filter (is_pair_line l c) (map (relay_line l) relayed ++ response_lines l c response) ≡ flat_map (response_lines l c) (response ∷ [])
+  own_kept relayed response =
+      filter-append (is_pair_line l c) (map (relay_line l) relayed) (response_lines l c response)
+      ∙ rw (relays_left_out l c l relayed lf cf lf, reply_whole_kept l c response) (sym (append-nil (response_lines l c response)))
 
-pub reset_left_out : (l c k : ℕ) (set : Option LinkSetting) → l < 2 ^ 16 → c < 2 ^ 16 → k < 2 ^ 16 → filter (is_pair_line l c) (reset_lines k set) ≡ []
-reset_left_out l c k (Some s) lf cf kf = refl
-reset_left_out l c k None lf cf kf = refusal_left_out l c k refusals.NoLink lf cf kf
+  -- the reply to another pair
+  other_left_out : (k d : ℕ) (relayed : List (List ℕ)) (response : Response) → k < 2 ^ 16 → d < 2 ^ 16 → ((l ≡ k) × (c ≡ d) → ⊥) → filter (is_pair_line l c) (map (relay_line k) relayed ++ response_lines k d response) ≡ []
+  other_left_out k d relayed response kf df apart =
+      filter-append (is_pair_line l c) (map (relay_line k) relayed) (response_lines k d response)
+      ∙ rw (relays_left_out l c k relayed lf cf kf, reply_left_out l c k d (λ rest. other_pair l c k d rest lf cf kf df apart) response) refl
 
-module _ (old new : Concentrator) (s : LinkSetting) (l c : ℕ) (lf : l < 2 ^ 16) (cf : c < 2 ^ 16) (set : setting_at old l ≡ Some s) where
-  here_told : (m : ℕ) (octets : List ℕ) (report : Report) → All IsOctet octets → Arrives old l m octets report new →
-      Tells (settings_of s c) l c (record_at old l c) (with_mark (wants_memory report) (own_arrival s c m octets)) (report_lines l report) (record_at new l c)
-  here_told m octets report all a =
-      read_told s l c lf cf m (parts_of s.settings.size s.settings.max_cid octets) (record_at old l) (record_at new l) report
-      (λ r h. cid_fits s octets r h (good_setting old l s set) all)
-      (λ apart. a.others l c (inr (subst (λ x. borne x octets ≢ Some c) (sym set) apart)))
-      (subst (λ x. IsAnswered x (record_at old l) m octets report (record_at new l)) set a.answer)
+  -- where there is no reply
+  neither : (b : Bool) → [] ≡ flat_map (response_lines l c) (if b then [] else [])
+  neither true = refl
+  neither false = refl
 
-  pub arrive_told : (k m : ℕ) (octets : List ℕ) (report : Report) → k < 2 ^ 16 → All IsOctet octets → Arrives old k m octets report new →
-      Tells (settings_of s c) l c (record_at old l c) (with_mark (wants_memory report) (own_event s l c (Arrive k m octets))) (report_lines k report) (record_at new l c)
-  arrive_told k m octets report kf all a = ⊎_elim
-      (λ e. let yes : (k == l) ≡ true = eq-eqb k l e in
-      rw yes (subst (λ x. Arrives old x m octets report new → Tells (settings_of s c) l c (record_at old l c) (with_mark (wants_memory report) (own_arrival s c m octets)) (report_lines x report) (record_at new l c)) (sym e) (here_told m octets report all) a))
-      (λ apart. let no : (k == l) ≡ false = ne_eqb k l apart in
-      none_told (settings_of s c) l c (wants_memory report) (record_at old l c) (record_at new l c) (own_event s l c (Arrive k m octets)) (report_lines k report) (rw no refl)
-      (tells_nothing (settings_of s c) l c (record_at old l c) (record_at new l c) (report_lines k report) (a.others l c (inl (λ e. apart (sym e)))) (report_left_out l c k report lf cf kf apart)))
+  report_told : (k : ℕ) (report : Report) → k < 2 ^ 16 → HasFitCid report → filter (is_pair_line l c) (report_lines k report) ≡ flat_map (response_lines l c) (if k == l then reply_of c report else [])
+  report_told k (OnlyFront relayed) kf df = relays_left_out l c k relayed lf cf kf ∙ neither (k == l)
+  report_told k (Refused refusal) kf df = refusal_left_out l c k refusal lf cf kf ∙ neither (k == l)
+  report_told k (Arrived d response relayed) kf df = ⊎_elim
+      (λ e. let here : (k == l) ≡ true = eq-eqb k l e in ⊎_elim
+      (λ f. let own : (d == c) ≡ true = eq-eqb d c f in rw (here, own, e, f) (own_kept relayed response))
+      (λ apart. let other : (d == c) ≡ false = ne_eqb d c apart in rw (here, other) (other_left_out k d relayed response kf df (λ g. apart (sym g.1))))
+      (cases_eq d c))
+      (λ apart. let away : (k == l) ≡ false = ne_eqb k l apart in rw away (other_left_out k d relayed response kf df (λ g. apart (sym g.0))))
       (cases_eq k l)
 
-  pub reset_told : (k : ℕ) → k < 2 ^ 16 → Resets old k new → Tells (settings_of s c) l c (record_at old l c) (with_mark false (own_event s l c (Reset k))) (reset_lines k (setting_at old k)) (record_at new l c)
-  reset_told k kf r = ⊎_elim
-      (λ e. let yes : (k == l) ≡ true = eq-eqb k l e in
-      rw yes ([], subst (λ x. record_at new x c ≡ None) e (r.forgotten c), reset_left_out l c k (setting_at old k) lf cf kf))
-      (λ apart. let no : (k == l) ≡ false = ne_eqb k l apart in
-      rw no (tells_nothing (settings_of s c) l c (record_at old l c) (record_at new l c) (reset_lines k (setting_at old k)) (r.others l c (λ e. apart (sym e))) (reset_left_out l c k (setting_at old k) lf cf kf)))
-      (cases_eq k l)
+  reset_left_out : (k : ℕ) (set : Option LinkSetting) → k < 2 ^ 16 → filter (is_pair_line l c) (event_lines (Reset k) (reset_report set)) ≡ []
+  reset_left_out k (Some s) kf = refl
+  reset_left_out k None kf = refusal_left_out l c k refusals.NoLink lf cf kf
+
+  pub event_told : (old new : Concentrator) (e : Event) (report : Option Report) → IsEvent e → RunsEvent old e report new → filter (is_pair_line l c) (event_lines e report) ≡ flat_map (response_lines l c) (own_reply l c e report)
+  event_told old new (Arrive k m octets) None fits turn = absurd turn
+  event_told old new (Arrive k m octets) (Some report) fits turn = report_told k report fits.0 (report_fits old k m octets (record_at new k) report fits.3 turn.answer)
+  event_told old new (Reset k) report fits turn = ap (λ r. filter (is_pair_line l c) (event_lines (Reset k) r)) turn.1 ∙ reset_left_out k (setting_at old k) fits
 
 -- a line that is no event is left out
 pub bad_left_out : (l c : ℕ) → l < 2 ^ 16 → filter (is_pair_line l c) (bad_line ∷ []) ≡ []

@@ -1,6 +1,5 @@
 pub mod DigitLemmas
 pub mod FaultLemmas
-pub mod IsolationLemmas
 pub mod EventLemmas
 pub mod ToldLemmas
 pub mod LineLemmas

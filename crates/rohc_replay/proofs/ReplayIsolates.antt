@@ -1,61 +1,38 @@
 -- A replay isolates each identifier of each link from all others.
-use Rattle.std.proofs.Common.{◌≡◌, ℕ, List, [], ◌∷◌, ◌++◌, append-nil, map, if◌then◌else◌, filter, Bool, true, false, Option, Some, None, Result, Ok, Err, IfOk, IfSome, refl, sym, ◌∙◌, ap, subst}
+use Rattle.std.proofs.Common.{◌≡◌, ℕ, ◌<◌, ◌^◌, List, [], ◌∷◌, ◌++◌, append-nil, map, if◌then◌else◌, filter, Bool, true, false, Option, Some, None, Result, Ok, Err, IfOk, IfSome, ⊎_elim, refl, sym, ◌∙◌, ap, subst}
 use Rattle.std.specs.List.{flat_map, AllByRecursion}
-use Rattle.rohc_context.specs.declared.settings.Settings.{Settings}
-use Rattle.rohc_context.specs.Record.{Record}
 use Rattle.rohc_context.specs.Response.{Response}
-use Rattle.rohc_context.proofs.StepLaws.{never_poor}
 use Rattle.rohc_concentrator.specs.declared.concentrator.Concentrator.{Concentrator}
 use Rattle.rohc_concentrator.specs.declared.setting.LinkSetting.{LinkSetting}
 use Rattle.rohc_concentrator.specs.Setting.{settings_of}
 use Rattle.rohc_concentrator.specs.Tables.{record_at}
-use Rattle.rohc_concentrator.specs.LoneRun.{LoneEvent, Arrival, Forget, LoneRun, MarkedRun, unmarked}
+use Rattle.rohc_concentrator.specs.Report.{Report, is_no_memory}
+use Rattle.rohc_concentrator.specs.Events.{Event}
+use Rattle.rohc_concentrator.specs.Isolation.{Pair, own_events, own_replies, is_rich, IsAnsweredAlone}
+use Rattle.rohc_concentrator.specs.LoneRun.{LoneEvent, LoneRun, MarkedRun, unmarked}
+use Rattle.rohc_concentrator.proofs.EventLemmas.{is_no_memory-not, IsRichOrPoor, each_rich_or_poor, isolated_events}
+use Rattle.rohc_concentrator.proofs.SameLemmas.{unmarked_with}
 use Rattle.rohc_replay.specs.declared.tally.Tally.{Tally}
 use Rattle.rohc_replay.specs.declared.fault.RunFault.{RunFault}
 use Rattle.rohc_replay.specs.AnswerLines.{response_lines, text_of}
-use Rattle.rohc_replay.specs.Isolation.{Pair, IsPair, Replay, is_pair_line, is_own_line, own, own_line, own_marked, lines_left, left_of, IsToldAll, IsTold, IsToldAlike, Isolates}
+use Rattle.rohc_replay.specs.Isolation.{IsPair, Replay, is_pair_line, is_own_line, pair_lines, own, own_line, own_marked, lines_left, left_of, IsToldAll, IsTold, IsToldAlike, Isolates}
 use Rattle.rohc_replay.specs.Lines.{has_newline}
 use Rattle.rohc_replay.specs.Run.{Replays, marked_of}
 use Rattle.rohc_replay.specs.Script.{Line, IsLine, AreLines, IsScript, lines_of}
-use Rattle.rohc_replay.proofs.IsolationLemmas.{with_mark}
 use Rattle.rohc_replay.proofs.OwnLines.{filter-append, filter-within, reply_kept, poor_left_out}
 use Rattle.rohc_replay.proofs.SplitLemmas.{lines_of-splits, lines_of-each}
-use Rattle.rohc_replay.proofs.ToldLemmas.{marked_lines, AreFit, lines_fit, run_set, run_told}
-use Rattle.rohc_replay.proofs.WholeLemmas.{written_lines, absent_run}
+use Rattle.rohc_replay.proofs.ToldLemmas.{marked_lines, AreFit, lines_fit, turns_of, turns_run, own_turns, run_told}
+use Rattle.rohc_replay.proofs.WholeLemmas.{written_lines}
 
--- Without the marked events and their replies a marked run is a lone run.
-abbrev pub RunsAlone : Settings → ℕ → ℕ → Option Record → List LoneEvent → List Response → Option Record → Type 0
-RunsAlone s l c before events replies after =
-    (kept : List Response) × LoneRun s before events kept after × (filter (is_own_line l c) (flat_map (response_lines l c) replies) ≡ flat_map (response_lines l c) kept)
-
-pub runs_alone : (s : Settings) (l c : ℕ) (before after : Option Record) (marked : List (LoneEvent × Bool)) (replies : List Response) → MarkedRun s before marked replies after → RunsAlone s l c before (unmarked marked) replies after
-runs_alone s l c before after [] [] run = ([], run, refl)
-runs_alone s l c before after [] (reply ∷ replies) run = absurd run
-runs_alone s l c before after ((Forget, true) ∷ marked) replies run = absurd run
-runs_alone s l c before after ((Forget, false) ∷ marked) replies run = runs_alone s l c None after marked replies run
-runs_alone s l c before after ((Arrival m h, mark) ∷ marked) [] run = absurd run
-runs_alone s l c before after ((Arrival m h, false) ∷ marked) (reply ∷ replies) run =
-    let more = runs_alone s l c run.0 after marked replies run.2 in (
-      reply ∷ more.0,
-      (run.0, run.1, more.1),
-      filter-append (is_own_line l c) (response_lines l c reply) (flat_map (response_lines l c) replies)
-          ∙ rw (reply_kept l c reply (never_poor before s m h reply run.0 run.1), more.2) refl,
-    )
-runs_alone s l c before after ((Arrival m h, true) ∷ marked) (reply ∷ replies) run =
-    let more = runs_alone s l c run.0 after marked replies run.2 in
-    let same : run.0 ≡ before = run.1.1 ∙ sym run.1.0 in (
-      more.0,
-      subst (λ r. LoneRun s r (unmarked marked) more.0 after) same more.1,
-      filter-append (is_own_line l c) (response_lines l c reply) (flat_map (response_lines l c) replies)
-          ∙ rw (run.1.2, poor_left_out l c, more.2) refl,
-    )
-
-module _ (r : Replay) (p : Pair) where
-  -- what is told of want of memory too is told without it
-  pub told_alone : (marked : List (Line × Bool)) → IsToldAll r marked p → IsTold r (own p.setting p.link p.cid marked) p
-  told_alone marked a =
-      let alone = runs_alone (settings_of p.setting p.cid) p.link p.cid (record_at r.before p.link p.cid) (record_at r.after p.link p.cid) (own_marked p.setting p.link p.cid marked) a.replies a.run in
-      record { replies = alone.0; run = alone.1; told = filter-within (is_pair_line p.link p.cid) _ (lines_of r.written) ∙ ap (filter (is_own_line p.link p.cid)) a.told ∙ alone.2 }
+-- The lines of a marked run's replies without those of want of memory are the lines of the others.
+rich_lines : (l c : ℕ) (replies : List Response) → AllByRecursion IsRichOrPoor replies → filter (is_own_line l c) (flat_map (response_lines l c) replies) ≡ flat_map (response_lines l c) (filter is_rich replies)
+rich_lines l c [] each = refl
+rich_lines l c (reply ∷ replies) each = filter-append (is_own_line l c) (response_lines l c reply) (flat_map (response_lines l c) replies) ∙ ⊎_elim
+    (λ rich. let kept : is_no_memory reply.outcome ≡ false = is_no_memory-not reply.outcome rich in rw (reply_kept l c reply rich, rich_lines l c replies each.1, kept) refl)
+    (λ poor. let none : filter (is_own_line l c) (response_lines l c reply) ≡ [] = ap (λ r. filter (is_own_line l c) (response_lines l c r)) poor ∙ poor_left_out l c in
+    let wants : is_no_memory reply.outcome ≡ true = ap (λ (r : Response). is_no_memory r.outcome) poor in
+    rw (none, wants) (rich_lines l c replies each.1))
+    each.0
 
 -- The lines that are left of a script: what they are, and that nothing of the pair's own is missing.
 module _ (s : LinkSetting) (l c : ℕ) where
@@ -96,12 +73,6 @@ module _ (s : LinkSetting) (l c : ℕ) where
       }) ∙ append-nil texts in
       subst (λ ts. AreLines ts (left_lines marked)) (sym cut) (are_left (lines_of text) marked script)
 
-  pub unmarked_with : (mark : Bool) (events : List LoneEvent) (more : List (LoneEvent × Bool)) → unmarked (with_mark mark events ++ more) ≡ (if mark then [] else events) ++ unmarked more
-  unmarked_with true [] more = refl
-  unmarked_with false [] more = refl
-  unmarked_with true (event ∷ events) more = unmarked_with true events more
-  unmarked_with false (event ∷ events) more = ap (λ es. event ∷ es) (unmarked_with false events more)
-
   line_own : (line : Line) (events : List LoneEvent) (mark : Bool) (more : List Line) → own_line s l c line ≡ events → (if mark then [] else events) ++ flat_map (own_line s l c) more ≡ flat_map (own_line s l c) (left_of events mark line ++ more)
   line_own line [] true more same = refl
   line_own line [] false more same = refl
@@ -124,6 +95,25 @@ module _ (r : Replay) (p : Pair) where
     alike = subst (λ es. IsTold r es p) (own_left p.setting p.link p.cid marked) told;
   }
 
+-- What a run of events is to a pair, its lines tell the pair.
+module _ (r : Replay) (p : Pair) (turns : List (Event × Option Report)) (marked : List (Line × Bool)) (one : IsAnsweredAlone (record { before = r.before; after = r.after; turns = turns }) p)
+    (own_lines : own_events p.setting p.link p.cid turns ≡ own_marked p.setting p.link p.cid marked) (told : pair_lines p.link p.cid r.written ≡ flat_map (response_lines p.link p.cid) (own_replies p.link p.cid turns)) where
+  told_all : IsToldAll r marked p
+  told_all = record {
+    replies = own_replies p.link p.cid turns;
+    run = subst (λ es. MarkedRun (settings_of p.setting p.cid) (record_at r.before p.link p.cid) es (own_replies p.link p.cid turns) (record_at r.after p.link p.cid)) own_lines one.answered;
+    told = told;
+  }
+
+  told_alone : IsTold r (own p.setting p.link p.cid marked) p
+  told_alone = record {
+    replies = filter is_rich (own_replies p.link p.cid turns);
+    run = subst (λ es. LoneRun (settings_of p.setting p.cid) (record_at r.before p.link p.cid) (unmarked es) (filter is_rich (own_replies p.link p.cid turns)) (record_at r.after p.link p.cid)) own_lines one.alone;
+    told = filter-within (is_pair_line p.link p.cid) _ (lines_of r.written) ∙ ap (filter (is_own_line p.link p.cid)) told
+        ∙ rich_lines p.link p.cid (own_replies p.link p.cid turns)
+        (each_rich_or_poor (settings_of p.setting p.cid) (record_at r.before p.link p.cid) (record_at r.after p.link p.cid) (own_events p.setting p.link p.cid turns) (own_replies p.link p.cid turns) one.answered);
+  }
+
 pub replay_isolates : (old : Concentrator) (text : List ℕ) (held holding : Option (List ℕ)) (t : Tally) (new : Concentrator) → Replays (record { before = old; after = new; held = held; holding = holding }) text t → Isolates old text held holding new
 replay_isolates old text held holding t new r =
     let fit : AreFit r.lines = lines_fit (lines_of text) r.lines r.script in
@@ -132,18 +122,22 @@ replay_isolates old text held holding t new r =
     let lines : lines_of written ≡ flat_map (λ a. a) r.answers = written_lines old r.lines r.answers new r.run fit in
     let marked = marked_of old r.lines r.answers new r.run in
     let script : IsScript text (map (λ (m : Line × Bool). m.0) marked) = subst (IsScript text) (sym (marked_lines old r.lines r.answers new r.run)) r.script in
-    let answered : (p : Pair) → IsPair old p → IsToldAll replay marked p =
-    λ p is. let told = run_told p.setting p.link p.cid is.link_fits is.cid_fits old r.lines r.answers new r.run fit is.set in record { replies = told.0; run = told.1; told = ap (filter (is_pair_line p.link p.cid)) lines ∙ told.2 } in (
+    let turns = turns_of old r.lines r.answers new r.run in
+    let isolated = isolated_events (record { before = old; after = new; turns = turns }) (turns_run old r.lines r.answers new r.run) in
+    let told : (l c : ℕ) → l < 2 ^ 16 → c < 2 ^ 16 → pair_lines l c written ≡ flat_map (response_lines l c) (own_replies l c turns) =
+    λ l c lf cf. ap (filter (is_pair_line l c)) lines ∙ run_told l c lf cf old r.lines r.answers new r.run fit in
+    let alone : (p : Pair) → IsPair old p → IsTold replay (own p.setting p.link p.cid marked) p =
+    λ p is. told_alone replay p turns marked (isolated.pairs p is.set) (own_turns p.setting p.link p.cid old r.lines r.answers new r.run) (told p.link p.cid is.link_fits is.cid_fits) in (
       written,
       r.written,
       record {
         marked = marked;
         script = script;
-        answered = answered;
-        alone = λ p is. told_alone replay p marked (answered p is);
-        taken_out = λ p is. told_alike replay p marked script (told_alone replay p marked (answered p is));
-        settings = λ l. run_set l old r.lines r.answers new r.run;
-        absent = λ l c lf cf none. ap (filter (is_pair_line l c)) lines ∙ absent_run l c lf cf old r.lines r.answers new r.run fit none;
+        answered = λ p is. told_all replay p turns marked (isolated.pairs p is.set) (own_turns p.setting p.link p.cid old r.lines r.answers new r.run) (told p.link p.cid is.link_fits is.cid_fits);
+        alone = alone;
+        taken_out = λ p is. told_alike replay p marked script (alone p is);
+        settings = isolated.settings.each;
+        absent = λ l c lf cf none. told l c lf cf ∙ ap (flat_map (response_lines l c)) (isolated.absent l c none);
       },
     )
 

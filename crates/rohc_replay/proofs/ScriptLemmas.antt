@@ -5,7 +5,8 @@ use Rattle.std.proofs.lemmas.List.Elements.{All-head, All-tail}
 use Rattle.hex.specs.Hex.{IsBytes, decode_of}
 use Rattle.hex.proofs.HexLemmas.{decode_of-encode_lower, length-encode_with}
 use Rattle.rohc_replay.specs.Laws.{HasOneScript}
-use Rattle.rohc_replay.specs.Script.{Event, Arrive, Reset, IsEvent, Line, Good, Bad, Long, IsLine, AreLines, lines_of, hex_text, spelling}
+use Rattle.rohc_concentrator.specs.Events.{Event, Arrive, Reset}
+use Rattle.rohc_replay.specs.Script.{IsEvent, Line, Good, Bad, Long, IsLine, AreLines, lines_of, hex_text, spelling}
 use Rattle.rohc_replay.proofs.NumeralLemmas.{number_unique}
 use Rattle.rohc_replay.proofs.SpellingLemmas.{behind_arrive, number_alone}
 

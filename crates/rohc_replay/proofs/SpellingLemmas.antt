@@ -6,7 +6,8 @@ use Rattle.std.proofs.lemmas.List.Elements.{All-take, All-from_get_or}
 use Rattle.rohc_replay.proofs.NumeralLemmas.{number_unique}
 use Rattle.std.specs.Fmt.{decimal}
 use Rattle.rohc_replay.specs.Numeral.{IsNumberAt}
-use Rattle.rohc_replay.specs.Script.{Event, Arrive, Reset, IsEvent, spelling, hex_text}
+use Rattle.rohc_concentrator.specs.Events.{Event, Arrive, Reset}
+use Rattle.rohc_replay.specs.Script.{IsEvent, spelling, hex_text}
 
 -- what stands behind `arrive `
 pub behind_arrive : (text : List ℕ) (link moment : ℕ) (octets : List ℕ) → codes "arrive " ++ text ≡ spelling (Arrive link moment octets)

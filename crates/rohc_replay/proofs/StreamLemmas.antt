@@ -12,7 +12,7 @@ use Rattle.rohc_replay.specs.declared.tally.Tally.{Tally}
 use Rattle.rohc_replay.specs.Script.{Line, Good, Bad, Long, IsLine, AreLines, longest_line, lines_of}
 use Rattle.rohc_replay.specs.AnswerLines.{text_of, long_line}
 use Rattle.rohc_replay.specs.Offers.{TakesAll, TakesPart, counted}
-use Rattle.rohc_replay.specs.Run.{RunsLine, Runs, IsTally, Replays, Stops, is_good_line}
+use Rattle.rohc_replay.specs.Run.{change, RunsLine, Runs, IsTally, Replays, Stops, is_good_line}
 use Rattle.rohc_replay.specs.Turn.{with_line, TakesTurn, TakesLongTurn}
 use Rattle.rohc_replay.specs.Stream.{Stands, Ends, IsKept, StopsAt}
 use Rattle.rohc_replay.specs.Lines.{has_newline}
@@ -64,7 +64,7 @@ IsTally-push lines Long t u is eq =
 
 -- octets without a newline are kept
 pub Stands-more : (first : Concentrator) (held : Option (List ℕ)) (seen kept more : List ℕ) (long : Bool) (now : Concentrator) (holding : Option (List ℕ)) (counts : Counts) →
-    Stands first held seen kept long now holding counts → has_newline more ≡ false → Stands first held (seen ++ more) (kept ++ more) long now holding counts
+    Stands (change first held now holding) seen kept long counts → has_newline more ≡ false → Stands (change first held now holding) (seen ++ more) (kept ++ more) long counts
 Stands-more first held seen kept more long now holding counts s none = record {
   finished = s.finished;
   rest = s.rest ++ more;
@@ -90,9 +90,9 @@ IsLine-kept true kept rest line is_kept short is_long = rw (is_long refl) is_kep
 -- a newline ends the kept line, which is run
 pub Stands-newline : (first : Concentrator) (held : Option (List ℕ)) (seen kept : List ℕ) (long : Bool) (now : Concentrator) (holding : Option (List ℕ)) (counts : Counts)
     (line : Line) (more : List (List ℕ)) (new : Concentrator) (after : Option (List ℕ)) (counts_after : Counts) →
-    Stands first held seen kept long now holding counts → (long ≡ false → IsLine kept line) → (long ≡ true → line ≡ Long) →
+    Stands (change first held now holding) seen kept long counts → (long ≡ false → IsLine kept line) → (long ≡ true → line ≡ Long) →
     RunsLine now line more new → counts_after.tally ≡ with_line counts.tally line → TakesAll holding after counts.taken counts_after.taken (text_of more) →
-    Stands first held (seen ++ 10 ∷ []) [] false new after counts_after
+    Stands (change first held new after) (seen ++ 10 ∷ []) [] false counts_after
 Stands-newline first held seen kept long now holding counts line more new after counts_after s short is_long turns tally taken = record {
   finished = s.finished ++ s.rest ∷ [];
   rest = [];
@@ -118,9 +118,9 @@ last_line-some (x ∷ xs) h = refl
 -- a last line that isn't empty is run
 pub Ends-line : (first : Concentrator) (held : Option (List ℕ)) (seen kept : List ℕ) (long : Bool) (now : Concentrator) (holding : Option (List ℕ)) (counts : Counts)
     (line : Line) (more : List (List ℕ)) (new : Concentrator) (after : Option (List ℕ)) (counts_after : Counts) →
-    Stands first held seen kept long now holding counts → (long ≡ false → IsLine kept line) → (long ≡ true → line ≡ Long) → (long ≡ false → 0 < length kept) →
+    Stands (change first held now holding) seen kept long counts → (long ≡ false → IsLine kept line) → (long ≡ true → line ≡ Long) → (long ≡ false → 0 < length kept) →
     RunsLine now line more new → counts_after.tally ≡ with_line counts.tally line → TakesAll holding after counts.taken counts_after.taken (text_of more) →
-    Ends first held seen new after counts_after
+    Ends (change first held new after) seen counts_after
 Ends-line first held seen kept long now holding counts line more new after counts_after s short is_long some turns tally taken = record {
   lines = s.lines ++ line ∷ [];
   are_lines = subst (λ ls. AreLines ls (s.lines ++ line ∷ [])) (sym (lines_of-splits seen s.finished s.rest s.splits ∙ ap (λ ls. s.finished ++ ls) (last_line-some s.rest (some_rest long kept s.rest s.is_kept some))))
@@ -133,7 +133,7 @@ Ends-line first held seen kept long now holding counts line more new after count
 
 -- nothing is kept of an empty last line
 pub Ends-empty : (first : Concentrator) (held : Option (List ℕ)) (seen : List ℕ) (now : Concentrator) (holding : Option (List ℕ)) (counts : Counts) →
-    Stands first held seen [] false now holding counts → Ends first held seen now holding counts
+    Stands (change first held now holding) seen [] false counts → Ends (change first held now holding) seen counts
 Ends-empty first held seen now holding counts s = record {
   lines = s.lines;
   are_lines = subst (λ ls. AreLines ls s.lines) (sym (lines_of-splits seen s.finished s.rest s.splits ∙ ap (λ r. s.finished ++ last_line r) (sym s.is_kept) ∙ append-nil s.finished)) s.are_lines;
@@ -144,7 +144,7 @@ Ends-empty first held seen now holding counts s = record {
 }
 
 -- before anything is read
-pub Stands-first : (first : Concentrator) (held : Option (List ℕ)) (counts : Counts) → counts.taken ≡ 0 → counts.tally ≡ record { events = 0; bad = 0 } → Stands first held [] [] false first held counts
+pub Stands-first : (first : Concentrator) (held : Option (List ℕ)) (counts : Counts) → counts.taken ≡ 0 → counts.tally ≡ record { events = 0; bad = 0 } → Stands (change first held first held) [] [] false counts
 Stands-first first held counts none nothing = record {
   finished = [];
   rest = [];
@@ -161,29 +161,29 @@ Stands-first first held counts none nothing = record {
 -- The same, from what a turn says of its result.
 
 pub newline_after_turn : (now new : Concentrator) (holding after : Option (List ℕ)) (counts counts_after : Counts) (kept : List ℕ) (result : Result Unit Stopped) →
-    TakesTurn now new holding after counts counts_after kept result →
-    IfOk result (λ _. (first : Concentrator) (held : Option (List ℕ)) (seen : List ℕ) → Stands first held seen kept false now holding counts → Stands first held (seen ++ 10 ∷ []) [] false new after counts_after)
+    TakesTurn (change now holding new after) counts counts_after kept result →
+    IfOk result (λ _. (first : Concentrator) (held : Option (List ℕ)) (seen : List ℕ) → Stands (change first held now holding) seen kept false counts → Stands (change first held new after) (seen ++ 10 ∷ []) [] false counts_after)
 newline_after_turn now new holding after counts counts_after kept (Ok done) t = λ first held seen s.
     Stands-newline first held seen kept false now holding counts t.line t.answers new after counts_after s (λ _. t.is_line) (λ e. cc) t.turns t.tally t.offers
 newline_after_turn now new holding after counts counts_after kept (Err stopped) t = tt
 
 pub newline_after_long : (now : Concentrator) (holding after : Option (List ℕ)) (counts counts_after : Counts) (kept : List ℕ) (result : Result Unit Stopped) →
     TakesLongTurn holding after counts counts_after result →
-    IfOk result (λ _. (first : Concentrator) (held : Option (List ℕ)) (seen : List ℕ) → Stands first held seen kept true now holding counts → Stands first held (seen ++ 10 ∷ []) [] false now after counts_after)
+    IfOk result (λ _. (first : Concentrator) (held : Option (List ℕ)) (seen : List ℕ) → Stands (change first held now holding) seen kept true counts → Stands (change first held now after) (seen ++ 10 ∷ []) [] false counts_after)
 newline_after_long now holding after counts counts_after kept (Ok done) t = λ first held seen s.
     Stands-newline first held seen kept true now holding counts Long (long_line ∷ []) now after counts_after s (λ e. cc) (λ _. refl) (refl, refl) t.tally t.offers
 newline_after_long now holding after counts counts_after kept (Err stopped) t = tt
 
 pub end_after_turn : (now new : Concentrator) (holding after : Option (List ℕ)) (counts counts_after : Counts) (kept : List ℕ) (result : Result Unit Stopped) → 0 < length kept →
-    TakesTurn now new holding after counts counts_after kept result →
-    IfOk result (λ _. (first : Concentrator) (held : Option (List ℕ)) (seen : List ℕ) → Stands first held seen kept false now holding counts → Ends first held seen new after counts_after)
+    TakesTurn (change now holding new after) counts counts_after kept result →
+    IfOk result (λ _. (first : Concentrator) (held : Option (List ℕ)) (seen : List ℕ) → Stands (change first held now holding) seen kept false counts → Ends (change first held new after) seen counts_after)
 end_after_turn now new holding after counts counts_after kept (Ok done) some t = λ first held seen s.
     Ends-line first held seen kept false now holding counts t.line t.answers new after counts_after s (λ _. t.is_line) (λ e. cc) (λ _. some) t.turns t.tally t.offers
 end_after_turn now new holding after counts counts_after kept (Err stopped) some t = tt
 
 pub end_after_long : (now : Concentrator) (holding after : Option (List ℕ)) (counts counts_after : Counts) (kept : List ℕ) (result : Result Unit Stopped) →
     TakesLongTurn holding after counts counts_after result →
-    IfOk result (λ _. (first : Concentrator) (held : Option (List ℕ)) (seen : List ℕ) → Stands first held seen kept true now holding counts → Ends first held seen now after counts_after)
+    IfOk result (λ _. (first : Concentrator) (held : Option (List ℕ)) (seen : List ℕ) → Stands (change first held now holding) seen kept true counts → Ends (change first held now after) seen counts_after)
 end_after_long now holding after counts counts_after kept (Ok done) t = λ first held seen s.
     Ends-line first held seen kept true now holding counts Long (long_line ∷ []) now after counts_after s (λ e. cc) (λ _. refl) (λ e. cc) (refl, refl) t.tally t.offers
 end_after_long now holding after counts counts_after kept (Err stopped) t = tt
@@ -192,26 +192,26 @@ end_after_long now holding after counts counts_after kept (Err stopped) t = tt
 
 pub Stands-along : (first : Concentrator) (held : Option (List ℕ)) (seen octets : List ℕ) (searched start from to : ℕ) (long : Bool) (now : Concentrator) (holding : Option (List ℕ)) (counts : Counts) →
     start ≤ from → searched ≤ from → from ≤ to → has_newline (slice_range octets from to) ≡ false →
-    Stands first held (seen ++ slice_range octets searched from) (slice_range octets start from) long now holding counts →
-    Stands first held (seen ++ slice_range octets searched to) (slice_range octets start to) long now holding counts
+    Stands (change first held now holding) (seen ++ slice_range octets searched from) (slice_range octets start from) long counts →
+    Stands (change first held now holding) (seen ++ slice_range octets searched to) (slice_range octets start to) long counts
 Stands-along first held seen octets searched start from to long now holding counts begun later ahead none s =
     let all : (seen ++ slice_range octets searched from) ++ slice_range octets from to ≡ seen ++ slice_range octets searched to = append_assoc seen (slice_range octets searched from) (slice_range octets from to) ∙ ap (λ t. seen ++ t) (range-append octets searched from to later ahead) in
     let line : slice_range octets start from ++ slice_range octets from to ≡ slice_range octets start to = range-append octets start from to begun ahead in
-    subst (λ t. Stands first held t (slice_range octets start to) long now holding counts) all
-    (subst (λ k. Stands first held ((seen ++ slice_range octets searched from) ++ slice_range octets from to) k long now holding counts) line
+    subst (λ t. Stands (change first held now holding) t (slice_range octets start to) long counts) all
+    (subst (λ k. Stands (change first held now holding) ((seen ++ slice_range octets searched from) ++ slice_range octets from to) k long counts) line
     (Stands-more first held (seen ++ slice_range octets searched from) (slice_range octets start from) (slice_range octets from to) long now holding counts s none))
 
 -- a newline at a place was seen, and a new line begins behind it
 pub Stands-behind : (first : Concentrator) (held : Option (List ℕ)) (seen octets : List ℕ) (searched stop : ℕ) (now : Concentrator) (holding : Option (List ℕ)) (counts : Counts) →
     searched ≤ stop → stop < length octets → get_or octets stop 0 ≡ 10 →
-    Stands first held ((seen ++ slice_range octets searched stop) ++ 10 ∷ []) [] false now holding counts →
-    Stands first held (seen ++ slice_range octets searched (stop + 1)) (slice_range octets (stop + 1) (stop + 1)) false now holding counts
+    Stands (change first held now holding) ((seen ++ slice_range octets searched stop) ++ 10 ∷ []) [] false counts →
+    Stands (change first held now holding) (seen ++ slice_range octets searched (stop + 1)) (slice_range octets (stop + 1) (stop + 1)) false counts
 Stands-behind first held seen octets searched stop now holding counts later within newline s =
     let one : slice_range octets stop (stop + 1) ≡ 10 ∷ [] = range-one octets stop within ∙ ap (λ o. o ∷ []) newline in
     let all : (seen ++ slice_range octets searched stop) ++ 10 ∷ [] ≡ seen ++ slice_range octets searched (stop + 1) =
     append_assoc seen (slice_range octets searched stop) (10 ∷ []) ∙ ap (λ t. seen ++ t) (ap (λ t. slice_range octets searched stop ++ t) (sym one) ∙ range-append octets searched stop (stop + 1) later (omega arith)) in
-    subst (λ t. Stands first held t (slice_range octets (stop + 1) (stop + 1)) false now holding counts) all
-    (subst (λ k. Stands first held ((seen ++ slice_range octets searched stop) ++ 10 ∷ []) k false now holding counts) (sym (range-none octets (stop + 1))) s)
+    subst (λ t. Stands (change first held now holding) t (slice_range octets (stop + 1) (stop + 1)) false counts) all
+    (subst (λ k. Stands (change first held now holding) ((seen ++ slice_range octets searched stop) ++ 10 ∷ []) k false counts) (sym (range-none octets (stop + 1))) s)
 
 -- At the end of a piece a kept line is judged: it is long where it was, or where it is over the greatest length. Nothing need be
 -- kept of a long line.
@@ -222,7 +222,7 @@ kept_judged false judged kept any rest (inr same) is_long k = absurd (let never 
 kept_judged true judged kept any rest how is_long k = k
 
 pub Stands-long : (first : Concentrator) (held : Option (List ℕ)) (seen kept any : List ℕ) (long judged : Bool) (now : Concentrator) (holding : Option (List ℕ)) (counts : Counts) →
-    ((judged ≡ true) × (longest_line < length kept)) ⊎ (judged ≡ long) → judged ≡ true → Stands first held seen kept long now holding counts → Stands first held seen any judged now holding counts
+    ((judged ≡ true) × (longest_line < length kept)) ⊎ (judged ≡ long) → judged ≡ true → Stands (change first held now holding) seen kept long counts → Stands (change first held now holding) seen any judged counts
 Stands-long first held seen kept any long judged now holding counts how is_long s = rw is_long (record {
   finished = s.finished;
   rest = s.rest;
@@ -237,27 +237,27 @@ Stands-long first held seen kept any long judged now holding counts how is_long 
 })
 
 pub Stands-short : (first : Concentrator) (held : Option (List ℕ)) (seen kept : List ℕ) (long judged : Bool) (now : Concentrator) (holding : Option (List ℕ)) (counts : Counts) →
-    ((judged ≡ true) × (longest_line < length kept)) ⊎ (judged ≡ long) → judged ≡ false → Stands first held seen kept long now holding counts → Stands first held seen kept judged now holding counts
+    ((judged ≡ true) × (longest_line < length kept)) ⊎ (judged ≡ long) → judged ≡ false → Stands (change first held now holding) seen kept long counts → Stands (change first held now holding) seen kept judged counts
 Stands-short first held seen kept long judged now holding counts (inl over) not_long s = absurd (let is_long : true ≡ false = sym over.0 ∙ not_long in cc)
-Stands-short first held seen kept long judged now holding counts (inr same) not_long s = subst (λ l. Stands first held seen kept l now holding counts) (sym same) s
+Stands-short first held seen kept long judged now holding counts (inr same) not_long s = subst (λ l. Stands (change first held now holding) seen kept l counts) (sym same) s
 
 -- at the end of the octets all of them were seen
 pub Stands-end : (first : Concentrator) (held : Option (List ℕ)) (seen octets : List ℕ) (searched start : ℕ) (long : Bool) (now : Concentrator) (holding : Option (List ℕ)) (counts : Counts) →
-    Stands first held (seen ++ slice_range octets searched (length octets)) (slice_range octets start (length octets)) long now holding counts →
-    Stands first held (seen ++ drop searched octets) (drop start octets) long now holding counts
+    Stands (change first held now holding) (seen ++ slice_range octets searched (length octets)) (slice_range octets start (length octets)) long counts →
+    Stands (change first held now holding) (seen ++ drop searched octets) (drop start octets) long counts
 Stands-end first held seen octets searched start long now holding counts s =
-    subst (λ t. Stands first held (seen ++ t) (drop start octets) long now holding counts) (range-end octets searched)
-    (subst (λ k. Stands first held (seen ++ slice_range octets searched (length octets)) k long now holding counts) (range-end octets start) s)
+    subst (λ t. Stands (change first held now holding) (seen ++ t) (drop start octets) long counts) (range-end octets searched)
+    (subst (λ k. Stands (change first held now holding) (seen ++ slice_range octets searched (length octets)) k long counts) (range-end octets start) s)
 
 -- what is kept may be spelled otherwise
 pub Stands-same : (first : Concentrator) (held : Option (List ℕ)) (seen new_seen kept new_kept : List ℕ) (long : Bool) (now : Concentrator) (holding : Option (List ℕ)) (counts : Counts) →
-    seen ≡ new_seen → kept ≡ new_kept → Stands first held seen kept long now holding counts → Stands first held new_seen new_kept long now holding counts
+    seen ≡ new_seen → kept ≡ new_kept → Stands (change first held now holding) seen kept long counts → Stands (change first held now holding) new_seen new_kept long counts
 Stands-same first held seen new_seen kept new_kept long now holding counts same_seen same_kept s =
-    subst (λ t. Stands first held t new_kept long now holding counts) same_seen (subst (λ k. Stands first held seen k long now holding counts) same_kept s)
+    subst (λ t. Stands (change first held now holding) t new_kept long counts) same_seen (subst (λ k. Stands (change first held now holding) seen k long counts) same_kept s)
 
 -- a whole text was replayed, and the flush kept what was written
 pub Replays-end : (first : Concentrator) (held : Option (List ℕ)) (seen : List ℕ) (now : Concentrator) (holding flushed : Option (List ℕ)) (counts : Counts) →
-    Ends first held seen now holding counts → Keeps holding flushed → Replays (record { before = first; after = now; held = held; holding = flushed }) seen counts.tally
+    Ends (change first held now holding) seen counts → Keeps holding flushed → Replays (change first held now flushed) seen counts.tally
 Replays-end first held seen now holding flushed counts e kept = record {
   lines = e.lines;
   answers = e.answers;
@@ -273,10 +273,10 @@ Consumes-nothing a b c seen read before last nothing = subst (Consumes a c) (ap 
 
 -- the last read gave nothing, so the whole text was seen
 pub Replays-whole : (first : Concentrator) (held : Option (List ℕ)) (a b c : Option (List ℕ)) (seen read : List ℕ) (now : Concentrator) (holding flushed : Option (List ℕ)) (counts : Counts) →
-    Consumes a b seen → Consumes b c read → read ≡ [] → IsAtEnd c → Ends first held seen now holding counts → Keeps holding flushed →
-    IfSome a (λ input. Replays (record { before = first; after = now; held = held; holding = flushed }) input counts.tally)
+    Consumes a b seen → Consumes b c read → read ≡ [] → IsAtEnd c → Ends (change first held now holding) seen counts → Keeps holding flushed →
+    IfSome a (λ input. Replays (change first held now flushed) input counts.tally)
 Replays-whole first held a b c seen read now holding flushed counts before last nothing end e kept =
-    Consumes-whole a c seen (λ input. Replays (record { before = first; after = now; held = held; holding = flushed }) input counts.tally)
+    Consumes-whole a c seen (λ input. Replays (change first held now flushed) input counts.tally)
     (Consumes-nothing a b c seen read before last nothing) end
     (Replays-end first held seen now holding flushed counts e kept)
 
@@ -285,9 +285,9 @@ Replays-whole first held a b c seen read now holding flushed counts before last 
 -- the kept line is the last of these lines, and its answers are taken in part
 Stops-line : (first : Concentrator) (held : Option (List ℕ)) (seen kept : List ℕ) (long : Bool) (now : Concentrator) (holding : Option (List ℕ)) (counts : Counts)
     (line : Line) (more : List (List ℕ)) (new : Concentrator) (after : Option (List ℕ)) (taken_after : ℕ)
-    (s : Stands first held seen kept long now holding counts) → (long ≡ false → IsLine kept line) → (long ≡ true → line ≡ Long) →
+    (s : Stands (change first held now holding) seen kept long counts) → (long ≡ false → IsLine kept line) → (long ≡ true → line ≡ Long) →
     RunsLine now line more new → TakesPart holding after counts.taken taken_after (text_of more) →
-    Stops (record { before = first; after = new; held = held; holding = after }) (s.finished ++ s.rest ∷ []) taken_after
+    Stops (change first held new after) (s.finished ++ s.rest ∷ []) taken_after
 Stops-line first held seen kept long now holding counts line more new after taken_after s short is_long turns part = record {
   earlier = s.lines;
   last = line;
@@ -303,8 +303,8 @@ Stops-line first held seen kept long now holding counts line more new after take
 }
 
 pub stop_after_turn : (now new : Concentrator) (holding after : Option (List ℕ)) (counts counts_after : Counts) (kept : List ℕ) (result : Result Unit Stopped) →
-    TakesTurn now new holding after counts counts_after kept result →
-    IfErr result (λ _. (first : Concentrator) (held : Option (List ℕ)) (seen : List ℕ) → Stands first held seen kept false now holding counts → StopsAt first held (seen ++ 10 ∷ []) new after counts_after)
+    TakesTurn (change now holding new after) counts counts_after kept result →
+    IfErr result (λ _. (first : Concentrator) (held : Option (List ℕ)) (seen : List ℕ) → Stands (change first held now holding) seen kept false counts → StopsAt (change first held new after) (seen ++ 10 ∷ []) counts_after)
 stop_after_turn now new holding after counts counts_after kept (Ok done) t = tt
 stop_after_turn now new holding after counts counts_after kept (Err stopped) t = λ first held seen s. (
   s.finished ++ s.rest ∷ [],
@@ -314,7 +314,7 @@ stop_after_turn now new holding after counts counts_after kept (Err stopped) t =
 
 pub stop_after_long : (now : Concentrator) (holding after : Option (List ℕ)) (counts counts_after : Counts) (kept : List ℕ) (result : Result Unit Stopped) →
     TakesLongTurn holding after counts counts_after result →
-    IfErr result (λ _. (first : Concentrator) (held : Option (List ℕ)) (seen : List ℕ) → Stands first held seen kept true now holding counts → StopsAt first held (seen ++ 10 ∷ []) now after counts_after)
+    IfErr result (λ _. (first : Concentrator) (held : Option (List ℕ)) (seen : List ℕ) → Stands (change first held now holding) seen kept true counts → StopsAt (change first held now after) (seen ++ 10 ∷ []) counts_after)
 stop_after_long now holding after counts counts_after kept (Ok done) t = tt
 stop_after_long now holding after counts counts_after kept (Err stopped) t = λ first held seen s. (
   s.finished ++ s.rest ∷ [],
@@ -324,23 +324,23 @@ stop_after_long now holding after counts counts_after kept (Err stopped) t = λ 
 
 -- a rest that isn't empty is the last line of the text
 last_of_lines : (first : Concentrator) (held : Option (List ℕ)) (seen kept : List ℕ) (long : Bool) (now : Concentrator) (holding : Option (List ℕ)) (counts : Counts)
-    (s : Stands first held seen kept long now holding counts) → (long ≡ false → 0 < length kept) → s.finished ++ s.rest ∷ [] ≡ lines_of seen
+    (s : Stands (change first held now holding) seen kept long counts) → (long ≡ false → 0 < length kept) → s.finished ++ s.rest ∷ [] ≡ lines_of seen
 last_of_lines first held seen kept long now holding counts s some = sym (lines_of-splits seen s.finished s.rest s.splits ∙ ap (λ ls. s.finished ++ ls) (last_line-some s.rest (some_rest long kept s.rest s.is_kept some)))
 
 pub last_after_turn : (now new : Concentrator) (holding after : Option (List ℕ)) (counts counts_after : Counts) (kept : List ℕ) (result : Result Unit Stopped) → 0 < length kept →
-    TakesTurn now new holding after counts counts_after kept result →
-    IfErr result (λ _. (first : Concentrator) (held : Option (List ℕ)) (seen : List ℕ) → Stands first held seen kept false now holding counts → Stops (record { before = first; after = new; held = held; holding = after }) (lines_of seen) counts_after.taken)
+    TakesTurn (change now holding new after) counts counts_after kept result →
+    IfErr result (λ _. (first : Concentrator) (held : Option (List ℕ)) (seen : List ℕ) → Stands (change first held now holding) seen kept false counts → Stops (change first held new after) (lines_of seen) counts_after.taken)
 last_after_turn now new holding after counts counts_after kept (Ok done) some t = tt
 last_after_turn now new holding after counts counts_after kept (Err stopped) some t = λ first held seen s.
-    subst (λ ls. Stops (record { before = first; after = new; held = held; holding = after }) ls counts_after.taken) (last_of_lines first held seen kept false now holding counts s (λ _. some))
+    subst (λ ls. Stops (change first held new after) ls counts_after.taken) (last_of_lines first held seen kept false now holding counts s (λ _. some))
     (Stops-line first held seen kept false now holding counts t.line t.answers new after counts_after.taken s (λ _. t.is_line) (λ e. cc) t.turns t.offers)
 
 pub last_after_long : (now : Concentrator) (holding after : Option (List ℕ)) (counts counts_after : Counts) (kept : List ℕ) (result : Result Unit Stopped) →
     TakesLongTurn holding after counts counts_after result →
-    IfErr result (λ _. (first : Concentrator) (held : Option (List ℕ)) (seen : List ℕ) → Stands first held seen kept true now holding counts → Stops (record { before = first; after = now; held = held; holding = after }) (lines_of seen) counts_after.taken)
+    IfErr result (λ _. (first : Concentrator) (held : Option (List ℕ)) (seen : List ℕ) → Stands (change first held now holding) seen kept true counts → Stops (change first held now after) (lines_of seen) counts_after.taken)
 last_after_long now holding after counts counts_after kept (Ok done) t = tt
 last_after_long now holding after counts counts_after kept (Err stopped) t = λ first held seen s.
-    subst (λ ls. Stops (record { before = first; after = now; held = held; holding = after }) ls counts_after.taken) (last_of_lines first held seen kept true now holding counts s (λ e. cc))
+    subst (λ ls. Stops (change first held now after) ls counts_after.taken) (last_of_lines first held seen kept true now holding counts s (λ e. cc))
     (Stops-line first held seen kept true now holding counts Long (long_line ∷ []) now after counts_after.taken s (λ e. cc) (λ _. refl) (refl, refl) t.offers)
 
 -- what was seen, up to a newline at a place and behind it

@@ -1,22 +1,18 @@
--- What a run tells a pair.
-use Rattle.std.proofs.Common.{◌≡◌, ℕ, ◌<◌, ◌^◌, List, [], ◌∷◌, ◌++◌, map, Bool, false, Option, Some, refl, sym, ◌∙◌, ap, subst}
+-- The run of a script as a run of events, and what it tells a pair.
+use Rattle.std.proofs.Common.{◌≡◌, ℕ, ◌<◌, ◌^◌, List, [], ◌∷◌, ◌++◌, map, filter, Bool, Option, sym, refl, ◌∙◌, ap, subst}
 use Rattle.std.specs.List.{flat_map}
 use Rattle.std.proofs.lemmas.Grind.{flat_map-append}
-use Rattle.rohc_context.specs.declared.settings.Settings.{Settings}
-use Rattle.rohc_context.specs.Record.{Record}
 use Rattle.rohc_concentrator.specs.declared.concentrator.Concentrator.{Concentrator}
 use Rattle.rohc_concentrator.specs.declared.setting.LinkSetting.{LinkSetting}
-use Rattle.rohc_concentrator.specs.Setting.{settings_of}
-use Rattle.rohc_concentrator.specs.Tables.{setting_at, record_at}
-use Rattle.rohc_concentrator.specs.LoneRun.{LoneEvent}
-use Rattle.rohc_concentrator.specs.Report.{wants_memory}
+use Rattle.rohc_concentrator.specs.Report.{Report}
+use Rattle.rohc_concentrator.specs.Events.{Event, RunsEvents}
+use Rattle.rohc_concentrator.specs.Isolation.{is_marked, own_event, own_events, own_reply, own_replies}
 use Rattle.rohc_replay.specs.AnswerLines.{response_lines}
-use Rattle.rohc_replay.specs.Isolation.{is_pair_line, own_marked, own_event}
-use Rattle.rohc_replay.specs.Run.{RunsLine, Runs, line_mark, marked_of}
-use Rattle.rohc_replay.specs.Script.{Event, Arrive, Reset, IsEvent, Line, Good, Bad, Long, AreLines}
+use Rattle.rohc_replay.specs.Isolation.{is_pair_line, own_marked}
+use Rattle.rohc_replay.specs.Run.{Runs, marked_of}
+use Rattle.rohc_replay.specs.Script.{IsEvent, Line, Good, Bad, Long, AreLines}
 use Rattle.rohc_replay.proofs.OwnLines.{filter-append}
-use Rattle.rohc_replay.proofs.IsolationLemmas.{with_mark, MarkedRun-append, Tells, tells_nothing}
-use Rattle.rohc_replay.proofs.EventLemmas.{arrive_told, reset_told, bad_left_out, long_left_out}
+use Rattle.rohc_replay.proofs.EventLemmas.{event_told, bad_left_out, long_left_out}
 
 -- the lines of a run, but for their marks
 pub marked_lines : (old : Concentrator) (lines : List Line) (answers : List (List (List ℕ))) (new : Concentrator) (run : Runs old lines answers new) → map (λ (m : Line × Bool). m.0) (marked_of old lines answers new run) ≡ lines
@@ -26,14 +22,6 @@ marked_lines old (line ∷ lines) [] new run = absurd run
 marked_lines old (Good e ∷ lines) (a ∷ more) new run = ap (λ ls. Good e ∷ ls) (marked_lines run.0 lines more new run.2)
 marked_lines old (Bad ∷ lines) (a ∷ more) new run = ap (λ ls. Bad ∷ ls) (marked_lines run.0 lines more new run.2)
 marked_lines old (Long ∷ lines) (a ∷ more) new run = ap (λ ls. Long ∷ ls) (marked_lines run.0 lines more new run.2)
-
--- one after the other
-tells_append : (s : Settings) (l c : ℕ) (a b d : Option Record) (xs ys : List (LoneEvent × Bool)) (ps qs : List (List ℕ)) → Tells s l c a xs ps b → Tells s l c b ys qs d → Tells s l c a (xs ++ ys) (ps ++ qs) d
-tells_append s l c a b d xs ys ps qs first second = (
-  first.0 ++ second.0,
-  MarkedRun-append s a b d xs ys first.0 second.0 first.1 second.1,
-  filter-append (is_pair_line l c) ps qs ∙ rw (first.2, second.2) (sym (flat_map-append (response_lines l c) first.0 second.0)),
-)
 
 -- the events of good lines fit their fields
 abbrev pub AreFit : List Line → Type 0
@@ -50,43 +38,44 @@ lines_fit (text ∷ texts) (Good e ∷ lines) are = (are.0.0, lines_fit texts li
 lines_fit (text ∷ texts) (Bad ∷ lines) are = lines_fit texts lines are.1
 lines_fit (text ∷ texts) (Long ∷ lines) are = lines_fit texts lines are.1
 
--- the settings stay
-pub event_set : (l : ℕ) (old : Concentrator) (e : Event) (answers : List (List ℕ)) (new : Concentrator) → RunsLine old (Good e) answers new → setting_at new l ≡ setting_at old l
-event_set l old (Arrive k m octets) answers new turn = turn.1.settings.each l
-event_set l old (Reset k) answers new turn = turn.0.settings.each l
+-- the events of a run, each with what it was answered
+abbrev pub turns_of : (old : Concentrator) (lines : List Line) (answers : List (List (List ℕ))) (new : Concentrator) → Runs old lines answers new → List (Event × Option Report)
+turns_of old [] answers new run = []
+turns_of old (line ∷ lines) [] new run = []
+turns_of old (Good e ∷ lines) (a ∷ more) new run = (e, run.1.0) ∷ turns_of run.0 lines more new run.2
+turns_of old (Bad ∷ lines) (a ∷ more) new run = turns_of run.0 lines more new run.2
+turns_of old (Long ∷ lines) (a ∷ more) new run = turns_of run.0 lines more new run.2
 
-pub run_set : (l : ℕ) (old : Concentrator) (lines : List Line) (answers : List (List (List ℕ))) (new : Concentrator) → Runs old lines answers new → setting_at new l ≡ setting_at old l
-run_set l old [] [] new run = ap (λ k. setting_at k l) run
-run_set l old [] (a ∷ more) new run = absurd run
-run_set l old (line ∷ lines) [] new run = absurd run
-run_set l old (Good e ∷ lines) (a ∷ more) new run = run_set l run.0 lines more new run.2 ∙ event_set l old e a run.0 run.1
-run_set l old (Bad ∷ lines) (a ∷ more) new run = run_set l run.0 lines more new run.2 ∙ ap (λ k. setting_at k l) run.1.0
-run_set l old (Long ∷ lines) (a ∷ more) new run = run_set l run.0 lines more new run.2 ∙ ap (λ k. setting_at k l) run.1.0
+pub turns_run : (old : Concentrator) (lines : List Line) (answers : List (List (List ℕ))) (new : Concentrator) (run : Runs old lines answers new) → RunsEvents old (turns_of old lines answers new run) new
+turns_run old [] [] new run = run
+turns_run old [] (a ∷ more) new run = absurd run
+turns_run old (line ∷ lines) [] new run = absurd run
+turns_run old (Good e ∷ lines) (a ∷ more) new run = (run.0, run.1.1, turns_run run.0 lines more new run.2)
+turns_run old (Bad ∷ lines) (a ∷ more) new run = subst (λ k. RunsEvents k (turns_of run.0 lines more new run.2) new) run.1.0 (turns_run run.0 lines more new run.2)
+turns_run old (Long ∷ lines) (a ∷ more) new run = subst (λ k. RunsEvents k (turns_of run.0 lines more new run.2) new) run.1.0 (turns_run run.0 lines more new run.2)
 
-module _ (s : LinkSetting) (l c : ℕ) (lf : l < 2 ^ 16) (cf : c < 2 ^ 16) where
-  -- one good line
-  event_told : (old : Concentrator) (e : Event) (answers : List (List ℕ)) (new : Concentrator) (turn : RunsLine old (Good e) answers new) → IsEvent e → setting_at old l ≡ Some s →
-      Tells (settings_of s c) l c (record_at old l c) (with_mark (line_mark old e answers new turn) (own_event s l c e)) answers (record_at new l c)
-  event_told old (Arrive k m octets) answers new turn fits set =
-      subst (λ a. Tells (settings_of s c) l c (record_at old l c) (with_mark (wants_memory turn.0) (own_event s l c (Arrive k m octets))) a (record_at new l c)) (sym turn.2)
-      (arrive_told old new s l c lf cf set k m octets turn.0 fits.0 fits.3 turn.1)
-  event_told old (Reset k) answers new turn fits set =
-      subst (λ a. Tells (settings_of s c) l c (record_at old l c) (with_mark false (own_event s l c (Reset k))) a (record_at new l c)) (sym turn.1) (reset_told old new s l c lf cf set k fits turn.0)
+-- of its marked lines a pair's own events are those of the run of events
+pub own_turns : (s : LinkSetting) (l c : ℕ) (old : Concentrator) (lines : List Line) (answers : List (List (List ℕ))) (new : Concentrator) (run : Runs old lines answers new) → own_events s l c (turns_of old lines answers new run) ≡ own_marked s l c (marked_of old lines answers new run)
+own_turns s l c old [] [] new run = refl
+own_turns s l c old [] (a ∷ more) new run = absurd run
+own_turns s l c old (line ∷ lines) [] new run = absurd run
+own_turns s l c old (Good e ∷ lines) (a ∷ more) new run = ap (λ es. map (λ own. (own, is_marked run.1.0)) (own_event s l c e) ++ es) (own_turns s l c run.0 lines more new run.2)
+own_turns s l c old (Bad ∷ lines) (a ∷ more) new run = own_turns s l c run.0 lines more new run.2
+own_turns s l c old (Long ∷ lines) (a ∷ more) new run = own_turns s l c run.0 lines more new run.2
 
-  pub run_told : (old : Concentrator) (lines : List Line) (answers : List (List (List ℕ))) (new : Concentrator) (run : Runs old lines answers new) → AreFit lines → setting_at old l ≡ Some s →
-      Tells (settings_of s c) l c (record_at old l c) (own_marked s l c (marked_of old lines answers new run)) (flat_map (λ a. a) answers) (record_at new l c)
-  run_told old [] [] new run fit set = tells_nothing (settings_of s c) l c (record_at old l c) (record_at new l c) [] (ap (λ k. record_at k l c) run) refl
-  run_told old [] (a ∷ more) new run fit set = absurd run
-  run_told old (line ∷ lines) [] new run fit set = absurd run
-  run_told old (Good e ∷ lines) (a ∷ more) new run fit set =
-      tells_append (settings_of s c) l c (record_at old l c) (record_at run.0 l c) (record_at new l c) (with_mark (line_mark old e a run.0 run.1) (own_event s l c e)) (own_marked s l c (marked_of run.0 lines more new run.2)) a (flat_map (λ b. b) more)
-      (event_told old e a run.0 run.1 fit.0 set)
-      (run_told run.0 lines more new run.2 fit.1 (event_set l old e a run.0 run.1 ∙ set))
-  run_told old (Bad ∷ lines) (a ∷ more) new run fit set =
-      tells_append (settings_of s c) l c (record_at old l c) (record_at run.0 l c) (record_at new l c) [] (own_marked s l c (marked_of run.0 lines more new run.2)) a (flat_map (λ b. b) more)
-      (tells_nothing (settings_of s c) l c (record_at old l c) (record_at run.0 l c) a (ap (λ k. record_at k l c) run.1.0) (rw run.1.1 (bad_left_out l c lf)))
-      (run_told run.0 lines more new run.2 fit (ap (λ k. setting_at k l) run.1.0 ∙ set))
-  run_told old (Long ∷ lines) (a ∷ more) new run fit set =
-      tells_append (settings_of s c) l c (record_at old l c) (record_at run.0 l c) (record_at new l c) [] (own_marked s l c (marked_of run.0 lines more new run.2)) a (flat_map (λ b. b) more)
-      (tells_nothing (settings_of s c) l c (record_at old l c) (record_at run.0 l c) a (ap (λ k. record_at k l c) run.1.0) (rw run.1.1 (long_left_out l c lf)))
-      (run_told run.0 lines more new run.2 fit (ap (λ k. setting_at k l) run.1.0 ∙ set))
+-- a pair's lines are the lines of its own replies
+pub run_told : (l c : ℕ) → l < 2 ^ 16 → c < 2 ^ 16 → (old : Concentrator) (lines : List Line) (answers : List (List (List ℕ))) (new : Concentrator) (run : Runs old lines answers new) → AreFit lines →
+    filter (is_pair_line l c) (flat_map (λ a. a) answers) ≡ flat_map (response_lines l c) (own_replies l c (turns_of old lines answers new run))
+run_told l c lf cf old [] [] new run fit = refl
+run_told l c lf cf old [] (a ∷ more) new run fit = absurd run
+run_told l c lf cf old (line ∷ lines) [] new run fit = absurd run
+run_told l c lf cf old (Good e ∷ lines) (a ∷ more) new run fit =
+    let first : filter (is_pair_line l c) a ≡ flat_map (response_lines l c) (own_reply l c e run.1.0) = ap (filter (is_pair_line l c)) run.1.2 ∙ event_told l c lf cf old run.0 e run.1.0 fit.0 run.1.1 in
+    filter-append (is_pair_line l c) a (flat_map (λ b. b) more)
+    ∙ rw (first, run_told l c lf cf run.0 lines more new run.2 fit.1) (sym (flat_map-append (response_lines l c) (own_reply l c e run.1.0) (own_replies l c (turns_of run.0 lines more new run.2))))
+run_told l c lf cf old (Bad ∷ lines) (a ∷ more) new run fit =
+    filter-append (is_pair_line l c) a (flat_map (λ b. b) more)
+    ∙ rw (ap (filter (is_pair_line l c)) run.1.1 ∙ bad_left_out l c lf) (run_told l c lf cf run.0 lines more new run.2 fit)
+run_told l c lf cf old (Long ∷ lines) (a ∷ more) new run fit =
+    filter-append (is_pair_line l c) a (flat_map (λ b. b) more)
+    ∙ rw (ap (filter (is_pair_line l c)) run.1.1 ∙ long_left_out l c lf) (run_told l c lf cf run.0 lines more new run.2 fit)

@@ -1,16 +1,15 @@
--- The lines that answer an event, without their newlines. Words: response_lines, report_lines, reset_lines;
+-- The lines that answer an event, without their newlines. Words: response_lines, report_lines, event_lines;
 -- text_of, lines with their newlines.
 use Rattle.std.specs.Prelude.{ℕ, List, [], ◌∷◌, ◌++◌, map, Option, Some, None, codes}
 use Rattle.std.specs.List.{flat_map}
 use Rattle.std.specs.Fmt.{decimal}
 use Rattle.rohc_context.specs.Refusal.{name_of}
 use Rattle.rohc_context.specs.declared.refusal.Refusal.{Refusal}
-use Rattle.rohc_context.specs.declared.refusal.Refusal.TheVariants.{NoLink}
 use Rattle.rohc_context.specs.declared.reply.Outcome.{Outcome}
 use Rattle.rohc_context.specs.declared.reply.Outcome.TheVariants as outcomes
 use Rattle.rohc_context.specs.Response.{Response, Packet}
-use Rattle.rohc_concentrator.specs.declared.setting.LinkSetting.{LinkSetting}
 use Rattle.rohc_concentrator.specs.Report.{Report, Arrived, OnlyFront, Refused}
+use Rattle.rohc_concentrator.specs.Events.{Event, Arrive, Reset}
 use Rattle.rohc_replay.specs.Script.{hex_text}
 
 -- a link and an identifier in front of an answer
@@ -61,10 +60,15 @@ report_lines link (Arrived cid response relayed) =
 report_lines link (OnlyFront relayed) = map (relay_line link) relayed
 report_lines link (Refused refusal) = link_refusal link refusal ∷ []
 
--- a reset answers nothing where the link is there
-abbrev pub reset_lines : ℕ → Option LinkSetting → List (List ℕ)
-reset_lines link (Some s) = []
-reset_lines link None = link_refusal link NoLink ∷ []
+-- the link of an event
+abbrev pub link_of : Event → ℕ
+link_of (Arrive link moment octets) = link
+link_of (Reset link) = link
+
+-- the answer to an event, where it has one
+abbrev pub event_lines : Event → Option Report → List (List ℕ)
+event_lines event None = []
+event_lines event (Some report) = report_lines (link_of event) report
 
 -- the answer to a line that is no event
 abbrev pub bad_line : List ℕ

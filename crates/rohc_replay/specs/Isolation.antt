@@ -1,6 +1,6 @@
--- Isolation: what one link and identifier are told, whatever comes under the others. Words: Pair, Replay;
+-- Isolation: what one link and identifier are told, whatever comes under the others. Words: IsPair, Replay;
 -- own, a pair's own events; pair_lines, own_lines; IsToldAll, IsTold, IsToldAlike; Isolates.
-use Rattle.std.specs.Prelude.{◌≡◌, ℕ, ◌^◌, ◌<◌, List, [], ◌∷◌, ◌++◌, map, filter, Bool, true, false, not, ◌==◌, ◌&&◌, if◌then◌else◌, Option, Some, None, codes}
+use Rattle.std.specs.Prelude.{◌≡◌, ℕ, ◌^◌, ◌<◌, List, [], ◌∷◌, ◌++◌, map, filter, Bool, true, false, not, ◌==◌, ◌&&◌, Option, Some, None, codes}
 use Rattle.std.specs.List.{flat_map}
 use Rattle.std.specs.Str.{bytes_eq}
 use Rattle.std.specs.Io.KnownBytes.{Appends}
@@ -9,15 +9,10 @@ use Rattle.rohc_concentrator.specs.declared.concentrator.Concentrator.{Concentra
 use Rattle.rohc_concentrator.specs.declared.setting.LinkSetting.{LinkSetting}
 use Rattle.rohc_concentrator.specs.Setting.{settings_of}
 use Rattle.rohc_concentrator.specs.Tables.{setting_at, record_at}
-use Rattle.rohc_concentrator.specs.LoneRun.{LoneEvent, Forget, LoneRun, MarkedRun, unmarked, own_arrival}
-use Rattle.rohc_replay.specs.Script.{Event, Arrive, Reset, Line, Good, Bad, Long, IsScript, lines_of}
+use Rattle.rohc_concentrator.specs.LoneRun.{LoneEvent, LoneRun, MarkedRun, unmarked}
+use Rattle.rohc_concentrator.specs.Isolation.{Pair, own_event}
+use Rattle.rohc_replay.specs.Script.{Line, Good, Bad, Long, IsScript, lines_of}
 use Rattle.rohc_replay.specs.AnswerLines.{pair_text, response_lines, text_of}
-
--- an identifier of a link, with what is set for the link
-pub record Pair : Type 0 where
-  pub link : ℕ
-  pub cid : ℕ
-  pub setting : LinkSetting
 
 -- the link and the identifier have 16 bits, and the concentrator has the link with this setting
 pub record IsPair (k : Concentrator) (p : Pair) : Type 0 where
@@ -32,13 +27,7 @@ pub record Replay : Type 0 where
   pub text : List ℕ
   pub written : List ℕ
 
--- what an event of a script is to an identifier of a link: the link's resets, and the arrivals on it that
--- bear the identifier
-abbrev pub own_event : LinkSetting → ℕ → ℕ → Event → List LoneEvent
-own_event s l c (Arrive link moment octets) = if link == l then own_arrival s c moment octets else []
-own_event s l c (Reset link) = if link == l then Forget ∷ [] else []
-
--- a bad or a long line is no event
+-- what a line of a script is to an identifier of a link: what its event is; a bad or a long line is no event
 abbrev pub own_line : LinkSetting → ℕ → ℕ → Line → List LoneEvent
 own_line s l c (Good e) = own_event s l c e
 own_line s l c Bad = []

@@ -1,26 +1,23 @@
--- The run of a script, line by line. Words: RunsLine, Runs; line_mark, marked_of; IsTally; Change; Replays;
--- Fails.
+-- The run of a script, line by line. Words: RunsLine, Runs; marked_of; IsTally; Change; Replays; Work, Fails.
 use Rattle.std.specs.Prelude.{◌≡◌, ℕ, ◌-◌, ◌^◌, List, [], ◌∷◌, ◌++◌, Bool, true, false, not, count_by, min, length, ◌<◌, ◌⊎◌, Option, IfSome}
 use Rattle.std.specs.List.{flat_map}
 use Rattle.std.specs.Io.KnownBytes.{Appends, Consumes}
 use Rattle.rohc_concentrator.specs.declared.concentrator.Concentrator.{Concentrator}
-use Rattle.rohc_concentrator.specs.Tables.{setting_at}
-use Rattle.rohc_concentrator.specs.Report.{Report, wants_memory}
-use Rattle.rohc_concentrator.specs.Events.{Arrives, Resets}
+use Rattle.rohc_concentrator.specs.Report.{Report}
+use Rattle.rohc_concentrator.specs.Events.{RunsEvent}
+use Rattle.rohc_concentrator.specs.Isolation.{is_marked}
 use Rattle.rohc_replay.specs.declared.tally.Tally.{Tally}
 use Rattle.rohc_replay.specs.declared.fault.RunFault.{RunFault}
 use Rattle.rohc_replay.specs.declared.fault.RunFault.TheVariants.{NoMemory, Read, Write}
-use Rattle.rohc_replay.specs.Script.{Event, Arrive, Reset, Line, Good, Bad, Long, AreLines, lines_of, IsScript}
+use Rattle.rohc_replay.specs.Script.{Line, Good, Bad, Long, AreLines, lines_of, IsScript}
 use Rattle.rohc_replay.specs.Offers.{TakesAll}
 use Rattle.rohc_replay.specs.Lines.{Splits}
-use Rattle.rohc_replay.specs.AnswerLines.{report_lines, reset_lines, bad_line, long_line, text_of}
+use Rattle.rohc_replay.specs.AnswerLines.{event_lines, bad_line, long_line, text_of}
 
 -- one line: the concentrator before it, its answer lines, and the concentrator after it
 abbrev pub RunsLine : Concentrator → Line → List (List ℕ) → Concentrator → Type 0
-RunsLine old (Good (Arrive link moment octets)) answers new =
-    (report : Report) × Arrives old link moment octets report new × (answers ≡ report_lines link report)
-RunsLine old (Good (Reset link)) answers new =
-    Resets old link new × (answers ≡ reset_lines link (setting_at old link))
+RunsLine old (Good event) answers new =
+    (report : Option Report) × RunsEvent old event report new × (answers ≡ event_lines event report)
 RunsLine old Bad answers new = (new ≡ old) × (answers ≡ bad_line ∷ [])
 RunsLine old Long answers new = (new ≡ old) × (answers ≡ long_line ∷ [])
 
@@ -32,19 +29,13 @@ Runs old (line ∷ lines) (answers ∷ more) new =
 Runs old [] (answers ∷ more) new = ⊥
 Runs old (line ∷ lines) [] new = ⊥
 
--- whether an event was answered `NoMemory`
-abbrev pub line_mark : (old : Concentrator) (e : Event) (answers : List (List ℕ)) (new : Concentrator) →
-    RunsLine old (Good e) answers new → Bool
-line_mark old (Arrive link moment octets) answers new turn = wants_memory turn.0
-line_mark old (Reset link) answers new turn = false
-
 -- the lines of a run, each with its mark: true where its event was answered `NoMemory`
 abbrev pub marked_of : (old : Concentrator) (lines : List Line) (answers : List (List (List ℕ)))
     (new : Concentrator) → Runs old lines answers new → List (Line × Bool)
 marked_of old [] answers new run = []
 marked_of old (line ∷ lines) [] new run = []
 marked_of old (Good e ∷ lines) (a ∷ more) new run =
-    (Good e, line_mark old e a run.0 run.1) ∷ marked_of run.0 lines more new run.2
+    (Good e, is_marked run.1.0) ∷ marked_of run.0 lines more new run.2
 marked_of old (Bad ∷ lines) (a ∷ more) new run = (Bad, false) ∷ marked_of run.0 lines more new run.2
 marked_of old (Long ∷ lines) (a ∷ more) new run = (Long, false) ∷ marked_of run.0 lines more new run.2
 
@@ -65,6 +56,11 @@ pub record Change : Type 0 where
   pub after : Concentrator
   pub held : Option (List ℕ)
   pub holding : Option (List ℕ)
+
+-- from a concentrator and what the writer held to a concentrator and what it holds
+abbrev pub change : Concentrator → Option (List ℕ) → Concentrator → Option (List ℕ) → Change
+change before held after holding =
+    record { before = before; after = after; held = held; holding = holding }
 
 -- A whole replay: the script of the text, its answer lines, which are all that was written, the tally, and
 -- where the concentrator stands after all events.
@@ -120,19 +116,23 @@ pub record FlushFails (c : Change) (text : List ℕ) (written : ℕ) : Type 0 wh
   pub run : Runs c.before lines answers c.after
   pub taken : TakesAll c.held c.holding 0 written (flat_map text_of answers)
 
--- What each fault leaves, from the concentrator, the reader and the writer before to those after it.
+-- what a replay works on
+pub record Work (R W : Type 0) : Type 0 where
+  pub concentrator : Concentrator
+  pub reader : R
+  pub writer : W
+
+-- what a replay changes of it, where the writer tells its octets
+abbrev pub change_of : {R W : Type 0} → (W → Option (List ℕ)) → Work R W → Work R W → Change
+change_of contents old new =
+    change old.concentrator (contents old.writer) new.concentrator (contents new.writer)
+
+-- What each fault leaves of it, where the reader tells its octets too: without memory nothing is changed.
 abbrev pub Fails : {R W : Type 0} → (R → Option (List ℕ)) → (W → Option (List ℕ))
-    → Concentrator → R → W → RunFault → Concentrator → R → W → Type 0
-Fails remaining contents old reader writer NoMemory new reader_after writer_after =
-    (new ≡ old) × (reader_after ≡ reader) × (writer_after ≡ writer)
-Fails remaining contents old reader writer (Read written) new reader_after writer_after =
-    ReadFails (record { before = old; after = new; held = contents writer; holding = contents writer_after })
-    (remaining reader) (remaining reader_after) written
-Fails remaining contents old reader writer (Write written) new reader_after writer_after =
-    let change : Change = record {
-      before = old;
-      after = new;
-      held = contents writer;
-      holding = contents writer_after;
-    } in
-    IfSome (remaining reader) (λ text. WriteFails change text written ⊎ FlushFails change text written)
+    → Work R W → RunFault → Work R W → Type 0
+Fails remaining contents old NoMemory new = new ≡ old
+Fails remaining contents old (Read written) new =
+    ReadFails (change_of contents old new) (remaining old.reader) (remaining new.reader) written
+Fails remaining contents old (Write written) new =
+    let c : Change = change_of contents old new in
+    IfSome (remaining old.reader) (λ text. WriteFails c text written ⊎ FlushFails c text written)

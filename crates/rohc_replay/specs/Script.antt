@@ -1,12 +1,8 @@
--- What a script is. Words: Event, spelling; Line, IsLine; lines_of a text, IsScript.
+-- What a script is. Words: spelling, the line of an event; Line, IsLine; lines_of a text, IsScript.
 use Rattle.std.specs.Prelude.{◌≡◌, ◌≢◌, ℕ, ◌^◌, ◌<◌, ◌≤◌, List, [], ◌∷◌, ◌++◌, length, All, ◌==◌, if◌then◌else◌, codes}
 use Rattle.std.specs.Fmt.{decimal}
 use Rattle.hex.specs.Hex.{encode_lower}
-
--- one call of the concentrator
-pub data Event : Type 0 where
-  Arrive : ℕ → ℕ → List ℕ → Event
-  Reset : ℕ → Event
+use Rattle.rohc_concentrator.specs.Events.{Event, Arrive, Reset}
 
 -- every number of the event fits its field, and a packet has at most 65,535 octets
 abbrev pub IsEvent : Event → Type 0

@@ -1,13 +1,12 @@
 -- One line's turn: it is run, and its answers are offered. Words: with_line; TakesTurn, TakesLongTurn.
 use Rattle.std.specs.Prelude.{◌≡◌, ℕ, ◌∷◌, [], List, Option, Result}
-use Rattle.rohc_concentrator.specs.declared.concentrator.Concentrator.{Concentrator}
 use Rattle.rohc_replay.specs.declared.output.Stopped.{Stopped}
 use Rattle.rohc_replay.specs.declared.tally.Tally.{Tally}
 use Rattle.rohc_replay.specs.declared.counts.Counts.{Counts}
 use Rattle.rohc_replay.specs.Script.{Line, Good, Bad, Long, IsLine}
 use Rattle.rohc_replay.specs.AnswerLines.{text_of, long_line}
 use Rattle.rohc_replay.specs.Offers.{Offers, counted}
-use Rattle.rohc_replay.specs.Run.{RunsLine}
+use Rattle.rohc_replay.specs.Run.{RunsLine, Change}
 
 -- the tally with one line more
 abbrev pub with_line : Tally → Line → Tally
@@ -16,14 +15,14 @@ with_line t Bad = record t { bad = counted t.bad 1 }
 with_line t Long = record t { bad = counted t.bad 1 }
 
 -- a line is run, and its answers are offered: all are taken, or a part of them
-pub record TakesTurn (old new : Concentrator) (held holding : Option (List ℕ)) (before after : Counts)
-    (octets : List ℕ) (result : Result Unit Stopped) : Type 0 where
+pub record TakesTurn (c : Change) (before after : Counts) (octets : List ℕ)
+    (result : Result Unit Stopped) : Type 0 where
   pub line : Line
   pub answers : List (List ℕ)
   pub is_line : IsLine octets line
-  pub turns : RunsLine old line answers new
+  pub turns : RunsLine c.before line answers c.after
   pub tally : after.tally ≡ with_line before.tally line
-  pub offers : Offers held holding before.taken after.taken (text_of answers) result
+  pub offers : Offers c.held c.holding before.taken after.taken (text_of answers) result
 
 -- a long line is answered, and nothing is run
 pub record TakesLongTurn (held holding : Option (List ℕ)) (before after : Counts)

@@ -2,7 +2,7 @@
 use Rattle.std.specs.Prelude.{ℕ, List, take}
 use Rattle.rohc_replay.specs.declared.words.Words.{Words}
 use Rattle.rohc_replay.specs.declared.words.Words.TheVariants as words
-use Rattle.rohc_replay.specs.Script.{Event, Arrive, Reset}
+use Rattle.rohc_concentrator.specs.Events.{Event, Arrive, Reset}
 
 -- the event that a line says, with the octets that were put aside
 abbrev pub event_in : Words → List ℕ → Event

@@ -43,7 +43,9 @@ pub fn replay<R: Read, W: Write>(
         }) input tally)) }
     ensures isolated { IfOk result (λ tally. IfSome (R.remaining reader.old) (λ input.
         Isolates concentrator.old input (W.contents writer.old) (W.contents writer.new) concentrator.new)) }
-    ensures fault { IfErr result (λ e. Fails R.remaining W.contents concentrator.old reader.old writer.old e concentrator.new reader.new writer.new) }
+    ensures fault { IfErr result (λ e. Fails R.remaining W.contents
+        (record { concentrator = concentrator.old; reader = reader.old; writer = writer.old }) e
+        (record { concentrator = concentrator.new; reader = reader.new; writer = writer.new })) }
 {
     let (Ok(mut line), Ok(mut packet)) = (
         zeros(alloc, LONGEST_LINE + 1),
@@ -85,7 +87,9 @@ fn run_script<R: Read, W: Write>(
           holding = W.contents writer.new;
         }) input tally)) }
     ensures rich { IfErr result (λ e. e ≢ RunFault.NoMemory) }
-    ensures fault { IfErr result (λ e. Fails R.remaining W.contents concentrator.old reader.old writer.old e concentrator.new reader.new writer.new) }
+    ensures fault { IfErr result (λ e. Fails R.remaining W.contents
+        (record { concentrator = concentrator.old; reader = reader.old; writer = writer.old }) e
+        (record { concentrator = concentrator.new; reader = reader.new; writer = writer.new })) }
 {
     let mut counts = Counts::new();
     let mut long = false;

@@ -4,7 +4,7 @@ ghost use Rattle.std.specs.Prelude.{◌≡◌, ◌≤◌, ◌<◌, ◌+◌, ℕ,
 ghost use Rattle.rohc_concentrator.specs.declared.concentrator.Concentrator.{Concentrator as State};
 ghost use Rattle.rohc_replay.specs.Script.{longest_line, lines_of};
 ghost use Rattle.rohc_replay.specs.Stream.{Stands, Ends, StopsAt, StopsWithin};
-ghost use Rattle.rohc_replay.specs.Run.{Stops};
+ghost use Rattle.rohc_replay.specs.Run.{change, Stops};
 ghost use Rattle.rohc_replay.specs.Lines.{has_newline};
 
 use crate::counts::Counts;
@@ -41,11 +41,11 @@ fn end_line<W: Write>(
     requires room { length packet.old ≡ 65535 }
     requires short { length line.now ≤ longest_line }
     ensures stands { IfOk result (λ _. (first : State) (held : Option (List ℕ)) (seen : List ℕ) →
-        Stands first held seen line.now long concentrator.old (W.contents writer.old) counts.old →
-        Stands first held (seen ++ 10 ∷ []) [] false concentrator.new (W.contents writer.new) counts.new) }
+        Stands (change first held concentrator.old (W.contents writer.old)) seen line.now long counts.old →
+        Stands (change first held concentrator.new (W.contents writer.new)) (seen ++ 10 ∷ []) [] false counts.new) }
     ensures stops { IfErr result (λ _. (first : State) (held : Option (List ℕ)) (seen : List ℕ) →
-        Stands first held seen line.now long concentrator.old (W.contents writer.old) counts.old →
-        StopsAt first held (seen ++ 10 ∷ []) concentrator.new (W.contents writer.new) counts.new) }
+        Stands (change first held concentrator.old (W.contents writer.old)) seen line.now long counts.old →
+        StopsAt (change first held concentrator.new (W.contents writer.new)) (seen ++ 10 ∷ []) counts.new) }
 {
     if long {
         take_long_turn(writer, counts)
@@ -73,11 +73,11 @@ pub(crate) fn run_lines<W: Write>(
     ensures used { IfOk result (λ used. used ≤ length octets.now) }
     ensures kept { IfOk result (λ used. length octets.now ≤ used + longest_line) }
     ensures stands { IfOk result (λ used. (first : State) (held : Option (List ℕ)) (seen : List ℕ) →
-        Stands first held seen (take searched octets.now) long.old concentrator.old (W.contents writer.old) counts.old →
-        Stands first held (seen ++ drop searched octets.now) (drop used octets.now) long.new concentrator.new (W.contents writer.new) counts.new) }
+        Stands (change first held concentrator.old (W.contents writer.old)) seen (take searched octets.now) long.old counts.old →
+        Stands (change first held concentrator.new (W.contents writer.new)) (seen ++ drop searched octets.now) (drop used octets.now) long.new counts.new) }
     ensures stops { IfErr result (λ _. (first : State) (held : Option (List ℕ)) (seen : List ℕ) →
-        Stands first held seen (take searched octets.now) long.old concentrator.old (W.contents writer.old) counts.old →
-        StopsWithin first held (seen ++ drop searched octets.now) concentrator.new (W.contents writer.new) counts.new) }
+        Stands (change first held concentrator.old (W.contents writer.old)) seen (take searched octets.now) long.old counts.old →
+        StopsWithin (change first held concentrator.new (W.contents writer.new)) (seen ++ drop searched octets.now) counts.new) }
 {
     let mut start = 0;
     let mut from = searched;
@@ -113,12 +113,11 @@ pub(crate) fn end_script<W: Write>(
     requires room { length packet.old ≡ 65535 }
     requires short { length line.now ≤ longest_line }
     ensures ends { IfOk result (λ _. (first : State) (held : Option (List ℕ)) (seen : List ℕ) →
-        Stands first held seen line.now long concentrator.old (W.contents writer.old) counts.old →
-        Ends first held seen concentrator.new (W.contents writer.new) counts.new) }
+        Stands (change first held concentrator.old (W.contents writer.old)) seen line.now long counts.old →
+        Ends (change first held concentrator.new (W.contents writer.new)) seen counts.new) }
     ensures stops { IfErr result (λ _. (first : State) (held : Option (List ℕ)) (seen : List ℕ) →
-        Stands first held seen line.now long concentrator.old (W.contents writer.old) counts.old →
-        Stops (record { before = first; after = concentrator.new; held = held; holding = W.contents writer.new })
-        (lines_of seen) counts.new.taken) }
+        Stands (change first held concentrator.old (W.contents writer.old)) seen line.now long counts.old →
+        Stops (change first held concentrator.new (W.contents writer.new)) (lines_of seen) counts.new.taken) }
 {
     if long {
         take_long_turn(writer, counts)

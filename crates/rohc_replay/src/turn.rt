@@ -2,6 +2,7 @@
 
 ghost use Rattle.std.specs.Prelude.{◌≡◌, ◌≤◌, ℕ, List, length};
 ghost use Rattle.rohc_replay.specs.Script.{longest_line};
+ghost use Rattle.rohc_replay.specs.Run.{change};
 ghost use Rattle.rohc_replay.specs.Turn.{TakesTurn, TakesLongTurn};
 
 use crate::counts::Counts;
@@ -25,8 +26,7 @@ pub(crate) fn take_turn<W: Write>(
 ) -> Result<(), Stopped>
     requires room { length packet.old ≡ 65535 }
     requires short { length line.now ≤ longest_line }
-    ensures { TakesTurn concentrator.old concentrator.new (W.contents writer.old) (W.contents writer.new)
-        counts.old counts.new line.now result }
+    ensures { TakesTurn (change concentrator.old (W.contents writer.old) concentrator.new (W.contents writer.new)) counts.old counts.new line.now result }
 {
     match read_words(line, packet) {
         Some(Words::Arrive { link, moment, size }) => {

@@ -5,7 +5,8 @@ ghost use Rattle.std.specs.Fmt.{decimal};
 ghost use Rattle.std.specs.Option.{SomeIff};
 ghost use Rattle.hex.specs.Hex.{encode_lower};
 ghost use Rattle.rohc_replay.specs.Numeral.{IsNumberAt};
-ghost use Rattle.rohc_replay.specs.Script.{Event, IsEvent, spelling, hex_text};
+ghost use Rattle.rohc_concentrator.specs.Events.{Event};
+ghost use Rattle.rohc_replay.specs.Script.{IsEvent, spelling, hex_text};
 ghost use Rattle.rohc_replay.specs.Words.{event_in, size_in};
 
 use crate::hex_octets::decode;

@@ -4,6 +4,7 @@ use Rattle.std.proofs.lemmas.List.{length-take-le}
 use Rattle.rohc_replay.proofs.RangeLemmas.{range-none, drop-front, take-front}
 use Rattle.rohc_replay.proofs.StreamLemmas.{Stands-first, Stands-same, Consumes-nothing, Replays-whole}
 use Rattle.rohc_replay.proofs.FaultLemmas.{fails_writing, fails_at_end, fails_flushing}
+use Rattle.rohc_replay.specs.Run.{change}
 use Rattle.rohc_replay.specs.Stream.{StopsWithin}
 use Rattle.rohc_replay.proofs.run.run_script.Goals as goal
 
@@ -72,4 +73,4 @@ returns-in_default-run_lines-clause-fault g c =
     let stops = c.in_default-run_lines.ensures.stops c.args.concentrator.now (g.W.Write.contents c.args.writer.now) before.0 stands in
     let front : drop c.loop.filled (take end line) ≡ slice_range line c.loop.filled end = drop-front line c.loop.filled end got.behind.0 in
     rw c.write_fault-in_default-run_lines.ensures (fails_writing _ _ _ _ (before.0 ++ slice_range line c.loop.filled end) c.run_lines.new.concentrator (g.W.Write.contents c.run_lines.new.writer) c.run_lines.new.counts (Consumes-trans _ _ _ before.0 _ before.1 got.read)
-    (subst (λ t. StopsWithin c.args.concentrator.now (g.W.Write.contents c.args.writer.now) (before.0 ++ t) c.run_lines.new.concentrator (g.W.Write.contents c.run_lines.new.writer) c.run_lines.new.counts) front stops))
+    (subst (λ t. StopsWithin (change c.args.concentrator.now (g.W.Write.contents c.args.writer.now) c.run_lines.new.concentrator (g.W.Write.contents c.run_lines.new.writer)) (before.0 ++ t) c.run_lines.new.counts) front stops))

@@ -1,5 +1,6 @@
 use Rattle.std.proofs.Common.{ℕ, ◌-◌, ◌≤◌, List, ◌++◌, length, take, Option, slice_range}
 use Rattle.rohc_concentrator.specs.declared.concentrator.Concentrator.{Concentrator}
+use Rattle.rohc_replay.specs.Run.{change}
 use Rattle.rohc_replay.specs.Stream.{Stands}
 use Rattle.rohc_replay.proofs.stream.run_lines.Given as goal
 
@@ -10,8 +11,8 @@ invariant-loop-ahead g l = record {
   later : l.searched ≤ l.from;
   within : l.from ≤ length l.octets;
   stands : (first : Concentrator) (held : Option (List ℕ)) (seen : List ℕ) →
-      Stands first held seen (take l.searched l.octets) l.fn.long l.fn.concentrator (g.W.Write.contents l.fn.writer) l.fn.counts →
-      Stands first held (seen ++ slice_range l.octets l.searched l.from) (slice_range l.octets l.start l.from) l.long l.concentrator (g.W.Write.contents l.writer) l.counts;
+      Stands (change first held l.fn.concentrator (g.W.Write.contents l.fn.writer)) seen (take l.searched l.octets) l.fn.long l.fn.counts →
+      Stands (change first held l.concentrator (g.W.Write.contents l.writer)) (seen ++ slice_range l.octets l.searched l.from) (slice_range l.octets l.start l.from) l.long l.counts;
 }
 
 abbrev pub decreases-loop-ahead : goal.decreases-loop-ahead

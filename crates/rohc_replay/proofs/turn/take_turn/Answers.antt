@@ -1,9 +1,11 @@
-use Rattle.std.proofs.Common.{rules, refl, take, [], ◌∷◌}
+use Rattle.std.proofs.Common.{rules, refl, take, [], ◌∷◌, Some, None}
 use Rattle.std.proofs.KnownBytes.{Appends-nil}
 use Rattle.rohc_replay.proofs.TurnLemmas.{reset_silent, counted_none}
-use Rattle.rohc_concentrator.specs.Report.{report_of}
+use Rattle.rohc_concentrator.specs.Report.{Refused, report_of}
+use Rattle.rohc_concentrator.specs.Tables.{setting_at}
 use Rattle.rohc_context.specs.declared.refusal.Refusal.TheVariants.{NoLink}
-use Rattle.rohc_replay.specs.Script.{Good, Arrive, Reset}
+use Rattle.rohc_concentrator.specs.Events.{Arrive, Reset}
+use Rattle.rohc_replay.specs.Script.{Good}
 use Rattle.rohc_replay.specs.AnswerLines.{report_lines, link_refusal}
 use Rattle.rohc_replay.proofs.turn.take_turn.Goals as goal
 
@@ -15,7 +17,7 @@ returns-in-Some-Arrive g c =
       line = Good (Arrive a.link a.moment (take a.size c.read_words.new.packet));
       answers = report_lines a.link (report_of c.arrive-answer.result);
       is_line = (search rules);
-      turns = (report_of c.arrive-answer.result, record { answer = said.answer; settings = said.settings; others = said.others; order = said.order }, refl);
+      turns = (Some (report_of c.arrive-answer.result), record { answer = said.answer; settings = said.settings; others = said.others; order = said.order }, refl);
       tally = search rules;
       offers = c.offer_answer.ensures;
     }
@@ -27,9 +29,9 @@ returns-in-Ok g c =
       line = Good (Reset c.in-Some-Reset.link);
       answers = [];
       is_line = (search rules);
-      turns = (record { forgotten = said.forgotten; settings = said.settings; others = said.others; emptied = said.emptied; order = said.order }, reset_silent c.in-Some-Reset.link _ (λ e. let h = c.in-Ok.ensures.absent.1 e in cc));
+      turns = (None, (record { forgotten = said.forgotten; settings = said.settings; others = said.others; emptied = said.emptied; order = said.order }, reset_silent (setting_at c.args.concentrator.now c.in-Some-Reset.link) (λ e. let h = c.in-Ok.ensures.absent.1 e in cc)), refl);
       tally = search rules;
-      offers = (Appends-nil _, counted_none _ c.args.counts.now.in_range);
+      offers = (Appends-nil (g.W.Write.contents c.args.writer.now), counted_none c.args.counts.now.taken c.args.counts.now.in_range);
     }
 
 pub returns-in-Err : goal.returns-in-Err
@@ -40,7 +42,7 @@ returns-in-Err g c =
       line = Good (Reset c.in-Some-Reset.link);
       answers = link_refusal c.in-Some-Reset.link NoLink ∷ [];
       is_line = (search rules);
-      turns = (record { forgotten = said.forgotten; settings = said.settings; others = said.others; emptied = said.emptied; order = said.order }, rw absent refl);
+      turns = (Some (Refused NoLink), (record { forgotten = said.forgotten; settings = said.settings; others = said.others; emptied = said.emptied; order = said.order }, rw absent refl), refl);
       tally = search rules;
       offers = c.offer_refusal.ensures;
     }
