@@ -24,4 +24,5 @@ pub mod WholeLemmas
 pub mod ScriptLemmas
 pub mod RunLemmas
 pub mod SameLemmas
+pub mod SentLemmas
 pub mod FrontLemmas

@@ -3,10 +3,15 @@ use Rattle.std.specs.Prelude.{◌≡◌, ℕ, ◌<◌, ◌^◌, List, [], ◌∷
 use Rattle.std.specs.List.{flat_map}
 use Rattle.rohc_concentrator.specs.declared.concentrator.Concentrator.{Concentrator}
 use Rattle.rohc_concentrator.specs.Laws.{Agree, AreAlike}
+use Rattle.rohc_context.specs.Honest.{Held, Written}
+use Rattle.rohc_context.specs.Record.{Record}
+use Rattle.rohc_concentrator.specs.Setting.{settings_of}
+use Rattle.rohc_concentrator.specs.Isolation.{Pair}
+use Rattle.rohc_concentrator.specs.Honest.{Arrived, IsHonestCall, events_of, deliveries}
 use Rattle.rohc_concentrator.specs.Tables.{record_at}
 use Rattle.rohc_replay.specs.Script.{Line, IsScript}
-use Rattle.rohc_replay.specs.AnswerLines.{text_of}
-use Rattle.rohc_replay.specs.Isolation.{Replay, IsIsolated, own, own_lines}
+use Rattle.rohc_replay.specs.AnswerLines.{response_lines, text_of}
+use Rattle.rohc_replay.specs.Isolation.{Replay, IsPair, IsIsolated, own, own_lines}
 use Rattle.rohc_replay.specs.Run.{Runs, marked_of, Change, ReadFails, WriteFails, FlushFails}
 
 -- the one list begins with the other
@@ -66,3 +71,13 @@ FlushLeavesAll = (c : Change) (whole_after : Concentrator) (text : List ℕ) (wr
     IsFront (marked_of c.before f.lines f.answers c.after f.run)
     (marked_of c.before lines answers whole_after whole) →
     flat_map text_of f.answers ≡ flat_map text_of answers
+
+-- What is delivered was sent, in lines: where a pair's own events are what arrives of an honest sender's
+-- packets, at a record in Full Context, its lines are those of the headers and payloads that were sent.
+abbrev pub LinesOfWhatWasSent : Type 0
+LinesOfWhatWasSent = (r : Replay) (isolated : IsIsolated r) (p : Pair) (w : ℕ) (first : Held)
+    (sent : List Written) (before : Record) (arrivals : List Arrived) →
+    IsPair r.before p → record_at r.before p.link p.cid ≡ Some before →
+    own p.setting p.link p.cid isolated.marked ≡ events_of arrivals →
+    IsHonestCall w (settings_of p.setting p.cid) first sent before arrivals →
+    own_lines p.link p.cid r.written ≡ flat_map (response_lines p.link p.cid) (deliveries arrivals)

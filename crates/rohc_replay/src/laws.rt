@@ -1,6 +1,6 @@
 //! Laws of replays, as contracts of functions that do nothing: promises over two runs, which no one call makes.
 
-ghost use Rattle.rohc_replay.specs.Laws.{HasOneScript, SameLines, BeginsAlike, ReadLeavesFront, WriteLeavesFront, FlushLeavesAll};
+ghost use Rattle.rohc_replay.specs.Laws.{HasOneScript, SameLines, BeginsAlike, ReadLeavesFront, WriteLeavesFront, FlushLeavesAll, LinesOfWhatWasSent};
 
 /// A text is one script.
 pub fn one_script()
@@ -24,4 +24,11 @@ pub fn faults_leave_a_front()
     ensures read { ReadLeavesFront }
     ensures write { WriteLeavesFront }
     ensures flush { FlushLeavesAll }
+{}
+
+/// What is delivered was sent, in lines: a pair whose own events are what arrives of an honest sender's packets, with
+/// fewer than w lost in a row, is told exactly the headers and payloads that were sent, whatever else the script holds
+/// (RFC 3095 4.5.2).
+pub fn lines_of_what_was_sent()
+    ensures { LinesOfWhatWasSent }
 {}

@@ -59,16 +59,27 @@ feedback_port = 6008
 relay_port = 6009
 ";
 
-/// A script with good and bad lines and an unfinished last line.
-const SCRIPT: &str = "arrive 1 0 fc00b745aa\noops\narrive 1 20 45ab\nreset 1\narrive 1 40 10ac";
+/// Two calls and noise, with an unfinished last line.
+const SCRIPT: &str =
+    "arrive 1 0 fd012b40110a0000010a0000021388138a00000001004000012000000090000001000000a0000980a0ab
+arrive 1 999999999999 e110ac
+arrive 2 5 fc812c00e6450102
+oops
+arrive 1 20 10ac
+arrive 1 20 e2fc008145aa
+arrive 1 40 d4c33ead";
 
 /// Its answers, line by line.
-const ANSWERS: [&str; 5] = [
-    "1 0 ip 45aa\n1 0 feedback f100\n",
+const ANSWERS: [&str; 7] = [
+    "1 0 ip 4500002900010000401166c10a0000010a0000021388138a0015000080000001000000a000000001ab
+1 0 feedback f420011139
+",
+    "1 1 refused NoContext\n",
+    "2 300 ip 450102\n2 300 feedback f3812c00\n",
     "- - refused BadLine\n",
-    "1 0 ip 45ab\n",
-    "",
-    "1 0 refused NoContext\n",
+    "1 0 ip 4500002900020000401166c00a0000010a0000021388138a00150000800000020000014000000001ac\n",
+    "1 2 ip 45aa\n1 2 feedback f2e200\n",
+    "1 0 ip 4500002900030000401166bf0a0000010a0000021388138a001500008080000300000c8000000001ad\n",
 ];
 
 /// The concentrator of these links, with no record.
@@ -350,7 +361,7 @@ fn long_lines(rt: HostRuntime) -> Result<(), Fail> {
 
 #[test]
 fn pieces_of_any_size(rt: HostRuntime) -> Result<(), Fail> {
-    let whole = first_answers(rt.alloc(), 5)?;
+    let whole = first_answers(rt.alloc(), ANSWERS.len())?;
     for size in [1, 2, 7, 131_200] {
         let mut writer = willing(rt.alloc());
         let told = replayed(
@@ -360,7 +371,7 @@ fn pieces_of_any_size(rt: HostRuntime) -> Result<(), Fail> {
         )?;
         assert_eq!(rt;
             told,
-            Ok(Tally { events: 4, bad: 1 }),
+            Ok(Tally { events: 6, bad: 1 }),
             "in pieces of {size}"
         );
         assert_eq!(rt;
@@ -403,8 +414,8 @@ fn each_read_fails_in_turn(rt: HostRuntime) -> Result<(), Fail> {
 
 #[test]
 fn each_write_fails_in_turn(rt: HostRuntime) -> Result<(), Fail> {
-    let whole = first_answers(rt.alloc(), 5)?;
-    let places = [0, 12, 30, 50, 62];
+    let whole = first_answers(rt.alloc(), ANSWERS.len())?;
+    let places = [0, 90, 114, 136, 152, 176, 196, 286, 298, 318];
     for tired in [Tired::Fails, Tired::TakesNone, Tired::TakesOneThenFails] {
         for (calls, place) in places.iter().enumerate() {
             let mut writer = Taker {
@@ -442,7 +453,7 @@ fn each_write_fails_in_turn(rt: HostRuntime) -> Result<(), Fail> {
 
 #[test]
 fn the_flush_fails(rt: HostRuntime) -> Result<(), Fail> {
-    let whole = first_answers(rt.alloc(), 5)?;
+    let whole = first_answers(rt.alloc(), ANSWERS.len())?;
     let mut writer = willing(rt.alloc());
     writer.flushes = false;
     let told = replayed(
