@@ -18,10 +18,12 @@ adds_none (Some acts) = sym (append-nil acts)
 -- some was asked, and then more
 pub adds_more : (before mid after : Option (List Act)) (a b : List Act) → Adds before mid a → Adds mid after b →
     Adds before after (a ++ b)
-adds_more None mid after a b ha hb = tt
+adds_more None None None a b ha hb = tt
+adds_more None None (Some z) a b ha hb = hb
+adds_more None (Some y) after a b ha hb = absurd ha
 adds_more (Some x) (Some y) (Some z) a b ha hb = hb ∙ ap (λ (l : List Act). l ++ b) ha ∙ append_assoc x a b
-adds_more (Some x) (Some y) None a b ha hb = hb
-adds_more (Some x) None after a b ha hb = absurd ha
+adds_more (Some x) None (Some z) a b ha hb = absurd hb
+adds_more (Some x) mid None a b ha hb = tt
 
 -- the failures of attempts, and of others
 pub failures_append : (a b : List Attempt) → failures (a ++ b) ≡ failures a + failures b

@@ -17,8 +17,9 @@ abbrev pub received : Option (ℕ × ℕ) → List ℕ → Act
 received None buffer = Received None
 received (Some (size, moment)) buffer = Received (Some (moment, take size buffer))
 
--- known acts grow by these
+-- Known acts grow by these, as long as they are known; what isn't known stays so.
 abbrev pub Adds : Option (List Act) → Option (List Act) → List Act → Type 0
-Adds None new more = ⊤
-Adds (Some acts) None more = ⊥
+Adds None None more = ⊤
+Adds None (Some after) more = ⊥
+Adds (Some acts) None more = ⊤
 Adds (Some acts) (Some after) more = after ≡ acts ++ more
