@@ -1,4 +1,4 @@
--- One datagram. Words: AreSettingsOf a concentrator; link_of, packet_of; ports_of a link; Answers.
+-- One datagram. Words: AreSettingsOf a concentrator; link_of, packet_of; place_of, ports_of a link; Answers.
 use Rattle.std.specs.Prelude.{◌≡◌, ℕ, ◌+◌, ◌*◌, List, drop, ◌==◌, Option, Some, None, length, nat_lt, if◌then◌else◌, slice_index, slice_get, position}
 use Rattle.std.specs.Option.{option_and_then}
 use Rattle.rohc_concentrator.specs.declared.concentrator.Concentrator.{Concentrator}
@@ -35,10 +35,12 @@ ports_of link lists = option_and_then (slice_get lists.ports) (place_of link lis
 
 -- A packet arrives on the link that its datagram names, and what is sent is its answer; a datagram that names
 -- none is refused.
-abbrev pub AnswersOn : Lists → Concentrator → ℕ → Option ℕ → List ℕ → Held → Concentrator → Type 0
+abbrev pub AnswersOn : Lists → Concentrator → ℕ → Option ℕ → List ℕ
+    → Held → Concentrator → Type 0
 AnswersOn links old moment None packet held new = (new ≡ old) × (held ≡ refused_for None)
 AnswersOn links old moment (Some link) packet held new =
-    (report : Report) × Arrives old link moment packet report new × (held ≡ sends_of (ports_of link links) report)
+    (report : Report) × Arrives old link moment packet report new
+    × (held ≡ sends_of (ports_of link links) report)
 
 -- what is sent for a datagram of this moment, and where it leads
 abbrev pub Answers : Lists → Concentrator → ℕ → List ℕ → Held → Concentrator → Type 0

@@ -1,4 +1,4 @@
--- The sends for one datagram. Words: Send; packet_octets, fits; sends_for; SendsAll.
+-- The sends for one datagram. Words: Send, send; packet_octets; sends_in, unsent; offered, failures; Offers.
 use Rattle.std.specs.Prelude.{◌≡◌, ℕ, ◌+◌, List, [], ◌∷◌, ◌++◌, length, map, Bool, not, nat_le, count_by, Option, Some, None, if◌then◌else◌}
 use Rattle.rohc_context.specs.declared.reply.Delivered.{Delivered}
 use Rattle.rohc_context.specs.Response.{Packet}

@@ -1,4 +1,5 @@
--- Turns of a server, each one receive. Words: Turn, acts_in, counts_in; TakesTurn, TakesTurns; IsTally; Serves.
+-- Turns of a server, each one receive. Words: Turn, acts_in, counts_in; TakesTurn, TakesTurns; IsTally;
+-- Serves; with_turn, TakesOne.
 use Rattle.std.specs.Prelude.{◌≡◌, ℕ, ◌+◌, List, [], ◌∷◌, length, map, Option, Some, None}
 use Rattle.std.specs.List.{flat_map, sum_by}
 use Rattle.rohc_concentrator.specs.declared.concentrator.Concentrator.{Concentrator}
@@ -68,7 +69,8 @@ pub record Serves (links : Lists) (old new : Concentrator) (before after : Optio
 -- a tally with a turn more
 abbrev pub with_turn : ServeTally → Turn → ServeTally
 with_turn t Missed = record t { failed = counted t.failed 1 }
-with_turn t (Answered moment octets held attempts) = added t (counts_of held (unsent held + failures attempts))
+with_turn t (Answered moment octets held attempts) =
+    added t (counts_of held (unsent held + failures attempts))
 
 -- one turn more
 pub record TakesOne (links : Lists) (old new : Concentrator) (before after : Option (List Act))

@@ -39,8 +39,8 @@ fn named_link(octets: &[u8]) -> Option<(u16, &[u8])>
 
 /// Answers a datagram that came at this moment, in milliseconds.
 ///
-/// What is to be sent borrows its payload and relayed feedback from `octets`. A datagram below two octets, or of
-/// a link that isn't there, is refused and changes nothing.
+/// What is to be sent borrows its payload and relayed feedback from `octets`. A datagram below two octets, or
+/// of a link that isn't there, is refused and changes nothing.
 pub fn answer_datagram<'a>(
     concentrator: &mut Concentrator,
     links: &Links,

@@ -18,9 +18,9 @@ const LONGEST_DATAGRAM: usize = 65_537;
 
 /// Takes so many turns, each one receive, and counts them.
 ///
-/// The two buffers, one for a datagram and one for a packet to be sent, are asked for before the first receive;
-/// after that only an accepted first IR asks for memory. A failed receive is a turn. Neither a failed receive nor
-/// a failed send ends the run.
+/// The two buffers, one for a datagram and one for a packet to be sent, are asked for before the first
+/// receive; after that only an accepted first IR asks for memory. A failed receive is a turn. Neither a failed
+/// receive nor a failed send ends the run.
 pub fn serve<F: Front>(
     alloc: Global,
     concentrator: &mut Concentrator,

@@ -53,7 +53,8 @@ const PORTS_1: Ports = Ports {
     relay: 6003,
 };
 
-/// A front that gives these datagrams, one a millisecond, and fails where there is none. Sends to one port fail.
+/// A front that gives these datagrams, one a millisecond, and fails where there is none. Sends to one port
+/// fail.
 #[derive(Drop)]
 struct Memory<'a> {
     datagrams: &'a [Option<&'a [u8]>],
@@ -305,8 +306,8 @@ const HOSTILE: [&[u8]; 24] = [
 /// How many hostile datagrams come before each of the call.
 const BETWEEN: u32 = 33_334;
 
-/// A front that gives a call's datagrams, each behind so many hostile ones, and keeps the whole packets that are
-/// sent to the call's link.
+/// A front that gives a call's datagrams, each behind so many hostile ones, and keeps the whole packets that
+/// are sent to the call's link.
 #[derive(Drop)]
 struct Flood {
     taken: u32,
