@@ -80,9 +80,9 @@ def received(sock):
 
 def compare(program, text, script):
     """Serves one script, and answers what differs from its replay."""
-    with open(script, encoding="ascii") as lines:
-        words = [line.split() for line in lines]
-    arrivals = [(int(w[1]), w[3]) for w in words if w[0] == "arrive" and len(w) == 4]
+    with open(script, encoding="latin-1") as lines:
+        found = [re.fullmatch(r"arrive (0|[1-9]\d*) \d+ (-|(?:[0-9a-f]{2})+)\n", line) for line in lines]
+    arrivals = [(int(line[1]), line[2]) for line in found if line and int(line[1]) < 65_536]
     own, sockets = with_own_ports(text)
     with tempfile.NamedTemporaryFile("w", suffix=".toml") as links:
         links.write(own)
@@ -96,7 +96,7 @@ def compare(program, text, script):
             wait_until_bound(port)
             sender = bound()
             for place, ((link, octets), lines) in enumerate(zip(arrivals, answers), 1):
-                sender.sendto(link.to_bytes(2, "big") + bytes.fromhex(octets), (LOOPBACK, port))
+                sender.sendto(link.to_bytes(2, "big") + bytes.fromhex(octets.strip("-")), (LOOPBACK, port))
                 for to, kind, wanted in sends_of(lines):
                     got = received(sockets[to, kind])
                     if got != wanted:
