@@ -1,5 +1,5 @@
 -- A packet of a link that isn't there is refused and changes nothing.
-use Rattle.std.proofs.Common.{◌≡◌, ℕ, List, refl, ◌∙◌, ap, sym}
+use Rattle.std.proofs.Common.{◌≡◌, ℕ, List, refl, ◌∙◌}
 use Rattle.std.specs.Prelude.{Some, None}
 use Rattle.rohc_context.specs.declared.refusal.Refusal.TheVariants.{NoLink}
 use Rattle.rohc_concentrator.specs.declared.concentrator.Concentrator.{Concentrator}

@@ -1,8 +1,7 @@
 -- Padding alone has no feedback elements.
-use Rattle.std.proofs.Common.{◌≡◌, [], ◌∷◌, ap, sym, refl}
-use Rattle.std.specs.Prelude.{Result, Ok, Option, None}
+use Rattle.std.proofs.Common.{◌≡◌, [], ◌∷◌}
+use Rattle.std.specs.Prelude.{Ok}
 use Rattle.rohc_frame.specs.declared.header.CidKind.TheVariants.{Small}
-use Rattle.rohc_frame.specs.declared.refusal.FrameRefusal.{FrameRefusal}
 use Rattle.rohc_frame.specs.Items.{first_item, items_up_to, longest_items, elements_in, after_items}
 use Rattle.rohc_frame.specs.Parts.{header_parts, parts_of}
 use Rattle.rohc_frame.specs.Reading.{Reading}

@@ -1,6 +1,6 @@
 -- What has no place in a list isn't found in it, and ports stand at their link's place.
 use Rattle.std.proofs.Common.{◌≡◌, ◌∙◌, sym, ap, ℕ, ◌<◌, ◌≤◌, ◌⊎◌, inl, inr, List, length, Bool, arith, rules, get_or}
-use Rattle.std.specs.Prelude.{Option, Some, None, position, find, slice_get, ◌==◌}
+use Rattle.std.specs.Prelude.{Some, None, position, find, slice_get, ◌==◌}
 use Rattle.std.specs.List.{position_or_len}
 use Rattle.std.proofs.lemmas.List.Folds.{find_at}
 use Rattle.std.proofs.lemmas.Option.{slice_get_cases, slice_get-get_or}

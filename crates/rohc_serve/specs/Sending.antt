@@ -1,5 +1,5 @@
 -- The sends for one datagram. Words: Send, send; packet_octets; sends_in, unsent; offered, failures; Offers.
-use Rattle.std.specs.Prelude.{◌≡◌, ℕ, ◌+◌, List, [], ◌∷◌, ◌++◌, length, map, Bool, not, nat_le, count_by, Option, Some, None, if◌then◌else◌}
+use Rattle.std.specs.Prelude.{◌≡◌, ℕ, List, [], ◌∷◌, ◌++◌, length, map, not, nat_le, count_by, Option, Some, None, if◌then◌else◌}
 use Rattle.rohc_context.specs.declared.reply.Delivered.{Delivered}
 use Rattle.rohc_context.specs.Response.{Packet}
 use Rattle.rohc_replay.specs.declared.links.Ports.{Ports}

@@ -1,4 +1,4 @@
-use Rattle.std.proofs.Common.{sym, ◌∙◌}
+use Rattle.std.proofs.Common.{sym}
 use Rattle.rohc_serve.proofs.AbsentLemmas.{answers_absent}
 use Rattle.rohc_serve.proofs.datagram.answer_datagram.Goals as goal
 

@@ -1,4 +1,4 @@
-use Rattle.rohc_serve.proofs.OfferLemmas.{front_more, front_all}
+use Rattle.rohc_serve.proofs.OfferLemmas.{front_more}
 use Rattle.rohc_serve.proofs.sending.send_relayed.Goals as goal
 
 pub loop-octets-preserved : goal.loop-octets-preserved

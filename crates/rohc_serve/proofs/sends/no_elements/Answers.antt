@@ -1,4 +1,4 @@
-use Rattle.std.proofs.Common.{◌≡◌, ◌∙◌}
+use Rattle.std.proofs.Common.{◌∙◌}
 use Rattle.rohc_frame.specs.Items.{first_item, items_up_to, longest_items, elements_in, after_items}
 use Rattle.rohc_frame.specs.Parts.{header_parts, parts_of}
 use Rattle.rohc_serve.proofs.PaddingLemmas.{padding_alone}
