@@ -167,6 +167,7 @@ fn a_datagram_is_answered(rt: HostRuntime) -> Result<(), Fail> {
     Ok(())
 }
 
+// No contract can say that memory is there: a `serve` that always wants it fails here.
 #[test]
 fn a_turn_fails_and_the_run_goes_on(rt: HostRuntime) -> Result<(), Fail> {
     let datagrams: [Option<&[u8]>; 3] = [
