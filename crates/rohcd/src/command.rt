@@ -2,27 +2,64 @@
 
 use crate::end::End;
 use clap::error::ErrorKind;
-use clap::{Arg, ArgAction, Command};
+use clap::{Arg, ArgAction, ArgMatches, Command};
 use std::alloc::{AllocError, Global};
+
+/// The greatest number of receives.
+const GREATEST_COUNT: i64 = 1_000_000;
 
 /// What the words ask for.
 #[derive(Clone, Copy, Debug)]
 pub(crate) enum Request<'a> {
     /// A script from standard input to standard output, with the links of this file.
-    Replay { links: &'a str },
+    Replay {
+        links: &'a str,
+    },
+    /// Datagrams at this port of 127.0.0.1, so many receives, with the links of this file.
+    Serve {
+        links: &'a str,
+        port: u16,
+        count: u32,
+    },
+}
+
+/// A required option with a value.
+fn option<'a>(alloc: Global, name: &'static str) -> Arg<'a> {
+    Arg::new(alloc, name)
+        .long(name)
+        .required(true)
+        .action(ArgAction::Set)
 }
 
 /// The command that words are read by.
 fn command<'a>(alloc: Global) -> Result<Command<'a>, AllocError> {
-    let links = Arg::new(alloc, "links")
-        .long("links")
-        .required(true)
-        .action(ArgAction::Set);
-    let replay = Command::new(alloc, "replay").arg(links)?;
+    let ports = clap::value_parser!(u16).range(1..);
+    let counts = clap::value_parser!(u32).range(1..=GREATEST_COUNT);
+    let replay = Command::new(alloc, "replay").arg(option(alloc, "links"))?;
+    let serve = Command::new(alloc, "serve")
+        .arg(option(alloc, "links"))?
+        .arg(option(alloc, "port").value_parser(ports))?
+        .arg(option(alloc, "count").value_parser(counts))?;
     Command::new(alloc, "rohcd")
         .no_binary_name(true)
         .subcommand_required(true)
-        .subcommand(replay)
+        .subcommand(replay)?
+        .subcommand(serve)
+}
+
+/// The request of the words that were matched.
+fn asked_for<'a>(matches: &ArgMatches<'a>) -> Option<Request<'a>> {
+    match matches.subcommand()? {
+        ("replay", options) => Some(Request::Replay {
+            links: options.get_str("links")?,
+        }),
+        ("serve", options) => Some(Request::Serve {
+            links: options.get_str("links")?,
+            port: options.get_one::<u16>("port")?,
+            count: options.get_one::<u32>("count")?,
+        }),
+        _ => None,
+    }
 }
 
 /// What the words ask for, or `CommandLine`, or `Memory`.
@@ -31,13 +68,7 @@ pub(crate) fn read_request<'a>(alloc: Global, words: &'a [String]) -> Result<Req
         return Err(End::Memory);
     };
     match command.try_get_matches_from(words) {
-        Ok(matches) => match matches.subcommand() {
-            Some(("replay", inner)) => match inner.get_str("links") {
-                Some(links) => Ok(Request::Replay { links }),
-                None => Err(End::CommandLine),
-            },
-            _ => Err(End::CommandLine),
-        },
+        Ok(matches) => asked_for(&matches).ok_or(End::CommandLine),
         Err(error) if error.kind() == ErrorKind::OutOfMemory => Err(End::Memory),
         Err(_) => Err(End::CommandLine),
     }

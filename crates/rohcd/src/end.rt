@@ -15,6 +15,8 @@ pub enum End {
     Read,
     /// A write failed.
     Write,
+    /// No socket could be bound, or no clock read.
+    Socket,
     /// There was no memory.
     Memory,
 }
@@ -31,7 +33,7 @@ impl End {
             End::Done => 0,
             End::CommandLine => 2,
             End::LinksFile(_) => 3,
-            End::Read | End::Write => 4,
+            End::Read | End::Write | End::Socket => 4,
             End::Memory => 5,
         }
     }
@@ -48,6 +50,7 @@ impl fmt::Display for End {
             }
             End::Read => f.write_str("rohcd: read"),
             End::Write => f.write_str("rohcd: write"),
+            End::Socket => f.write_str("rohcd: socket"),
             End::Memory => f.write_str("rohcd: memory"),
         }
     }
@@ -66,6 +69,7 @@ mod tests {
             (End::LinksFile("NoLinks"), 3, "rohcd: links file: NoLinks"),
             (End::Read, 4, "rohcd: read"),
             (End::Write, 4, "rohcd: write"),
+            (End::Socket, 4, "rohcd: socket"),
             (End::Memory, 5, "rohcd: memory"),
         ];
         for (end, status, text) in ends {

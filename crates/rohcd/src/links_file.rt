@@ -1,8 +1,11 @@
 //! The links file, from the path to the concentrator.
 
+ghost use Rattle.std.specs.Prelude.{IfOk};
+ghost use Rattle.rohc_serve.specs.Datagram.{AreSettingsOf};
+
 use crate::end::End;
 use rohc_concentrator::{Concentrator, SetupFault};
-use rohc_replay::{LinksFault, read_links};
+use rohc_replay::{Links, LinksFault, read_links};
 use std::io::Read;
 use std::rt::Files;
 use std::{fs, io};
@@ -33,14 +36,19 @@ fn unreadable(e: &io::Error) -> End {
     }
 }
 
-/// The concentrator of the links in the file.
-pub(crate) fn concentrator_of<R: Files + AllocGlobal>(
+/// The links in the file, and their concentrator without a record.
+pub(crate) fn links_of<R: Files + AllocGlobal>(
     rt: &R,
     path: &str,
-) -> Result<Concentrator, End> {
+) -> Result<(Links, Concentrator), End>
+    ensures { IfOk result (λ made. AreSettingsOf made.1 made.0.settings) }
+{
     let text = links_text(rt, path)?;
     let links = read_links(rt.alloc(), text.as_str()).map_err(|fault| links_end(&fault))?;
-    Concentrator::new(rt.alloc(), links.settings()).map_err(|fault| setup_end(&fault))
+    let concentrator = Concentrator::new(rt.alloc(), links.settings()).map_err(|fault| setup_end(
+        &fault,
+    ))?;
+    Ok((links, concentrator))
 }
 
 /// The end that a fault of the links file leads to.

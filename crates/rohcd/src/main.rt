@@ -5,6 +5,7 @@ mod command;
 mod end;
 mod links_file;
 mod program;
+mod udp;
 
 use end::End;
 use program::run;
@@ -24,6 +25,7 @@ fn words<R: Env + AllocGlobal>(rt: &R) -> io::Result<Vec<String>> {
 fn main(rt: HostRuntime) -> ExitCode {
     let end = match words(&rt) {
         Ok(words) => run(&rt, words.as_slice()),
+        Err(e) if e.kind() == io::ErrorKind::InvalidData => End::CommandLine,
         Err(_) => End::Memory,
     };
     if end != End::Done {

@@ -2,20 +2,35 @@
 
 use crate::command::{Request, read_request};
 use crate::end::End;
-use crate::links_file::concentrator_of;
+use crate::links_file::links_of;
+use crate::udp::UdpFront;
 use rohc_replay::{RunFault, replay};
+use rohc_serve::serve;
 use std::io;
 use std::io::{BufWriter, Write};
+use std::net::Net;
 use std::rt::Files;
+use std::time::Clock;
 
 /// Runs the program with these words.
-pub(crate) fn run<R: Files + Input + Print + AllocGlobal>(rt: &R, words: &[String]) -> End {
-    match read_request(rt.alloc(), words) {
-        Ok(Request::Replay { links }) => match run_replay(rt, links) {
-            Ok(()) => End::Done,
-            Err(end) => end,
-        },
+pub(crate) fn run<R>(rt: &R, words: &[String]) -> End
+where
+    R: Files + Input + Print + Net + Clock + AllocGlobal,
+{
+    match requested(rt, words) {
+        Ok(()) => End::Done,
         Err(end) => end,
+    }
+}
+
+/// Does what the words ask for.
+fn requested<R>(rt: &R, words: &[String]) -> Result<(), End>
+where
+    R: Files + Input + Print + Net + Clock + AllocGlobal,
+{
+    match read_request(rt.alloc(), words)? {
+        Request::Replay { links } => run_replay(rt, links),
+        Request::Serve { links, port, count } => run_serve(rt, links, port, count),
     }
 }
 
@@ -23,7 +38,7 @@ pub(crate) fn run<R: Files + Input + Print + AllocGlobal>(rt: &R, words: &[Strin
 ///
 /// After a failed read what is buffered is flushed, and the end is still `Read`.
 fn run_replay<R: Files + Input + Print + AllocGlobal>(rt: &R, links: &str) -> Result<(), End> {
-    let mut concentrator = concentrator_of(rt, links)?;
+    let (_, mut concentrator) = links_of(rt, links)?;
     let mut reader = rt.reader();
     let Ok(mut writer) = BufWriter::new(rt.alloc(), io::writer(rt)) else {
         return Err(End::Memory);
@@ -37,4 +52,61 @@ fn run_replay<R: Files + Input + Print + AllocGlobal>(rt: &R, links: &str) -> Re
         }
         Err(RunFault::Write { .. }) => Err(End::Write),
     }
+}
+
+/// Serves so many receives at the port, and prints what was served on standard output.
+fn run_serve<R>(rt: &R, links: &str, port: u16, count: u32) -> Result<(), End>
+where
+    R: Files + Print + Net + Clock + AllocGlobal,
+{
+    let (links, mut concentrator) = links_of(rt, links)?;
+    let mut front = UdpFront::open(rt, port).map_err(|_| End::Socket)?;
+    let tally = serve(rt.alloc(), &mut concentrator, &links, &mut front, count).map_err(
+        |_| End::Memory,
+    )?;
+    println!(rt; "{tally}").map_err(|_| End::Write)
+}
+
+#[cfg(test)]
+mod tests {
+    use super::*;
+    use std::fs;
+    use std::net::{Ipv4Addr, UdpSocket};
+    use std::test::Fail;
+
+    #[test]
+    fn a_port_that_is_taken_is_socket(rt: HostRuntime) -> Result<(), Fail> {
+        let taken = UdpSocket::bind(&rt, (Ipv4Addr::LOCALHOST, 0))?;
+        let port = taken.local_addr()?.port();
+        let path = format!(in rt.alloc(); "/tmp/rohcd-{port}.toml")?;
+        fs::write(&rt, path.as_str(), LINKS)?;
+        let line = format!(in rt.alloc(); "serve --count 1 --port {port} --links {path}")?;
+        let mut words = Vec::new(rt.alloc());
+        for word in line.split(' ') {
+            words.push(word.to_string(rt.alloc())?)?;
+        }
+        let end = run(&rt, words.as_slice());
+        fs::remove_file(&rt, path.as_str())?;
+        assert_eq!(rt; end, End::Socket);
+        assert_eq!(rt; end.status(), 4);
+        Ok(())
+    }
+
+    /// Link 1 of the worked examples.
+    const LINKS: &str = "version = 1
+[[link]]
+number = 1
+cid = \"small\"
+max_cid = 15
+mode = \"O\"
+k1 = 2
+n1 = 3
+k2 = 2
+n2 = 3
+packet_ms = 20
+static_nack_ms = 1000
+deliver_port = 6001
+feedback_port = 6002
+relay_port = 6003
+";
 }

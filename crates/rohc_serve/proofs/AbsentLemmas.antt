@@ -1,0 +1,27 @@
+-- A packet of a link that isn't there is refused and changes nothing.
+use Rattle.std.proofs.Common.{◌≡◌, ℕ, List, refl, ◌∙◌}
+use Rattle.std.specs.Prelude.{Some, None}
+use Rattle.rohc_context.specs.declared.refusal.Refusal.TheVariants.{NoLink}
+use Rattle.rohc_concentrator.specs.declared.concentrator.Concentrator.{Concentrator}
+use Rattle.rohc_concentrator.specs.Tables.{setting_at}
+use Rattle.rohc_concentrator.specs.Setup.{entry_of}
+use Rattle.rohc_concentrator.specs.Report.{Refused}
+use Rattle.rohc_concentrator.specs.Events.{Arrives}
+use Rattle.rohc_replay.specs.Links.{Lists}
+use Rattle.rohc_serve.specs.Held.{Held, refused_for}
+use Rattle.rohc_serve.specs.Datagram.{AreSettingsOf, link_of, packet_of, ports_of, Answers}
+
+arrives_nowhere : (k : Concentrator) (link moment : ℕ) (packet : List ℕ) → setting_at k link ≡ None →
+    Arrives k link moment packet (Refused NoLink) k
+arrives_nowhere k link moment packet none = record {
+  answer = rw none refl;
+  settings = record { each = λ l. refl; in_order = refl };
+  others = λ l cid other. refl;
+  order = record { here = rw none refl; elsewhere = λ l other. refl };
+}
+
+pub answers_absent : (links : Lists) (k : Concentrator) (moment link : ℕ) (octets : List ℕ) (held : Held) →
+    AreSettingsOf k links.settings → link_of octets ≡ Some link → entry_of link links.settings ≡ None →
+    ports_of link links ≡ None → held ≡ refused_for None → Answers links k moment octets held k
+answers_absent links k moment link octets held settings named absent portless refused =
+    rw named (Refused NoLink, arrives_nowhere k link moment (packet_of octets) (settings.each link ∙ absent), rw portless refused)

@@ -1,0 +1,5 @@
+mod PaddingLemmas
+mod PlaceLemmas
+mod AbsentLemmas
+mod OfferLemmas
+mod TurnLemmas

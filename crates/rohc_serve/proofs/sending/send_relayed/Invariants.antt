@@ -1,0 +1,8 @@
+use Rattle.rohc_frame.specs.Reading.{elements_of}
+use Rattle.rohc_serve.proofs.OfferLemmas.{OffersFront}
+use Rattle.rohc_serve.proofs.sending.send_relayed.Given as goal
+
+-- a front of the elements was offered
+abbrev pub invariant-loop-octets : goal.invariant-loop-octets
+invariant-loop-octets g l =
+    OffersFront l.port (elements_of l.initial.relayed) (elements_of l.octets-iterator) (g.F.Front.acts l.initial.front) (g.F.Front.acts l.front) l.failed

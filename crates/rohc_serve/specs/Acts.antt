@@ -1,0 +1,25 @@
+-- What a front was asked and answered. Words: Attempt; Act; received; Adds.
+use Rattle.std.specs.Prelude.{◌≡◌, ℕ, List, ◌++◌, Bool, Option, Some, None, take, ⊤}
+
+-- a datagram that was offered for a port, and whether it went out
+pub record Attempt : Type 0 where
+  pub port : ℕ
+  pub octets : List ℕ
+  pub gone : Bool
+
+-- A receive, with the moment and the datagram that it gave, if it did, or a send.
+pub data Act : Type 0 where
+  Received : Option (ℕ × List ℕ) → Act
+  Sent : Attempt → Act
+
+-- a receive by the length and the moment that it gave, and the buffer after it
+abbrev pub received : Option (ℕ × ℕ) → List ℕ → Act
+received None buffer = Received None
+received (Some (size, moment)) buffer = Received (Some (moment, take size buffer))
+
+-- Known acts grow by these, as long as they are known; what isn't known stays so.
+abbrev pub Adds : Option (List Act) → Option (List Act) → List Act → Type 0
+Adds None None more = ⊤
+Adds None (Some after) more = ⊥
+Adds (Some acts) None more = ⊤
+Adds (Some acts) (Some after) more = after ≡ acts ++ more

@@ -1,0 +1,48 @@
+-- One datagram. Words: AreSettingsOf a concentrator; link_of, packet_of; place_of, ports_of a link; Answers.
+use Rattle.std.specs.Prelude.{◌≡◌, ℕ, ◌+◌, ◌*◌, List, drop, ◌==◌, Option, Some, None, length, nat_lt, if◌then◌else◌, slice_index, slice_get, position}
+use Rattle.std.specs.Option.{option_and_then}
+use Rattle.rohc_concentrator.specs.declared.concentrator.Concentrator.{Concentrator}
+use Rattle.rohc_concentrator.specs.declared.setting.LinkSetting.{LinkSetting}
+use Rattle.rohc_concentrator.specs.Tables.{setting_at, settings_in_order}
+use Rattle.rohc_concentrator.specs.Setup.{entry_of}
+use Rattle.rohc_concentrator.specs.Report.{Report}
+use Rattle.rohc_concentrator.specs.Events.{Arrives}
+use Rattle.rohc_replay.specs.declared.links.Ports.{Ports}
+use Rattle.rohc_replay.specs.Links.{Lists}
+use Rattle.rohc_serve.specs.Held.{Held, refused_for, sends_of}
+
+-- these are the settings of the concentrator's links, in their order
+pub record AreSettingsOf (k : Concentrator) (settings : List LinkSetting) : Type 0 where
+  pub in_order : settings_in_order k ≡ settings
+  pub each : (link : ℕ) → setting_at k link ≡ entry_of link settings
+
+-- the link that a datagram names in its first two octets, most significant first, if it has two
+abbrev pub link_of : List ℕ → Option ℕ
+link_of octets =
+    if nat_lt (length octets) 2 then None else Some (slice_index octets 0 * 256 + slice_index octets 1)
+
+-- and the packet behind them
+abbrev pub packet_of : List ℕ → List ℕ
+packet_of octets = drop 2 octets
+
+-- the place of a link's first entry, if it has one
+abbrev pub place_of : ℕ → List LinkSetting → Option ℕ
+place_of link settings = position (λ (s : LinkSetting). s.link == link) settings
+
+-- and the ports at this place
+abbrev pub ports_of : ℕ → Lists → Option Ports
+ports_of link lists = option_and_then (slice_get lists.ports) (place_of link lists.settings)
+
+-- A packet arrives on the link that its datagram names, and what is sent is its answer; a datagram that names
+-- none is refused.
+abbrev pub AnswersOn : Lists → Concentrator → ℕ → Option ℕ → List ℕ
+    → Held → Concentrator → Type 0
+AnswersOn links old moment None packet held new = (new ≡ old) × (held ≡ refused_for None)
+AnswersOn links old moment (Some link) packet held new =
+    (report : Report) × Arrives old link moment packet report new
+    × (held ≡ sends_of (ports_of link links) report)
+
+-- what is sent for a datagram of this moment, and where it leads
+abbrev pub Answers : Lists → Concentrator → ℕ → List ℕ → Held → Concentrator → Type 0
+Answers links old moment octets held new =
+    AnswersOn links old moment (link_of octets) (packet_of octets) held new

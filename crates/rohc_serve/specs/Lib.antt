@@ -1,0 +1,6 @@
+pub mod Held
+pub mod Datagram
+pub mod Tally
+pub mod Acts
+pub mod Sending
+pub mod Turns

@@ -1,0 +1,75 @@
+-- The sends for one datagram. Words: Send, send; packet_octets; sends_in, unsent; offered, failures; Offers.
+use Rattle.std.specs.Prelude.{◌≡◌, ℕ, List, [], ◌∷◌, ◌++◌, length, map, not, nat_le, count_by, Option, Some, None, if◌then◌else◌}
+use Rattle.rohc_context.specs.declared.reply.Delivered.{Delivered}
+use Rattle.rohc_context.specs.Response.{Packet}
+use Rattle.rohc_replay.specs.declared.links.Ports.{Ports}
+use Rattle.rohc_replay.specs.Offers.{counted}
+use Rattle.rohc_serve.specs.Acts.{Attempt, Act, Sent, Adds}
+use Rattle.rohc_serve.specs.Held.{Held}
+
+-- octets for a port
+pub record Send : Type 0 where
+  pub port : ℕ
+  pub octets : List ℕ
+
+abbrev pub send : ℕ → List ℕ → Send
+send port octets = record { port = port; octets = octets }
+
+abbrev pub longest_packet : ℕ
+longest_packet = 65535
+
+abbrev pub packet_of : Delivered → Packet
+packet_of d = record { head = d.head.items; payload = d.payload.now }
+
+-- a packet is its head, and the payload behind it
+abbrev pub packet_octets : Packet → List ℕ
+packet_octets p = p.head ++ p.payload
+
+-- a packet is sent where it is one of at most 65,535 octets
+abbrev pub packet_sends : ℕ → Option Packet → List Send
+packet_sends port None = []
+packet_sends port (Some p) =
+    if nat_le (length (packet_octets p)) longest_packet then send port (packet_octets p) ∷ [] else []
+
+abbrev pub feedback_sends : ℕ → Option (List ℕ) → List Send
+feedback_sends port None = []
+feedback_sends port (Some element) = send port element ∷ []
+
+-- the relayed data to the relay port, each for itself, then the packet to the deliver port, then the element
+-- to the feedback port; and nothing where there are no ports
+abbrev pub sends_by : Option Ports → Held → List Send
+sends_by None held = []
+sends_by (Some ports) held =
+    map (send ports.relay) held.relayed ++ packet_sends ports.deliver held.packet
+    ++ feedback_sends ports.feedback held.feedback
+
+abbrev pub sends_in : Held → List Send
+sends_in held = sends_by held.ports held
+
+-- a packet that is longer is not offered, and counts as a failed send
+abbrev pub too_long : Option Packet → ℕ
+too_long None = 0
+too_long (Some p) = if nat_le (length (packet_octets p)) longest_packet then 0 else 1
+
+abbrev pub unsent_by : Option Ports → Held → ℕ
+unsent_by None held = 0
+unsent_by (Some ports) held = too_long held.packet
+
+abbrev pub unsent : Held → ℕ
+unsent held = unsent_by held.ports held
+
+-- the octets and the port that were offered
+abbrev pub offered : Attempt → Send
+offered a = send a.port a.octets
+
+-- how many went not out
+abbrev pub failures : List Attempt → ℕ
+failures attempts = count_by (λ (a : Attempt). not a.gone) attempts
+
+-- these are offered in this order, and so many fail, with what is lost beside them
+pub record Offers (sends : List Send) (lost : ℕ) (before after : Option (List Act)) (failed : ℕ) : Type 0
+  where
+    pub attempts : List Attempt
+    pub in_order : map offered attempts ≡ sends
+    pub acts : Adds before after (map Sent attempts)
+    pub failed_sends : failed ≡ counted lost (failures attempts)

@@ -1,0 +1,30 @@
+-- What is counted. Words: counts_of a datagram; added, which stays at the greatest u64.
+use Rattle.std.specs.Prelude.{ℕ, length, Bool, is_some, if◌then◌else◌}
+use Rattle.rohc_replay.specs.Offers.{counted}
+use Rattle.rohc_serve.specs.declared.tally.ServeTally.{ServeTally}
+use Rattle.rohc_serve.specs.Held.{Held}
+
+abbrev pub one_if : Bool → ℕ
+one_if holds = if holds then 1 else 0
+
+-- one datagram, by what was to be sent for it, with its failed sends
+abbrev pub counts_of : Held → ℕ → ServeTally
+counts_of held failed = record {
+  datagrams = 1;
+  delivered = one_if (is_some held.packet);
+  feedback = one_if (is_some held.feedback);
+  relayed = length held.relayed;
+  refused = one_if held.refused;
+  failed = failed;
+}
+
+-- a tally with more counts, each up to the greatest u64
+abbrev pub added : ServeTally → ServeTally → ServeTally
+added t more = record {
+  datagrams = counted t.datagrams more.datagrams;
+  delivered = counted t.delivered more.delivered;
+  feedback = counted t.feedback more.feedback;
+  relayed = counted t.relayed more.relayed;
+  refused = counted t.refused more.refused;
+  failed = counted t.failed more.failed;
+}

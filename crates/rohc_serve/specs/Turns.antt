@@ -1,0 +1,81 @@
+-- Turns of a server, each one receive. Words: Turn, acts_in, counts_in; TakesTurn, TakesTurns; IsTally;
+-- Serves; with_turn, TakesOne.
+use Rattle.std.specs.Prelude.{◌≡◌, ℕ, ◌+◌, List, [], ◌∷◌, length, map, Option, Some, None}
+use Rattle.std.specs.List.{flat_map, sum_by}
+use Rattle.rohc_concentrator.specs.declared.concentrator.Concentrator.{Concentrator}
+use Rattle.rohc_replay.specs.Links.{Lists}
+use Rattle.rohc_replay.specs.Offers.{counted}
+use Rattle.rohc_serve.specs.declared.tally.ServeTally.{ServeTally}
+use Rattle.rohc_serve.specs.Held.{Held}
+use Rattle.rohc_serve.specs.Datagram.{Answers}
+use Rattle.rohc_serve.specs.Tally.{counts_of, added}
+use Rattle.rohc_serve.specs.Acts.{Attempt, Act, Received, Sent, Adds}
+use Rattle.rohc_serve.specs.Sending.{sends_in, unsent, offered, failures}
+
+-- A receive that failed, or a datagram: its moment and octets, what was to be sent for it, and the attempts.
+pub data Turn : Type 0 where
+  Missed : Turn
+  Answered : ℕ → List ℕ → Held → List Attempt → Turn
+
+-- what a front was asked in a turn
+abbrev pub acts_in : Turn → List Act
+acts_in Missed = Received None ∷ []
+acts_in (Answered moment octets held attempts) = Received (Some (moment, octets)) ∷ map Sent attempts
+
+-- what a turn adds to each count
+abbrev pub counts_in : Turn → ServeTally
+counts_in Missed = record {
+  datagrams = 0;
+  delivered = 0;
+  feedback = 0;
+  relayed = 0;
+  refused = 0;
+  failed = 1;
+}
+counts_in (Answered moment octets held attempts) = counts_of held (unsent held + failures attempts)
+
+-- One turn: after a failed receive the concentrator is the same; a datagram is answered, and what is held is
+-- offered in its order.
+abbrev pub TakesTurn : Lists → Concentrator → Turn → Concentrator → Type 0
+TakesTurn links old Missed new = new ≡ old
+TakesTurn links old (Answered moment octets held attempts) new =
+    Answers links old moment octets held new × (map offered attempts ≡ sends_in held)
+
+-- the turns, one after the other
+abbrev pub TakesTurns : Lists → Concentrator → List Turn → Concentrator → Type 0
+TakesTurns links old [] new = new ≡ old
+TakesTurns links old (turn ∷ turns) new =
+    (mid : Concentrator) × TakesTurn links old turn mid × TakesTurns links mid turns new
+
+-- each count is the sum of its turns', up to the greatest u64
+pub record IsTally (turns : List Turn) (t : ServeTally) : Type 0 where
+  pub datagrams : t.datagrams ≡ counted 0 (sum_by (λ turn. (counts_in turn).datagrams) turns)
+  pub delivered : t.delivered ≡ counted 0 (sum_by (λ turn. (counts_in turn).delivered) turns)
+  pub feedback : t.feedback ≡ counted 0 (sum_by (λ turn. (counts_in turn).feedback) turns)
+  pub relayed : t.relayed ≡ counted 0 (sum_by (λ turn. (counts_in turn).relayed) turns)
+  pub refused : t.refused ≡ counted 0 (sum_by (λ turn. (counts_in turn).refused) turns)
+  pub failed : t.failed ≡ counted 0 (sum_by (λ turn. (counts_in turn).failed) turns)
+
+-- So many turns lead from a concentrator to another. Where the front's acts are known, those of the turns are
+-- behind the ones before.
+pub record Serves (links : Lists) (old new : Concentrator) (before after : Option (List Act)) (count : ℕ)
+    (t : ServeTally) : Type 0 where
+  pub turns : List Turn
+  pub taken : TakesTurns links old turns new
+  pub acts : Adds before after (flat_map acts_in turns)
+  pub so_many : length turns ≡ count
+  pub tally : IsTally turns t
+
+-- a tally with a turn more
+abbrev pub with_turn : ServeTally → Turn → ServeTally
+with_turn t Missed = record t { failed = counted t.failed 1 }
+with_turn t (Answered moment octets held attempts) =
+    added t (counts_of held (unsent held + failures attempts))
+
+-- one turn more
+pub record TakesOne (links : Lists) (old new : Concentrator) (before after : Option (List Act))
+    (t next : ServeTally) : Type 0 where
+  pub turn : Turn
+  pub taken : TakesTurn links old turn new
+  pub acts : Adds before after (acts_in turn)
+  pub tally : next ≡ with_turn t turn

@@ -1,0 +1,100 @@
+//! The sends for one datagram, in their order.
+
+ghost use Rattle.std.specs.Prelude.{◌≡◌, ◌≤◌, ◌<◌, ◌+◌, [], ◌∷◌, ◌++◌, length, map, take, IfSome, IfNone};
+ghost use Rattle.rohc_frame.specs.Reading.{elements_of};
+ghost use Rattle.rohc_serve.specs.Held.{held_of};
+ghost use Rattle.rohc_serve.specs.Sending.{Offers, send, packet_of, packet_octets, longest_packet, packet_sends, too_long, feedback_sends, sends_in, unsent};
+
+use crate::front::Front;
+use crate::sends::Sends;
+use crate::tally::counted_if;
+use rohc_context::Delivered;
+use rohc_frame::Elements;
+
+/// The greatest packet that is sent.
+pub(crate) const LONGEST_PACKET: usize = 65_535;
+
+/// Puts octets behind the first `at` of the buffer.
+fn put_behind(buffer: &mut [u8], at: usize, octets: &[u8])
+    requires room { at + length octets.now ≤ length buffer.old }
+    ensures put { take (at + length octets.now) buffer.new ≡ take at buffer.old ++ octets.now }
+{
+    buffer[at..at + octets.len()].copy_from_slice(octets);
+}
+
+/// Puts a packet into the buffer, and answers its length, where it is one that is sent.
+fn put_packet(buffer: &mut [u8], packet: &Delivered<'_>) -> Option<usize>
+    requires room { length buffer.old ≡ longest_packet }
+    ensures put { IfSome result (λ size. (size ≤ longest_packet) × (take size buffer.new ≡ packet_octets (packet_of packet.now))) }
+    ensures long { IfNone result (longest_packet < length (packet_octets (packet_of packet.now))) }
+{
+    let head = packet.head.as_slice();
+    let size = head.len() + packet.payload.len();
+    if size > LONGEST_PACKET {
+        return None;
+    }
+    put_behind(buffer, 0, head);
+    put_behind(buffer, head.len(), packet.payload);
+    Some(size)
+}
+
+/// Sends octets to a port, and answers how many sends failed: one or none.
+fn send_octets<F: Front>(front: &mut F, port: u16, octets: &[u8]) -> u64
+    ensures { Offers (send port octets.now ∷ []) 0 (F.acts front.old) (F.acts front.new) result }
+{
+    let gone = front.send(port, octets);
+    counted_if(0, !gone)
+}
+
+/// Sends the relayed data, each for itself, and answers how many sends failed.
+fn send_relayed<F: Front>(front: &mut F, port: u16, relayed: Elements<'_>) -> u64
+    ensures { Offers (map (send port) (elements_of relayed.entry)) 0 (F.acts front.old) (F.acts front.new) result }
+{
+    let mut failed = 0u64;
+    for octets in relayed {
+        let gone = front.send(port, octets);
+        failed = counted_if(failed, !gone);
+    }
+    failed
+}
+
+/// Sends the packet, where there is one, and answers how many sends failed.
+fn send_packet<F: Front>(front: &mut F, port: u16, buffer: &mut [u8], sends: &Sends<'_>) -> u64
+    requires room { length buffer.old ≡ longest_packet }
+    ensures { Offers (packet_sends port (held_of sends.now).packet) (too_long (held_of sends.now).packet)
+        (F.acts front.old) (F.acts front.new) result }
+{
+    let Some(packet) = &sends.packet else {
+        return 0;
+    };
+    let Some(size) = put_packet(buffer, packet) else {
+        return 1;
+    };
+    send_octets(front, port, &buffer[..size])
+}
+
+/// Sends the element for the peer, where there is one, and answers how many sends failed.
+fn send_feedback<F: Front>(front: &mut F, port: u16, sends: &Sends<'_>) -> u64
+    ensures { Offers (feedback_sends port (held_of sends.now).feedback) 0 (F.acts front.old) (F.acts front.new) result }
+{
+    let Some(element) = &sends.feedback else {
+        return 0;
+    };
+    send_octets(front, port, element.as_slice())
+}
+
+/// Sends what is to be sent for a datagram, in its order, and answers how many sends failed.
+///
+/// A packet above 65,535 octets isn't offered and counts as failed.
+pub(crate) fn send_all<F: Front>(front: &mut F, buffer: &mut [u8], sends: &Sends<'_>) -> u64
+    requires room { length buffer.old ≡ longest_packet }
+    ensures { Offers (sends_in (held_of sends.now)) (unsent (held_of sends.now)) (F.acts front.old) (F.acts front.new) result }
+{
+    let Some(ports) = sends.ports else {
+        return 0;
+    };
+    let relayed = send_relayed(front, ports.relay, sends.relayed);
+    let packet = send_packet(front, ports.deliver, buffer, sends);
+    let feedback = send_feedback(front, ports.feedback, sends);
+    relayed.saturating_add(packet).saturating_add(feedback)
+}

@@ -1,0 +1,87 @@
+//! What is to be sent for a datagram.
+
+use rohc_concentrator::Answer;
+use rohc_context::{Delivered, Outcome};
+use rohc_feedback::Element;
+use rohc_frame::{CidKind, Elements, cut};
+use rohc_replay::Ports;
+
+/// What is to be sent for a datagram: first the relayed data, then the packet, then the feedback.
+#[derive(Debug, Drop)]
+pub struct Sends<'a> {
+    /// The ports of the datagram's link; none where it names no link that is there.
+    pub ports: Option<Ports>,
+    /// The data of the feedback that came from the peer, for the relay port.
+    pub relayed: Elements<'a>,
+    /// The packet that was rebuilt, for the deliver port.
+    pub packet: Option<Delivered<'a>>,
+    /// The element to be sent to the peer, for the feedback port.
+    pub feedback: Option<Element>,
+    /// Whether the datagram or its packet was refused.
+    pub refused: bool,
+}
+
+ghost use Rattle.std.specs.Prelude.{◌≡◌, []};
+ghost use Rattle.rohc_frame.specs.Reading.{elements_of};
+
+/// No feedback elements: those of a packet of one octet of padding.
+fn no_elements<'a>() -> Elements<'a>
+    ensures { elements_of result ≡ [] }
+{
+    match cut(CidKind::Small, 0, &[0xe0]) {
+        Ok(framed) => framed.feedback(),
+        Err(_) => unreachable!(),
+    }
+}
+
+ghost use Rattle.rohc_concentrator.specs.Report.{is_refusal};
+
+/// Whether an outcome is a refusal.
+fn is_refusal(outcome: Outcome) -> bool
+    ensures { result ≡ is_refusal outcome }
+{
+    match outcome {
+        Outcome::Refused(_) => true,
+        Outcome::Delivered | Outcome::Stored => false,
+    }
+}
+
+impl<'a> Sends<'a> {
+    ghost use Rattle.std.specs.Prelude.{◌≡◌, Some};
+    ghost use Rattle.rohc_concentrator.specs.Report.{report_of};
+    ghost use Rattle.rohc_serve.specs.Held.{held_of, refused_for, sends_of};
+
+    /// Nothing, since the datagram was refused.
+    pub(crate) fn refused(ports: Option<Ports>) -> Self
+        ensures { held_of result ≡ refused_for ports }
+    {
+        Sends {
+            ports,
+            relayed: no_elements(),
+            packet: None,
+            feedback: None,
+            refused: true,
+        }
+    }
+
+    /// What is to be sent for an answer, by the ports of its link.
+    pub(crate) fn answering(ports: Ports, answer: Answer<'a>) -> Self
+        ensures { held_of result ≡ sends_of (Some ports) (report_of answer.entry) }
+    {
+        match answer {
+            Answer::Arrived { reply, relayed, .. } => Sends {
+                ports: Some(ports),
+                relayed,
+                packet: reply.packet,
+                feedback: reply.feedback,
+                refused: is_refusal(reply.outcome),
+            },
+            Answer::OnlyFront { relayed } => Sends {
+                relayed,
+                refused: false,
+                ..Sends::refused(Some(ports))
+            },
+            Answer::Refused(_) => Sends::refused(Some(ports)),
+        }
+    }
+}

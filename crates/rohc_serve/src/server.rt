@@ -1,0 +1,98 @@
+//! A concentrator that serves a front.
+
+ghost use Rattle.std.specs.Prelude.{◌≡◌, length, IfOk, OnErr};
+ghost use Rattle.rohc_serve.specs.Datagram.{AreSettingsOf};
+ghost use Rattle.rohc_serve.specs.Sending.{longest_packet};
+ghost use Rattle.rohc_serve.specs.Turns.{Serves, TakesOne};
+
+use crate::datagram::answer_datagram;
+use crate::front::Front;
+use crate::sending::{LONGEST_PACKET, send_all};
+use crate::tally::ServeTally;
+use rohc_concentrator::Concentrator;
+use rohc_replay::Links;
+use std::alloc::{AllocError, Global};
+
+/// The greatest datagram: a link's number, and a packet.
+const LONGEST_DATAGRAM: usize = 65_537;
+
+/// Takes so many turns, each one receive, and counts them.
+///
+/// The two buffers, one for a datagram and one for a packet to be sent, are asked for before the first
+/// receive; after that only an accepted first IR asks for memory. A failed receive is a turn. Neither a failed
+/// receive nor a failed send ends the run.
+pub fn serve<F: Front>(
+    alloc: Global,
+    concentrator: &mut Concentrator,
+    links: &Links,
+    front: &mut F,
+    count: u32,
+) -> Result<ServeTally, AllocError>
+    requires { AreSettingsOf concentrator.old links.now.settings }
+    ensures served { IfOk result (λ tally. Serves links.now concentrator.old concentrator.new
+        (F.acts front.old) (F.acts front.new) count tally) }
+    ensures settings { AreSettingsOf concentrator.new links.now.settings }
+    ensures poor { OnErr result ((concentrator.new ≡ concentrator.old) × (front.new ≡ front.old)) }
+{
+    let mut datagram = zeros(alloc, LONGEST_DATAGRAM)?;
+    let mut packet = zeros(alloc, LONGEST_PACKET)?;
+    Ok(take_turns(
+        concentrator,
+        links,
+        front,
+        datagram.as_mut_slice(),
+        packet.as_mut_slice(),
+        count,
+    ))
+}
+
+/// A buffer of so many octets.
+fn zeros(alloc: Global, len: usize) -> Result<Vec<u8>, AllocError>
+    ensures { IfOk result (λ v. length v.items ≡ len) }
+{
+    vec![in alloc; 0u8; len]
+}
+
+/// Takes so many turns with these two buffers, and counts them.
+fn take_turns<F: Front>(
+    concentrator: &mut Concentrator,
+    links: &Links,
+    front: &mut F,
+    datagram: &mut [u8],
+    packet: &mut [u8],
+    count: u32,
+) -> ServeTally
+    requires settings { AreSettingsOf concentrator.old links.now.settings }
+    requires room { length packet.old ≡ longest_packet }
+    ensures served { Serves links.now concentrator.old concentrator.new (F.acts front.old) (F.acts front.new) count result }
+    ensures settings { AreSettingsOf concentrator.new links.now.settings }
+{
+    let mut tally = ServeTally::default();
+    for _ in 0..count {
+        take_turn(concentrator, links, front, datagram, packet, &mut tally);
+    }
+    tally
+}
+
+/// Receives a datagram, answers it, and sends what is to be sent for it.
+fn take_turn<F: Front>(
+    concentrator: &mut Concentrator,
+    links: &Links,
+    front: &mut F,
+    datagram: &mut [u8],
+    packet: &mut [u8],
+    tally: &mut ServeTally,
+)
+    requires settings { AreSettingsOf concentrator.old links.now.settings }
+    requires room { length packet.old ≡ longest_packet }
+    ensures turn { TakesOne links.now concentrator.old concentrator.new (F.acts front.old) (F.acts front.new) tally.old tally.new }
+    ensures settings { AreSettingsOf concentrator.new links.now.settings }
+{
+    let Some((size, moment)) = front.receive(datagram) else {
+        tally.add_failed_receive();
+        return;
+    };
+    let sends = answer_datagram(concentrator, links, moment, &datagram[..size]);
+    let failed = send_all(front, packet, &sends);
+    tally.add(&sends, failed);
+}

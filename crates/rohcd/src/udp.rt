@@ -1,0 +1,114 @@
+//! A UDP socket on 127.0.0.1, with a clock since its start.
+
+use rohc_serve::Front;
+use std::io;
+use std::net::{Ipv4Addr, Net, UdpSocket};
+use std::time::{Clock, Instant};
+
+/// A socket on 127.0.0.1. Its moments are the milliseconds since it was opened.
+#[derive(Drop)]
+pub(crate) struct UdpFront<'a, R> {
+    clock: &'a R,
+    socket: UdpSocket,
+    start: Instant,
+}
+
+impl<'a, R: Net + Clock> UdpFront<'a, R> {
+    /// Binds the port, and reads the clock.
+    pub(crate) fn open(rt: &'a R, port: u16) -> io::Result<Self> {
+        let socket = UdpSocket::bind(rt, (Ipv4Addr::LOCALHOST, port))?;
+        let start = Instant::now(rt)?;
+        Ok(UdpFront {
+            clock: rt,
+            socket,
+            start,
+        })
+    }
+}
+
+impl<R: Net + Clock> Front for UdpFront<'_, R> {
+    fn receive(&mut self, buffer: &mut [u8]) -> Option<(usize, u64)> {
+        let (size, _) = self.socket.recv_from(buffer).ok()?;
+        let since_start = self.start.elapsed(self.clock).ok()?;
+        let moment = u64::try_from(since_start.as_millis()).ok()?;
+        Some((size, moment))
+    }
+
+    fn send(&mut self, port: u16, octets: &[u8]) -> bool {
+        match self.socket.send_to(octets, (Ipv4Addr::LOCALHOST, port)) {
+            Ok(sent) => sent == octets.len(),
+            Err(_) => false,
+        }
+    }
+}
+
+#[cfg(test)]
+mod tests {
+    use super::*;
+    use rohc_concentrator::Concentrator;
+    use rohc_replay::read_links;
+    use rohc_serve::serve;
+    use std::process::Abort;
+    use std::test::Fail;
+    use std::time::Duration;
+
+    /// Link 1 of the worked examples, without its ports.
+    const LINK_1: &str = "version = 1
+[[link]]
+number = 1
+cid = \"small\"
+max_cid = 15
+mode = \"O\"
+k1 = 2
+n1 = 3
+k2 = 2
+n2 = 3
+packet_ms = 20
+static_nack_ms = 1000
+";
+
+    /// A socket on a free port, which waits for five seconds at most, and its port.
+    fn bound<R: Net>(rt: &R) -> io::Result<(UdpSocket, u16)> {
+        let socket = UdpSocket::bind(rt, (Ipv4Addr::LOCALHOST, 0))?;
+        socket.set_read_timeout(Some(Duration::from_secs(5)))?;
+        let port = socket.local_addr()?.port();
+        Ok((socket, port))
+    }
+
+    /// Compares the next datagram at a socket with these octets.
+    fn gets(rt: &impl Abort, socket: &UdpSocket, octets: &[u8]) -> io::Result<()> {
+        let mut buffer = [0u8; 16];
+        let (size, _) = socket.recv_from(&mut buffer)?;
+        assert_eq!(rt; &buffer[..size], octets);
+        Ok(())
+    }
+
+    #[test]
+    fn datagrams_go_to_their_ports(rt: HostRuntime) -> Result<(), Fail> {
+        let (deliver, deliver_port) = bound(&rt)?;
+        let (feedback, feedback_port) = bound(&rt)?;
+        let (relay, relay_port) = bound(&rt)?;
+        let text = format!(in rt.alloc();
+            "{LINK_1}deliver_port = {deliver_port}\nfeedback_port = {feedback_port}\nrelay_port = {relay_port}\n"
+        )?;
+        let links = read_links(rt.alloc(), text.as_str())?;
+        let mut concentrator = Concentrator::new(rt.alloc(), links.settings())?;
+        let mut front = UdpFront::open(&rt, 0)?;
+        front.socket.set_read_timeout(Some(Duration::from_secs(5)))?;
+        let port = front.socket.local_addr()?.port();
+        let (sender, _) = bound(&rt)?;
+        sender.send_to(b"\x00\x01\xfc\x00\xb7\x45\xaa", (Ipv4Addr::LOCALHOST, port))?;
+        sender.send_to(b"\x00\x09\x10\xac", (Ipv4Addr::LOCALHOST, port))?;
+        sender.send_to(b"\x00\x01\xf2\x20\x07", (Ipv4Addr::LOCALHOST, port))?;
+        let tally = serve(rt.alloc(), &mut concentrator, &links, &mut front, 3)?;
+        gets(&rt, &deliver, b"\x45\xaa")?;
+        gets(&rt, &feedback, b"\xf1\x00")?;
+        gets(&rt, &relay, b"\x20\x07")?;
+        let line = format!(in rt.alloc(); "{tally}")?;
+        assert_eq!(rt;
+            line.as_str(),
+            "datagrams 3 delivered 1 feedback 1 relayed 1 refused 1 failed 0"
+        );
+        Ok(())
+    }
+}
