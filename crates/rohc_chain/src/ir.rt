@@ -11,13 +11,14 @@ ghost use Rattle.rohc_chain.specs.Texts.{IsIrText, IsShort, ir_fault};
 use crate::cover::{fits_chains, fits_plain};
 use crate::dynamic_chain::dynamic_chain;
 use crate::octets::octet;
-use crate::packet::{Ir, LONGEST_PAYLOAD};
+use crate::packet::Ir;
 use crate::parts::Kept;
 use crate::refusal::ChainRefusal;
 use crate::static_chain::static_chain;
 use rohc_bits::Cursor;
 use rohc_bits::reading::cursor_over;
 use rohc_frame::{Forward, HeadKind};
+use rohc_header::LONGEST_PAYLOAD;
 
 /// The Profile octets of the two profiles.
 const UNCOMPRESSED: u8 = 0x00;

@@ -11,11 +11,12 @@ ghost use Rattle.rohc_chain.specs.Texts.{IsIrDynText, ir_dyn_fault};
 use crate::cover::fits_chains;
 use crate::dynamic_chain::dynamic_chain;
 use crate::octets::octet;
-use crate::packet::{IrDyn, LONGEST_PAYLOAD};
+use crate::packet::IrDyn;
 use crate::parts::Kept;
 use crate::refusal::ChainRefusal;
 use rohc_bits::reading::cursor_over;
 use rohc_frame::Forward;
+use rohc_header::LONGEST_PAYLOAD;
 
 /// Reads an IR-DYN from left to right.
 #[tactic(auto, unfolding(crate::specs::Packets::ir_dyn_at))]

@@ -2,9 +2,6 @@
 
 use rohc_header::{Dynamic, Static};
 
-/// The longest payload of a packet: 65,535 octets hold it behind its header.
-pub(crate) const LONGEST_PAYLOAD: usize = 65_495;
-
 /// What an IR packet says.
 #[derive(Clone, Copy, Debug)]
 pub enum Ir<'a> {

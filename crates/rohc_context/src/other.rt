@@ -22,9 +22,7 @@ use crate::window::Window;
 use arrayvec::ArrayVec;
 use rohc_forms::{Form, read_form};
 use rohc_frame::Forward;
-
-/// The longest payload of a packet: 65,535 octets hold it behind its header.
-const LONGEST_PAYLOAD: usize = 65_495;
+use rohc_header::LONGEST_PAYLOAD;
 
 /// What a packet of kind Other says under a reference's RND, UDP checksum and stride, where a packet can hold its
 /// header and payload; or its fault.

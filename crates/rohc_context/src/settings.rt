@@ -46,11 +46,7 @@ impl Settings {
     pub fn is_good(&self) -> bool
         ensures { IsTrue result ↔ AreGood self.now }
     {
-        let greatest = match self.size {
-            CidKind::Small => 15,
-            CidKind::Large => 16_383,
-        };
-        self.max_cid <= greatest
+        self.max_cid <= self.size.greatest_cid()
             && (1..=self.n1).contains(&self.k1)
             && self.n1 <= 64
             && (1..=self.n2).contains(&self.k2)

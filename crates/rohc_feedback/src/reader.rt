@@ -41,9 +41,6 @@ fn fields(size: CidKind, octets: &[u8]) -> Option<Reading>
     Some(Reading { cid, word, sn })
 }
 
-/// The greatest identifier of a large link.
-const GREATEST_LARGE_CID: u32 = 16_383;
-
 /// The identifier in front of feedback, and the feedback.
 fn split_identifier<'a>(size: CidKind, octets: &'a [u8]) -> Option<(u16, &'a [u8])>
     ensures within { IfSome result (λ split. split.0 ≤ greatest_cid size) }
@@ -57,7 +54,7 @@ fn split_identifier<'a>(size: CidKind, octets: &'a [u8]) -> Option<(u16, &'a [u8
         },
         CidKind::Large => {
             let (value, count) = read_value(octets)?;
-            if value > GREATEST_LARGE_CID {
+            if value > u32::from(size.greatest_cid()) {
                 return None;
             }
             Some((value as u16, &octets[count..]))

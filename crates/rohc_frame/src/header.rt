@@ -12,6 +12,21 @@ pub enum CidKind {
     Large,
 }
 
+impl CidKind {
+    ghost use Rattle.std.specs.Prelude.{◌≡◌};
+    ghost use Rattle.rohc_frame.specs.Header.{greatest_cid};
+
+    /// The greatest identifier that a link of this kind can spell.
+    pub fn greatest_cid(self) -> u16
+        ensures { result ≡ greatest_cid self }
+    {
+        match self {
+            CidKind::Small => 15,
+            CidKind::Large => 16_383,
+        }
+    }
+}
+
 /// What the first octet of a header says.
 #[derive(Clone, Copy, Debug, PartialEq, Eq)]
 pub enum HeadKind {

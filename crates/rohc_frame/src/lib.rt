@@ -12,3 +12,6 @@ pub use cutting::cut;
 pub use elements::{Elements, Framed};
 pub use header::{CidKind, Forward, HeadKind};
 pub use refusal::FrameRefusal;
+
+#[cfg(test)]
+mod tests;

@@ -12,7 +12,7 @@ use crate::{Dynamic, Static, field};
 use rohc_checks::{crc3, crc7};
 
 /// The longest payload of a packet: 65,535 octets hold it behind its header.
-const LONGEST_PAYLOAD: usize = 65_495;
+pub const LONGEST_PAYLOAD: usize = 65_495;
 
 /// A whole RTP/UDP/IPv4 header.
 #[derive(Clone, Copy, Debug)]

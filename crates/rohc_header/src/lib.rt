@@ -9,7 +9,7 @@ mod parts;
 mod polynomial;
 
 pub use fields::{Dynamic, Static};
-pub use header::Header;
+pub use header::{Header, LONGEST_PAYLOAD};
 
 #[cfg(test)]
 mod tests;

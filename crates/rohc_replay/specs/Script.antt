@@ -4,10 +4,14 @@ use Rattle.std.specs.Fmt.{decimal}
 use Rattle.hex.specs.Hex.{encode_lower}
 use Rattle.rohc_concentrator.specs.Events.{Event, Arrive, Reset}
 
--- every number of the event fits its field, and a packet has at most 65,535 octets
+-- the greatest packet
+abbrev pub longest_packet : ℕ
+longest_packet = 65535
+
+-- every number of the event fits its field, and a packet is no longer than the greatest
 abbrev pub IsEvent : Event → Type 0
 IsEvent (Arrive link moment octets) =
-    (link < 2 ^ 16) × (moment < 2 ^ 64) × (length octets ≤ 65535) × All (λ octet. octet < 256) octets
+    (link < 2 ^ 16) × (moment < 2 ^ 64) × (length octets ≤ longest_packet) × All (λ octet. octet < 256) octets
 IsEvent (Reset link) = link < 2 ^ 16
 
 -- octets as lower case pairs of digits, and none as `-`

@@ -17,7 +17,7 @@ mod words;
 
 pub use fault::RunFault;
 pub use links::{Key, Links, LinksFault, Ports, read_links};
-pub use run::replay;
+pub use run::{LONGEST_PACKET, replay};
 pub use tally::Tally;
 
 #[cfg(test)]

@@ -3,7 +3,7 @@
 ghost use Rattle.std.specs.Prelude.{◌≡◌, ◌≢◌, ◌+◌, ◌<◌, ◌≤◌, length, take, IfOk, IfErr, IfSome, OnErr};
 ghost use Rattle.std.specs.List.{slice_range};
 ghost use Rattle.std.specs.Io.KnownBytes.{Consumes, IsAtEnd, Keeps};
-ghost use Rattle.rohc_replay.specs.Script.{longest_line};
+ghost use Rattle.rohc_replay.specs.Script.{longest_line, longest_packet};
 ghost use Rattle.rohc_replay.specs.Isolation.{Isolates};
 ghost use Rattle.rohc_replay.specs.Run.{Replays, Fails};
 
@@ -16,8 +16,8 @@ use std::alloc::{AllocError, Global};
 use std::io;
 use std::io::{Read, Write};
 
-/// The greatest packet of a script.
-const LONGEST_PACKET: usize = 65_535;
+/// The greatest packet of a script, in octets.
+pub const LONGEST_PACKET: usize = 65_535;
 
 /// The read call that is a fault whatever it gives.
 const LAST_READ: u64 = 1 << 40;
@@ -78,7 +78,7 @@ fn run_script<R: Read, W: Write>(
     packet: &mut [u8],
 ) -> Result<Tally, RunFault>
     requires line_room { length line.old ≡ longest_line + 1 }
-    requires packet_room { length packet.old ≡ 65535 }
+    requires packet_room { length packet.old ≡ longest_packet }
     ensures whole { IfOk result (λ tally. IfSome (R.remaining reader.old) (λ input.
         Replays (record {
           before = concentrator.old;

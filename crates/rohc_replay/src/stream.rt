@@ -2,7 +2,7 @@
 
 ghost use Rattle.std.specs.Prelude.{◌≡◌, ◌≤◌, ◌<◌, ◌+◌, ℕ, List, [], ◌∷◌, ◌++◌, length, take, drop, Option, false, slice_index, IfOk, IfErr, IfSome, IfNone};
 ghost use Rattle.rohc_concentrator.specs.declared.concentrator.Concentrator.{Concentrator as State};
-ghost use Rattle.rohc_replay.specs.Script.{longest_line, lines_of};
+ghost use Rattle.rohc_replay.specs.Script.{longest_line, longest_packet, lines_of};
 ghost use Rattle.rohc_replay.specs.Stream.{Stands, Ends, StopsAt, StopsWithin};
 ghost use Rattle.rohc_replay.specs.Run.{change, Stops};
 ghost use Rattle.rohc_replay.specs.Lines.{has_newline};
@@ -38,7 +38,7 @@ fn end_line<W: Write>(
     long: bool,
     line: &[u8],
 ) -> Result<(), Stopped>
-    requires room { length packet.old ≡ 65535 }
+    requires room { length packet.old ≡ longest_packet }
     requires short { length line.now ≤ longest_line }
     ensures stands { IfOk result (λ _. (first : State) (held : Option (List ℕ)) (seen : List ℕ) →
         Stands (change first held concentrator.old (W.contents writer.old)) seen line.now long counts.old →
@@ -67,7 +67,7 @@ pub(crate) fn run_lines<W: Write>(
     octets: &[u8],
     searched: usize,
 ) -> Result<usize, Stopped>
-    requires room { length packet.old ≡ 65535 }
+    requires room { length packet.old ≡ longest_packet }
     requires within { searched ≤ length octets.now }
     requires bounded { length octets.now ≤ longest_line + 1 }
     ensures used { IfOk result (λ used. used ≤ length octets.now) }
@@ -110,7 +110,7 @@ pub(crate) fn end_script<W: Write>(
     long: bool,
     line: &[u8],
 ) -> Result<(), Stopped>
-    requires room { length packet.old ≡ 65535 }
+    requires room { length packet.old ≡ longest_packet }
     requires short { length line.now ≤ longest_line }
     ensures ends { IfOk result (λ _. (first : State) (held : Option (List ℕ)) (seen : List ℕ) →
         Stands (change first held concentrator.old (W.contents writer.old)) seen line.now long counts.old →

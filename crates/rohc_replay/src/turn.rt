@@ -1,7 +1,7 @@
 //! One line of a script: its event is run, and its answers are offered to the writer.
 
 ghost use Rattle.std.specs.Prelude.{◌≡◌, ◌≤◌, ℕ, List, length};
-ghost use Rattle.rohc_replay.specs.Script.{longest_line};
+ghost use Rattle.rohc_replay.specs.Script.{longest_line, longest_packet};
 ghost use Rattle.rohc_replay.specs.Run.{change};
 ghost use Rattle.rohc_replay.specs.Turn.{TakesTurn, TakesLongTurn};
 
@@ -24,7 +24,7 @@ pub(crate) fn take_turn<W: Write>(
     counts: &mut Counts,
     line: &[u8],
 ) -> Result<(), Stopped>
-    requires room { length packet.old ≡ 65535 }
+    requires room { length packet.old ≡ longest_packet }
     requires short { length line.now ≤ longest_line }
     ensures { TakesTurn (change concentrator.old (W.contents writer.old) concentrator.new (W.contents writer.new)) counts.old counts.new line.now result }
 {

@@ -6,7 +6,7 @@ ghost use Rattle.std.specs.Option.{SomeIff};
 ghost use Rattle.hex.specs.Hex.{encode_lower};
 ghost use Rattle.rohc_replay.specs.Numeral.{IsNumberAt};
 ghost use Rattle.rohc_concentrator.specs.Events.{Event};
-ghost use Rattle.rohc_replay.specs.Script.{IsEvent, spelling, hex_text};
+ghost use Rattle.rohc_replay.specs.Script.{IsEvent, spelling, hex_text, longest_packet};
 ghost use Rattle.rohc_replay.specs.Words.{event_in, size_in};
 
 use crate::hex_octets::decode;
@@ -25,10 +25,10 @@ pub(crate) enum Words {
 ///
 /// It is `None` exactly for a line that spells no event.
 pub(crate) fn read_words(line: &[u8], packet: &mut [u8]) -> Option<Words>
-    requires { length packet.old ≡ 65535 }
+    requires { length packet.old ≡ longest_packet }
     ensures spelled { IfSome result (λ words. line.now ≡ spelling (event_in words packet.new)) }
     ensures good { IfSome result (λ words. IsEvent (event_in words packet.new)) }
-    ensures fits { IfSome result (λ words. size_in words ≤ 65535) }
+    ensures fits { IfSome result (λ words. size_in words ≤ longest_packet) }
     ensures bad { IfNone result ((e : Event) → IsEvent e → line.now ≢ spelling e) }
 {
     match line.strip_prefix(b"arrive ") {
@@ -42,11 +42,11 @@ pub(crate) fn read_words(line: &[u8], packet: &mut [u8]) -> Option<Words>
 
 /// Reads what stands behind `arrive `: a link, a moment and the octets of a packet.
 fn read_arrival(text: &[u8], packet: &mut [u8]) -> Option<Words>
-    requires { length packet.old ≡ 65535 }
+    requires { length packet.old ≡ longest_packet }
     ensures spelled { IfSome result (λ words.
         codes "arrive " ++ text.now ≡ spelling (event_in words packet.new)) }
     ensures good { IfSome result (λ words. IsEvent (event_in words packet.new)) }
-    ensures fits { IfSome result (λ words. size_in words ≤ 65535) }
+    ensures fits { IfSome result (λ words. size_in words ≤ longest_packet) }
     ensures bad { IfNone result ((e : Event) → IsEvent e →
         codes "arrive " ++ text.now ≢ spelling e) }
 {
@@ -140,7 +140,7 @@ mod tests {
     }
 
     fn say_their_event(rt: &impl Abort, packet: &mut [u8])
-        requires { length packet.old ≡ 65535 }
+        requires { length packet.old ≡ longest_packet }
     {
         for (line, link, moment, octets) in [
             (
@@ -180,7 +180,7 @@ mod tests {
     }
 
     fn say_nothing(rt: &impl Abort, packet: &mut [u8])
-        requires { length packet.old ≡ 65535 }
+        requires { length packet.old ≡ longest_packet }
     {
         for line in [
             "",
@@ -218,7 +218,7 @@ mod tests {
 
     // 65,535 pairs and 65,536 behind the eleven octets `arrive 1 0 `
     fn have_room(rt: &impl Abort, alloc: Global, packet: &mut [u8]) -> Result<(), AllocError>
-        requires { length packet.old ≡ 65535 }
+        requires { length packet.old ≡ longest_packet }
     {
         for (size, is_good) in [(131_081, true), (131_083, false)] {
             let mut line = Vec::from_slice(alloc, b"arrive 1 0 ")?;

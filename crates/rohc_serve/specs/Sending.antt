@@ -3,6 +3,7 @@ use Rattle.std.specs.Prelude.{◌≡◌, ℕ, List, [], ◌∷◌, ◌++◌, len
 use Rattle.rohc_context.specs.declared.reply.Delivered.{Delivered}
 use Rattle.rohc_context.specs.Response.{Packet}
 use Rattle.rohc_replay.specs.declared.links.Ports.{Ports}
+use Rattle.rohc_replay.specs.Script.{longest_packet}
 use Rattle.rohc_replay.specs.Offers.{counted}
 use Rattle.rohc_serve.specs.Acts.{Attempt, Act, Sent, Adds}
 use Rattle.rohc_serve.specs.Held.{Held}
@@ -14,9 +15,6 @@ pub record Send : Type 0 where
 
 abbrev pub send : ℕ → List ℕ → Send
 send port octets = record { port = port; octets = octets }
-
-abbrev pub longest_packet : ℕ
-longest_packet = 65535
 
 abbrev pub packet_of : Delivered → Packet
 packet_of d = record { head = d.head.items; payload = d.payload.now }

@@ -2,17 +2,16 @@
 
 ghost use Rattle.std.specs.Prelude.{◌≡◌, ◌≤◌, ◌<◌, ◌+◌, [], ◌∷◌, ◌++◌, length, map, take, IfSome, IfNone};
 ghost use Rattle.rohc_frame.specs.Reading.{elements_of};
+ghost use Rattle.rohc_replay.specs.Script.{longest_packet};
 ghost use Rattle.rohc_serve.specs.Held.{held_of};
-ghost use Rattle.rohc_serve.specs.Sending.{Offers, send, packet_of, packet_octets, longest_packet, packet_sends, too_long, feedback_sends, sends_in, unsent};
+ghost use Rattle.rohc_serve.specs.Sending.{Offers, send, packet_of, packet_octets, packet_sends, too_long, feedback_sends, sends_in, unsent};
 
 use crate::front::Front;
 use crate::sends::Sends;
 use crate::tally::counted_if;
 use rohc_context::Delivered;
 use rohc_frame::Elements;
-
-/// The greatest packet that is sent.
-pub(crate) const LONGEST_PACKET: usize = 65_535;
+use rohc_replay::LONGEST_PACKET;
 
 /// Puts octets behind the first `at` of the buffer.
 fn put_behind(buffer: &mut [u8], at: usize, octets: &[u8])

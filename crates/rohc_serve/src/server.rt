@@ -2,15 +2,15 @@
 
 ghost use Rattle.std.specs.Prelude.{◌≡◌, length, IfOk, OnErr};
 ghost use Rattle.rohc_serve.specs.Datagram.{AreSettingsOf};
-ghost use Rattle.rohc_serve.specs.Sending.{longest_packet};
+ghost use Rattle.rohc_replay.specs.Script.{longest_packet};
 ghost use Rattle.rohc_serve.specs.Turns.{Serves, TakesOne};
 
 use crate::datagram::answer_datagram;
 use crate::front::Front;
-use crate::sending::{LONGEST_PACKET, send_all};
+use crate::sending::send_all;
 use crate::tally::ServeTally;
 use rohc_concentrator::Concentrator;
-use rohc_replay::Links;
+use rohc_replay::{LONGEST_PACKET, Links};
 use std::alloc::{AllocError, Global};
 
 /// The greatest datagram: a link's number, and a packet.

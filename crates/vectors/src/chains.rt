@@ -23,11 +23,7 @@ pub(crate) fn answer(alloc: Global, columns: &[&str]) -> Result<String, NoAnswer
 
 /// The header of a packet.
 fn header(size: CidKind, packet: &[u8]) -> Result<Forward<'_>, NoAnswer> {
-    let max_cid = match size {
-        CidKind::Small => 15,
-        CidKind::Large => 16_383,
-    };
-    match cut(size, max_cid, packet) {
+    match cut(size, size.greatest_cid(), packet) {
         Ok(framed) => framed.forward.ok_or(NoAnswer::Unreadable),
         Err(_) => Err(NoAnswer::Unreadable),
     }

@@ -39,7 +39,7 @@ fn element(
     words: &mut SplitWhitespace<'_>,
 ) -> Result<Element, NoAnswer> {
     let cid: u16 = next(words)?.parse()?;
-    if cid > greatest_cid(size) {
+    if cid > size.greatest_cid() {
         return Err(NoAnswer::OutsideConditions);
     }
     match name {
@@ -48,16 +48,6 @@ fn element(
         "static_nack" => Ok(static_nack(size, cid)),
         "plain_ack" => Ok(plain_ack(size, cid)),
         _ => Err(NoAnswer::Unreadable),
-    }
-}
-
-/// The greatest identifier of a link.
-fn greatest_cid(size: CidKind) -> u16
-    ensures { result ≡ frame.greatest_cid size }
-{
-    match size {
-        CidKind::Small => 15,
-        CidKind::Large => 16_383,
     }
 }
 
