@@ -5,6 +5,7 @@ mod command;
 mod end;
 mod links_file;
 mod program;
+mod tied;
 mod udp;
 
 use end::End;

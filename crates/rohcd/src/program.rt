@@ -3,9 +3,11 @@
 use crate::command::{Request, read_request};
 use crate::end::End;
 use crate::links_file::links_of;
+use crate::tied::{TiedInput, TiedOutput};
 use crate::udp::UdpFront;
 use rohc_replay::{RunFault, replay};
 use rohc_serve::serve;
+use std::cell::RefCell;
 use std::io;
 use std::io::{BufWriter, Write};
 use std::net::Net;
@@ -36,13 +38,19 @@ where
 
 /// Runs the script on standard input, and writes its answers to standard output.
 ///
-/// After a failed read what is buffered is flushed, and the end is still `Read`.
+/// The answers are out before more input is waited for. After a failed read what is buffered is flushed, and the end is
+/// still `Read`.
 fn run_replay<R: Files + Input + Print + AllocGlobal>(rt: &R, links: &str) -> Result<(), End> {
     let (_, mut concentrator) = links_of(rt, links)?;
-    let mut reader = rt.reader();
-    let Ok(mut writer) = BufWriter::new(rt.alloc(), io::writer(rt)) else {
+    let Ok(buffered) = BufWriter::new(rt.alloc(), io::writer(rt)) else {
         return Err(End::Memory);
     };
+    let output = RefCell::new(buffered);
+    let mut reader = TiedInput {
+        input: rt.reader(),
+        output: &output,
+    };
+    let mut writer = TiedOutput { output: &output };
     match replay(rt.alloc(), &mut concentrator, &mut reader, &mut writer) {
         Ok(_) => Ok(()),
         Err(RunFault::NoMemory) => Err(End::Memory),
