@@ -2,6 +2,7 @@
 
 use rohc_context::{Refusal, Reply};
 use rohc_frame::Elements;
+use std::fmt;
 
 /// The answer to an arrival.
 #[derive(Debug, Drop)]
@@ -26,3 +27,9 @@ pub enum Answer<'a> {
 /// There is no such link.
 #[derive(Clone, Copy, Debug, PartialEq, Eq)]
 pub struct NoLink;
+
+impl fmt::Display for NoLink {
+    fn fmt<W: fmt::Write>(&self, f: &mut fmt::Formatter<W>) -> fmt::Result {
+        f.write_str("there is no such link")
+    }
+}

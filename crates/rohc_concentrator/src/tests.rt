@@ -66,6 +66,8 @@ fn a_record_comes_and_goes(rt: HostRuntime) -> Result<(), Fail> {
     assert_eq!(rt; concentrator.reset(1), Ok(()));
     assert!(rt; !concentrator.has_context(1, 0));
     assert_eq!(rt; concentrator.reset(9), Err(NoLink));
+    let shown = format!(in rt.alloc(); "{NoLink}")?;
+    assert_eq!(rt; shown.as_str(), "there is no such link");
     Ok(())
 }
 

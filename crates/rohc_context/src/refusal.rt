@@ -1,6 +1,7 @@
 //! The thirty refusals, and their names and numbers.
 
 use rohc_frame::FrameRefusal;
+use std::fmt;
 
 /// Why a packet delivers and stores nothing.
 #[derive(Clone, Copy, Debug, PartialEq, Eq)]
@@ -170,9 +171,23 @@ impl From<FrameRefusal> for Refusal {
     }
 }
 
+impl fmt::Display for Refusal {
+    fn fmt<W: fmt::Write>(&self, f: &mut fmt::Formatter<W>) -> fmt::Result {
+        f.write_str(self.name())
+    }
+}
+
 #[cfg(test)]
 mod tests {
     use super::*;
+    use std::test::Fail;
+
+    #[test]
+    fn a_refusal_shows_its_name(rt: HostRuntime) -> Result<(), Fail> {
+        let shown = format!(in rt.alloc(); "{}", Refusal::NoContext)?;
+        assert_eq!(rt; shown.as_str(), "NoContext");
+        Ok(())
+    }
 
     #[test]
     fn names_and_numbers(rt: HostRuntime) {

@@ -30,7 +30,7 @@ impl CidKind {
 /// What the first octet of a header says.
 #[derive(Clone, Copy, Debug, PartialEq, Eq)]
 pub enum HeadKind {
-    /// FC or FD: an IR packet, with a dynamic chain or without.
+    /// FC or FD: an IR packet, without a dynamic chain or with one.
     Ir { dynamic: bool },
     /// F8: an IR-DYN packet.
     IrDyn,
