@@ -69,8 +69,8 @@ goes_on s w first sent past rest older held before (a ∷ arrivals) (reply ∷ r
     ap (λ r. r ∷ replies) answer ∙ ap (λ l. delivery_of p ∷ l) rest_is
 
 pub delivers_what_was_sent : DeliversWhatWasSent
-delivers_what_was_sent w s first sent before arrivals replies after call run =
-    goes_on s w first sent [] sent [] first before arrivals replies after call.honest (record {
+delivers_what_was_sent sender s before arrivals replies after call run =
+    goes_on s sender.w sender.first sender.sent [] sender.sent [] sender.first before arrivals replies after call.honest (record {
       split = refl;
       last = refl;
       same = λ q. refl;

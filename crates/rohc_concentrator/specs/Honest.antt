@@ -1,5 +1,5 @@
 -- What is delivered was sent: a sender's packets, some of which are lost (RFC 3095 4.5.2).
--- Words: references, IsHonest; Arrived, Reaches, AreInTime; events_of, deliveries; IsHonestCall.
+-- Words: references, IsHonest; Arrived, Reaches, AreInTime; events_of, deliveries; Sender, IsHonestCall.
 use Rattle.std.specs.Prelude.{◌≡◌, ℕ, ◌<◌, ◌^◌, List, [], ◌∷◌, ◌++◌, map, length, All, Option, Some}
 use Rattle.rohc_context.specs.declared.settings.Settings.{Settings}
 use Rattle.rohc_context.specs.Good.{IsGoodRecord, IsGoodHeader}
@@ -45,20 +45,26 @@ events_of arrivals = map (λ (a : Arrived). Arrival a.moment a.written.packet) a
 abbrev pub deliveries : List Arrived → List Response
 deliveries arrivals = map (λ (a : Arrived). delivery_of a.written) arrivals
 
+-- a sender: for how many references it writes, what is held at first, and what it sends
+pub record Sender : Type 0 where
+  pub w : ℕ
+  pub first : Held
+  pub sent : List Written
+
 -- an honest sender, and what arrives of its packets at a record in Full Context
-pub record IsHonestCall (w : ℕ) (s : Settings) (first : Held) (sent : List Written) (before : Record)
-    (arrivals : List Arrived) : Type 0 where
-  pub held : HoldsInFull first before
-  pub honest : IsHonest w first sent
-  pub reaches : Reaches w sent (map (λ (a : Arrived). a.written) arrivals)
-  pub in_time : AreInTime s before.accepted arrivals
+pub record IsHonestCall (sender : Sender) (s : Settings) (before : Record) (arrivals : List Arrived) : Type 0
+  where
+    pub held : HoldsInFull sender.first before
+    pub honest : IsHonest sender.w sender.first sender.sent
+    pub reaches : Reaches sender.w sender.sent (map (λ (a : Arrived). a.written) arrivals)
+    pub in_time : AreInTime s before.accepted arrivals
 
 -- What is delivered was sent: the lone run over these arrivals delivers the headers and payloads that they
 -- were written for, in their order, and nothing else.
 abbrev pub DeliversWhatWasSent : Type 0
-DeliversWhatWasSent = (w : ℕ) (s : Settings) (first : Held) (sent : List Written) (before : Record)
-    (arrivals : List Arrived) (replies : List Response) (after : Option Record) →
-    IsHonestCall w s first sent before arrivals → LoneRun s (Some before) (events_of arrivals) replies after →
+DeliversWhatWasSent = (sender : Sender) (s : Settings) (before : Record) (arrivals : List Arrived)
+    (replies : List Response) (after : Option Record) →
+    IsHonestCall sender s before arrivals → LoneRun s (Some before) (events_of arrivals) replies after →
     replies ≡ deliveries arrivals
 
 -- an arrival of a good header at a moment of 64 bits

@@ -12,9 +12,9 @@ use Rattle.rohc_replay.specs.Isolation.{own}
 use Rattle.rohc_replay.specs.Laws.{LinesOfWhatWasSent}
 
 pub lines_of_what_was_sent : LinesOfWhatWasSent
-lines_of_what_was_sent r isolated p w first sent before arrivals is_pair is_before is_own call =
+lines_of_what_was_sent r isolated p sender before arrivals is_pair is_before is_own call =
     let told = isolated.alone p is_pair in
     let s = settings_of p.setting p.cid in
     let after = record_at r.after p.link p.cid in
     let run = subst (λ events. LoneRun s (Some before) events told.replies after) is_own (subst (λ b. LoneRun s b (own p.setting p.link p.cid isolated.marked) told.replies after) is_before told.run) in
-    told.told ∙ ap (λ (replies : List Response). flat_map (response_lines p.link p.cid) replies) (delivers_what_was_sent w s first sent before arrivals told.replies after call run)
+    told.told ∙ ap (λ (replies : List Response). flat_map (response_lines p.link p.cid) replies) (delivers_what_was_sent sender s before arrivals told.replies after call run)

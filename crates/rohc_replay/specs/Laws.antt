@@ -3,11 +3,10 @@ use Rattle.std.specs.Prelude.{◌≡◌, ℕ, ◌<◌, ◌^◌, List, [], ◌∷
 use Rattle.std.specs.List.{flat_map}
 use Rattle.rohc_concentrator.specs.declared.concentrator.Concentrator.{Concentrator}
 use Rattle.rohc_concentrator.specs.Laws.{Agree, AreAlike}
-use Rattle.rohc_context.specs.Honest.{Held, Written}
 use Rattle.rohc_context.specs.Record.{Record}
 use Rattle.rohc_concentrator.specs.Setting.{settings_of}
 use Rattle.rohc_concentrator.specs.Isolation.{Pair}
-use Rattle.rohc_concentrator.specs.Honest.{Arrived, IsHonestCall, events_of, deliveries}
+use Rattle.rohc_concentrator.specs.Honest.{Arrived, Sender, IsHonestCall, events_of, deliveries}
 use Rattle.rohc_concentrator.specs.Tables.{record_at}
 use Rattle.rohc_replay.specs.Script.{Line, IsScript}
 use Rattle.rohc_replay.specs.AnswerLines.{response_lines, text_of}
@@ -75,9 +74,9 @@ FlushLeavesAll = (c : Change) (whole_after : Concentrator) (text : List ℕ) (wr
 -- What is delivered was sent, in lines: where a pair's own events are what arrives of an honest sender's
 -- packets, at a record in Full Context, its lines are those of the headers and payloads that were sent.
 abbrev pub LinesOfWhatWasSent : Type 0
-LinesOfWhatWasSent = (r : Replay) (isolated : IsIsolated r) (p : Pair) (w : ℕ) (first : Held)
-    (sent : List Written) (before : Record) (arrivals : List Arrived) →
+LinesOfWhatWasSent = (r : Replay) (isolated : IsIsolated r) (p : Pair) (sender : Sender)
+    (before : Record) (arrivals : List Arrived) →
     IsPair r.before p → record_at r.before p.link p.cid ≡ Some before →
     own p.setting p.link p.cid isolated.marked ≡ events_of arrivals →
-    IsHonestCall w (settings_of p.setting p.cid) first sent before arrivals →
+    IsHonestCall sender (settings_of p.setting p.cid) before arrivals →
     own_lines p.link p.cid r.written ≡ flat_map (response_lines p.link p.cid) (deliveries arrivals)

@@ -13,7 +13,7 @@ use Rattle.rohc_serve.specs.Held.{Held}
 use Rattle.rohc_serve.specs.Datagram.{Answers}
 use Rattle.rohc_serve.specs.Tally.{added, counts_of}
 use Rattle.rohc_serve.specs.Sending.{sends_in, unsent, failures, Offers}
-use Rattle.rohc_serve.specs.Turns.{Turn, Missed, Answered, acts_in, counts_in, TakesTurn, TakesTurns, IsTally, Serves, with_turn, TakesOne}
+use Rattle.rohc_serve.specs.Turns.{Turn, Missed, Answered, acts_in, counts_in, TakesTurn, TakesTurns, IsTally, service, Serves, with_turn, TakesOne}
 use Rattle.rohc_serve.proofs.OfferLemmas.{adds_none, adds_more}
 
 -- a tally with failed sends, counted before
@@ -28,7 +28,7 @@ pub one_turn : (links : Lists) (old new : Concentrator) (moment : ℕ) (octets :
     (before mid after : Option (List Act)) (t next : ServeTally) (failed : ℕ) →
     Answers links old moment octets held new → Adds before mid (Received (Some (moment, octets)) ∷ []) →
     Offers (sends_in held) (unsent held) mid after failed → next ≡ added t (counts_of held failed) →
-    TakesOne links old new before after t next
+    TakesOne links (service old new before after) t next
 one_turn links old new moment octets held before mid after t next failed answers got offers tally = record {
   turn = Answered moment octets held offers.attempts;
   taken = (answers, offers.in_order);
@@ -75,7 +75,7 @@ acts_more turns turn = flat_map-append acts_in turns (turn ∷ []) ∙ ap (λ (l
 
 -- nothing was served
 pub serves_none : (links : Lists) (k : Concentrator) (acts : Option (List Act)) (t : ServeTally) →
-    t ≡ record { datagrams = 0; delivered = 0; feedback = 0; relayed = 0; refused = 0; failed = 0 } → Serves links k k acts acts 0 t
+    t ≡ record { datagrams = 0; delivered = 0; feedback = 0; relayed = 0; refused = 0; failed = 0 } → Serves links (service k k acts acts) 0 t
 serves_none links k acts t e = record {
   turns = [];
   taken = refl;
@@ -86,7 +86,7 @@ serves_none links k acts t e = record {
 
 -- one turn more was served
 pub serves_more : (links : Lists) (old mid new : Concentrator) (before between after : Option (List Act)) (n : ℕ) (t next : ServeTally) →
-    Serves links old mid before between n t → TakesOne links mid new between after t next → Serves links old new before after (n + 1) next
+    Serves links (service old mid before between) n t → TakesOne links (service mid new between after) t next → Serves links (service old new before after) (n + 1) next
 serves_more links old mid new before between after n t next h one = record {
   turns = h.turns ++ one.turn ∷ [];
   taken = turns_more links old mid new h.turns one.turn h.taken one.taken;

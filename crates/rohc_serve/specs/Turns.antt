@@ -1,5 +1,5 @@
 -- Turns of a server, each one receive. Words: Turn, acts_in, counts_in; TakesTurn, TakesTurns; IsTally;
--- Serves; with_turn, TakesOne.
+-- Service, service; Serves; with_turn, TakesOne.
 use Rattle.std.specs.Prelude.{◌≡◌, ℕ, ◌+◌, List, [], ◌∷◌, length, map, Option, Some, None}
 use Rattle.std.specs.List.{flat_map, sum_by}
 use Rattle.rohc_concentrator.specs.declared.concentrator.Concentrator.{Concentrator}
@@ -56,13 +56,22 @@ pub record IsTally (turns : List Turn) (t : ServeTally) : Type 0 where
   pub refused : t.refused ≡ counted 0 (sum_by (λ turn. (counts_in turn).refused) turns)
   pub failed : t.failed ≡ counted 0 (sum_by (λ turn. (counts_in turn).failed) turns)
 
+-- a server from outside: the concentrator before and after, and the front's acts before and after
+pub record Service : Type 0 where
+  pub old : Concentrator
+  pub new : Concentrator
+  pub before : Option (List Act)
+  pub after : Option (List Act)
+
+abbrev pub service : (old new : Concentrator) (before after : Option (List Act)) → Service
+service old new before after = record { old = old; new = new; before = before; after = after }
+
 -- So many turns lead from a concentrator to another. Where the front's acts are known, those of the turns are
 -- behind the ones before.
-pub record Serves (links : Lists) (old new : Concentrator) (before after : Option (List Act)) (count : ℕ)
-    (t : ServeTally) : Type 0 where
+pub record Serves (links : Lists) (s : Service) (count : ℕ) (t : ServeTally) : Type 0 where
   pub turns : List Turn
-  pub taken : TakesTurns links old turns new
-  pub acts : Adds before after (flat_map acts_in turns)
+  pub taken : TakesTurns links s.old turns s.new
+  pub acts : Adds s.before s.after (flat_map acts_in turns)
   pub so_many : length turns ≡ count
   pub tally : IsTally turns t
 
@@ -73,9 +82,8 @@ with_turn t (Answered moment octets held attempts) =
     added t (counts_of held (unsent held + failures attempts))
 
 -- one turn more
-pub record TakesOne (links : Lists) (old new : Concentrator) (before after : Option (List Act))
-    (t next : ServeTally) : Type 0 where
+pub record TakesOne (links : Lists) (s : Service) (t next : ServeTally) : Type 0 where
   pub turn : Turn
-  pub taken : TakesTurn links old turn new
-  pub acts : Adds before after (acts_in turn)
+  pub taken : TakesTurn links s.old turn s.new
+  pub acts : Adds s.before s.after (acts_in turn)
   pub tally : next ≡ with_turn t turn

@@ -3,7 +3,7 @@
 ghost use Rattle.std.specs.Prelude.{◌≡◌, length, IfOk, OnErr};
 ghost use Rattle.rohc_serve.specs.Datagram.{AreSettingsOf};
 ghost use Rattle.rohc_replay.specs.Script.{longest_packet};
-ghost use Rattle.rohc_serve.specs.Turns.{Serves, TakesOne};
+ghost use Rattle.rohc_serve.specs.Turns.{service, Serves, TakesOne};
 
 use crate::datagram::answer_datagram;
 use crate::front::Front;
@@ -29,8 +29,8 @@ pub fn serve<F: Front>(
     count: u32,
 ) -> Result<ServeTally, AllocError>
     requires { AreSettingsOf concentrator.old links.now.settings }
-    ensures served { IfOk result (λ tally. Serves links.now concentrator.old concentrator.new
-        (F.acts front.old) (F.acts front.new) count tally) }
+    ensures served { IfOk result (λ tally. Serves links.now
+        (service concentrator.old concentrator.new (F.acts front.old) (F.acts front.new)) count tally) }
     ensures settings { AreSettingsOf concentrator.new links.now.settings }
     ensures poor { OnErr result ((concentrator.new ≡ concentrator.old) × (front.new ≡ front.old)) }
 {
@@ -64,7 +64,7 @@ fn take_turns<F: Front>(
 ) -> ServeTally
     requires settings { AreSettingsOf concentrator.old links.now.settings }
     requires room { length packet.old ≡ longest_packet }
-    ensures served { Serves links.now concentrator.old concentrator.new (F.acts front.old) (F.acts front.new) count result }
+    ensures served { Serves links.now (service concentrator.old concentrator.new (F.acts front.old) (F.acts front.new)) count result }
     ensures settings { AreSettingsOf concentrator.new links.now.settings }
 {
     let mut tally = ServeTally::default();
@@ -85,7 +85,7 @@ fn take_turn<F: Front>(
 )
     requires settings { AreSettingsOf concentrator.old links.now.settings }
     requires room { length packet.old ≡ longest_packet }
-    ensures turn { TakesOne links.now concentrator.old concentrator.new (F.acts front.old) (F.acts front.new) tally.old tally.new }
+    ensures turn { TakesOne links.now (service concentrator.old concentrator.new (F.acts front.old) (F.acts front.new)) tally.old tally.new }
     ensures settings { AreSettingsOf concentrator.new links.now.settings }
 {
     let Some((size, moment)) = front.receive(datagram) else {
