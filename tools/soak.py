@@ -1,5 +1,5 @@
 #!/usr/bin/env python3
-"""An hour of 256 links with 64 calls each, through a built rohcd, and then a longer one.
+"""An hour of 256 links with 64 calls each on average, through a built rohcd, and then twice as many packets.
 
     tools/soak.py PROGRAM [PACKETS]
 
