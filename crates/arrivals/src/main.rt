@@ -2,8 +2,8 @@
 //!
 //!     arrivals LINKS SCRIPT [TURNS]
 //!
-//! Standard output tells how many packets came, how many were delivered and the octets of those; standard error
-//! tells the nanoseconds of each turn, which begins with no contexts. Without words there are no packets.
+//! Standard output tells how many packets came, how many were delivered, the octets of those, and the sum of the last
+//! octets of their heads; standard error tells the nanoseconds of each turn, which begins with no contexts. Without words there are no packets.
 #![tactic(auto)]
 
 use rohc_concentrator::{Answer, Concentrator};
@@ -34,6 +34,8 @@ struct Script {
 struct Sum {
     delivered: u64,
     octets: u64,
+    /// The sum of the last octets of all heads.
+    lasts: u64,
 }
 
 /// A file whose text isn't what it should be.
@@ -97,22 +99,35 @@ impl Script {
     }
 }
 
+/// What an answer delivers: how many octets, and the last of its head. It is a function of its own and reads an octet,
+/// so that the answer has to be made whole.
+#[inline(never)]
+fn delivered(answer: &Answer<'_>) -> Option<(u64, u8)> {
+    let Answer::Arrived { reply, .. } = answer else {
+        return None;
+    };
+    let Some(packet) = &reply.packet else {
+        return None;
+    };
+    let len = packet.head.len() as u64 + packet.payload.len() as u64;
+    Some((len, packet.head.last().copied().unwrap_or(0)))
+}
+
 /// One turn: all packets in their order.
 #[inline(never)]
 fn run(concentrator: &mut Concentrator, script: &Script) -> Sum {
     let mut sum = Sum {
         delivered: 0,
         octets: 0,
+        lasts: 0,
     };
     for packet in script.packets.iter() {
         let octets = script.octets.get(packet.start..packet.end).unwrap_or(b"");
         let answer = concentrator.arrive(packet.link, packet.moment, octets);
-        if let Answer::Arrived { reply, .. } = &answer
-            && let Some(delivered) = &reply.packet
-        {
+        if let Some((len, last)) = delivered(&answer) {
             sum.delivered = sum.delivered.wrapping_add(1);
-            let len = delivered.head.len() as u64 + delivered.payload.len() as u64;
             sum.octets = sum.octets.wrapping_add(len);
+            sum.lasts = sum.lasts.wrapping_add(u64::from(last));
         }
     }
     sum
@@ -121,7 +136,7 @@ fn run(concentrator: &mut Concentrator, script: &Script) -> Sum {
 fn main(rt: HostRuntime) -> io::Result<()> {
     let mut words = env::args(&rt)?.skip(1);
     let (Some(links), Some(path)) = (words.next(), words.next()) else {
-        println!(rt; "packets 0 delivered 0 octets 0")?;
+        println!(rt; "packets 0 delivered 0 octets 0 lasts 0")?;
         return Ok(());
     };
     let turns = match words.next() {
@@ -148,8 +163,8 @@ fn main(rt: HostRuntime) -> io::Result<()> {
         let nanos = start.elapsed(&rt)?.as_nanos();
         let packets = script.packets.len();
         println!(rt;
-            "packets {packets} delivered {} octets {}",
-            sum.delivered, sum.octets
+            "packets {packets} delivered {} octets {} lasts {}",
+            sum.delivered, sum.octets, sum.lasts
         )?;
         eprintln!(rt; "nanoseconds {nanos}")?;
     }

@@ -1,5 +1,5 @@
 -- The sum of Internet headers, two octets at a time.
-use Rattle.std.proofs.Common.{◌≡◌, ◌==◌, ℕ, suc, ◌+◌, ◌-◌, ◌*◌, ◌%◌, ◌<◌, ◌≤◌, if◌then◌else◌, List, [], ◌∷◌, length, get_or, take, take_all, drop, add-zero, zero-add, sym, ap, ◌∙◌, arith, sum}
+use Rattle.std.proofs.Common.{◌≡◌, ◌==◌, ℕ, suc, ◌+◌, ◌-◌, ◌*◌, ◌/◌, ◌%◌, ◌^◌, ◌<◌, ◌≤◌, if◌then◌else◌, List, [], ◌∷◌, length, get_or, take, take_all, drop, add-zero, zero-add, sym, ap, ◌∙◌, arith, sum}
 use Rattle.std.proofs.lemmas.List.Sums.{sum_by-cons}
 use Rattle.std.proofs.lemmas.Bool.Decides.{nat_tests}
 use Rattle.rohc_checks.specs.Sum.{header_sum, words}
@@ -70,3 +70,11 @@ pub header_sum-end : (left : List ℕ) (total : ℕ) → length left ≡ 0 → t
 unfolding words
 header_sum-end [] total none fits = sym (header_sum-one total fits)
 header_sum-end (octet ∷ octets) total none fits = cc
+
+-- the total with its carries brought round twice
+pub header_sum-total : (total once twice : ℕ) (all : List ℕ) → total < 2 ^ 32 → once ≡ total % 65536 + total / 65536 → twice ≡ once % 65536 + once / 65536
+    → sum all ≡ total → 65535 - twice ≡ header_sum all
+unfolding complement header_sum
+header_sum-total total once twice all fits e f g = sym (ap complement g ∙ carried total once twice fits e f) where
+  carried : (total once twice : ℕ) → total < 2 ^ 32 → once ≡ total % 65536 + total / 65536 → twice ≡ once % 65536 + once / 65536 → complement total ≡ 65535 - twice
+  carried total once twice fits e f = grind (arith, nat_tests)

@@ -8,7 +8,7 @@ mod sum;
 mod tables;
 
 pub use crc::{crc3, crc7, crc8};
-pub use sum::internet_sum;
+pub use sum::{internet_sum, sum_of_total};
 
 #[cfg(test)]
 mod tests;

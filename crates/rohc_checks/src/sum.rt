@@ -1,7 +1,16 @@
 //! The sum of Internet headers (RFC 791, section 3.1; RFC 1071, section 1).
 
-ghost use Rattle.std.specs.Prelude.{◌≡◌, ℕ, ◌<◌, ◌≤◌, [], ◌∷◌, List, length};
+ghost use Rattle.std.specs.Prelude.{◌≡◌, ℕ, ◌<◌, ◌≤◌, [], ◌∷◌, List, length, sum};
 ghost use Rattle.rohc_checks.specs.Sum.{header_sum, words};
+
+/// The complement of the one's complement sum of words that come to this total (RFC 1071, section 1).
+pub fn sum_of_total(total: u32) -> u16
+    ensures { (all : List ℕ) → sum all ≡ total → result ≡ header_sum all }
+{
+    let once = total % 65_536 + total / 65_536;
+    let twice = once % 65_536 + once / 65_536;
+    0xffff - twice as u16
+}
 
 /// The complement of the one's complement sum of the 16-bit words of `octets`, whose odd last octet
 /// stands before a zero octet (RFC 791, section 3.1).

@@ -1,4 +1,4 @@
-use crate::{crc3, crc7, crc8, internet_sum};
+use crate::{crc3, crc7, crc8, internet_sum, sum_of_total};
 use std::alloc::{AllocError, Global};
 use std::collections::VecDeque;
 use std::test::Fail;
@@ -168,5 +168,21 @@ fn header_sums(rt: HostRuntime) {
     ];
     for (octets, sum) in cases {
         assert_eq!(rt; internet_sum(octets), sum);
+    }
+}
+
+// Total, sum. The last but one is the example of RFC 1071, section 3.
+#[test]
+fn sums_of_totals(rt: HostRuntime) {
+    let cases: [(u32, u16); 6] = [
+        (0, 0xffff),
+        (0xffff, 0x0000),
+        (0x0001_0000, 0xfffe),
+        (0x0001_fffe, 0x0000),
+        (0x0002_ddf0, 0x220d),
+        (u32::MAX, 0x0000),
+    ];
+    for (total, sum) in cases {
+        assert_eq!(rt; sum_of_total(total), sum);
     }
 }

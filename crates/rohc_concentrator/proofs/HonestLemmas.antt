@@ -32,41 +32,42 @@ one_more first past p = ap (λ l. first ∷ l) (map-append (reference_of first) 
 behind_lost : (sent past lost rest : List Written) (p : Written) (later : List Written) → sent ≡ past ++ rest → rest ≡ lost ++ p ∷ later → sent ≡ (past ++ lost) ++ p ∷ later
 behind_lost sent past lost rest p later e f = e ∙ ap (λ l. past ++ l) f ∙ sym (append_assoc past lost (p ∷ later))
 
--- Of what is sent the past is over, and the record holds the last header of it.
-record Goes (s : Settings) (w : ℕ) (first : Held) (sent past rest : List Written) (older : List Held) (held : Held) (before : Record) (arrivals : List Arrived) : Type 0 where
-  split : sent ≡ past ++ rest
-  last : references first past ≡ older ++ held ∷ []
-  same : (p : Written) → held_by held p.header ≡ held_by first p.header
-  full : HoldsInFull held before
-  reaches : Reaches w rest (map (λ (a : Arrived). a.written) arrivals)
-  in_time : AreInTime s before.accepted arrivals
+module _ (s : Settings) (w : ℕ) (first : Held) (sent : List Written) where
+  -- Of what is sent the past is over, and the record holds the last header of it.
+  record Goes (past rest : List Written) (older : List Held) (held : Held) (before : Record) (arrivals : List Arrived) : Type 0 where
+    split : sent ≡ past ++ rest
+    last : references first past ≡ older ++ held ∷ []
+    same : (p : Written) → held_by held p.header ≡ held_by first p.header
+    full : HoldsInFull held before
+    reaches : Reaches w rest (map (λ (a : Arrived). a.written) arrivals)
+    in_time : AreInTime s before.accepted arrivals
 
-goes_on : (s : Settings) (w : ℕ) (first : Held) (sent past rest : List Written) (older : List Held) (held : Held) (before : Record)
-    (arrivals : List Arrived) (replies : List Response) (after : Option Record) → IsHonest w first sent
-    → Goes s w first sent past rest older held before arrivals → LoneRun s (Some before) (events_of arrivals) replies after → replies ≡ deliveries arrivals
-goes_on s w first sent past rest older held before [] [] after honest g run = refl
-goes_on s w first sent past rest older held before [] (reply ∷ replies) after honest g run = absurd run
-goes_on s w first sent past rest older held before (a ∷ arrivals) [] after honest g run = absurd run
-goes_on s w first sent past rest older held before (a ∷ arrivals) (reply ∷ replies) after honest g (mid, step, run) =
-    let p = a.written in
-    let lost = g.reaches.0 in
-    let later = g.reaches.1 in
-    let earlier = past ++ lost in
-    let split = behind_lost sent past lost rest p later g.split g.reaches.2 in
-    let few : length (map (reference_of first) lost) < w = subst (λ n. n < w) (sym (length-map lost (reference_of first))) g.reaches.3 in
-    let written : IsWrittenFor held p = honest earlier later p older (map (reference_of first) lost) held split (lost_behind first held past lost older g.last) few in
-    let (answer, (next, is, moment, full)) = delivers_written_packet held before s a.moment p reply mid g.full written g.in_time.0 step in
-    let on : Goes s w first sent (earlier ++ p ∷ []) later (references first earlier) (held_by first p.header) next arrivals = record {
-      split = split ∙ sym (append_assoc earlier (p ∷ []) later);
-      last = one_more first earlier p;
-      same = λ q. refl;
-      full = subst (λ h. HoldsInFull h next) (g.same p) full;
-      reaches = g.reaches.4;
-      in_time = subst (λ m. AreInTime s m arrivals) (sym moment) g.in_time.1;
-    } in
-    let rest_is = goes_on s w first sent (earlier ++ p ∷ []) later (references first earlier) (held_by first p.header) next arrivals replies after honest on
-    (subst (λ r. LoneRun s r (events_of arrivals) replies after) is run) in
-    ap (λ r. r ∷ replies) answer ∙ ap (λ l. delivery_of p ∷ l) rest_is
+  goes_on : (past rest : List Written) (older : List Held) (held : Held) (before : Record)
+      (arrivals : List Arrived) (replies : List Response) (after : Option Record) → IsHonest w first sent
+      → Goes past rest older held before arrivals → LoneRun s (Some before) (events_of arrivals) replies after → replies ≡ deliveries arrivals
+  goes_on past rest older held before [] [] after honest g run = refl
+  goes_on past rest older held before [] (reply ∷ replies) after honest g run = absurd run
+  goes_on past rest older held before (a ∷ arrivals) [] after honest g run = absurd run
+  goes_on past rest older held before (a ∷ arrivals) (reply ∷ replies) after honest g (mid, step, run) =
+      let p = a.written in
+      let lost = g.reaches.0 in
+      let later = g.reaches.1 in
+      let earlier = past ++ lost in
+      let split = behind_lost sent past lost rest p later g.split g.reaches.2 in
+      let few : length (map (reference_of first) lost) < w = subst (λ n. n < w) (sym (length-map lost (reference_of first))) g.reaches.3 in
+      let written : IsWrittenFor held p = honest earlier later p older (map (reference_of first) lost) held split (lost_behind first held past lost older g.last) few in
+      let (answer, (next, is, moment, full)) = delivers_written_packet held before s a.moment p reply mid g.full written g.in_time.0 step in
+      let on : Goes (earlier ++ p ∷ []) later (references first earlier) (held_by first p.header) next arrivals = record {
+        split = split ∙ sym (append_assoc earlier (p ∷ []) later);
+        last = one_more first earlier p;
+        same = λ q. refl;
+        full = subst (λ h. HoldsInFull h next) (g.same p) full;
+        reaches = g.reaches.4;
+        in_time = subst (λ m. AreInTime s m arrivals) (sym moment) g.in_time.1;
+      } in
+      let rest_is = goes_on (earlier ++ p ∷ []) later (references first earlier) (held_by first p.header) next arrivals replies after honest on
+      (subst (λ r. LoneRun s r (events_of arrivals) replies after) is run) in
+      ap (λ r. r ∷ replies) answer ∙ ap (λ l. delivery_of p ∷ l) rest_is
 
 pub delivers_what_was_sent : DeliversWhatWasSent
 delivers_what_was_sent sender s before arrivals replies after call run =

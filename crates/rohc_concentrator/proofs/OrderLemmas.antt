@@ -1,6 +1,6 @@
 use Rattle.rohc_context.specs.Record.{record_of}
 use Rattle.std.specs.Option.{option_map}
-use Rattle.std.proofs.Common.{◌≡◌, ℕ, List, [], ◌∷◌, ◌++◌, Some, None, Bool, true, false, cond, map, nat_eq, refl, sym, ◌∙◌, ap, inr}
+use Rattle.std.proofs.Common.{◌≡◌, ℕ, List, [], ◌∷◌, ◌++◌, Option, Some, None, Bool, true, false, cond, map, nat_eq, refl, sym, ◌∙◌, ap, inr}
 use Rattle.std.specs.Map.{keys_of, lookup, set_value}
 use Rattle.std.specs.HashMap.{HashMap, get, keys}
 use Rattle.indexmap.specs.IndexMap.{insert_entry}
@@ -19,6 +19,15 @@ pub order_after_first : {S : Type 0} (m n : HashMap ℕ Context S) (cid : ℕ) (
 order_after_first m n cid first absent inserted =
     let last : keys n ≡ keys m ++ cid ∷ [] = ap keys_of (inserted ∙ insert_entry-new nat_eq m cid first absent) ∙ keys_of-append m.entries cid first in
     rw absent (inr last)
+
+absent_is : {A B : Type 0} (f : A → B) (x : Option A) → option_map f x ≡ None → x ≡ None
+absent_is f None e = refl
+absent_is f (Some a) e = cc
+
+-- the same where its record is known to be absent
+pub order_after_none : {S : Type 0} (m n : HashMap ℕ Context S) (cid : ℕ) (first : Context) → option_map record_of (get nat_eq m cid) ≡ None
+    → n.entries ≡ insert_entry nat_eq m.entries cid first → KeepsPlace (keys m) (keys n) cid None
+order_after_none m n cid first none inserted = rw none at (order_after_first m n cid first (absent_is record_of (get nat_eq m cid) none) inserted)
 
 -- a link's records written back under the same setting keep all settings in their order
 pub settings_kept : (test : ℕ → Bool) (es : List (ℕ × LinkRecords)) (r s : LinkRecords) → lookup test es ≡ Some r → s.setting ≡ r.setting → map (λ (e : ℕ × LinkRecords). e.1.setting) (set_value test es s) ≡ map (λ (e : ℕ × LinkRecords). e.1.setting) es

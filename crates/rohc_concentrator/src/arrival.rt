@@ -5,7 +5,7 @@ use crate::concentrator::Concentrator;
 use crate::link::arrive_at;
 use crate::records::LinkRecords;
 use indexmap::IndexMap;
-use rohc_context::Refusal;
+use rohc_context::{Refusal, Reply};
 use rohc_frame::cut;
 
 impl Concentrator {
@@ -38,7 +38,8 @@ impl Concentrator {
         let Some(forward) = framed.forward else {
             return Answer::OnlyFront { relayed };
         };
-        let reply = arrive_at(records, moment, &forward);
+        let mut reply = Reply::refused(Refusal::NoContext);
+        arrive_at(records, moment, &forward, &mut reply);
         Answer::Arrived {
             cid: forward.cid,
             reply,

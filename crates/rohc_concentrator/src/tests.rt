@@ -192,6 +192,8 @@ fn setup_faults(rt: HostRuntime) -> Result<(), Fail> {
             }
         }
     }
+    let shown = format!(in rt.alloc(); "{}", SetupFault::NoMemory)?;
+    assert_eq!(rt; shown.as_str(), "NoMemory");
     Ok(())
 }
 

@@ -1,8 +1,9 @@
 -- The laws of a step, for the proofs of the crates above: each is its law's statement and nothing else.
-use Rattle.rohc_context.specs.Laws.{HasAnswer, HasNoOther, LeavesGood, BeginsByIr, LeavesNone, NeverPoor, KeepsGood, KeepsRefused, ChecksChange, LowStatesChange, ComesToOne, MeansOne, TakesPlain, DeliversHonest, PromotesHonest, DeliversWritten, HasWritten}
+use Rattle.rohc_context.specs.Laws.{HasAnswer, HasNoOther, LeavesGood, BeginsByIr, LeavesNone, NeverPoor, KeepsGood, KeepsRefused, LendsPayload, ChecksChange, LowStatesChange, ComesToOne, MeansOne, TakesPlain, DeliversHonest, PromotesHonest, DeliversWritten, HasWritten}
 use Rattle.rohc_context.proofs.StepLemmas.{step_some, step_one, step_begins}
 use Rattle.rohc_context.proofs.GoodLemmas.{step_good, context_good}
 use Rattle.rohc_context.proofs.RefusalLemmas.{step_none, step_rich, step_keeps, step_checks, step_low}
+use Rattle.rohc_context.proofs.LentLemmas.{step_lends}
 use Rattle.rohc_context.proofs.TryLemmas.{verdict_one}
 use Rattle.rohc_context.proofs.WrittenExample.{call, packet, is_written}
 use Rattle.rohc_context.proofs.HonestLemmas.{means_one_header, takes_plain, delivers_honest, promotes_honest, delivers_written}
@@ -30,6 +31,9 @@ keeps_good c = context_good c
 
 pub keeps_refused : KeepsRefused
 keeps_refused before s moment h response next refusal step e check low = step_keeps before s moment h response next refusal step e check low
+
+pub lends_payload : LendsPayload
+lends_payload before s moment h response next all step = step_lends before s moment h response next all step
 
 pub means_one : MeansOne
 means_one = means_one_header

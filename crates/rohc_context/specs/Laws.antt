@@ -18,7 +18,7 @@ use Rattle.rohc_context.specs.declared.settings.Settings.{Settings}
 use Rattle.rohc_context.specs.Good.{AreGoodValues, IsGoodRecord}
 use Rattle.rohc_context.specs.declared.record.Context.{Context}
 use Rattle.rohc_context.specs.Record.{Reference, StaticContext, FullContext, Record, record_of}
-use Rattle.rohc_context.specs.Response.{Response, delivered}
+use Rattle.rohc_context.specs.Response.{Packet, Response, delivered}
 use Rattle.rohc_context.specs.Explains.{Explained, Explains}
 use Rattle.rohc_context.specs.Failures.{takes, after_check, after_low_state}
 use Rattle.rohc_context.specs.Tries.{Try, Acceptance, Verdict, Fits, unshifted}
@@ -77,6 +77,15 @@ KeepsRefused =
     (next : Option Record) (refusal : Refusal) →
     LoneStep before s moment h response next → response.outcome ≡ Refused refusal →
     refusal ≢ Check → refusal ≢ StateTooLow → next ≡ before
+
+-- A packet that is delivered has no more octets behind its head than stood behind the header's first octet
+-- and identifier.
+abbrev pub LendsPayload : Type 0
+LendsPayload =
+    (before : Option Record) (s : Settings) (moment : ℕ) (h : Header) (response : Response)
+    (next : Option Record) →
+    All IsOctet h.rest → LoneStep before s moment h response next →
+    IfSome response.packet (λ (p : Packet). length p.payload ≤ length h.rest)
 
 -- A refusal for a check changes nothing, or what a check that doesn't fit leads to in the state before.
 abbrev pub ChecksChange : Type 0

@@ -1,6 +1,6 @@
 //! Laws of one step, as contracts of functions that do nothing. The crates above know a step by these.
 
-ghost use Rattle.rohc_context.specs.Laws.{HasAnswer, HasNoOther, LeavesGood, BeginsByIr, LeavesNone, NeverPoor, KeepsGood, KeepsRefused, ChecksChange, LowStatesChange, ComesToOne, MeansOne, TakesPlain, DeliversHonest, PromotesHonest, DeliversWritten, HasWritten};
+ghost use Rattle.rohc_context.specs.Laws.{HasAnswer, HasNoOther, LeavesGood, BeginsByIr, LeavesNone, NeverPoor, KeepsGood, KeepsRefused, LendsPayload, ChecksChange, LowStatesChange, ComesToOne, MeansOne, TakesPlain, DeliversHonest, PromotesHonest, DeliversWritten, HasWritten};
 
 /// A step from good values has exactly one answer and one record, or none, after it.
 pub fn one_answer()
@@ -36,6 +36,12 @@ pub fn kept_record()
 /// What is refused for another reason than `Check` and `StateTooLow` changes nothing.
 pub fn refusal_changes_nothing()
     ensures { KeepsRefused }
+{}
+
+/// A packet that is delivered has no more octets behind its head than stood behind the header's first octet and
+/// identifier.
+pub fn payload_is_lent()
+    ensures { LendsPayload }
 {}
 
 /// A refusal for a check changes nothing, or the state as a check that doesn't fit does.

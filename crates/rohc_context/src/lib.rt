@@ -21,6 +21,7 @@ pub mod settings;
 mod state;
 mod step;
 mod tries;
+mod uo0;
 pub mod window;
 
 pub use record::Context;

@@ -76,19 +76,46 @@ impl Context {
         }
     }
 
-    /// An arrival for an identifier that has this record, which it changes as it answers.
+    /// An arrival for an identifier that has this record, which it changes as it answers; the answer takes the
+    /// place of what `reply` held, since a reply that is returned is copied once a function.
     ///
     /// The settings are good, and the header is of their size and within their `max_cid`.
-    #[tactic(auto, unfolding(crate::specs::Step::LoneStep))]
     pub fn arrive<'a>(
         &mut self,
         settings: &Settings,
         moment: u64,
         forward: &Forward<'a>,
-    ) -> Reply<'a>
+        reply: &mut Reply<'a>,
+    )
         requires good { AreGood settings.now }
         requires sized { forward.now.size ≡ settings.now.size }
         requires within { forward.now.cid ≤ settings.now.max_cid }
+        ensures { LoneStep (Some (record_of self.old)) settings.now moment (header_of forward.now) (response_of reply.new) (Some (record_of self.new)) }
+    {
+        if !self.take_uo0(settings, moment, forward, reply) {
+            self.answer(settings, moment, forward, reply);
+        }
+    }
+
+    /// The same without a path of its own for any packet; out of line, so that `arrive` has no room for its reply.
+    #[inline(never)]
+    fn answer<'a>(
+        &mut self,
+        settings: &Settings,
+        moment: u64,
+        forward: &Forward<'a>,
+        reply: &mut Reply<'a>,
+    )
+        requires good { AreGood settings.now }
+        ensures { LoneStep (Some (record_of self.old)) settings.now moment (header_of forward.now) (response_of reply.new) (Some (record_of self.new)) }
+    {
+        *reply = self.step(settings, moment, forward);
+    }
+
+    /// An arrival of any kind, for a record.
+    #[tactic(auto, unfolding(crate::specs::Step::LoneStep))]
+    fn step<'a>(&mut self, settings: &Settings, moment: u64, forward: &Forward<'a>) -> Reply<'a>
+        requires good { AreGood settings.now }
         ensures { LoneStep (Some (record_of self.old)) settings.now moment (header_of forward.now) (response_of result) (Some (record_of self.new)) }
     {
         let counts = self.counts(settings, moment);
@@ -103,7 +130,7 @@ impl Context {
     /// Whether the record counts: fewer than `idle_ms` milliseconds passed since its last accepted
     /// arrival, or there is no such limit.
     #[tactic(auto, unfolding(crate::specs::Record::record_of))]
-    fn counts(&self, settings: &Settings, moment: u64) -> bool
+    pub(crate) fn counts(&self, settings: &Settings, moment: u64) -> bool
         ensures { result ≡ counts settings.now moment (record_of self.now) }
     {
         settings.idle_ms == 0 || moment.saturating_sub(self.accepted) < u64::from(settings.idle_ms)

@@ -1,6 +1,6 @@
 //! Arrivals of one context, from the worked examples.
 
-use crate::{Context, Mode, Outcome, Refusal, Settings};
+use crate::{Context, Mode, Outcome, Refusal, Reply, Settings};
 use rohc_frame::{CidKind, cut};
 
 const SETTINGS: Settings = Settings {
@@ -33,7 +33,8 @@ fn first(packet: &[u8]) -> Option<Context> {
 // What a packet is answered: its outcome, the sequence number of the rebuilt header, the feedback's type octet.
 fn answer(context: &mut Context, packet: &[u8]) -> Option<(Outcome, Option<u8>, Option<u8>)> {
     let forward = cut(CidKind::Small, 15, packet).ok()?.forward?;
-    let reply = context.arrive(&SETTINGS, 0, &forward);
+    let mut reply = Reply::refused(Refusal::NoContext);
+    context.arrive(&SETTINGS, 0, &forward, &mut reply);
     let sn = match &reply.packet {
         Some(packet) => packet.head.get(31).copied(),
         None => None,

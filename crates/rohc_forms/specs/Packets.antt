@@ -1,6 +1,6 @@
 -- Whole packets of kind Other (RFC 3095 5.7.1 to 5.7.5), read from left to right, with the first fault that
 -- is met.
-use Rattle.std.specs.Prelude.{ℕ, ◌+◌, ◌*◌, List, Bool, nat_lt, if◌then◌else◌, Option, Some, None, option_map, Result, Ok}
+use Rattle.std.specs.Prelude.{ℕ, ◌+◌, ◌*◌, List, Bool, false, nat_lt, if◌then◌else◌, Option, Some, None, option_map, Result, Ok}
 use Rattle.rohc_bits.specs.Reading.{◌>>=◌, judged}
 use Rattle.rohc_frame.specs.Header.{Header}
 pub use Rattle.rohc_frame.specs.Header.{IsOther}
@@ -15,12 +15,14 @@ use Rattle.rohc_forms.specs.declared.parts.Extension3 as parts
 use Rattle.rohc_forms.specs.declared.parts.Head as parts_head
 use Rattle.rohc_forms.specs.declared.parts.RtpGiven.{RtpGiven}
 use Rattle.rohc_forms.specs.declared.refusal.FormRefusal.{FormRefusal}
+use Rattle.rohc_forms.specs.declared.form.FormKind.TheVariants as kinds
+use Rattle.rohc_forms.specs.declared.form.Uo0 as form_uo0
 use Rattle.rohc_bits.specs.LowBits.{low_bits}
 use Rattle.rohc_forms.specs.Octets.{octet_at, word_at, word_if}
 use Rattle.rohc_forms.specs.Table.{Said, Tsc, I, IP, has, under, layout_0, layout_1, layout_2, base_said}
 use Rattle.rohc_forms.specs.Judging.{twice_fault}
 use Rattle.rohc_forms.specs.Given.{RtpSaid, ValuesSaid, rnd_in_force, Extended3}
-use Rattle.rohc_forms.specs.Content.{Content, Head, IdSaid, Offset, Same, Whole, form_kind, plain_head, whole_content}
+use Rattle.rohc_forms.specs.Content.{Content, Head, IdSaid, Offset, Same, Whole, id_said, form_kind, plain_head, whole_content}
 use Rattle.rohc_forms.specs.Extension.{ip_octet_at, behind_ip_octet}
 
 -- what a reader's fields say
@@ -180,3 +182,19 @@ form_at h rnd udp_sum stride_known = do
   (id, text) ← word_if head.rnd text
   (sum, text) ← word_if udp_sum text
   Ok (whole_content head id sum text)
+
+-- what a UO-0 says under this RND
+abbrev pub uo0_content : Bool → form_uo0.Uo0 → Content
+uo0_content rnd p = record {
+  kind = kinds.Uo0;
+  rnd = rnd;
+  sn = low_bits p.sn;
+  ts = None;
+  tsc = None;
+  id = id_said p.id None;
+  udp_sum = p.udp_sum;
+  marker = false;
+  values = None;
+  check = p.check;
+  payload = p.payload.now;
+}

@@ -53,7 +53,7 @@ pub(crate) fn kind(base: Base, rnd: bool) -> FormKind
 }
 
 /// The check of the three least significant bits.
-fn check_3(number: u32) -> u8
+pub(crate) fn check_3(number: u32) -> u8
     ensures { result ≡ (slice number 0 3).value }
 {
     (number % 8) as u8

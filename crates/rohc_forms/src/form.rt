@@ -97,3 +97,19 @@ pub struct Form<'a> {
     ghost check_7: { check < 128 },
     ghost check_3: { is_uor2 kind ≡ false → check < 8 },
 }
+
+/// What a UO-0 says.
+#[derive(Clone, Copy, Debug)]
+pub struct Uo0<'a> {
+    /// The four low bits of the sequence number.
+    pub sn: Bits,
+    /// The check of 3 bits.
+    pub check: u8,
+    /// The Identification, where it is random.
+    pub id: Option<u16>,
+    /// The UDP checksum, where packets carry one.
+    pub udp_sum: Option<u16>,
+    /// What stands behind the header.
+    pub payload: &'a [u8],
+    ghost four: { sn.count ≡ 4 },
+}

@@ -1,4 +1,4 @@
-use crate::{Form, FormKind, FormRefusal, IdBits, Values, read_form};
+use crate::{Form, FormKind, FormRefusal, IdBits, Values, read_form, read_uo0};
 use rohc_bits::Bits;
 use rohc_frame::{CidKind, HeadKind, cut};
 
@@ -284,6 +284,50 @@ fn packets_without_extension_3(rt: HostRuntime) {
         assert!(rt; form.values.is_none());
         assert_eq!(rt; form.payload.len(), 1);
         assert_eq!(rt; form.payload.last(), packet.last());
+    }
+}
+
+// Examples first UO-0 and RND turned on, the first with a UDP checksum too, and what isn't a whole UO-0.
+#[test]
+fn a_uo0_alone(rt: HostRuntime) {
+    let cases: [(
+        &[u8],
+        bool,
+        bool,
+        Option<(Number, u8, Option<u16>, Option<u16>)>,
+    ); 6] = [
+        (&[0x10, 0xac], false, false, Some(((4, 2), 0, None, None))),
+        (
+            &[0x25, 0x56, 0x78, 0xaf],
+            true,
+            false,
+            Some(((4, 4), 5, Some(0x5678), None)),
+        ),
+        (
+            &[0x10, 0x12, 0x34, 0xac],
+            false,
+            true,
+            Some(((4, 2), 0, None, Some(0x1234))),
+        ),
+        (&[0x25, 0x56], true, false, None),
+        (&[0x10, 0x12], false, true, None),
+        (&[0x94, 0xaf, 0xac], false, false, None),
+    ];
+    for (packet, rnd, udp_sum, expected) in cases {
+        let Ok(framed) = cut(CidKind::Small, 15, packet) else {
+            panic!(rt; "refused");
+        };
+        let Some(forward) = framed.forward else {
+            panic!(rt; "no header");
+        };
+        let read = match read_uo0(&forward, rnd, udp_sum) {
+            Some(uo0) => {
+                assert_eq!(rt; uo0.payload, &packet[packet.len() - 1..]);
+                Some((number(uo0.sn), uo0.check, uo0.id, uo0.udp_sum))
+            }
+            None => None,
+        };
+        assert_eq!(rt; read, expected);
     }
 }
 

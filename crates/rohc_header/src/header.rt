@@ -1,6 +1,6 @@
 //! Whole headers.
 
-ghost use Rattle.std.specs.Prelude.{◌≡◌, ◌<◌, ◌↔◌, IfSome, IsNone};
+ghost use Rattle.std.specs.Prelude.{◌≡◌, ◌<◌, ◌≤◌, ◌↔◌, length, IfSome, IsNone};
 ghost use Rattle.rohc_checks.specs.Division.{check, poly3, poly7};
 ghost use Rattle.rohc_header.specs.Original.{IsOriginal, longest_payload};
 ghost use Rattle.rohc_header.specs.Polynomial.{coefficients};
@@ -9,6 +9,7 @@ ghost use Rattle.rohc_header.specs.Check.{all_ones, header_check, static_octets,
 use crate::parts::{Octets, put_ip, put_rtp, put_udp};
 use crate::polynomial::Polynomial::{self, Seven, Three};
 use crate::{Dynamic, Static, field};
+use arrayvec::ArrayVec;
 use rohc_checks::{crc3, crc7};
 
 /// The longest payload of a packet: 65,535 octets hold it behind its header.
@@ -32,11 +33,8 @@ impl Header {
         if payload_len > LONGEST_PAYLOAD {
             return None;
         }
-        let payload_len = payload_len as u16;
         let mut octets = Octets::new();
-        put_ip(&mut octets, fixed, moving, payload_len);
-        put_udp(&mut octets, fixed, moving, payload_len);
-        put_rtp(&mut octets, fixed, moving);
+        put_header(&mut octets, fixed, moving, payload_len as u16);
         let octets = octets.into_inner().unwrap();
         Some(Header { octets })
     }
@@ -94,12 +92,77 @@ impl Header {
     fn check_from(&self, polynomial: Polynomial, reg: u8) -> u8
         ensures { result ≡ check (coefficients polynomial) reg (dynamic_octets self.now.octets) }
     {
-        let reg = crc(polynomial, reg, &self.octets[field::LENGTH_AND_ID]);
-        let reg = crc(polynomial, reg, &self.octets[field::IP_SUM]);
-        let reg = crc(polynomial, reg, &self.octets[field::UDP_LENGTH_AND_SUM]);
-        // Both polynomials divide x^56 + 1: over seven octets a register stays, but for their own check.
-        reg ^ crc(polynomial, 0x00, &self.octets[field::MARKER_TO_TIMESTAMP])
+        dynamic_check(polynomial, &self.octets, reg)
     }
+}
+
+/// Writes the header of a packet with these fields and as many octets of payload, at most 65,495, in place of what
+/// `octets` hold. The payload type is below 128.
+#[inline(always)]
+pub fn put_header(octets: &mut ArrayVec<u8, 40>, fixed: &Static, moving: &Dynamic, payload_len: u16)
+    requires fits { payload_len ≤ longest_payload }
+    requires narrow { moving.now.payload_type < 128 }
+    ensures { IsOriginal fixed.now moving.now payload_len octets.new.items }
+{
+    octets.clear();
+    put_ip(octets, fixed, moving, payload_len);
+    put_udp(octets, fixed, moving, payload_len);
+    put_rtp(octets, fixed, moving);
+}
+
+/// The 3-bit check of a header's forty octets from the register that the static ones left (RFC 3095 5.9.2).
+pub fn check3_after(octets: &[u8], reg: u8) -> u8
+    requires { length octets.now ≡ 40 }
+    ensures { result ≡ check poly3 reg (dynamic_octets octets.now) }
+{
+    dynamic_check(Three, octets, reg)
+}
+
+/// The check of a header's forty octets from the register that the static ones left: that of the dynamic octets in
+/// sevens from their end, added without carry, with the register under the first. Both polynomials divide x^56 + 1.
+fn dynamic_check(polynomial: Polynomial, octets: &[u8], reg: u8) -> u8
+    requires { length octets.now ≡ 40 }
+    ensures { result ≡ check (coefficients polynomial) reg (dynamic_octets octets.now) }
+{
+    let reg = reg & ones(polynomial);
+    let folded = [
+        octets[5] ^ octets[29],
+        octets[10] ^ octets[30],
+        octets[11] ^ octets[31],
+        octets[24] ^ octets[32],
+        reg ^ octets[2] ^ octets[25] ^ octets[33],
+        octets[3] ^ octets[26] ^ octets[34],
+        octets[4] ^ octets[27] ^ octets[35],
+    ];
+    check_of_seven(polynomial, &folded)
+}
+
+/// The check of seven octets from a register of 0.
+fn check_of_seven(polynomial: Polynomial, octets: &[u8; 7]) -> u8
+    ensures { result ≡ check (coefficients polynomial) 0 octets.now }
+{
+    match polynomial {
+        Three => check3_of_seven(octets),
+        Seven => crc7(0x00, octets),
+    }
+}
+
+/// The 3-bit check of seven octets from a register of 0, by one look-up: 1 + x + x^3 divides x^7 + 1, so their bits
+/// may be added in sevens.
+fn check3_of_seven(octets: &[u8; 7]) -> u8
+    ensures { result ≡ check poly3 0 octets.now }
+{
+    let bits = u64::from(octets[0])
+        ^ (u64::from(octets[1]) << 8)
+        ^ (u64::from(octets[2]) << 16)
+        ^ (u64::from(octets[3]) << 24)
+        ^ (u64::from(octets[4]) << 32)
+        ^ (u64::from(octets[5]) << 40)
+        ^ (u64::from(octets[6]) << 48);
+    let four = bits ^ (bits >> 28);
+    let two = four ^ (four >> 14);
+    let one = two ^ (two >> 7);
+    crc3(0x00, &[(one % 128) as u8 * 2])
 }
 
 /// A register of as many ones as the polynomial's check has bits.

@@ -9,7 +9,7 @@ mod parts;
 mod polynomial;
 
 pub use fields::{Dynamic, Static};
-pub use header::{Header, LONGEST_PAYLOAD};
+pub use header::{Header, LONGEST_PAYLOAD, check3_after, put_header};
 
 #[cfg(test)]
 mod tests;

@@ -1,27 +1,50 @@
 //! The parts of a header, each written behind the octets that are there.
 
-ghost use Rattle.std.specs.Prelude.{◌≡◌, ◌+◌, ◌<◌, ◌≤◌, ◌++◌, length};
+ghost use Rattle.std.specs.Prelude.{◌≡◌, ◌+◌, ◌<◌, ◌≤◌, ◌++◌, length, sum};
+ghost use Rattle.rohc_checks.specs.Sum.{words};
 ghost use Rattle.rohc_header.specs.Original.{flag as flag_octet, word as word_octets, quad as quad_octets, longest_payload, ip_front, ip_part, ip_sum, addresses, udp_part, rtp_part};
 
 use crate::{Dynamic, Static};
 use arrayvec::ArrayVec;
-use rohc_checks::internet_sum;
+use rohc_checks::sum_of_total;
 
 /// The octets of a header, as far as they are written.
 pub(crate) type Octets = ArrayVec<u8, 40>;
 
 /// The IPv4 part (RFC 791 3.1).
+#[inline(always)]
 pub(crate) fn put_ip(octets: &mut Octets, fixed: &Static, moving: &Dynamic, payload_len: u16)
     requires room { length octets.old.items + 20 ≤ 40 }
     requires fits { payload_len ≤ longest_payload }
     ensures { octets.new.items ≡ octets.old.items ++ ip_part fixed.now moving.now payload_len (ip_sum fixed.now moving.now payload_len) }
 {
-    let mut summed = Octets::new();
-    put_ip_front(&mut summed, moving, payload_len);
-    put_addresses(&mut summed, fixed);
     put_ip_front(octets, moving, payload_len);
-    put_word(octets, internet_sum(&summed));
+    put_word(octets, checksum(fixed, moving, payload_len));
     put_addresses(octets, fixed);
+}
+
+/// The checksum of the IPv4 part, from its nine other words as numbers: no octet is read back.
+fn checksum(fixed: &Static, moving: &Dynamic, payload_len: u16) -> u16
+    requires { payload_len ≤ longest_payload }
+    ensures { result ≡ ip_sum fixed.now moving.now payload_len }
+{
+    let total = u32::from_be_bytes([0, 0, 0x45, moving.tos])
+        + u32::from(40 + payload_len)
+        + u32::from(moving.id)
+        + u32::from_be_bytes([0, 0, flag(moving.df, 0x40), 0x00])
+        + u32::from_be_bytes([0, 0, moving.ttl, 17])
+        + two_words(&fixed.source)
+        + two_words(&fixed.destination);
+    sum_of_total(total)
+}
+
+/// The total of an address's two words.
+fn two_words(address: &[u8; 4]) -> u32
+    ensures total { result ≡ sum (words address.now) }
+    ensures few { result ≤ 131070 }
+{
+    u32::from_be_bytes([0, 0, address[0], address[1]])
+        + u32::from_be_bytes([0, 0, address[2], address[3]])
 }
 
 /// The IPv4 part up to its checksum.

@@ -1,6 +1,7 @@
 //! The headers of the worked examples, and the checks that their packets carry.
 
-use crate::{Dynamic, Header, Static};
+use crate::{Dynamic, Header, Static, check3_after, put_header};
+use arrayvec::ArrayVec;
 
 /// What the examples' calls keep.
 const FIXED: Static = Static {
@@ -111,12 +112,18 @@ fn examples(rt: HostRuntime) {
         let header = Header::build(&FIXED, &moving, 1).expect(&rt, "a short payload");
         assert_eq!(rt; header.octets, octets);
 
+        let mut head = ArrayVec::new();
+        head.push(0xff);
+        put_header(&mut head, &FIXED, &moving, 1);
+        assert_eq!(rt; head.as_slice(), octets.as_slice());
+
         let (register3, register7) = header.registers();
         match check {
             Nothing => {}
             Three(check) => {
                 assert_eq!(rt; header.check3(), check);
                 assert_eq!(rt; header.check3_from(register3), check);
+                assert_eq!(rt; check3_after(&header.octets, register3), check);
             }
             Seven(check) => {
                 assert_eq!(rt; header.check7(), check);

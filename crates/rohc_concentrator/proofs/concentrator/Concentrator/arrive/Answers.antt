@@ -11,7 +11,7 @@ returns-in-Err-clause-settings c = record {
 pub returns-clause-settings : goal.returns-clause-settings
 returns-clause-settings c = record {
   each = search rules;
-  in_order = settings_after (nat_eq c.args.link) c.args.self.now.links.entries _ c.in-Some.records.now _ (c.get_mut.follows.holds _).0 (search rules) c.arrive_at-reply.ensures.setting;
+  in_order = settings_after (nat_eq c.args.link) c.args.self.now.links.entries _ c.in-Some.records.now _ (c.get_mut.follows.holds _).0 (search rules) c.arrive_at.ensures.setting;
 }
 
 pub returns-in_default-forward-clause-settings : goal.returns-in_default-forward-clause-settings

@@ -1,0 +1,89 @@
+-- A UO-0 that fits by the first try is taken as any packet of kind Other.
+use Rattle.std.proofs.Common.{◌≡◌, ℕ, ◌-◌, Bool, true, false, List, length, Option, Some, None, inl, refl, sym, ap, subst, ◌∙◌}
+use Rattle.std.specs.Prelude.{Ok, if◌then◌else◌}
+use Rattle.std.proofs.lemmas.Bool.{eq-eqb}
+use Rattle.rohc_checks.specs.Division.{check, poly3}
+use Rattle.rohc_frame.specs.Header.{Header}
+use Rattle.rohc_header.specs.declared.fields.Static.{Static}
+use Rattle.rohc_header.specs.declared.fields.Dynamic.{Dynamic}
+use Rattle.rohc_header.specs.Original.{IsOriginal}
+use Rattle.rohc_header.specs.Check.{dynamic_octets, header_check}
+use Rattle.rohc_chain.specs.Good.{IsGoodStatic}
+use Rattle.rohc_forms.specs.Content.{Content}
+use Rattle.rohc_context.specs.declared.due.Due.TheVariants.{Nothing}
+use Rattle.rohc_context.specs.declared.settings.Mode.{Mode}
+use Rattle.rohc_context.specs.declared.settings.Mode.TheVariants.{U, O}
+use Rattle.rohc_context.specs.declared.settings.Settings.{Settings}
+use Rattle.rohc_context.specs.Due.{sent}
+use Rattle.rohc_context.specs.Explains.{Explained, Means}
+use Rattle.rohc_context.specs.NextReference.{without_marker, with_numbers, same_flag, same_stride, kept_previous}
+use Rattle.rohc_context.specs.Record.{Reference, State, FullContext, Record}
+use Rattle.rohc_context.specs.Response.{Response, delivered}
+use Rattle.rohc_context.specs.Saved.{AreRegisters}
+use Rattle.rohc_context.specs.Tries.{Acceptance, check_for, full_tries}
+use Rattle.rohc_context.specs.Update.{said_under, Judges, updated}
+use Rattle.rohc_context.specs.Step.{counts, Turn, Steps, LoneStep}
+use Rattle.rohc_frame.specs.declared.header.HeadKind.TheVariants.{Other}
+use Rattle.rohc_context.proofs.Registers.{octets_three, checked_from, kept_registers}
+use Rattle.rohc_context.proofs.UpdateLemmas.{judged}
+
+-- what is accepted
+abbrev pub accepted : Reference → Content → Dynamic → List ℕ → Acceptance
+accepted r c moving octets = record { content = c; reference = r; header = record { moving = moving; octets = octets } }
+
+pub first_judged : (fixed : Static) (h : Header) (r : Reference) (previous : Option Reference) (c : Content) (moving : Dynamic) (octets : List ℕ)
+    → said_under h r ≡ Ok c → Means r 0 c moving → IsOriginal fixed moving (length c.payload) octets → check_for c.kind octets ≡ c.check
+    → (s : Settings) (passed : ℕ) → Judges fixed (full_tries s passed r previous) (said_under h r) (Ok (accepted r c moving octets))
+first_judged fixed h r previous c moving octets e means is checked s passed =
+    let header : Explained = record { moving = moving; octets = octets } in
+    judged fixed (full_tries s passed r previous) (said_under h r) c (Ok (accepted r c moving octets)) e is.fits
+    (inl (header, record { explained = record { fields = means; octets = is }; checked = checked }, refl))
+
+-- the check that was found is the header's
+pub checked_3 : (fixed : Static) (r : Reference) (c : Content) (moving : Dynamic) (octets : List ℕ) (saved : ℕ × ℕ) → IsGoodStatic fixed
+    → Means r 0 c moving → c.values ≡ None → IsOriginal fixed moving (length c.payload) octets → AreRegisters fixed r.moving saved
+    → check poly3 saved.0 (dynamic_octets octets) ≡ header_check poly3 octets
+checked_3 fixed r c moving octets saved good means none is are =
+    checked_from poly3 saved.0 octets (octets_three fixed moving (length c.payload) octets saved good is (kept_registers fixed r 0 c moving saved means none are))
+
+-- the reference takes over the numbers
+pub numbers_are : (kept moving : Dynamic) (sum : ℕ) → kept.marker ≡ false
+    → moving ≡ record kept { sn = moving.sn; ts = moving.ts; id = moving.id; udp_sum = sum; marker = false }
+    → with_numbers kept moving ≡ without_marker moving
+numbers_are kept moving sum unmarked others =
+    let sums : moving.udp_sum ≡ sum = ap (λ (d : Dynamic). d.udp_sum) others in
+    ap (λ m. record kept { sn = moving.sn; ts = moving.ts; id = moving.id; udp_sum = moving.udp_sum; marker = m }) unmarked
+    ∙ ap (λ u. record kept { sn = moving.sn; ts = moving.ts; id = moving.id; udp_sum = u; marker = false }) sums
+    ∙ sym (ap without_marker others)
+
+flag_stays : (b : Bool) → same_flag b b ≡ true
+flag_stays true = refl
+flag_stays false = refl
+
+stride_stays : (stride : Option ℕ) → same_stride stride stride ≡ true
+stride_stays None = refl
+stride_stays (Some n) = eq-eqb n n refl
+
+-- RND, NBO and stride stay
+pub previous_is : (held : Reference) (moving : Dynamic) → Some held ≡ kept_previous held (with_numbers held.moving moving) held
+previous_is held moving = rw (flag_stays held.moving.rnd, flag_stays held.moving.nbo, stride_stays held.moving.stride) refl
+
+silence : (mode : Mode) (h : Header) → sent mode h Nothing ≡ None
+silence U h = refl
+silence O h = refl
+
+-- A record that counts, in Full Context, takes it as its step.
+pub lone_uo0 : (s : Settings) (m : ℕ) (h : Header) (before : ℕ) (st : State) (fixed : Static) (reference : Reference) (previous : Option Reference) (window : List Bool)
+    (a : Acceptance) (response : Response) (left : State) → st ≡ FullContext fixed reference previous window → h.kind ≡ Other
+    → counts s m (record { accepted = before; state = st }) ≡ true
+    → Judges fixed (full_tries s (m - before) reference previous) (said_under h reference) (Ok a)
+    → response ≡ delivered a.header.octets a.content.payload None → left ≡ updated fixed reference window a
+    → LoneStep (Some (record { accepted = before; state = st })) s m h response (Some (record { accepted = m; state = left }))
+unfolding LoneStep
+lone_uo0 s m h before st fixed reference previous window a response left e kind counting judges f g =
+    let next : Option Record = Some (record { accepted = m; state = left }) in
+    let full : Record = record { accepted = before; state = FullContext fixed reference previous window } in
+    let taken : Turn s m h Other (Some full) (Some full) response next = (Ok a, judges, (f ∙ ap (delivered a.header.octets a.content.payload) (sym (silence s.mode h)), rw g refl)) in
+    let counted = subst (λ b. Turn s m h Other (if b then Some full else None) (Some full) response next) (sym counting) taken in
+    let turned = subst (λ k. Turn s m h k (if counts s m full then Some full else None) (Some full) response next) (sym kind) counted in
+    subst (λ x. Steps (Some (record { accepted = before; state = x })) s m h response next) (sym e) turned

@@ -1,0 +1,128 @@
+//! A UO-0 that fits by the first try, as nearly every packet of a call does: the same as for any packet of kind
+//! Other, for less.
+
+ghost use Rattle.std.specs.Prelude.{◌≡◌, ◌<◌};
+ghost use Rattle.rohc_chain.specs.Good.{IsGoodDynamic};
+ghost use Rattle.rohc_forms.specs.Packets.{uo0_content};
+ghost use Rattle.rohc_context.specs.Record.{reference_of};
+ghost use Rattle.rohc_context.specs.Explains.{Means};
+
+use crate::record::Context;
+use crate::reference::Reference;
+use crate::reply::{Delivered, Outcome, Reply};
+use crate::settings::Settings;
+use crate::state::{FullContext, State};
+use arrayvec::ArrayVec;
+use rohc_forms::{Uo0, read_uo0};
+use rohc_frame::{Forward, HeadKind};
+use rohc_header::{Dynamic, LONGEST_PAYLOAD, check3_after, put_header};
+use rohc_lsb::{inferred_ts, ip_id, sn_value};
+
+/// The fields that a UO-0 means against a reference (RFC 3095 5.7.1).
+fn meant(reference: &Reference, packet: &Uo0<'_>) -> Dynamic
+    requires good { IsGoodDynamic reference.now.moving }
+    ensures means { Means (reference_of reference.now) 0 (uo0_content reference.now.moving.rnd packet.now) result }
+    ensures good { IsGoodDynamic result }
+{
+    let kept = &reference.moving;
+    let (sn, steps) = sn_value(kept.sn, 0, packet.sn);
+    Dynamic {
+        sn,
+        ts: inferred_ts(kept.ts, kept.stride, steps),
+        id: match packet.id {
+            Some(id) => id,
+            None => ip_id(sn, kept.sn, kept.id, kept.nbo, None),
+        },
+        udp_sum: packet.udp_sum.unwrap_or(0),
+        marker: false,
+        ..*kept
+    }
+}
+
+impl FullContext {
+    ghost use Rattle.std.specs.Prelude.{◌≡◌, ℕ, None, Ok, option_map, true, false};
+    ghost use Rattle.rohc_frame.specs.Reading.{header_of};
+    ghost use Rattle.rohc_forms.specs.Packets.{IsOther};
+    ghost use Rattle.rohc_context.specs.declared.settings.Settings.{Settings as Set};
+    ghost use Rattle.rohc_context.specs.declared.state.State.TheVariants.{Full as Level};
+    ghost use Rattle.rohc_context.specs.Window.{outcomes};
+    ghost use Rattle.rohc_context.specs.Record.{reference_of, state_of};
+    ghost use Rattle.rohc_context.specs.Response.{response_of, delivered};
+    ghost use Rattle.rohc_context.specs.Tries.{Acceptance, full_tries};
+    ghost use Rattle.rohc_context.specs.Update.{said_under, Judges, updated};
+
+    /// Takes a UO-0 that fits by the first try, and says so; else nothing changes.
+    fn take_uo0<'a>(&mut self, forward: &Forward<'a>, reply: &mut Reply<'a>) -> bool
+        ensures taken { result ≡ true → (a : Acceptance)
+            × ((s : Set) (passed : ℕ) → Judges self.old.fixed (full_tries s passed (reference_of self.old.reference) (option_map reference_of self.old.previous))
+            (said_under (header_of forward.now) (reference_of self.old.reference)) (Ok a))
+            × (response_of reply.new ≡ delivered a.header.octets a.content.payload None)
+            × (state_of (Level self.new) ≡ updated self.old.fixed (reference_of self.old.reference) (outcomes self.old.windows.0) a) }
+        ensures stays { result ≡ false → self.new ≡ self.old }
+    {
+        let kept = &self.reference;
+        let Some(packet) = read_uo0(forward, kept.moving.rnd, kept.carries_sum) else {
+            return false;
+        };
+        if packet.payload.len() > LONGEST_PAYLOAD {
+            return false;
+        }
+        let moving = meant(kept, &packet);
+        // The header is written where the answer wants it.
+        reply.packet = Some(Delivered {
+            head: ArrayVec::new(),
+            payload: packet.payload,
+        });
+        reply.feedback = None;
+        reply.outcome = Outcome::Delivered;
+        let Some(Delivered { head, .. }) = &mut reply.packet else {
+            return false;
+        };
+        put_header(head, &self.fixed, &moving, packet.payload.len() as u16);
+        if check3_after(head.as_slice(), kept.saved.0) != packet.check {
+            return false;
+        }
+        self.previous = Some(self.reference);
+        self.reference.moving.sn = moving.sn;
+        self.reference.moving.ts = moving.ts;
+        self.reference.moving.id = moving.id;
+        self.reference.moving.udp_sum = moving.udp_sum;
+        self.windows.0 = self.windows.0.and(false);
+        true
+    }
+}
+
+impl Context {
+    ghost use Rattle.std.specs.Prelude.{◌≡◌, Some, true, false};
+    ghost use Rattle.rohc_frame.specs.Reading.{header_of};
+    ghost use Rattle.rohc_context.specs.Settings.{AreGood};
+    ghost use Rattle.rohc_context.specs.Record.{record_of};
+    ghost use Rattle.rohc_context.specs.Response.{response_of};
+    ghost use Rattle.rohc_context.specs.Step.{LoneStep};
+
+    /// Takes a UO-0 that fits by the first try, for a record that counts and is in Full Context, and says so; else
+    /// nothing changes.
+    #[tactic(auto, unfolding(crate::specs::Step::LoneStep, crate::specs::Record::record_of))]
+    pub(crate) fn take_uo0<'a>(
+        &mut self,
+        settings: &Settings,
+        moment: u64,
+        forward: &Forward<'a>,
+        reply: &mut Reply<'a>,
+    ) -> bool
+        ensures taken { result ≡ true → LoneStep (Some (record_of self.old)) settings.now moment (header_of forward.now) (response_of reply.new) (Some (record_of self.new)) }
+        ensures stays { result ≡ false → self.new ≡ self.old }
+    {
+        if forward.kind != HeadKind::Other || !self.counts(settings, moment) {
+            return false;
+        }
+        let State::Full(context) = &mut self.state else {
+            return false;
+        };
+        if !context.take_uo0(forward, reply) {
+            return false;
+        }
+        self.accepted = moment;
+        true
+    }
+}
