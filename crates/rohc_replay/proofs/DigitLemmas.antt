@@ -1,13 +1,14 @@
 -- Octets as lower case pairs of digits, written and read back.
-use Rattle.std.proofs.Common.{◌≡◌, ℕ, zero, suc, ◌+◌, ◌*◌, ◌/◌, ◌%◌, ◌<◌, ◌≤◌, Bool, true, ◌&&◌, ◌==◌, List, [], ◌∷◌, ◌++◌, length, take, drop, get_or, slice_index, slice_set, append_assoc, sym, ◌∙◌, ap, refl, arith, inl, inr}
-use Rattle.std.specs.Prelude.{All, nat_lt}
-use Rattle.std.proofs.lemmas.Bool.{agree_below_at, and_parts, eqb-true, cases_lt, ltb-true, lt-ltb}
-use Rattle.std.proofs.lemmas.Bool.Decides.{nat_tests}
-use Rattle.std.proofs.lemmas.List.{take_more_set}
-use Rattle.hex.specs.Hex.{encode_with, encode_lower, lower_digits}
-use Rattle.hex.proofs.HexLemmas.{length-encode_with}
-use Rattle.hex.proofs.Pairs.{drop-pair}
-use Rattle.rohc_replay.specs.Digits.{lower_value}
+use Rattle.std.proofs.Common.{◌≡◌, ℕ, zero, suc, ◌+◌, ◌*◌, ◌/◌, ◌%◌, ◌<◌, ◌≤◌, Bool, true, false, not, ◌&&◌, ◌||◌, ◌==◌, List, [], ◌∷◌, ◌++◌, length, slice_index, unwrap_or, Result, Ok, Err, sym, ◌∙◌, ap, refl, arith, inl, inr}
+use Rattle.std.specs.Prelude.{All, nat_lt, IsOk, MatchResult}
+use Rattle.std.specs.Char.{is_ascii_uppercase}
+use Rattle.std.specs.List.{list_any, AllPass}
+use Rattle.std.proofs.lemmas.Bool.{agree_below_at, and_parts, eqb-true, cases_lt, ltb-true}
+use Rattle.std.proofs.lemmas.List.Elements.{All-head, All-tail}
+use Rattle.hex.specs.Hex.{IsBytes, encode_with, encode_lower, lower_digits, hex_digit_value, is_hex_digit, decode_of, decode_sized}
+use Rattle.hex.specs.declared.error.FromHexError.{FromHexError}
+use Rattle.hex.proofs.HexLemmas.{decode_of-ok, decode_of-same, decode_of-encode_lower, decode_sized-twice, decode_sized-encode_lower, length-encode_with, IsOk-written}
+use Rattle.rohc_frame.specs.Laws.{IsOctet}
 
 -- the digits of two texts, one behind the other
 pub encode-append : (xs ys : List ℕ) → encode_lower (xs ++ ys) ≡ encode_lower xs ++ encode_lower ys
@@ -15,90 +16,112 @@ unfolding encode_with
 encode-append [] ys = refl
 encode-append (x ∷ xs) ys = rw (encode-append xs ys) refl
 
--- ---- digits and their values
+-- octets are bytes
+pub octets_are_bytes : (xs : List ℕ) → All IsOctet xs → IsBytes xs
+octets_are_bytes [] all i = omega arith
+octets_are_bytes (x ∷ xs) all zero = All-head IsOctet x xs all
+octets_are_bytes (x ∷ xs) all (suc i) = octets_are_bytes xs (All-tail IsOctet x xs all) i
 
-abbrev digit_reads : ℕ → Bool
-digit_reads v = lower_value (slice_index lower_digits v) == v
+-- ---- lower case digits
 
-abbrev value_spells : ℕ → Bool
-value_spells c = slice_index lower_digits (lower_value c) == c
+-- none of the digits that are written is of upper case
+digit_is_lower : (v : ℕ) → v < 16 → is_ascii_uppercase (slice_index lower_digits v) ≡ false
+digit_is_lower v small =
+    let agrees = agree_below_at (λ n. is_ascii_uppercase (slice_index lower_digits n)) (λ n. false) 16 v refl small in
+    agrees
 
-abbrev is_digit : ℕ → Bool
-is_digit c = nat_lt (lower_value c) 16
+pub written_is_lower : (xs : List ℕ) → IsBytes xs → list_any is_ascii_uppercase (encode_lower xs) ≡ false
+unfolding encode_with
+written_is_lower [] bytes = refl
+written_is_lower (x ∷ xs) bytes =
+    let small : x < 256 = bytes 0 in
+    let high = digit_is_lower (x / 16) (omega arith) in
+    let low = digit_is_lower (x % 16) (omega arith) in
+    rw (high, low) (written_is_lower xs (λ i. bytes (suc i)))
 
--- each of the sixteen digits has its place as its value
-pub value_of_digit : (v : ℕ) → v < 16 → lower_value (slice_index lower_digits v) ≡ v
-value_of_digit v small = eqb-true (lower_value (slice_index lower_digits v)) v (agree_below_at digit_reads (λ n. true) 16 v refl small)
+abbrev value : ℕ → ℕ
+value c = unwrap_or (hex_digit_value c) 16
+
+abbrev is_lower_digit : ℕ → Bool
+is_lower_digit c = is_hex_digit c && not (is_ascii_uppercase c)
+
+abbrev is_spelled : ℕ → Bool
+is_spelled c = (slice_index lower_digits (value c) == c) && nat_lt (value c) 16
 
 -- behind `f` there is no digit
-past_digits : (c : ℕ) → 103 ≤ c → lower_value c < 16 → ⊥
-past_digits c above small = grind arith
+past_digits : (c : ℕ) → 103 ≤ c → is_hex_digit c ≡ true → ⊥
+past_digits c above digit = grind arith
 
--- an octet with a value below 16 is the digit of that value
-pub digit_of_value : (c : ℕ) → lower_value c < 16 → c ≡ slice_index lower_digits (lower_value c)
-digit_of_value c small =
-    let digit : is_digit c ≡ true = grind (arith, nat_tests) in
+-- a digit that isn't of upper case is what its value is written as
+lower_digit : (c : ℕ) → is_hex_digit c ≡ true → is_ascii_uppercase c ≡ false → (v : ℕ) × (v < 16) × (slice_index lower_digits v ≡ c)
+lower_digit c digit lower =
     elim (cases_lt c 103) [
       | inl below ↦
-          let agrees = agree_below_at (λ n. is_digit n && value_spells n) is_digit 103 c refl below in
-          sym (eqb-true (slice_index lower_digits (lower_value c)) c (and_parts (is_digit c) (value_spells c) (agrees ∙ digit)).1)
-      | inr above ↦ absurd (past_digits c above small)
+          let good : is_lower_digit c ≡ true = rw (digit, lower) refl in
+          let agrees = agree_below_at (λ n. is_lower_digit n && is_spelled n) is_lower_digit 103 c refl below in
+          let spelled = and_parts (slice_index lower_digits (value c) == c) (nat_lt (value c) 16) (and_parts (is_lower_digit c) (is_spelled c) (agrees ∙ good)).1 in
+          (value c, ltb-true (value c) 16 spelled.1, eqb-true (slice_index lower_digits (value c)) c spelled.0)
+      | inr above ↦ absurd (past_digits c above digit)
     ]
 
--- the octet of two digits
-pub octet_of : (high low : ℕ) → high < 16 → low < 16 → (high * 16 % 256 + low) % 256 ≡ high * 16 + low
-octet_of high low h l = omega arith
+either_false : (a b : Bool) → (a || b) ≡ false → (a ≡ false) × (b ≡ false)
+either_false false b e = (refl, e)
+either_false true b e = cc e
 
--- one octet more is read
-pub decode_step : (text octets : List ℕ) (i high low : ℕ) → i < length octets → length text ≡ 2 * length octets
-    → high ≡ lower_value (get_or text (2 * i) 0) → low ≡ lower_value (get_or text (2 * i + 1) 0) → high < 16 → low < 16
-    → encode_lower (take i octets) ++ drop (2 * i) text ≡ text
-    → encode_lower (take (i + 1) (slice_set octets i ((high * 16 % 256 + low) % 256))) ++ drop (2 * (i + 1)) text ≡ text
+-- an even number of lower case digits is the text of some octets
+octets_of : (text : List ℕ) → length text % 2 ≡ 0 → AllPass is_hex_digit text → list_any is_ascii_uppercase text ≡ false → (xs : List ℕ) × (text ≡ encode_lower xs) × IsBytes xs
 unfolding encode_with
-decode_step text octets i high low within size eh el sh sl inv =
-    let b : ℕ = (high * 16 % 256 + low) % 256 in
-    let octet = octet_of high low sh sl in
-    let first : b / 16 ≡ high = omega (arith, octet) in
-    let second : b % 16 ≡ low = omega (arith, octet) in
-    let h = digit_of_value (get_or text (2 * i) 0) (rw eh at sh) in
-    let l = digit_of_value (get_or text (2 * i + 1) 0) (rw el at sl) in
-    let pair : encode_lower (b ∷ []) ≡ get_or text (2 * i) 0 ∷ get_or text (2 * i + 1) 0 ∷ [] = rw (first, second, eh, el, ← h, ← l) refl in
-    let cut = drop-pair text i (omega arith) in
-    rw (take_more_set octets i b within, encode-append (take i octets) (b ∷ []), pair, append_assoc) (rw cut at inv)
-
--- both digits were good, and all before them
-pub good_parts : (a : Bool) (m n : ℕ) → (a && nat_lt m 16) && nat_lt n 16 ≡ true → (a ≡ true) × (m < 16) × (n < 16)
-good_parts a m n good =
-    let outer = and_parts (a && nat_lt m 16) (nat_lt n 16) good in
-    let inner = and_parts a (nat_lt m 16) outer.0 in
-    (inner.0, ltb-true m 16 inner.1, ltb-true n 16 outer.1)
-
-pub good_from : (a : Bool) (m n : ℕ) → a ≡ true → m < 16 → n < 16 → (a && nat_lt m 16) && nat_lt n 16 ≡ true
-good_from a m n good high low = rw (good, lt-ltb m 16 high, lt-ltb n 16 low) refl
-
--- the pair of digits of one octet
-pub pair_at : (octets : List ℕ) (i : ℕ) → i < length octets
-    → (get_or (encode_lower octets) (2 * i) 0 ≡ slice_index lower_digits (get_or octets i 0 / 16))
-    × (get_or (encode_lower octets) (2 * i + 1) 0 ≡ slice_index lower_digits (get_or octets i 0 % 16))
-unfolding encode_with
-pair_at [] i within = absurd (omega (arith, within))
-pair_at (b ∷ rest) zero within = (refl, refl)
-pair_at (b ∷ rest) (suc i) within =
-    let even : 2 * suc i ≡ suc (suc (2 * i)) = omega arith in
-    let odd : 2 * suc i + 1 ≡ suc (suc (2 * i + 1)) = omega arith in
-    let ih = pair_at rest i (omega (arith, within)) in
-    (rw even ih.0, rw odd ih.1)
-
--- digits that octets were written in are read
-pub reads_at : (text other : List ℕ) (i : ℕ) → All (λ octet. octet < 256) other → text ≡ encode_lower other → 2 * i + 1 < length text
-    → (lower_value (get_or text (2 * i) 0) < 16) × (lower_value (get_or text (2 * i + 1) 0) < 16)
-reads_at text other i small e within =
-    let size = length-encode_with lower_digits other in
-    let inside : i < length other = omega (arith, size, ap length e, within) in
-    let octet : get_or other i 0 < 256 = small i 0 inside in
-    let pair = pair_at other i inside in
-    let high = value_of_digit (get_or other i 0 / 16) (omega (arith, octet)) in
-    let low = value_of_digit (get_or other i 0 % 16) (omega arith) in (
-      rw (e, pair.0, high) (omega (arith, octet)),
-      rw (e, pair.1, low) (omega arith),
+octets_of [] even digits lower = ([], refl, λ i. omega arith)
+octets_of (a ∷ []) even digits lower = absurd (omega (arith, even))
+octets_of (a ∷ b ∷ rest) even digits lower =
+    let P = λ (c : ℕ). is_hex_digit c ≡ true in
+    let tail = All-tail P a (b ∷ rest) digits in
+    let first = either_false (is_ascii_uppercase a) _ lower in
+    let second = either_false (is_ascii_uppercase b) _ first.1 in
+    let high = lower_digit a (All-head P a (b ∷ rest) digits) first.0 in
+    let low = lower_digit b (All-head P b rest tail) second.0 in
+    let later = octets_of rest (omega (arith, even)) (All-tail P b rest tail) second.1 in
+    let x : ℕ = high.0 * 16 + low.0 in
+    let upper : x / 16 ≡ high.0 = omega (arith, high.1, low.1) in
+    let under : x % 16 ≡ low.0 = omega (arith, high.1, low.1) in (
+      x ∷ later.0,
+      rw (upper, under, high.2, low.2) (ap (λ (t : List ℕ). a ∷ b ∷ t) later.1),
+      bytes_cons x later.0 (omega (arith, high.1, low.1)) later.2,
     )
+  where
+    bytes_cons : (b : ℕ) (rest : List ℕ) → b < 256 → IsBytes rest → IsBytes (b ∷ rest)
+    bytes_cons b rest h hs zero = h
+    bytes_cons b rest h hs (suc i) = hs i
+
+-- a text without an upper case letter that is read as these octets is what they are written as
+pub read_is_written : (text octets : List ℕ) → decode_of text ≡ Ok octets → list_any is_ascii_uppercase text ≡ false → text ≡ encode_lower octets
+read_is_written text octets read lower =
+    let good = decode_of-ok text octets read in
+    let xs = octets_of text good.0 good.1 lower in
+    xs.1 ∙ ap encode_lower (decode_of-same text xs.0 octets (ap decode_of xs.1 ∙ decode_of-encode_lower xs.0 xs.2) read)
+
+-- ---- what a slice's decoding answers
+
+abbrev Answers : List ℕ → ℕ → Result Unit FromHexError → List ℕ → Type 0
+Answers text n r out = MatchResult (decode_sized text n) (λ bytes. (r ≡ Ok tt) × (out ≡ bytes)) (λ e. r ≡ Err e)
+
+-- a text that was read without an upper case letter is what the octets are written as
+pub spelled : (text out : List ℕ) (n : ℕ) (r : Result Unit FromHexError) → length text ≡ 2 * n → Answers text n r out → IsOk r → list_any is_ascii_uppercase text ≡ false → text ≡ encode_lower out
+spelled text out n r size answers ok lower = go (decode_sized text n) (decode_sized-twice text n size) answers
+  where
+    go : (d : Result (List ℕ) FromHexError) → d ≡ decode_of text → MatchResult d (λ bytes. (r ≡ Ok tt) × (out ≡ bytes)) (λ e. r ≡ Err e) → text ≡ encode_lower out
+    go (Ok bytes) e h = read_is_written text out (sym e ∙ ap Ok (sym h.1)) lower
+    go (Err fault) e h = let wrong = rw h at ok in cc wrong
+
+-- octets that were written are read
+pub is_read : (text other out : List ℕ) (n : ℕ) (r : Result Unit FromHexError) → length text ≡ 2 * n → Answers text n r out → All IsOctet other → text ≡ encode_lower other → IsOk r
+is_read text other out n r size answers octets same =
+    let bytes = octets_are_bytes other octets in
+    let len = length-encode_with lower_digits other in
+    let whole : length text ≡ length (encode_lower other) = ap length same in
+    let read : decode_sized text n ≡ Ok other = ap (λ (t : List ℕ). decode_sized t n) same ∙ decode_sized-encode_lower other n (omega (arith, len, whole, size)) bytes in
+    (IsOk-written (decode_sized text n) r out answers).1 (rw read refl)
+
+-- and they have no upper case letter
+pub is_lower : (text other : List ℕ) → All IsOctet other → text ≡ encode_lower other → list_any is_ascii_uppercase text ≡ false
+is_lower text other octets same = ap (list_any is_ascii_uppercase) same ∙ written_is_lower other (octets_are_bytes other octets)

@@ -13,7 +13,7 @@ use Rattle.rohc_replay.proofs.SplitLemmas.{lines_of-front}
 
 -- a read fails where a replay stands
 pub fails_reading : (first : Concentrator) (held a b : Option (List ℕ)) (seen kept : List ℕ) (long : Bool) (now : Concentrator) (holding : Option (List ℕ)) (counts : Counts) →
-    Consumes a b seen → Stands (change first held now holding) seen kept long counts → ReadFails (change first held now holding) a b counts.taken
+    Consumes a b seen → Stands (change first held now holding) seen kept long counts → ReadFails (change first held now holding) a b counts.answers.taken
 fails_reading first held a b seen kept long now holding counts consumed s = record {
   seen = seen;
   consumed = consumed;
@@ -30,7 +30,7 @@ fails_reading first held a b seen kept long now holding counts consumed s = reco
 -- a write fails at a line that ended
 pub fails_writing : (first : Concentrator) (held a b : Option (List ℕ)) (seen : List ℕ) (now : Concentrator) (holding : Option (List ℕ)) (counts : Counts) →
     Consumes a b seen → StopsWithin (change first held now holding) seen counts →
-    IfSome a (λ text. WriteFails (change first held now holding) text counts.taken ⊎ FlushFails (change first held now holding) text counts.taken)
+    IfSome a (λ text. WriteFails (change first held now holding) text counts.answers.taken ⊎ FlushFails (change first held now holding) text counts.answers.taken)
 fails_writing first held None b seen now holding counts consumed stops = tt
 fails_writing first held (Some text) None seen now holding counts consumed stops = absurd consumed
 fails_writing first held (Some text) (Some left) seen now holding counts consumed stops = inl (record {
@@ -42,16 +42,16 @@ fails_writing first held (Some text) (Some left) seen now holding counts consume
 
 -- a write fails at the last line
 pub fails_at_end : (first : Concentrator) (held a b : Option (List ℕ)) (seen : List ℕ) (now : Concentrator) (holding : Option (List ℕ)) (counts : Counts) →
-    Consumes a b seen → IsAtEnd b → Stops (change first held now holding) (lines_of seen) counts.taken →
-    IfSome a (λ text. WriteFails (change first held now holding) text counts.taken ⊎ FlushFails (change first held now holding) text counts.taken)
+    Consumes a b seen → IsAtEnd b → Stops (change first held now holding) (lines_of seen) counts.answers.taken →
+    IfSome a (λ text. WriteFails (change first held now holding) text counts.answers.taken ⊎ FlushFails (change first held now holding) text counts.answers.taken)
 fails_at_end first held a b seen now holding counts consumed end stops =
-    Consumes-whole a b seen (λ text. WriteFails (change first held now holding) text counts.taken ⊎ FlushFails (change first held now holding) text counts.taken) consumed end
+    Consumes-whole a b seen (λ text. WriteFails (change first held now holding) text counts.answers.taken ⊎ FlushFails (change first held now holding) text counts.answers.taken) consumed end
     (inl (record { texts = lines_of seen; others = []; first_lines = sym (append-nil (lines_of seen)); stops = stops }))
 
 -- the flush fails
 pub fails_flushing : (first : Concentrator) (held a b : Option (List ℕ)) (seen : List ℕ) (now : Concentrator) (holding flushed : Option (List ℕ)) (counts : Counts) →
     Consumes a b seen → IsAtEnd b → Ends (change first held now holding) seen counts → Keeps holding flushed →
-    IfSome a (λ text. WriteFails (change first held now flushed) text counts.taken ⊎ FlushFails (change first held now flushed) text counts.taken)
+    IfSome a (λ text. WriteFails (change first held now flushed) text counts.answers.taken ⊎ FlushFails (change first held now flushed) text counts.answers.taken)
 fails_flushing first held a b seen now holding flushed counts consumed end e kept =
-    Consumes-whole a b seen (λ text. WriteFails (change first held now flushed) text counts.taken ⊎ FlushFails (change first held now flushed) text counts.taken) consumed end
+    Consumes-whole a b seen (λ text. WriteFails (change first held now flushed) text counts.answers.taken ⊎ FlushFails (change first held now flushed) text counts.answers.taken) consumed end
     (inr (record { lines = e.lines; script = e.are_lines; answers = e.answers; run = e.run; taken = (Appends-kept held holding flushed (flat_map text_of e.answers) e.taken.0 kept, e.taken.1) }))

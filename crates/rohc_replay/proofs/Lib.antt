@@ -26,3 +26,4 @@ pub mod RunLemmas
 pub mod SameLemmas
 pub mod SentLemmas
 pub mod FrontLemmas
+pub mod SearchLemmas

@@ -1,27 +1,22 @@
 -- A text is one script: no line is two things, and no event has the spelling of another.
-use Rattle.std.proofs.Common.{◌≡◌, ℕ, zero, suc, ◌*◌, ◌<◌, List, [], ◌∷◌, ◌++◌, get_or, length, All, arith, refl, sym, ◌∙◌, ap}
+use Rattle.std.proofs.Common.{◌≡◌, ℕ, ◌*◌, List, [], ◌∷◌, ◌++◌, get_or, length, All, arith, refl, sym, ◌∙◌, ap}
 use Rattle.std.specs.Fmt.{decimal}
-use Rattle.std.proofs.lemmas.List.Elements.{All-head, All-tail}
-use Rattle.hex.specs.Hex.{IsBytes, decode_of}
+use Rattle.hex.specs.Hex.{decode_of}
 use Rattle.hex.proofs.HexLemmas.{decode_of-encode_lower, length-encode_with}
+use Rattle.rohc_frame.specs.Laws.{IsOctet}
 use Rattle.rohc_replay.specs.Laws.{HasOneScript}
 use Rattle.rohc_concentrator.specs.Events.{Event, Arrive, Reset}
 use Rattle.rohc_replay.specs.Script.{IsEvent, Line, Good, Bad, Long, IsLine, AreLines, lines_of, hex_text, spelling}
+use Rattle.rohc_replay.proofs.DigitLemmas.{octets_are_bytes}
 use Rattle.rohc_replay.proofs.NumeralLemmas.{number_unique}
 use Rattle.rohc_replay.proofs.SpellingLemmas.{behind_arrive, number_alone}
 
--- octets as the hex crate counts them
-all_bytes : (xs : List ℕ) → All (λ octet. octet < 256) xs → IsBytes xs
-all_bytes [] all i = omega arith
-all_bytes (x ∷ xs) all zero = All-head (λ (octet : ℕ). octet < 256) x xs all
-all_bytes (x ∷ xs) all (suc i) = all_bytes xs (All-tail (λ (octet : ℕ). octet < 256) x xs all) i
-
 -- octets have one spelling each
-hex_one : (xs ys : List ℕ) → All (λ octet. octet < 256) xs → All (λ octet. octet < 256) ys → hex_text xs ≡ hex_text ys → xs ≡ ys
+hex_one : (xs ys : List ℕ) → All IsOctet xs → All IsOctet ys → hex_text xs ≡ hex_text ys → xs ≡ ys
 hex_one [] [] p q e = refl
 hex_one [] (y ∷ ys) p q e = absurd (let n : 1 ≡ 2 * length (y ∷ ys) = ap length e ∙ length-encode_with _ (y ∷ ys) in omega (arith, n))
 hex_one (x ∷ xs) [] p q e = absurd (let n : 1 ≡ 2 * length (x ∷ xs) = ap length (sym e) ∙ length-encode_with _ (x ∷ xs) in omega (arith, n))
-hex_one (x ∷ xs) (y ∷ ys) p q e = let same = sym (decode_of-encode_lower (x ∷ xs) (all_bytes (x ∷ xs) p)) ∙ ap decode_of e ∙ decode_of-encode_lower (y ∷ ys) (all_bytes (y ∷ ys) q) in cc
+hex_one (x ∷ xs) (y ∷ ys) p q e = let same = sym (decode_of-encode_lower (x ∷ xs) (octets_are_bytes (x ∷ xs) p)) ∙ ap decode_of e ∙ decode_of-encode_lower (y ∷ ys) (octets_are_bytes (y ∷ ys) q) in cc
 
 -- an event has one spelling
 spelling_one : (e f : Event) → IsEvent e → IsEvent f → spelling e ≡ spelling f → e ≡ f

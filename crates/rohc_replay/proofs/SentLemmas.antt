@@ -1,5 +1,5 @@
 -- What is delivered was sent, in lines.
-use Rattle.std.proofs.Common.{◌≡◌, Option, Some, ap, subst, ◌∙◌}
+use Rattle.std.proofs.Common.{Some, ap, subst, ◌∙◌}
 use Rattle.std.specs.Prelude.{List}
 use Rattle.std.specs.List.{flat_map}
 use Rattle.rohc_context.specs.Response.{Response}

@@ -3,6 +3,7 @@ use Rattle.std.proofs.Common.{◌≡◌, ◌≢◌, ℕ, ◌<◌, ◌^◌, List,
 use Rattle.std.specs.Prelude.{codes, All, IfNone}
 use Rattle.std.specs.Option.{SomeIff}
 use Rattle.std.proofs.lemmas.List.Elements.{All-take, All-from_get_or}
+use Rattle.rohc_frame.specs.Laws.{IsOctet}
 use Rattle.rohc_replay.proofs.NumeralLemmas.{number_unique}
 use Rattle.std.specs.Fmt.{decimal}
 use Rattle.rohc_replay.specs.Numeral.{IsNumberAt}
@@ -42,6 +43,6 @@ no_link text number rest None great h = λ link small same.
 no_link text number rest (Some n) fits h = tt
 
 -- the items of a slice of octets are octets
-pub octets_small : (octets : List ℕ) (size : ℕ) → ((i : ℕ) → get_or octets i 0 < 256) → All (λ octet. octet < 256) (take size octets)
+pub octets_small : (octets : List ℕ) (size : ℕ) → ((i : ℕ) → get_or octets i 0 < 256) → All IsOctet (take size octets)
 octets_small octets size small =
-    All-take (λ (octet : ℕ). octet < 256) size octets (All-from_get_or (λ (octet : ℕ). octet < 256) octets 0 (λ i within. small i))
+    All-take IsOctet size octets (All-from_get_or IsOctet octets 0 (λ i within. small i))

@@ -1,5 +1,5 @@
 -- Lemmas on where a replay stands.
-use Rattle.std.proofs.Common.{◌≡◌, ℕ, ◌+◌, ◌<◌, ◌≤◌, List, [], ◌∷◌, ◌++◌, length, length-append, Bool, true, false, cond, not, slice_range, get_or, drop, ◌⊎◌, inl, inr, Option, Result, Ok, Err, IfOk, IfErr, IfSome, count_by, append_assoc, append-nil, arith, refl, sym, ◌∙◌, ap, subst}
+use Rattle.std.proofs.Common.{◌≡◌, ℕ, ◌+◌, ◌-◌, ◌<◌, ◌≤◌, List, [], ◌∷◌, ◌++◌, length, length-append, Bool, true, false, cond, not, slice_range, get_or, drop, ◌⊎◌, inl, inr, Option, Result, Ok, Err, IfOk, IfErr, IfSome, count_by, append_assoc, append-nil, arith, refl, sym, ◌∙◌, ap, subst}
 use Rattle.std.specs.List.{flat_map}
 use Rattle.std.specs.Io.KnownBytes.{Keeps, Consumes, IsAtEnd}
 use Rattle.std.proofs.KnownBytes.{Appends-nil, Appends-trans, Appends-kept, Consumes-trans, Consumes-whole}
@@ -91,7 +91,7 @@ IsLine-kept true kept rest line is_kept short is_long = rw (is_long refl) is_kep
 pub Stands-newline : (first : Concentrator) (held : Option (List ℕ)) (seen kept : List ℕ) (long : Bool) (now : Concentrator) (holding : Option (List ℕ)) (counts : Counts)
     (line : Line) (more : List (List ℕ)) (new : Concentrator) (after : Option (List ℕ)) (counts_after : Counts) →
     Stands (change first held now holding) seen kept long counts → (long ≡ false → IsLine kept line) → (long ≡ true → line ≡ Long) →
-    RunsLine now line more new → counts_after.tally ≡ with_line counts.tally line → TakesAll holding after counts.taken counts_after.taken (text_of more) →
+    RunsLine now line more new → counts_after.tally ≡ with_line counts.tally line → TakesAll holding after counts.answers.taken counts_after.answers.taken (text_of more) →
     Stands (change first held new after) (seen ++ 10 ∷ []) [] false counts_after
 Stands-newline first held seen kept long now holding counts line more new after counts_after s short is_long turns tally taken = record {
   finished = s.finished ++ s.rest ∷ [];
@@ -102,7 +102,7 @@ Stands-newline first held seen kept long now holding counts line more new after 
   are_lines = AreLines-push s.finished s.lines s.rest line s.are_lines (IsLine-kept long kept s.rest line s.is_kept short is_long);
   answers = s.answers ++ more ∷ [];
   run = Runs-push first now new s.lines s.answers line more s.run turns;
-  taken = subst (TakesAll held after 0 counts_after.taken) (sym (texts-push s.answers more)) (TakesAll-more held holding after 0 counts.taken counts_after.taken (flat_map text_of s.answers) (text_of more) s.taken taken);
+  taken = subst (TakesAll held after 0 counts_after.answers.taken) (sym (texts-push s.answers more)) (TakesAll-more held holding after 0 counts.answers.taken counts_after.answers.taken (flat_map text_of s.answers) (text_of more) s.taken taken);
   tally = IsTally-push s.lines line counts.tally counts_after.tally s.tally tally;
 }
 
@@ -119,7 +119,7 @@ last_line-some (x ∷ xs) h = refl
 pub Ends-line : (first : Concentrator) (held : Option (List ℕ)) (seen kept : List ℕ) (long : Bool) (now : Concentrator) (holding : Option (List ℕ)) (counts : Counts)
     (line : Line) (more : List (List ℕ)) (new : Concentrator) (after : Option (List ℕ)) (counts_after : Counts) →
     Stands (change first held now holding) seen kept long counts → (long ≡ false → IsLine kept line) → (long ≡ true → line ≡ Long) → (long ≡ false → 0 < length kept) →
-    RunsLine now line more new → counts_after.tally ≡ with_line counts.tally line → TakesAll holding after counts.taken counts_after.taken (text_of more) →
+    RunsLine now line more new → counts_after.tally ≡ with_line counts.tally line → TakesAll holding after counts.answers.taken counts_after.answers.taken (text_of more) →
     Ends (change first held new after) seen counts_after
 Ends-line first held seen kept long now holding counts line more new after counts_after s short is_long some turns tally taken = record {
   lines = s.lines ++ line ∷ [];
@@ -127,7 +127,7 @@ Ends-line first held seen kept long now holding counts line more new after count
       (AreLines-push s.finished s.lines s.rest line s.are_lines (IsLine-kept long kept s.rest line s.is_kept short is_long));
   answers = s.answers ++ more ∷ [];
   run = Runs-push first now new s.lines s.answers line more s.run turns;
-  taken = subst (TakesAll held after 0 counts_after.taken) (sym (texts-push s.answers more)) (TakesAll-more held holding after 0 counts.taken counts_after.taken (flat_map text_of s.answers) (text_of more) s.taken taken);
+  taken = subst (TakesAll held after 0 counts_after.answers.taken) (sym (texts-push s.answers more)) (TakesAll-more held holding after 0 counts.answers.taken counts_after.answers.taken (flat_map text_of s.answers) (text_of more) s.taken taken);
   tally = IsTally-push s.lines line counts.tally counts_after.tally s.tally tally;
 }
 
@@ -144,7 +144,7 @@ Ends-empty first held seen now holding counts s = record {
 }
 
 -- before anything is read
-pub Stands-first : (first : Concentrator) (held : Option (List ℕ)) (counts : Counts) → counts.taken ≡ 0 → counts.tally ≡ record { events = 0; bad = 0 } → Stands (change first held first held) [] [] false counts
+pub Stands-first : (first : Concentrator) (held : Option (List ℕ)) (counts : Counts) → counts.answers.taken ≡ 0 → counts.tally ≡ record { events = 0; bad = 0 } → Stands (change first held first held) [] [] false counts
 Stands-first first held counts none nothing = record {
   finished = [];
   rest = [];
@@ -213,33 +213,35 @@ Stands-behind first held seen octets searched stop now holding counts later with
     subst (λ t. Stands (change first held now holding) t (slice_range octets (stop + 1) (stop + 1)) false counts) all
     (subst (λ k. Stands (change first held now holding) ((seen ++ slice_range octets searched stop) ++ 10 ∷ []) k false counts) (sym (range-none octets (stop + 1))) s)
 
--- At the end of a piece a kept line is judged: it is long where it was, or where it is over the greatest length. Nothing need be
--- kept of a long line.
+-- A line is long where it was, or where more than the greatest length of it came. Nothing is kept of it.
+kept_over : (long : Bool) (kept rest : List ℕ) → (long ≡ true) ⊎ (longest_line < length kept) → IsKept long kept rest → longest_line < length rest
+kept_over false kept rest (inl was) k = cc was
+kept_over false kept rest (inr over) k = subst (λ t. longest_line < length t) k over
+kept_over true kept rest how k = k
 
-kept_judged : (long judged : Bool) (kept any rest : List ℕ) → ((judged ≡ true) × (longest_line < length kept)) ⊎ (judged ≡ long) → judged ≡ true → IsKept long kept rest → longest_line < length rest
-kept_judged false judged kept any rest (inl over) is_long k = subst (λ t. longest_line < length t) k over.1
-kept_judged false judged kept any rest (inr same) is_long k = absurd (let never : true ≡ false = sym is_long ∙ same in cc)
-kept_judged true judged kept any rest how is_long k = k
-
-pub Stands-long : (first : Concentrator) (held : Option (List ℕ)) (seen kept any : List ℕ) (long judged : Bool) (now : Concentrator) (holding : Option (List ℕ)) (counts : Counts) →
-    ((judged ≡ true) × (longest_line < length kept)) ⊎ (judged ≡ long) → judged ≡ true → Stands (change first held now holding) seen kept long counts → Stands (change first held now holding) seen any judged counts
-Stands-long first held seen kept any long judged now holding counts how is_long s = rw is_long (record {
+pub Stands-long : (first : Concentrator) (held : Option (List ℕ)) (seen kept any : List ℕ) (long : Bool) (now : Concentrator) (holding : Option (List ℕ)) (counts : Counts) →
+    (long ≡ true) ⊎ (longest_line < length kept) → Stands (change first held now holding) seen kept long counts → Stands (change first held now holding) seen any true counts
+Stands-long first held seen kept any long now holding counts how s = record {
   finished = s.finished;
   rest = s.rest;
   splits = s.splits;
-  is_kept = kept_judged long judged kept any s.rest how is_long s.is_kept;
+  is_kept = kept_over long kept s.rest how s.is_kept;
   lines = s.lines;
   are_lines = s.are_lines;
   answers = s.answers;
   run = s.run;
   taken = s.taken;
   tally = s.tally;
-})
+}
 
-pub Stands-short : (first : Concentrator) (held : Option (List ℕ)) (seen kept : List ℕ) (long judged : Bool) (now : Concentrator) (holding : Option (List ℕ)) (counts : Counts) →
-    ((judged ≡ true) × (longest_line < length kept)) ⊎ (judged ≡ long) → judged ≡ false → Stands (change first held now holding) seen kept long counts → Stands (change first held now holding) seen kept judged counts
-Stands-short first held seen kept long judged now holding counts (inl over) not_long s = absurd (let is_long : true ≡ false = sym over.0 ∙ not_long in cc)
-Stands-short first held seen kept long judged now holding counts (inr same) not_long s = subst (λ l. Stands (change first held now holding) seen kept l counts) (sym same) s
+-- and where it is neither, its octets are kept
+pub Stands-short : (first : Concentrator) (held : Option (List ℕ)) (seen octets : List ℕ) (start : ℕ) (long : Bool) (now : Concentrator) (holding : Option (List ℕ)) (counts : Counts) →
+    start ≤ length octets → long ≡ false → Stands (change first held now holding) seen (drop start octets) long counts →
+    Stands (change first held now holding) seen (drop (length octets - (length octets - start)) octets) false counts
+Stands-short first held seen octets start long now holding counts within short s =
+    let back : start ≡ length octets - (length octets - start) = omega arith in
+    subst (λ l. Stands (change first held now holding) seen (drop (length octets - (length octets - start)) octets) l counts) short
+    (subst (λ n. Stands (change first held now holding) seen (drop n octets) long counts) back s)
 
 -- at the end of the octets all of them were seen
 pub Stands-end : (first : Concentrator) (held : Option (List ℕ)) (seen octets : List ℕ) (searched start : ℕ) (long : Bool) (now : Concentrator) (holding : Option (List ℕ)) (counts : Counts) →
@@ -286,7 +288,7 @@ Replays-whole first held a b c seen read now holding flushed counts before last 
 Stops-line : (first : Concentrator) (held : Option (List ℕ)) (seen kept : List ℕ) (long : Bool) (now : Concentrator) (holding : Option (List ℕ)) (counts : Counts)
     (line : Line) (more : List (List ℕ)) (new : Concentrator) (after : Option (List ℕ)) (taken_after : ℕ)
     (s : Stands (change first held now holding) seen kept long counts) → (long ≡ false → IsLine kept line) → (long ≡ true → line ≡ Long) →
-    RunsLine now line more new → TakesPart holding after counts.taken taken_after (text_of more) →
+    RunsLine now line more new → TakesPart holding after counts.answers.taken taken_after (text_of more) →
     Stops (change first held new after) (s.finished ++ s.rest ∷ []) taken_after
 Stops-line first held seen kept long now holding counts line more new after taken_after s short is_long turns part = record {
   earlier = s.lines;
@@ -299,7 +301,7 @@ Stops-line first held seen kept long now holding counts line more new after take
   rest = part.rest;
   parts = part.parts;
   some_left = part.some_left;
-  taken = TakesAll-more held holding after 0 counts.taken taken_after (flat_map text_of s.answers) part.part s.taken part.taken;
+  taken = TakesAll-more held holding after 0 counts.answers.taken taken_after (flat_map text_of s.answers) part.part s.taken part.taken;
 }
 
 pub stop_after_turn : (now new : Concentrator) (holding after : Option (List ℕ)) (counts counts_after : Counts) (kept : List ℕ) (result : Result Unit Stopped) →
@@ -309,7 +311,7 @@ stop_after_turn now new holding after counts counts_after kept (Ok done) t = tt
 stop_after_turn now new holding after counts counts_after kept (Err stopped) t = λ first held seen s. (
   s.finished ++ s.rest ∷ [],
   Splits-newline seen s.finished s.rest s.splits,
-  Stops-line first held seen kept false now holding counts t.line t.answers new after counts_after.taken s (λ _. t.is_line) (λ e. cc) t.turns t.offers,
+  Stops-line first held seen kept false now holding counts t.line t.answers new after counts_after.answers.taken s (λ _. t.is_line) (λ e. cc) t.turns t.offers,
 )
 
 pub stop_after_long : (now : Concentrator) (holding after : Option (List ℕ)) (counts counts_after : Counts) (kept : List ℕ) (result : Result Unit Stopped) →
@@ -319,7 +321,7 @@ stop_after_long now holding after counts counts_after kept (Ok done) t = tt
 stop_after_long now holding after counts counts_after kept (Err stopped) t = λ first held seen s. (
   s.finished ++ s.rest ∷ [],
   Splits-newline seen s.finished s.rest s.splits,
-  Stops-line first held seen kept true now holding counts Long (long_line ∷ []) now after counts_after.taken s (λ e. cc) (λ _. refl) (refl, refl) t.offers,
+  Stops-line first held seen kept true now holding counts Long (long_line ∷ []) now after counts_after.answers.taken s (λ e. cc) (λ _. refl) (refl, refl) t.offers,
 )
 
 -- a rest that isn't empty is the last line of the text
@@ -329,19 +331,19 @@ last_of_lines first held seen kept long now holding counts s some = sym (lines_o
 
 pub last_after_turn : (now new : Concentrator) (holding after : Option (List ℕ)) (counts counts_after : Counts) (kept : List ℕ) (result : Result Unit Stopped) → 0 < length kept →
     TakesTurn (change now holding new after) counts counts_after kept result →
-    IfErr result (λ _. (first : Concentrator) (held : Option (List ℕ)) (seen : List ℕ) → Stands (change first held now holding) seen kept false counts → Stops (change first held new after) (lines_of seen) counts_after.taken)
+    IfErr result (λ _. (first : Concentrator) (held : Option (List ℕ)) (seen : List ℕ) → Stands (change first held now holding) seen kept false counts → Stops (change first held new after) (lines_of seen) counts_after.answers.taken)
 last_after_turn now new holding after counts counts_after kept (Ok done) some t = tt
 last_after_turn now new holding after counts counts_after kept (Err stopped) some t = λ first held seen s.
-    subst (λ ls. Stops (change first held new after) ls counts_after.taken) (last_of_lines first held seen kept false now holding counts s (λ _. some))
-    (Stops-line first held seen kept false now holding counts t.line t.answers new after counts_after.taken s (λ _. t.is_line) (λ e. cc) t.turns t.offers)
+    subst (λ ls. Stops (change first held new after) ls counts_after.answers.taken) (last_of_lines first held seen kept false now holding counts s (λ _. some))
+    (Stops-line first held seen kept false now holding counts t.line t.answers new after counts_after.answers.taken s (λ _. t.is_line) (λ e. cc) t.turns t.offers)
 
 pub last_after_long : (now : Concentrator) (holding after : Option (List ℕ)) (counts counts_after : Counts) (kept : List ℕ) (result : Result Unit Stopped) →
     TakesLongTurn holding after counts counts_after result →
-    IfErr result (λ _. (first : Concentrator) (held : Option (List ℕ)) (seen : List ℕ) → Stands (change first held now holding) seen kept true counts → Stops (change first held now after) (lines_of seen) counts_after.taken)
+    IfErr result (λ _. (first : Concentrator) (held : Option (List ℕ)) (seen : List ℕ) → Stands (change first held now holding) seen kept true counts → Stops (change first held now after) (lines_of seen) counts_after.answers.taken)
 last_after_long now holding after counts counts_after kept (Ok done) t = tt
 last_after_long now holding after counts counts_after kept (Err stopped) t = λ first held seen s.
-    subst (λ ls. Stops (change first held now after) ls counts_after.taken) (last_of_lines first held seen kept true now holding counts s (λ e. cc))
-    (Stops-line first held seen kept true now holding counts Long (long_line ∷ []) now after counts_after.taken s (λ e. cc) (λ _. refl) (refl, refl) t.offers)
+    subst (λ ls. Stops (change first held now after) ls counts_after.answers.taken) (last_of_lines first held seen kept true now holding counts s (λ e. cc))
+    (Stops-line first held seen kept true now holding counts Long (long_line ∷ []) now after counts_after.answers.taken s (λ e. cc) (λ _. refl) (refl, refl) t.offers)
 
 -- what was seen, up to a newline at a place and behind it
 pub seen_parts : (seen octets : List ℕ) (searched stop : ℕ) → searched ≤ stop → stop < length octets → get_or octets stop 0 ≡ 10 →

@@ -1,6 +1,6 @@
 pub mod AnswerLines
-pub mod Digits
 pub mod Isolation
+pub mod LineText
 pub mod Lines
 pub mod Links
 pub mod LinksEntry

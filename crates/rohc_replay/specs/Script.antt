@@ -2,6 +2,7 @@
 use Rattle.std.specs.Prelude.{◌≡◌, ◌≢◌, ℕ, ◌^◌, ◌<◌, ◌≤◌, List, [], ◌∷◌, ◌++◌, length, All, ◌==◌, if◌then◌else◌, codes}
 use Rattle.std.specs.Fmt.{decimal}
 use Rattle.hex.specs.Hex.{encode_lower}
+use Rattle.rohc_frame.specs.Laws.{IsOctet}
 use Rattle.rohc_concentrator.specs.Events.{Event, Arrive, Reset}
 
 -- the greatest packet
@@ -11,7 +12,7 @@ longest_packet = 65535
 -- every number of the event fits its field, and a packet is no longer than the greatest
 abbrev pub IsEvent : Event → Type 0
 IsEvent (Arrive link moment octets) =
-    (link < 2 ^ 16) × (moment < 2 ^ 64) × (length octets ≤ longest_packet) × All (λ octet. octet < 256) octets
+    (link < 2 ^ 16) × (moment < 2 ^ 64) × (length octets ≤ longest_packet) × All IsOctet octets
 IsEvent (Reset link) = link < 2 ^ 16
 
 -- octets as lower case pairs of digits, and none as `-`

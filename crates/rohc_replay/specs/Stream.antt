@@ -24,7 +24,7 @@ pub record Stands (c : Change) (seen kept : List ℕ) (long : Bool) (counts : Co
   pub are_lines : AreLines finished lines
   pub answers : List (List (List ℕ))
   pub run : Runs c.before lines answers c.after
-  pub taken : TakesAll c.held c.holding 0 counts.taken (flat_map text_of answers)
+  pub taken : TakesAll c.held c.holding 0 counts.answers.taken (flat_map text_of answers)
   pub tally : IsTally lines counts.tally
 
 -- and where it has seen the whole text, all its lines were run and answered
@@ -33,12 +33,12 @@ pub record Ends (c : Change) (seen : List ℕ) (counts : Counts) : Type 0 where
   pub are_lines : AreLines (lines_of seen) lines
   pub answers : List (List (List ℕ))
   pub run : Runs c.before lines answers c.after
-  pub taken : TakesAll c.held c.holding 0 counts.taken (flat_map text_of answers)
+  pub taken : TakesAll c.held c.holding 0 counts.answers.taken (flat_map text_of answers)
   pub tally : IsTally lines counts.tally
 
 -- a front of the text was run and answered, and at its last line the writer stopped
 abbrev pub StopsAt : Change → List ℕ → Counts → Type 0
-StopsAt c front counts = (texts : List (List ℕ)) × Splits front texts [] × Stops c texts counts.taken
+StopsAt c front counts = (texts : List (List ℕ)) × Splits front texts [] × Stops c texts counts.answers.taken
 
 -- a front of what was seen was
 abbrev pub StopsWithin : Change → List ℕ → Counts → Type 0

@@ -22,10 +22,10 @@ pub record TakesTurn (c : Change) (before after : Counts) (octets : List ℕ)
   pub is_line : IsLine octets line
   pub turns : RunsLine c.before line answers c.after
   pub tally : after.tally ≡ with_line before.tally line
-  pub offers : Offers c.held c.holding before.taken after.taken (text_of answers) result
+  pub offers : Offers c.held c.holding before.answers.taken after.answers.taken (text_of answers) result
 
 -- a long line is answered, and nothing is run
 pub record TakesLongTurn (held holding : Option (List ℕ)) (before after : Counts)
     (result : Result Unit Stopped) : Type 0 where
   pub tally : after.tally ≡ with_line before.tally Long
-  pub offers : Offers held holding before.taken after.taken (text_of (long_line ∷ [])) result
+  pub offers : Offers held holding before.answers.taken after.answers.taken (text_of (long_line ∷ [])) result

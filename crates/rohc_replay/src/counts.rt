@@ -1,18 +1,16 @@
 //! What a replay counts.
 
-ghost use Rattle.std.specs.Prelude.{◌<◌, ◌^◌};
-
 use crate::fault::RunFault;
+use crate::output::Answers;
 use crate::tally::Tally;
 
-/// What a replay counts.
-#[derive(Clone, Copy, Debug)]
+/// What a replay counts, and its answers on their way out.
+#[derive(Drop)]
 pub(crate) struct Counts {
     /// The good lines, and the others.
     pub(crate) tally: Tally,
-    /// The octets that the writer took.
-    pub(crate) taken: u64,
-    ghost in_range: { taken < 2 ^ 64 },
+    /// The answers, with the octets that the writer took.
+    pub(crate) answers: Answers,
 }
 
 impl Counts {
@@ -21,29 +19,29 @@ impl Counts {
     /// Nothing yet.
     pub(crate) fn new() -> Self
         ensures tally { result.tally ≡ record { events = 0; bad = 0 } }
-        ensures taken { result.taken ≡ 0 }
+        ensures taken { result.answers.taken ≡ 0 }
     {
         Counts {
             tally: Tally { events: 0, bad: 0 },
-            taken: 0,
+            answers: Answers::new(),
         }
     }
 
     /// A read failed.
     pub(crate) fn read_fault(&self) -> RunFault
-        ensures { result ≡ RunFault.Read self.now.taken }
+        ensures { result ≡ RunFault.Read self.now.answers.taken }
     {
         RunFault::Read {
-            written: self.taken,
+            written: self.answers.taken,
         }
     }
 
     /// A write failed.
     pub(crate) fn write_fault(&self) -> RunFault
-        ensures { result ≡ RunFault.Write self.now.taken }
+        ensures { result ≡ RunFault.Write self.now.answers.taken }
     {
         RunFault::Write {
-            written: self.taken,
+            written: self.answers.taken,
         }
     }
 }

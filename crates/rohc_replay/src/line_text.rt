@@ -1,14 +1,8 @@
 //! A line of answers, built in a buffer of fixed size.
 
-ghost use Rattle.std.specs.Prelude.{◌≡◌, ◌+◌, ◌*◌, ◌≤◌, ◌++◌, length};
-ghost use Rattle.std.specs.Fmt.{decimal};
-ghost use Rattle.arrayvec.specs.ArrayVec.{array_vec_len};
-ghost use Rattle.hex.specs.Hex.{encode_lower};
-ghost use Rattle.rohc_replay.specs.Script.{hex_text};
-ghost use Rattle.rohc_replay.specs.AnswerLines.{pair_text};
+ghost use Rattle.std.specs.Prelude.{◌≤◌};
 
 use crate::hex_octets::encode;
-use arrayvec::ArrayVec;
 
 /// How many octets of a line are kept before they are offered.
 pub(crate) const ROOM: usize = 1024;
@@ -17,70 +11,116 @@ pub(crate) const ROOM: usize = 1024;
 pub(crate) const PART: usize = 64;
 
 /// The octets of a line that weren't offered yet.
-pub(crate) type LineText = ArrayVec<u8, ROOM>;
-
-/// Puts a text behind the line.
-pub(crate) fn put(line: &mut LineText, text: &[u8])
-    requires { array_vec_len line.old + length text.now ≤ ROOM }
-    ensures text { line.new.items ≡ line.old.items ++ text.now }
-    ensures len { array_vec_len line.new ≡ array_vec_len line.old + length text.now }
-{
-    let _ = line.try_extend_from_slice(text);
+#[derive(Drop)]
+pub(crate) struct LineText {
+    octets: [u8; ROOM],
+    len: usize,
+    ghost within: { len ≤ 1024 },
 }
 
-/// Puts a number behind the line, in decimal.
-pub(crate) fn put_number(line: &mut LineText, number: u16)
-    requires { array_vec_len line.old + 5 ≤ ROOM }
-    ensures text { line.new.items ≡ line.old.items ++ decimal number }
-    ensures len { array_vec_len line.new ≤ array_vec_len line.old + 5 }
-{
-    let mut digits = [b'0'; 5];
-    let mut at = 4;
-    let mut rest = number;
-    while rest >= 10 {
-        digits[at] = b'0' + (rest % 10) as u8;
-        rest /= 10;
-        at -= 1;
+impl LineText {
+    ghost use Rattle.std.specs.Prelude.{◌≡◌, ◌+◌, ◌*◌, ◌++◌, [], length};
+    ghost use Rattle.std.specs.Fmt.{decimal};
+    ghost use Rattle.hex.specs.Hex.{encode_lower};
+    ghost use Rattle.rohc_replay.specs.Script.{hex_text};
+    ghost use Rattle.rohc_replay.specs.AnswerLines.{pair_text};
+    ghost use Rattle.rohc_replay.specs.LineText.{text_in};
+
+    /// An empty line.
+    pub(crate) fn new() -> Self
+        ensures text { text_in result ≡ [] }
+        ensures len { result.len ≡ 0 }
+    {
+        LineText {
+            octets: [0; ROOM],
+            len: 0,
+        }
     }
-    digits[at] = b'0' + rest as u8;
-    put(line, &digits[at..]);
-}
 
-/// Puts a link and an identifier behind the line, each with a space behind it.
-pub(crate) fn put_pair(line: &mut LineText, link: u16, cid: u16)
-    requires { array_vec_len line.old + 12 ≤ ROOM }
-    ensures text { line.new.items ≡ line.old.items ++ pair_text link cid }
-    ensures len { array_vec_len line.new ≤ array_vec_len line.old + 12 }
-{
-    put_number(line, link);
-    line.push(b' ');
-    put_number(line, cid);
-    line.push(b' ');
-}
+    /// The octets that were put.
+    pub(crate) fn as_slice(&self) -> &[u8]
+        ensures { result.now ≡ text_in self.now }
+    {
+        &self.octets[..self.len]
+    }
 
-/// Puts a few octets behind the line, as lower case pairs of digits.
-pub(crate) fn put_hex(line: &mut LineText, octets: &[u8])
-    requires few { length octets.now ≤ PART }
-    requires room { array_vec_len line.old + 2 * length octets.now ≤ ROOM }
-    ensures text { line.new.items ≡ line.old.items ++ encode_lower octets.now }
-    ensures len { array_vec_len line.new ≡ array_vec_len line.old + 2 * length octets.now }
-{
-    let mut digits = [b'0'; 2 * PART];
-    let digits = &mut digits[..2 * octets.len()];
-    encode(octets, digits);
-    put(line, digits);
-}
+    /// How many octets may still be put.
+    pub(crate) fn room(&self) -> usize
+        ensures { result + self.now.len ≡ ROOM }
+    {
+        ROOM - self.len
+    }
 
-/// Puts a few octets behind the line, as lower case pairs of digits, or `-` for none.
-pub(crate) fn put_octets(line: &mut LineText, octets: &[u8])
-    requires few { length octets.now ≤ PART }
-    requires room { array_vec_len line.old + 1 + 2 * length octets.now ≤ ROOM }
-    ensures text { line.new.items ≡ line.old.items ++ hex_text octets.now }
-    ensures len { array_vec_len line.new ≤ array_vec_len line.old + 1 + 2 * length octets.now }
-{
-    if octets.is_empty() {
-        line.push(b'-');
-    } else {
-        put_hex(line, octets);
+    /// Empties the line.
+    pub(crate) fn clear(&mut self)
+        ensures text { text_in self.new ≡ [] }
+        ensures len { self.new.len ≡ 0 }
+    {
+        self.len = 0;
+    }
+
+    /// Puts a text behind the line.
+    pub(crate) fn put(&mut self, text: &[u8])
+        requires { self.old.len + length text.now ≤ ROOM }
+        ensures text { text_in self.new ≡ text_in self.old ++ text.now }
+        ensures len { self.new.len ≡ self.old.len + length text.now }
+    {
+        let end = self.len + text.len();
+        self.octets[self.len..end].copy_from_slice(text);
+        self.len = end;
+    }
+
+    /// Puts a few octets behind the line, as lower case pairs of digits.
+    pub(crate) fn put_hex(&mut self, octets: &[u8])
+        requires { self.old.len + 2 * length octets.now ≤ ROOM }
+        ensures text { text_in self.new ≡ text_in self.old ++ encode_lower octets.now }
+        ensures len { self.new.len ≡ self.old.len + 2 * length octets.now }
+    {
+        let end = self.len + 2 * octets.len();
+        encode(octets, &mut self.octets[self.len..end]);
+        self.len = end;
+    }
+
+    /// Puts a number behind the line, in decimal.
+    pub(crate) fn put_number(&mut self, number: u16)
+        requires { self.old.len + 5 ≤ ROOM }
+        ensures text { text_in self.new ≡ text_in self.old ++ decimal number }
+        ensures len { self.new.len ≤ self.old.len + 5 }
+    {
+        let mut digits = [b'0'; 5];
+        let mut at = 4;
+        let mut rest = number;
+        while rest >= 10 {
+            digits[at] = b'0' + (rest % 10) as u8;
+            rest /= 10;
+            at -= 1;
+        }
+        digits[at] = b'0' + rest as u8;
+        self.put(&digits[at..]);
+    }
+
+    /// Puts a link and an identifier behind the line, each with a space behind it.
+    pub(crate) fn put_pair(&mut self, link: u16, cid: u16)
+        requires { self.old.len + 12 ≤ ROOM }
+        ensures text { text_in self.new ≡ text_in self.old ++ pair_text link cid }
+        ensures len { self.new.len ≤ self.old.len + 12 }
+    {
+        self.put_number(link);
+        self.put(b" ");
+        self.put_number(cid);
+        self.put(b" ");
+    }
+
+    /// Puts a few octets behind the line, as lower case pairs of digits, or `-` for none.
+    pub(crate) fn put_octets(&mut self, octets: &[u8])
+        requires { self.old.len + 1 + 2 * length octets.now ≤ ROOM }
+        ensures text { text_in self.new ≡ text_in self.old ++ hex_text octets.now }
+        ensures len { self.new.len ≤ self.old.len + 1 + 2 * length octets.now }
+    {
+        if octets.is_empty() {
+            self.put(b"-");
+        } else {
+            self.put_hex(octets);
+        }
     }
 }

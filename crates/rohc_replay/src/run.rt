@@ -1,15 +1,15 @@
 //! A script, run line by line as it comes.
 
-ghost use Rattle.std.specs.Prelude.{◌≡◌, ◌≢◌, ◌+◌, ◌<◌, ◌≤◌, length, take, IfOk, IfErr, IfSome, OnErr};
+ghost use Rattle.std.specs.Prelude.{◌≡◌, ◌≢◌, ◌+◌, ◌-◌, ◌<◌, ◌≤◌, length, take, IfOk, IfErr, IfSome, OnErr};
 ghost use Rattle.std.specs.List.{slice_range};
 ghost use Rattle.std.specs.Io.KnownBytes.{Consumes, IsAtEnd, Keeps};
 ghost use Rattle.rohc_replay.specs.Script.{longest_line, longest_packet};
 ghost use Rattle.rohc_replay.specs.Isolation.{Isolates};
-ghost use Rattle.rohc_replay.specs.Run.{Replays, Fails};
+ghost use Rattle.rohc_replay.specs.Run.{change, Replays, Fails};
 
 use crate::counts::Counts;
 use crate::fault::RunFault;
-use crate::stream::{LONGEST_LINE, end_script, run_lines};
+use crate::stream::{LONGEST_LINE, LineFront, end_script, run_lines};
 use crate::tally::Tally;
 use rohc_concentrator::Concentrator;
 use std::alloc::{AllocError, Global};
@@ -80,27 +80,22 @@ fn run_script<R: Read, W: Write>(
     requires line_room { length line.old ≡ longest_line + 1 }
     requires packet_room { length packet.old ≡ longest_packet }
     ensures whole { IfOk result (λ tally. IfSome (R.remaining reader.old) (λ input.
-        Replays (record {
-          before = concentrator.old;
-          after = concentrator.new;
-          held = W.contents writer.old;
-          holding = W.contents writer.new;
-        }) input tally)) }
+        Replays (change concentrator.old (W.contents writer.old) concentrator.new (W.contents writer.new)) input tally)) }
     ensures rich { IfErr result (λ e. e ≢ RunFault.NoMemory) }
     ensures fault { IfErr result (λ e. Fails R.remaining W.contents
         (record { concentrator = concentrator.old; reader = reader.old; writer = writer.old }) e
         (record { concentrator = concentrator.new; reader = reader.new; writer = writer.new })) }
 {
     let mut counts = Counts::new();
-    let mut long = false;
-    let mut filled = 0;
+    let mut front = LineFront::new();
     for _ in 1..LAST_READ {
-        let Ok(end) = read_behind(reader, line, filled) else {
+        let Ok(end) = read_behind(reader, line, front.len) else {
             return Err(counts.read_fault());
         };
-        if end == filled {
-            let last = &line[..filled];
-            let Ok(()) = end_script(concentrator, packet, writer, &mut counts, long, last) else {
+        if end == front.len {
+            let last = &line[..front.len];
+            let Ok(()) = end_script(concentrator, packet, writer, &mut counts, front.long, last)
+            else {
                 return Err(counts.write_fault());
             };
             let Ok(()) = writer.flush() else {
@@ -109,18 +104,11 @@ fn run_script<R: Read, W: Write>(
             return Ok(counts.tally);
         }
         let seen = &line[..end];
-        let Ok(used) = run_lines(
-            concentrator,
-            packet,
-            writer,
-            &mut counts,
-            &mut long,
-            seen,
-            filled,
-        ) else {
+        let Ok(next) = run_lines(concentrator, packet, writer, &mut counts, seen, front) else {
             return Err(counts.write_fault());
         };
-        filled = keep_behind(line, used, end);
+        keep_behind(line, end, next.len);
+        front = next;
     }
     Err(counts.read_fault())
 }
@@ -138,15 +126,13 @@ fn read_behind<R: Read>(reader: &mut R, line: &mut [u8], filled: usize) -> io::R
     Ok(filled + given)
 }
 
-/// Moves the octets from `used` to `end` to the front, and answers how many they are.
-fn keep_behind(line: &mut [u8], used: usize, end: usize) -> usize
-    requires ordered { used ≤ end }
+/// Moves the `len` octets before `end` to the front.
+fn keep_behind(line: &mut [u8], end: usize, len: usize)
+    requires ordered { len ≤ end }
     requires within { end ≤ length line.old }
-    ensures count { result + used ≡ end }
-    ensures kept { take result line.new ≡ slice_range line.old used end }
+    ensures { take len line.new ≡ slice_range line.old (end - len) end }
 {
-    if used > 0 {
-        line.copy_within(used..end, 0);
+    if len < end {
+        line.copy_within(end - len..end, 0);
     }
-    end - used
 }

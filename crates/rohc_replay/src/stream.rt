@@ -1,6 +1,6 @@
 //! Lines as they come in pieces.
 
-ghost use Rattle.std.specs.Prelude.{◌≡◌, ◌≤◌, ◌<◌, ◌+◌, ℕ, List, [], ◌∷◌, ◌++◌, length, take, drop, Option, false, slice_index, IfOk, IfErr, IfSome, IfNone};
+ghost use Rattle.std.specs.Prelude.{◌≡◌, ◌≤◌, ◌<◌, ◌+◌, ◌-◌, ℕ, List, [], ◌∷◌, ◌++◌, length, take, drop, Option, false, slice_index, IfOk, IfErr, IfSome, IfNone};
 ghost use Rattle.rohc_concentrator.specs.declared.concentrator.Concentrator.{Concentrator as State};
 ghost use Rattle.rohc_replay.specs.Script.{longest_line, longest_packet, lines_of};
 ghost use Rattle.rohc_replay.specs.Stream.{Stands, Ends, StopsAt, StopsWithin};
@@ -10,23 +10,43 @@ ghost use Rattle.rohc_replay.specs.Lines.{has_newline};
 use crate::counts::Counts;
 use crate::output::Stopped;
 use crate::turn::{take_long_turn, take_turn};
+use memchr::memchr;
 use rohc_concentrator::Concentrator;
 use std::io::Write;
 
 /// The greatest length of a line, without its newline.
 pub(crate) const LONGEST_LINE: usize = 131_200;
 
+/// The front of a line that isn't finished.
+#[derive(Clone, Copy, Debug)]
+pub(crate) struct LineFront {
+    /// How many of its octets are kept: none, where it is long already.
+    pub(crate) len: usize,
+    /// Whether it is longer than the greatest line already.
+    pub(crate) long: bool,
+}
+
+impl LineFront {
+    ghost use Rattle.std.specs.Prelude.{◌≡◌, false};
+
+    /// A line of which nothing was read.
+    pub(crate) fn new() -> Self
+        ensures len { result.len ≡ 0 }
+        ensures long { result.long ≡ false }
+    {
+        LineFront {
+            len: 0,
+            long: false,
+        }
+    }
+}
+
 /// Where the first newline stands.
 fn first_newline(octets: &[u8]) -> Option<usize>
     ensures found { IfSome result (λ i. (i < length octets.now) × (slice_index octets.now i ≡ 10) × (has_newline (take i octets.now) ≡ false)) }
     ensures none { IfNone result (has_newline octets.now ≡ false) }
 {
-    for (index, octet) in octets.iter().enumerate() {
-        if *octet == b'\n' {
-            return Some(index);
-        }
-    }
-    None
+    memchr(b'\n', octets)
 }
 
 /// Runs the line that a newline ends, or answers it where it is long.
@@ -54,33 +74,32 @@ fn end_line<W: Write>(
     }
 }
 
-/// Runs each line that ends in `octets`, of which the first `searched` have no newline.
+/// Runs each line that ends in `octets`, at whose front stands what is kept of an unfinished line.
 ///
-/// Answers how many octets are used up; the others are the front of a line that isn't finished. `long` tells
-/// whether that line is long already, before and after.
+/// Answers the front of the line that isn't finished at their end: its octets are their last.
 pub(crate) fn run_lines<W: Write>(
     concentrator: &mut Concentrator,
     packet: &mut [u8],
     writer: &mut W,
     counts: &mut Counts,
-    long: &mut bool,
     octets: &[u8],
-    searched: usize,
-) -> Result<usize, Stopped>
+    front: LineFront,
+) -> Result<LineFront, Stopped>
     requires room { length packet.old ≡ longest_packet }
-    requires within { searched ≤ length octets.now }
+    requires within { front.len ≤ length octets.now }
     requires bounded { length octets.now ≤ longest_line + 1 }
-    ensures used { IfOk result (λ used. used ≤ length octets.now) }
-    ensures kept { IfOk result (λ used. length octets.now ≤ used + longest_line) }
-    ensures stands { IfOk result (λ used. (first : State) (held : Option (List ℕ)) (seen : List ℕ) →
-        Stands (change first held concentrator.old (W.contents writer.old)) seen (take searched octets.now) long.old counts.old →
-        Stands (change first held concentrator.new (W.contents writer.new)) (seen ++ drop searched octets.now) (drop used octets.now) long.new counts.new) }
+    ensures used { IfOk result (λ next. next.len ≤ length octets.now) }
+    ensures kept { IfOk result (λ next. next.len ≤ longest_line) }
+    ensures stands { IfOk result (λ next. (first : State) (held : Option (List ℕ)) (seen : List ℕ) →
+        Stands (change first held concentrator.old (W.contents writer.old)) seen (take front.len octets.now) front.long counts.old →
+        Stands (change first held concentrator.new (W.contents writer.new)) (seen ++ drop front.len octets.now) (drop (length octets.now - next.len) octets.now) next.long counts.new) }
     ensures stops { IfErr result (λ _. (first : State) (held : Option (List ℕ)) (seen : List ℕ) →
-        Stands (change first held concentrator.old (W.contents writer.old)) seen (take searched octets.now) long.old counts.old →
-        StopsWithin (change first held concentrator.new (W.contents writer.new)) (seen ++ drop searched octets.now) counts.new) }
+        Stands (change first held concentrator.old (W.contents writer.old)) seen (take front.len octets.now) front.long counts.old →
+        StopsWithin (change first held concentrator.new (W.contents writer.new)) (seen ++ drop front.len octets.now) counts.new) }
 {
     let mut start = 0;
-    let mut from = searched;
+    let mut from = front.len;
+    let mut long = front.long;
     while let Some(ahead) = first_newline(&octets[from..]) {
         let stop = from + ahead;
         end_line(
@@ -88,17 +107,18 @@ pub(crate) fn run_lines<W: Write>(
             packet,
             writer,
             counts,
-            *long,
+            long,
             &octets[start..stop],
         )?;
-        *long = false;
+        long = false;
         start = stop + 1;
         from = start;
     }
-    if octets.len() - start > LONGEST_LINE {
-        *long = true;
+    let len = octets.len() - start;
+    if long || len > LONGEST_LINE {
+        return Ok(LineFront { len: 0, long: true });
     }
-    Ok(if *long { octets.len() } else { start })
+    Ok(LineFront { len, long: false })
 }
 
 /// Runs the last line, where the script ends without a newline.
@@ -117,7 +137,7 @@ pub(crate) fn end_script<W: Write>(
         Ends (change first held concentrator.new (W.contents writer.new)) seen counts.new) }
     ensures stops { IfErr result (λ _. (first : State) (held : Option (List ℕ)) (seen : List ℕ) →
         Stands (change first held concentrator.old (W.contents writer.old)) seen line.now long counts.old →
-        Stops (change first held concentrator.new (W.contents writer.new)) (lines_of seen) counts.new.taken) }
+        Stops (change first held concentrator.new (W.contents writer.new)) (lines_of seen) counts.new.answers.taken) }
 {
     if long {
         take_long_turn(writer, counts)

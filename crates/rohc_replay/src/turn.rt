@@ -6,7 +6,7 @@ ghost use Rattle.rohc_replay.specs.Run.{change};
 ghost use Rattle.rohc_replay.specs.Turn.{TakesTurn, TakesLongTurn};
 
 use crate::counts::Counts;
-use crate::output::{Stopped, offer, offer_answer, offer_refusal};
+use crate::output::Stopped;
 use crate::words::{Words, read_words};
 use rohc_concentrator::Concentrator;
 use rohc_context::Refusal;
@@ -32,18 +32,18 @@ pub(crate) fn take_turn<W: Write>(
         Some(Words::Arrive { link, moment, size }) => {
             counts.tally.events = counts.tally.events.saturating_add(1);
             let answer = concentrator.arrive(link, moment, &packet[..size]);
-            offer_answer(writer, &mut counts.taken, link, &answer)
+            counts.answers.offer_answer(writer, link, &answer)
         }
         Some(Words::Reset { link }) => {
             counts.tally.events = counts.tally.events.saturating_add(1);
             match concentrator.reset(link) {
                 Ok(()) => Ok(()),
-                Err(_) => offer_refusal(writer, &mut counts.taken, link, Refusal::NoLink),
+                Err(_) => counts.answers.offer_refusal(writer, link, Refusal::NoLink),
             }
         }
         None => {
             counts.tally.bad = counts.tally.bad.saturating_add(1);
-            offer(writer, &mut counts.taken, BAD_LINE)
+            counts.answers.offer_text(writer, BAD_LINE)
         }
     }
 }
@@ -53,5 +53,5 @@ pub(crate) fn take_long_turn<W: Write>(writer: &mut W, counts: &mut Counts) -> R
     ensures { TakesLongTurn (W.contents writer.old) (W.contents writer.new) counts.old counts.new result }
 {
     counts.tally.bad = counts.tally.bad.saturating_add(1);
-    offer(writer, &mut counts.taken, LONG_LINE)
+    counts.answers.offer_text(writer, LONG_LINE)
 }

@@ -4,6 +4,7 @@ ghost use Rattle.std.specs.Prelude.{◌≡◌, ◌≢◌, ℕ, List, ◌++◌, �
 ghost use Rattle.std.specs.Fmt.{decimal};
 ghost use Rattle.std.specs.Option.{SomeIff};
 ghost use Rattle.hex.specs.Hex.{encode_lower};
+ghost use Rattle.rohc_frame.specs.Laws.{IsOctet};
 ghost use Rattle.rohc_replay.specs.Numeral.{IsNumberAt};
 ghost use Rattle.rohc_concentrator.specs.Events.{Event};
 ghost use Rattle.rohc_replay.specs.Script.{IsEvent, spelling, hex_text, longest_packet};
@@ -98,7 +99,7 @@ fn read_octets(text: &[u8], packet: &mut [u8]) -> Option<usize>
     ensures fits { IfSome result (λ size. size ≤ length packet.old) }
     ensures spelled { IfSome result (λ size. text.now ≡ hex_text (take size packet.new)) }
     ensures none { IfNone result ((octets : List ℕ) → length octets ≤ length packet.old →
-        All (λ octet. octet < 256) octets → text.now ≢ hex_text octets) }
+        All IsOctet octets → text.now ≢ hex_text octets) }
 {
     match text {
         [b'-'] => Some(0),
@@ -112,7 +113,7 @@ fn read_pairs(text: &[u8], packet: &mut [u8]) -> Option<usize>
     ensures fits { IfSome result (λ size. (0 < size) × (size ≤ length packet.old)) }
     ensures spelled { IfSome result (λ size. text.now ≡ encode_lower (take size packet.new)) }
     ensures none { IfNone result ((octets : List ℕ) → 0 < length octets → length octets ≤ length packet.old →
-        All (λ octet. octet < 256) octets → text.now ≢ encode_lower octets) }
+        All IsOctet octets → text.now ≢ encode_lower octets) }
 {
     let size = text.len() / 2;
     if size == 0 || text.len() % 2 == 1 || packet.len() < size {

@@ -8,8 +8,8 @@ use Rattle.rohc_concentrator.specs.Setup.{entry_of}
 use Rattle.rohc_concentrator.specs.Report.{Refused}
 use Rattle.rohc_concentrator.specs.Events.{Arrives}
 use Rattle.rohc_replay.specs.Links.{Lists}
-use Rattle.rohc_serve.specs.Held.{Held, refused_for}
-use Rattle.rohc_serve.specs.Datagram.{AreSettingsOf, link_of, packet_of, ports_of, Answers}
+use Rattle.rohc_serve.specs.Outgoing.{Outgoing, refused_for}
+use Rattle.rohc_serve.specs.Datagram.{AreSettingsOf, link_of, datagram_packet, ports_of, Answers}
 
 arrives_nowhere : (k : Concentrator) (link moment : ℕ) (packet : List ℕ) → setting_at k link ≡ None →
     Arrives k link moment packet (Refused NoLink) k
@@ -20,8 +20,8 @@ arrives_nowhere k link moment packet none = record {
   order = record { here = rw none refl; elsewhere = λ l other. refl };
 }
 
-pub answers_absent : (links : Lists) (k : Concentrator) (moment link : ℕ) (octets : List ℕ) (held : Held) →
+pub answers_absent : (links : Lists) (k : Concentrator) (moment link : ℕ) (octets : List ℕ) (outgoing : Outgoing) →
     AreSettingsOf k links.settings → link_of octets ≡ Some link → entry_of link links.settings ≡ None →
-    ports_of link links ≡ None → held ≡ refused_for None → Answers links k moment octets held k
-answers_absent links k moment link octets held settings named absent portless refused =
-    rw named (Refused NoLink, arrives_nowhere k link moment (packet_of octets) (settings.each link ∙ absent), rw portless refused)
+    ports_of link links ≡ None → outgoing ≡ refused_for None → Answers links k moment octets outgoing k
+answers_absent links k moment link octets outgoing settings named absent portless refused =
+    rw named (Refused NoLink, arrives_nowhere k link moment (datagram_packet octets) (settings.each link ∙ absent), rw portless refused)

@@ -6,7 +6,7 @@ use Rattle.std.proofs.lemmas.List.Sums.{sum_by-append}
 use Rattle.rohc_replay.specs.Offers.{counted}
 use Rattle.rohc_serve.specs.Acts.{Attempt, Act, Sent, Adds}
 use Rattle.rohc_replay.specs.declared.links.Ports.{Ports}
-use Rattle.rohc_serve.specs.Held.{Held}
+use Rattle.rohc_serve.specs.Outgoing.{Outgoing}
 use Rattle.rohc_serve.specs.Sending.{Send, send, packet_sends, feedback_sends, too_long, sends_in, unsent, Offers, offered, failures}
 use Rattle.rohc_serve.specs.Tally.{one_if}
 
@@ -98,11 +98,11 @@ front_all port all left before after x h none =
     (sym (append-nil h.done) ∙ ap (λ (l : List (List ℕ)). h.done ++ l) (sym none) ∙ h.whole) h.offers
 
 -- the three kinds of sends for a datagram, one behind the other
-pub offers_all : (held : Held) (ports : Ports) (first second third fourth : Option (List Act)) (x y z w v : ℕ) →
-    held.ports ≡ Some ports → Offers (map (send ports.relay) held.relayed) 0 first second x →
-    Offers (packet_sends ports.deliver held.packet) (too_long held.packet) second third y →
-    Offers (feedback_sends ports.feedback held.feedback) 0 third fourth z →
-    w ≡ counted x y → v ≡ counted w z → Offers (sends_in held) (unsent held) first fourth v
-offers_all held ports first second third fourth x y z w v known a b c one all =
-    let two = offers_more _ _ 0 (too_long held.packet) first second third x y w a b one in
-    rw known (offers_lost _ (0 + too_long held.packet + 0) _ _ _ _ (omega arith) (offers_more _ _ (0 + too_long held.packet) 0 first third fourth w z v two c all))
+pub offers_all : (outgoing : Outgoing) (ports : Ports) (first second third fourth : Option (List Act)) (x y z w v : ℕ) →
+    outgoing.ports ≡ Some ports → Offers (map (send ports.relay) outgoing.relayed) 0 first second x →
+    Offers (packet_sends ports.deliver outgoing.packet) (too_long outgoing.packet) second third y →
+    Offers (feedback_sends ports.feedback outgoing.feedback) 0 third fourth z →
+    w ≡ counted x y → v ≡ counted w z → Offers (sends_in outgoing) (unsent outgoing) first fourth v
+offers_all outgoing ports first second third fourth x y z w v known a b c one all =
+    let two = offers_more _ _ 0 (too_long outgoing.packet) first second third x y w a b one in
+    rw known (offers_lost _ (0 + too_long outgoing.packet + 0) _ _ _ _ (omega arith) (offers_more _ _ (0 + too_long outgoing.packet) 0 first third fourth w z v two c all))

@@ -9,37 +9,37 @@ use Rattle.rohc_replay.specs.Links.{Lists}
 use Rattle.rohc_replay.specs.Offers.{counted}
 use Rattle.rohc_serve.specs.declared.tally.ServeTally.{ServeTally}
 use Rattle.rohc_serve.specs.Acts.{Act, Received, Adds}
-use Rattle.rohc_serve.specs.Held.{Held}
+use Rattle.rohc_serve.specs.Outgoing.{Outgoing}
 use Rattle.rohc_serve.specs.Datagram.{Answers}
 use Rattle.rohc_serve.specs.Tally.{added, counts_of}
 use Rattle.rohc_serve.specs.Sending.{sends_in, unsent, failures, Offers}
-use Rattle.rohc_serve.specs.Turns.{Turn, Missed, Answered, acts_in, counts_in, TakesTurn, TakesTurns, IsTally, service, Serves, with_turn, TakesOne}
+use Rattle.rohc_serve.specs.Turns.{Turn, Missed, Answered, acts_in, counts_in, ServesTurn, ServesTurns, IsTally, service, Serves, with_turn, TakesOne}
 use Rattle.rohc_serve.proofs.OfferLemmas.{adds_none, adds_more}
 
 -- a tally with failed sends, counted before
-added_failures : (t : ServeTally) (held : Held) (lost some failed : ℕ) → failed ≡ counted lost some →
-    added t (counts_of held failed) ≡ added t (counts_of held (lost + some))
-added_failures t held lost some failed e =
+added_failures : (t : ServeTally) (outgoing : Outgoing) (lost some failed : ℕ) → failed ≡ counted lost some →
+    added t (counts_of outgoing failed) ≡ added t (counts_of outgoing (lost + some))
+added_failures t outgoing lost some failed e =
     let same : counted t.failed failed ≡ counted t.failed (lost + some) = omega (arith, e) in
-    ap (λ (n : ℕ). record (added t (counts_of held 0)) { failed = n }) same
+    ap (λ (n : ℕ). record (added t (counts_of outgoing 0)) { failed = n }) same
 
--- a datagram is received, answered, and what is held is offered
-pub one_turn : (links : Lists) (old new : Concentrator) (moment : ℕ) (octets : List ℕ) (held : Held)
+-- a datagram is received, answered, and what goes out is offered
+pub one_turn : (links : Lists) (old new : Concentrator) (moment : ℕ) (octets : List ℕ) (outgoing : Outgoing)
     (before mid after : Option (List Act)) (t next : ServeTally) (failed : ℕ) →
-    Answers links old moment octets held new → Adds before mid (Received (Some (moment, octets)) ∷ []) →
-    Offers (sends_in held) (unsent held) mid after failed → next ≡ added t (counts_of held failed) →
+    Answers links old moment octets outgoing new → Adds before mid (Received (Some (moment, octets)) ∷ []) →
+    Offers (sends_in outgoing) (unsent outgoing) mid after failed → next ≡ added t (counts_of outgoing failed) →
     TakesOne links (service old new before after) t next
-one_turn links old new moment octets held before mid after t next failed answers got offers tally = record {
-  turn = Answered moment octets held offers.attempts;
+one_turn links old new moment octets outgoing before mid after t next failed answers got offers tally = record {
+  turn = Answered moment octets outgoing offers.attempts;
   taken = (answers, offers.in_order);
   acts = adds_more before mid after _ _ got offers.acts;
-  tally = tally ∙ added_failures t held (unsent held) (failures offers.attempts) failed offers.failed_sends;
+  tally = tally ∙ added_failures t outgoing (unsent outgoing) (failures offers.attempts) failed offers.failed_sends;
 }
 
 -- turns, and one behind them
 turns_more : (links : Lists) (old mid new : Concentrator) (turns : List Turn) (turn : Turn) →
-    TakesTurns links old turns mid → TakesTurn links mid turn new → TakesTurns links old (turns ++ turn ∷ []) new
-turns_more links old mid new [] turn same one = (new, subst (λ (k : Concentrator). TakesTurn links k turn new) same one, refl)
+    ServesTurns links old turns mid → ServesTurn links mid turn new → ServesTurns links old (turns ++ turn ∷ []) new
+turns_more links old mid new [] turn same one = (new, subst (λ (k : Concentrator). ServesTurn links k turn new) same one, refl)
 turns_more links old mid new (first ∷ turns) turn all one = (all.0, all.1, turns_more links all.0 mid new turns turn all.2 one)
 
 count_more : (f : Turn → ℕ) (turns : List Turn) (turn : Turn) (n : ℕ) → n ≡ counted 0 (sum_by f turns) →
@@ -59,8 +59,8 @@ tally_more turns Missed t h = record {
   refused = count_same _ turns Missed t.refused refl h.refused;
   failed = count_more _ turns Missed t.failed h.failed;
 }
-tally_more turns (Answered moment octets held attempts) t h =
-    let turn : Turn = Answered moment octets held attempts in
+tally_more turns (Answered moment octets outgoing attempts) t h =
+    let turn : Turn = Answered moment octets outgoing attempts in
     record {
       datagrams = count_more (λ one. (counts_in one).datagrams) turns turn t.datagrams h.datagrams;
       delivered = count_more (λ one. (counts_in one).delivered) turns turn t.delivered h.delivered;

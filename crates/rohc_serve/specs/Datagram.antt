@@ -1,4 +1,5 @@
--- One datagram. Words: AreSettingsOf a concentrator; link_of, packet_of; place_of, ports_of a link; Answers.
+-- One datagram. Words: AreSettingsOf a concentrator; link_of, datagram_packet; place_of, ports_of a link;
+-- Answers.
 use Rattle.std.specs.Prelude.{◌≡◌, ℕ, ◌+◌, ◌*◌, List, drop, ◌==◌, Option, Some, None, length, nat_lt, if◌then◌else◌, slice_index, slice_get, position}
 use Rattle.std.specs.Option.{option_and_then}
 use Rattle.rohc_concentrator.specs.declared.concentrator.Concentrator.{Concentrator}
@@ -9,7 +10,7 @@ use Rattle.rohc_concentrator.specs.Report.{Report}
 use Rattle.rohc_concentrator.specs.Events.{Arrives}
 use Rattle.rohc_replay.specs.declared.links.Ports.{Ports}
 use Rattle.rohc_replay.specs.Links.{Lists}
-use Rattle.rohc_serve.specs.Held.{Held, refused_for, sends_of}
+use Rattle.rohc_serve.specs.Outgoing.{Outgoing, refused_for, sends_of}
 
 -- these are the settings of the concentrator's links, in their order
 pub record AreSettingsOf (k : Concentrator) (settings : List LinkSetting) : Type 0 where
@@ -22,8 +23,8 @@ link_of octets =
     if nat_lt (length octets) 2 then None else Some (slice_index octets 0 * 256 + slice_index octets 1)
 
 -- and the packet behind them
-abbrev pub packet_of : List ℕ → List ℕ
-packet_of octets = drop 2 octets
+abbrev pub datagram_packet : List ℕ → List ℕ
+datagram_packet octets = drop 2 octets
 
 -- the place of a link's first entry, if it has one
 abbrev pub place_of : ℕ → List LinkSetting → Option ℕ
@@ -36,13 +37,13 @@ ports_of link lists = option_and_then (slice_get lists.ports) (place_of link lis
 -- A packet arrives on the link that its datagram names, and what is sent is its answer; a datagram that names
 -- none is refused.
 abbrev pub AnswersOn : Lists → Concentrator → ℕ → Option ℕ → List ℕ
-    → Held → Concentrator → Type 0
-AnswersOn links old moment None packet held new = (new ≡ old) × (held ≡ refused_for None)
-AnswersOn links old moment (Some link) packet held new =
+    → Outgoing → Concentrator → Type 0
+AnswersOn links old moment None packet outgoing new = (new ≡ old) × (outgoing ≡ refused_for None)
+AnswersOn links old moment (Some link) packet outgoing new =
     (report : Report) × Arrives old link moment packet report new
-    × (held ≡ sends_of (ports_of link links) report)
+    × (outgoing ≡ sends_of (ports_of link links) report)
 
 -- what is sent for a datagram of this moment, and where it leads
-abbrev pub Answers : Lists → Concentrator → ℕ → List ℕ → Held → Concentrator → Type 0
-Answers links old moment octets held new =
-    AnswersOn links old moment (link_of octets) (packet_of octets) held new
+abbrev pub Answers : Lists → Concentrator → ℕ → List ℕ → Outgoing → Concentrator → Type 0
+Answers links old moment octets outgoing new =
+    AnswersOn links old moment (link_of octets) (datagram_packet octets) outgoing new

@@ -1,4 +1,4 @@
-pub mod Held
+pub mod Outgoing
 pub mod Datagram
 pub mod Tally
 pub mod Acts

@@ -6,7 +6,7 @@ use Rattle.rohc_replay.specs.declared.links.Ports.{Ports}
 use Rattle.rohc_replay.specs.Script.{longest_packet}
 use Rattle.rohc_replay.specs.Offers.{counted}
 use Rattle.rohc_serve.specs.Acts.{Attempt, Act, Sent, Adds}
-use Rattle.rohc_serve.specs.Held.{Held}
+use Rattle.rohc_serve.specs.Outgoing.{Outgoing}
 
 -- octets for a port
 pub record Send : Type 0 where
@@ -16,8 +16,8 @@ pub record Send : Type 0 where
 abbrev pub send : ℕ → List ℕ → Send
 send port octets = record { port = port; octets = octets }
 
-abbrev pub packet_of : Delivered → Packet
-packet_of d = record { head = d.head.items; payload = d.payload.now }
+abbrev pub delivered_packet : Delivered → Packet
+delivered_packet d = record { head = d.head.items; payload = d.payload.now }
 
 -- a packet is its head, and the payload behind it
 abbrev pub packet_octets : Packet → List ℕ
@@ -35,26 +35,26 @@ feedback_sends port (Some element) = send port element ∷ []
 
 -- the relayed data to the relay port, each for itself, then the packet to the deliver port, then the element
 -- to the feedback port; and nothing where there are no ports
-abbrev pub sends_by : Option Ports → Held → List Send
-sends_by None held = []
-sends_by (Some ports) held =
-    map (send ports.relay) held.relayed ++ packet_sends ports.deliver held.packet
-    ++ feedback_sends ports.feedback held.feedback
+abbrev pub sends_by : Option Ports → Outgoing → List Send
+sends_by None outgoing = []
+sends_by (Some ports) outgoing =
+    map (send ports.relay) outgoing.relayed ++ packet_sends ports.deliver outgoing.packet
+    ++ feedback_sends ports.feedback outgoing.feedback
 
-abbrev pub sends_in : Held → List Send
-sends_in held = sends_by held.ports held
+abbrev pub sends_in : Outgoing → List Send
+sends_in outgoing = sends_by outgoing.ports outgoing
 
 -- a packet that is longer is not offered, and counts as a failed send
 abbrev pub too_long : Option Packet → ℕ
 too_long None = 0
 too_long (Some p) = if nat_le (length (packet_octets p)) longest_packet then 0 else 1
 
-abbrev pub unsent_by : Option Ports → Held → ℕ
-unsent_by None held = 0
-unsent_by (Some ports) held = too_long held.packet
+abbrev pub unsent_by : Option Ports → Outgoing → ℕ
+unsent_by None outgoing = 0
+unsent_by (Some ports) outgoing = too_long outgoing.packet
 
-abbrev pub unsent : Held → ℕ
-unsent held = unsent_by held.ports held
+abbrev pub unsent : Outgoing → ℕ
+unsent outgoing = unsent_by outgoing.ports outgoing
 
 -- the octets and the port that were offered
 abbrev pub offered : Attempt → Send

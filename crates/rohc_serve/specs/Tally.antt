@@ -2,19 +2,19 @@
 use Rattle.std.specs.Prelude.{ℕ, length, Bool, is_some, if◌then◌else◌}
 use Rattle.rohc_replay.specs.Offers.{counted}
 use Rattle.rohc_serve.specs.declared.tally.ServeTally.{ServeTally}
-use Rattle.rohc_serve.specs.Held.{Held}
+use Rattle.rohc_serve.specs.Outgoing.{Outgoing}
 
 abbrev pub one_if : Bool → ℕ
 one_if holds = if holds then 1 else 0
 
 -- one datagram, by what was to be sent for it, with its failed sends
-abbrev pub counts_of : Held → ℕ → ServeTally
-counts_of held failed = record {
+abbrev pub counts_of : Outgoing → ℕ → ServeTally
+counts_of outgoing failed = record {
   datagrams = 1;
-  delivered = one_if (is_some held.packet);
-  feedback = one_if (is_some held.feedback);
-  relayed = length held.relayed;
-  refused = one_if held.refused;
+  delivered = one_if (is_some outgoing.packet);
+  feedback = one_if (is_some outgoing.feedback);
+  relayed = length outgoing.relayed;
+  refused = one_if outgoing.refused;
   failed = failed;
 }
 

@@ -1,4 +1,4 @@
--- Turns of a server, each one receive. Words: Turn, acts_in, counts_in; TakesTurn, TakesTurns; IsTally;
+-- Turns of a server, each one receive. Words: Turn, acts_in, counts_in; ServesTurn, ServesTurns; IsTally;
 -- Service, service; Serves; with_turn, TakesOne.
 use Rattle.std.specs.Prelude.{◌≡◌, ℕ, ◌+◌, List, [], ◌∷◌, length, map, Option, Some, None}
 use Rattle.std.specs.List.{flat_map, sum_by}
@@ -6,7 +6,7 @@ use Rattle.rohc_concentrator.specs.declared.concentrator.Concentrator.{Concentra
 use Rattle.rohc_replay.specs.Links.{Lists}
 use Rattle.rohc_replay.specs.Offers.{counted}
 use Rattle.rohc_serve.specs.declared.tally.ServeTally.{ServeTally}
-use Rattle.rohc_serve.specs.Held.{Held}
+use Rattle.rohc_serve.specs.Outgoing.{Outgoing}
 use Rattle.rohc_serve.specs.Datagram.{Answers}
 use Rattle.rohc_serve.specs.Tally.{counts_of, added}
 use Rattle.rohc_serve.specs.Acts.{Attempt, Act, Received, Sent, Adds}
@@ -15,12 +15,12 @@ use Rattle.rohc_serve.specs.Sending.{sends_in, unsent, offered, failures}
 -- A receive that failed, or a datagram: its moment and octets, what was to be sent for it, and the attempts.
 pub data Turn : Type 0 where
   Missed : Turn
-  Answered : ℕ → List ℕ → Held → List Attempt → Turn
+  Answered : ℕ → List ℕ → Outgoing → List Attempt → Turn
 
 -- what a front was asked in a turn
 abbrev pub acts_in : Turn → List Act
 acts_in Missed = Received None ∷ []
-acts_in (Answered moment octets held attempts) = Received (Some (moment, octets)) ∷ map Sent attempts
+acts_in (Answered moment octets outgoing attempts) = Received (Some (moment, octets)) ∷ map Sent attempts
 
 -- what a turn adds to each count
 abbrev pub counts_in : Turn → ServeTally
@@ -32,20 +32,21 @@ counts_in Missed = record {
   refused = 0;
   failed = 1;
 }
-counts_in (Answered moment octets held attempts) = counts_of held (unsent held + failures attempts)
+counts_in (Answered moment octets outgoing attempts) =
+    counts_of outgoing (unsent outgoing + failures attempts)
 
--- One turn: after a failed receive the concentrator is the same; a datagram is answered, and what is held is
--- offered in its order.
-abbrev pub TakesTurn : Lists → Concentrator → Turn → Concentrator → Type 0
-TakesTurn links old Missed new = new ≡ old
-TakesTurn links old (Answered moment octets held attempts) new =
-    Answers links old moment octets held new × (map offered attempts ≡ sends_in held)
+-- One turn: after a failed receive the concentrator is the same; a datagram is answered, and what goes out
+-- is offered in its order.
+abbrev pub ServesTurn : Lists → Concentrator → Turn → Concentrator → Type 0
+ServesTurn links old Missed new = new ≡ old
+ServesTurn links old (Answered moment octets outgoing attempts) new =
+    Answers links old moment octets outgoing new × (map offered attempts ≡ sends_in outgoing)
 
 -- the turns, one after the other
-abbrev pub TakesTurns : Lists → Concentrator → List Turn → Concentrator → Type 0
-TakesTurns links old [] new = new ≡ old
-TakesTurns links old (turn ∷ turns) new =
-    (mid : Concentrator) × TakesTurn links old turn mid × TakesTurns links mid turns new
+abbrev pub ServesTurns : Lists → Concentrator → List Turn → Concentrator → Type 0
+ServesTurns links old [] new = new ≡ old
+ServesTurns links old (turn ∷ turns) new =
+    (mid : Concentrator) × ServesTurn links old turn mid × ServesTurns links mid turns new
 
 -- each count is the sum of its turns', up to the greatest u64
 pub record IsTally (turns : List Turn) (t : ServeTally) : Type 0 where
@@ -66,11 +67,11 @@ pub record Service : Type 0 where
 abbrev pub service : (old new : Concentrator) (before after : Option (List Act)) → Service
 service old new before after = record { old = old; new = new; before = before; after = after }
 
--- So many turns lead from a concentrator to another. Where the front's acts are known, those of the turns are
--- behind the ones before.
+-- So many turns lead from a concentrator to another. Where the front's acts are known, those of the turns
+-- are behind the ones before.
 pub record Serves (links : Lists) (s : Service) (count : ℕ) (t : ServeTally) : Type 0 where
   pub turns : List Turn
-  pub taken : TakesTurns links s.old turns s.new
+  pub taken : ServesTurns links s.old turns s.new
   pub acts : Adds s.before s.after (flat_map acts_in turns)
   pub so_many : length turns ≡ count
   pub tally : IsTally turns t
@@ -78,12 +79,12 @@ pub record Serves (links : Lists) (s : Service) (count : ℕ) (t : ServeTally) :
 -- a tally with a turn more
 abbrev pub with_turn : ServeTally → Turn → ServeTally
 with_turn t Missed = record t { failed = counted t.failed 1 }
-with_turn t (Answered moment octets held attempts) =
-    added t (counts_of held (unsent held + failures attempts))
+with_turn t (Answered moment octets outgoing attempts) =
+    added t (counts_of outgoing (unsent outgoing + failures attempts))
 
 -- one turn more
 pub record TakesOne (links : Lists) (s : Service) (t next : ServeTally) : Type 0 where
   pub turn : Turn
-  pub taken : TakesTurn links s.old turn s.new
+  pub taken : ServesTurn links s.old turn s.new
   pub acts : Adds s.before s.after (acts_in turn)
   pub tally : next ≡ with_turn t turn

@@ -2,8 +2,8 @@
 
 ghost use Rattle.std.specs.Prelude.{◌≡◌, ◌<◌, length, Some, None, IfSome, IfNone};
 ghost use Rattle.rohc_concentrator.specs.Setup.{entry_of};
-ghost use Rattle.rohc_serve.specs.Held.{held_of};
-ghost use Rattle.rohc_serve.specs.Datagram.{AreSettingsOf, link_of, packet_of, place_of, ports_of, Answers};
+ghost use Rattle.rohc_serve.specs.Outgoing.{outgoing_of};
+ghost use Rattle.rohc_serve.specs.Datagram.{AreSettingsOf, link_of, datagram_packet, place_of, ports_of, Answers};
 
 use crate::sends::Sends;
 use rohc_concentrator::{Concentrator, LinkSetting};
@@ -30,7 +30,7 @@ fn ports_of(links: &Links, link: u16) -> Option<Ports>
 
 /// The link that a datagram names, and the packet behind its number; none below two octets.
 fn named_link(octets: &[u8]) -> Option<(u16, &[u8])>
-    ensures named { IfSome result (λ named. (link_of octets.now ≡ Some named.0) × (packet_of octets.now ≡ named.1.now)) }
+    ensures named { IfSome result (λ named. (link_of octets.now ≡ Some named.0) × (datagram_packet octets.now ≡ named.1.now)) }
     ensures short { IfNone result (link_of octets.now ≡ None) }
 {
     let (link, packet) = octets.split_first_chunk::<2>()?;
@@ -48,7 +48,7 @@ pub fn answer_datagram<'a>(
     octets: &'a [u8],
 ) -> Sends<'a>
     requires { AreSettingsOf concentrator.old links.now.settings }
-    ensures answer { Answers links.now concentrator.old moment octets.entry.now (held_of result) concentrator.new }
+    ensures answer { Answers links.now concentrator.old moment octets.entry.now (outgoing_of result) concentrator.new }
     ensures absent { result.ports ≡ None → concentrator.new ≡ concentrator.old }
     ensures settings { AreSettingsOf concentrator.new links.now.settings }
 {

@@ -3,8 +3,8 @@
 ghost use Rattle.std.specs.Prelude.{◌≡◌, ◌≤◌, ◌<◌, ◌+◌, [], ◌∷◌, ◌++◌, length, map, take, IfSome, IfNone};
 ghost use Rattle.rohc_frame.specs.Reading.{elements_of};
 ghost use Rattle.rohc_replay.specs.Script.{longest_packet};
-ghost use Rattle.rohc_serve.specs.Held.{held_of};
-ghost use Rattle.rohc_serve.specs.Sending.{Offers, send, packet_of, packet_octets, packet_sends, too_long, feedback_sends, sends_in, unsent};
+ghost use Rattle.rohc_serve.specs.Outgoing.{outgoing_of};
+ghost use Rattle.rohc_serve.specs.Sending.{Offers, send, delivered_packet, packet_octets, packet_sends, too_long, feedback_sends, sends_in, unsent};
 
 use crate::front::Front;
 use crate::sends::Sends;
@@ -24,8 +24,8 @@ fn put_behind(buffer: &mut [u8], at: usize, octets: &[u8])
 /// Puts a packet into the buffer, and answers its length, where it is one that is sent.
 fn put_packet(buffer: &mut [u8], packet: &Delivered<'_>) -> Option<usize>
     requires room { length buffer.old ≡ longest_packet }
-    ensures put { IfSome result (λ size. (size ≤ longest_packet) × (take size buffer.new ≡ packet_octets (packet_of packet.now))) }
-    ensures long { IfNone result (longest_packet < length (packet_octets (packet_of packet.now))) }
+    ensures put { IfSome result (λ size. (size ≤ longest_packet) × (take size buffer.new ≡ packet_octets (delivered_packet packet.now))) }
+    ensures long { IfNone result (longest_packet < length (packet_octets (delivered_packet packet.now))) }
 {
     let head = packet.head.as_slice();
     let size = head.len() + packet.payload.len();
@@ -60,7 +60,7 @@ fn send_relayed<F: Front>(front: &mut F, port: u16, relayed: Elements<'_>) -> u6
 /// Sends the packet, where there is one, and answers how many sends failed.
 fn send_packet<F: Front>(front: &mut F, port: u16, buffer: &mut [u8], sends: &Sends<'_>) -> u64
     requires room { length buffer.old ≡ longest_packet }
-    ensures { Offers (packet_sends port (held_of sends.now).packet) (too_long (held_of sends.now).packet)
+    ensures { Offers (packet_sends port (outgoing_of sends.now).packet) (too_long (outgoing_of sends.now).packet)
         (F.acts front.old) (F.acts front.new) result }
 {
     let Some(packet) = &sends.packet else {
@@ -74,7 +74,7 @@ fn send_packet<F: Front>(front: &mut F, port: u16, buffer: &mut [u8], sends: &Se
 
 /// Sends the element for the peer, where there is one, and answers how many sends failed.
 fn send_feedback<F: Front>(front: &mut F, port: u16, sends: &Sends<'_>) -> u64
-    ensures { Offers (feedback_sends port (held_of sends.now).feedback) 0 (F.acts front.old) (F.acts front.new) result }
+    ensures { Offers (feedback_sends port (outgoing_of sends.now).feedback) 0 (F.acts front.old) (F.acts front.new) result }
 {
     let Some(element) = &sends.feedback else {
         return 0;
@@ -87,7 +87,7 @@ fn send_feedback<F: Front>(front: &mut F, port: u16, sends: &Sends<'_>) -> u64
 /// A packet above 65,535 octets isn't offered and counts as failed.
 pub(crate) fn send_all<F: Front>(front: &mut F, buffer: &mut [u8], sends: &Sends<'_>) -> u64
     requires room { length buffer.old ≡ longest_packet }
-    ensures { Offers (sends_in (held_of sends.now)) (unsent (held_of sends.now)) (F.acts front.old) (F.acts front.new) result }
+    ensures { Offers (sends_in (outgoing_of sends.now)) (unsent (outgoing_of sends.now)) (F.acts front.old) (F.acts front.new) result }
 {
     let Some(ports) = sends.ports else {
         return 0;

@@ -49,11 +49,11 @@ fn is_refusal(outcome: Outcome) -> bool
 impl<'a> Sends<'a> {
     ghost use Rattle.std.specs.Prelude.{◌≡◌, Some};
     ghost use Rattle.rohc_concentrator.specs.Report.{report_of};
-    ghost use Rattle.rohc_serve.specs.Held.{held_of, refused_for, sends_of};
+    ghost use Rattle.rohc_serve.specs.Outgoing.{outgoing_of, refused_for, sends_of};
 
     /// Nothing, since the datagram was refused.
     pub(crate) fn refused(ports: Option<Ports>) -> Self
-        ensures { held_of result ≡ refused_for ports }
+        ensures { outgoing_of result ≡ refused_for ports }
     {
         Sends {
             ports,
@@ -66,7 +66,7 @@ impl<'a> Sends<'a> {
 
     /// What is to be sent for an answer, by the ports of its link.
     pub(crate) fn answering(ports: Ports, answer: Answer<'a>) -> Self
-        ensures { held_of result ≡ sends_of (Some ports) (report_of answer.entry) }
+        ensures { outgoing_of result ≡ sends_of (Some ports) (report_of answer.entry) }
     {
         match answer {
             Answer::Arrived { reply, relayed, .. } => Sends {

@@ -1,6 +1,6 @@
 //! What was served.
 
-ghost use Rattle.rohc_serve.specs.Held.{held_of};
+ghost use Rattle.rohc_serve.specs.Outgoing.{outgoing_of};
 ghost use Rattle.rohc_serve.specs.Tally.{added, counts_of, one_if};
 
 use crate::sends::Sends;
@@ -30,7 +30,7 @@ impl ServeTally {
 
     /// Counts a datagram by what was to be sent for it, and its failed sends.
     pub fn add(&mut self, sends: &Sends<'_>, failed: u64)
-        ensures { self.new ≡ added self.old (counts_of (held_of sends.now) failed) }
+        ensures { self.new ≡ added self.old (counts_of (outgoing_of sends.now) failed) }
     {
         *self = ServeTally {
             datagrams: self.datagrams.saturating_add(1),

@@ -5,6 +5,8 @@ mod command;
 mod end;
 mod links_file;
 mod program;
+#[cfg(test)]
+mod test_links;
 mod tied;
 mod udp;
 

@@ -78,6 +78,7 @@ where
 #[cfg(test)]
 mod tests {
     use super::*;
+    use crate::test_links::LINK_1;
     use std::fs;
     use std::net::{Ipv4Addr, UdpSocket};
     use std::test::Fail;
@@ -87,7 +88,10 @@ mod tests {
         let taken = UdpSocket::bind(&rt, (Ipv4Addr::LOCALHOST, 0))?;
         let port = taken.local_addr()?.port();
         let path = format!(in rt.alloc(); "/tmp/rohcd-{port}.toml")?;
-        fs::write(&rt, path.as_str(), LINKS)?;
+        let links = format!(in rt.alloc();
+            "{LINK_1}deliver_port = 6001\nfeedback_port = 6002\nrelay_port = 6003\n"
+        )?;
+        fs::write(&rt, path.as_str(), links.as_str())?;
         let line = format!(in rt.alloc(); "serve --count 1 --port {port} --links {path}")?;
         let mut words = Vec::new(rt.alloc());
         for word in line.split(' ') {
@@ -99,22 +103,4 @@ mod tests {
         assert_eq!(rt; end.status(), 4);
         Ok(())
     }
-
-    /// Link 1 of the worked examples.
-    const LINKS: &str = "version = 1
-[[link]]
-number = 1
-cid = \"small\"
-max_cid = 15
-mode = \"O\"
-k1 = 2
-n1 = 3
-k2 = 2
-n2 = 3
-packet_ms = 20
-static_nack_ms = 1000
-deliver_port = 6001
-feedback_port = 6002
-relay_port = 6003
-";
 }

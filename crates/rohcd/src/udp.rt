@@ -45,27 +45,13 @@ impl<R: Net + Clock> Front for UdpFront<'_, R> {
 #[cfg(test)]
 mod tests {
     use super::*;
+    use crate::test_links::LINK_1;
     use rohc_concentrator::Concentrator;
     use rohc_replay::read_links;
     use rohc_serve::serve;
     use std::process::Abort;
     use std::test::Fail;
     use std::time::Duration;
-
-    /// Link 1 of the worked examples, without its ports.
-    const LINK_1: &str = "version = 1
-[[link]]
-number = 1
-cid = \"small\"
-max_cid = 15
-mode = \"O\"
-k1 = 2
-n1 = 3
-k2 = 2
-n2 = 3
-packet_ms = 20
-static_nack_ms = 1000
-";
 
     /// A socket on a free port, which waits for five seconds at most, and its port.
     fn bound<R: Net>(rt: &R) -> io::Result<(UdpSocket, u16)> {

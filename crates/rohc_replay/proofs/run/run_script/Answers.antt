@@ -1,4 +1,4 @@
-use Rattle.std.proofs.Common.{◌≡◌, [], ◌++◌, length, take, drop, slice_range, arith, refl, sym, ◌∙◌, ap, subst}
+use Rattle.std.proofs.Common.{◌≡◌, [], ◌-◌, ◌++◌, length, take, drop, slice_range, arith, refl, sym, ◌∙◌, ap, subst}
 use Rattle.std.proofs.KnownBytes.{Consumes-nil, Consumes-trans}
 use Rattle.std.proofs.lemmas.List.{length-take-le}
 use Rattle.rohc_replay.proofs.RangeLemmas.{range-none, drop-front, take-front}
@@ -11,16 +11,16 @@ use Rattle.rohc_replay.proofs.run.run_script.Goals as goal
 pub loop-init : goal.loop-init
 loop-init g c = record {
   kept = omega arith;
-  read = ([], Consumes-nil _, Stands-first _ _ _ c.new-counts.ensures.taken c.new-counts.ensures.tally);
+  read = ([], Consumes-nil _, rw (c.new-front.ensures.len, c.new-front.ensures.long) (Stands-first _ _ c.new-counts.result c.new-counts.ensures.taken c.new-counts.ensures.tally));
 }
 
-pub returns-then-end-filled-clause-whole : goal.returns-then-end-filled-clause-whole
-returns-then-end-filled-clause-whole g c =
+pub returns-then-end-front-clause-whole : goal.returns-then-end-front-clause-whole
+returns-then-end-front-clause-whole g c =
     let before = c.loop.invariant.read in
     let got = c.in-Ok.ensures in
-    let nothing : slice_range c.read_behind.new.line c.loop.filled c.in-Ok.end ≡ [] = ap (slice_range c.read_behind.new.line c.loop.filled) c.if-end-filled.true ∙ range-none c.read_behind.new.line c.loop.filled in
+    let nothing : slice_range c.read_behind.new.line c.loop.front.len c.in-Ok.end ≡ [] = ap (slice_range c.read_behind.new.line c.loop.front.len) c.if-end-front.true ∙ range-none c.read_behind.new.line c.loop.front.len in
     let stands = Stands-same c.args.concentrator.now (g.W.Write.contents c.args.writer.now) before.0 before.0 _ _ _ _ _ _ refl (sym got.kept) before.2 in
-    Replays-whole _ _ _ _ _ before.0 _ _ _ _ _ before.1 got.read nothing (got.at_end c.if-end-filled.true)
+    Replays-whole _ _ _ _ _ before.0 _ _ _ _ _ before.1 got.read nothing (got.at_end c.if-end-front.true)
     (c.in-Ok-end_script.ensures.ends c.args.concentrator.now (g.W.Write.contents c.args.writer.now) before.0 stands) c.in-Ok-flush.ensures.bytes
 
 pub loop-preserved : goal.loop-preserved
@@ -30,16 +30,18 @@ loop-preserved g c =
     let line = c.read_behind.new.line in
     let end = c.in-Ok.end in
     let ran = c.in-Ok-run_lines.ensures in
-    let moved = c.keep_behind-filled.ensures in
+    let len = c.in-Ok-run_lines.next.len in
     let bound : length (take end line) ≡ end = length-take-le end line got.behind.1 in
+    let last : drop (length (take end line) - len) (take end line) ≡ take len c.keep_behind.new.line =
+    ap (λ n. drop (n - len) (take end line)) bound ∙ drop-front line (end - len) end (omega arith) ∙ sym c.keep_behind.ensures in
     let stands = ran.stands c.args.concentrator.now (g.W.Write.contents c.args.writer.now) before.0
-    (Stands-same _ _ before.0 before.0 _ _ _ _ _ _ refl (sym got.kept ∙ sym (take-front line c.loop.filled end got.behind.0)) before.2) in
+    (Stands-same _ _ before.0 before.0 _ _ _ _ _ _ refl (sym got.kept ∙ sym (take-front line c.loop.front.len end got.behind.0)) before.2) in
     record {
-      kept = omega (arith, ran.kept, moved.count);
+      kept = ran.kept;
       read = (
-        before.0 ++ slice_range line c.loop.filled end,
+        before.0 ++ slice_range line c.loop.front.len end,
         Consumes-trans _ _ _ _ _ before.1 got.read,
-        Stands-same _ _ _ _ _ _ _ _ _ _ (ap (λ t. before.0 ++ t) (drop-front line c.loop.filled end got.behind.0)) (drop-front line c.in-Ok-run_lines.used end (omega (arith, ran.used)) ∙ sym moved.kept) stands,
+        Stands-same _ _ _ _ _ _ _ _ _ _ (ap (λ t. before.0 ++ t) (drop-front line c.loop.front.len end got.behind.0)) last stands,
       );
     }
 
@@ -48,9 +50,9 @@ returns-in_default-end_script-clause-fault g c =
     let before = c.loop.invariant.read in
     let got = c.in-Ok.ensures in
     let line = c.read_behind.new.line in
-    let nothing : slice_range line c.loop.filled c.in-Ok.end ≡ [] = ap (slice_range line c.loop.filled) c.if-end-filled.true ∙ range-none line c.loop.filled in
+    let nothing : slice_range line c.loop.front.len c.in-Ok.end ≡ [] = ap (slice_range line c.loop.front.len) c.if-end-front.true ∙ range-none line c.loop.front.len in
     let stands = Stands-same c.args.concentrator.now (g.W.Write.contents c.args.writer.now) before.0 before.0 _ _ _ _ _ _ refl (sym got.kept) before.2 in
-    rw c.write_fault.ensures (fails_at_end _ _ _ _ before.0 c.end_script.new.concentrator (g.W.Write.contents c.end_script.new.writer) c.end_script.new.counts (Consumes-nothing _ _ _ before.0 _ before.1 got.read nothing) (got.at_end c.if-end-filled.true)
+    rw c.write_fault.ensures (fails_at_end _ _ _ _ before.0 c.end_script.new.concentrator (g.W.Write.contents c.end_script.new.writer) c.end_script.new.counts (Consumes-nothing _ _ _ before.0 _ before.1 got.read nothing) (got.at_end c.if-end-front.true)
     (c.in_default-end_script.ensures.stops c.args.concentrator.now (g.W.Write.contents c.args.writer.now) before.0 stands))
 
 pub returns-in_default-flush-clause-fault : goal.returns-in_default-flush-clause-fault
@@ -58,9 +60,9 @@ returns-in_default-flush-clause-fault g c =
     let before = c.loop.invariant.read in
     let got = c.in-Ok.ensures in
     let line = c.read_behind.new.line in
-    let nothing : slice_range line c.loop.filled c.in-Ok.end ≡ [] = ap (slice_range line c.loop.filled) c.if-end-filled.true ∙ range-none line c.loop.filled in
+    let nothing : slice_range line c.loop.front.len c.in-Ok.end ≡ [] = ap (slice_range line c.loop.front.len) c.if-end-front.true ∙ range-none line c.loop.front.len in
     let stands = Stands-same c.args.concentrator.now (g.W.Write.contents c.args.writer.now) before.0 before.0 _ _ _ _ _ _ refl (sym got.kept) before.2 in
-    rw c.write_fault-in_default-flush.ensures (fails_flushing _ _ _ _ before.0 c.end_script.new.concentrator (g.W.Write.contents c.end_script.new.writer) _ c.end_script.new.counts (Consumes-nothing _ _ _ before.0 _ before.1 got.read nothing) (got.at_end c.if-end-filled.true)
+    rw c.write_fault-in_default-flush.ensures (fails_flushing _ _ _ _ before.0 c.end_script.new.concentrator (g.W.Write.contents c.end_script.new.writer) _ c.end_script.new.counts (Consumes-nothing _ _ _ before.0 _ before.1 got.read nothing) (got.at_end c.if-end-front.true)
     (c.in-Ok-end_script.ensures.ends c.args.concentrator.now (g.W.Write.contents c.args.writer.now) before.0 stands) c.flush.ensures.bytes)
 
 pub returns-in_default-run_lines-clause-fault : goal.returns-in_default-run_lines-clause-fault
@@ -69,8 +71,8 @@ returns-in_default-run_lines-clause-fault g c =
     let got = c.in-Ok.ensures in
     let line = c.read_behind.new.line in
     let end = c.in-Ok.end in
-    let stands = Stands-same _ _ before.0 before.0 _ _ _ _ _ _ refl (sym got.kept ∙ sym (take-front line c.loop.filled end got.behind.0)) before.2 in
+    let stands = Stands-same _ _ before.0 before.0 _ _ _ _ _ _ refl (sym got.kept ∙ sym (take-front line c.loop.front.len end got.behind.0)) before.2 in
     let stops = c.in_default-run_lines.ensures.stops c.args.concentrator.now (g.W.Write.contents c.args.writer.now) before.0 stands in
-    let front : drop c.loop.filled (take end line) ≡ slice_range line c.loop.filled end = drop-front line c.loop.filled end got.behind.0 in
-    rw c.write_fault-in_default-run_lines.ensures (fails_writing _ _ _ _ (before.0 ++ slice_range line c.loop.filled end) c.run_lines.new.concentrator (g.W.Write.contents c.run_lines.new.writer) c.run_lines.new.counts (Consumes-trans _ _ _ before.0 _ before.1 got.read)
+    let front : drop c.loop.front.len (take end line) ≡ slice_range line c.loop.front.len end = drop-front line c.loop.front.len end got.behind.0 in
+    rw c.write_fault-in_default-run_lines.ensures (fails_writing _ _ _ _ (before.0 ++ slice_range line c.loop.front.len end) c.run_lines.new.concentrator (g.W.Write.contents c.run_lines.new.writer) c.run_lines.new.counts (Consumes-trans _ _ _ before.0 _ before.1 got.read)
     (subst (λ t. StopsWithin (change c.args.concentrator.now (g.W.Write.contents c.args.writer.now) c.run_lines.new.concentrator (g.W.Write.contents c.run_lines.new.writer)) (before.0 ++ t) c.run_lines.new.counts) front stops))

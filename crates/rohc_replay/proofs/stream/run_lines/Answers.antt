@@ -5,7 +5,7 @@ use Rattle.rohc_replay.specs.Lines.{has_newline}
 use Rattle.rohc_replay.proofs.RangeLemmas.{range-ahead, range-end}
 use Rattle.rohc_replay.proofs.StreamLemmas.{seen_parts, Stands-along, Stands-behind, Stands-long, Stands-short, Stands-end}
 use Rattle.rohc_replay.proofs.stream.run_lines.Goals as goal
-use Rattle.rohc_replay.proofs.stream.run_lines.Goals.{then-octets-start-gt-LONGEST_LINE, else-octets-start-gt-LONGEST_LINE}
+use Rattle.rohc_replay.proofs.stream.run_lines.Goals.{then-long-via-then-long, then-long-via-else-long+then-len-gt-LONGEST_LINE}
 
 pub loop-ahead-preserved : goal.loop-ahead-preserved
 loop-ahead-preserved g c =
@@ -23,32 +23,10 @@ loop-ahead-preserved g c =
       later = omega (arith, before.later);
       within = omega arith;
       stands = λ first held seen s.
-          Stands-behind first held seen octets c.args.searched (from + ahead) _ _ _ (omega (arith, before.later)) inside newline
-          (c.in_ok-end_line.ensures.stands first held (seen ++ slice_range octets c.args.searched (from + ahead))
-          (Stands-along first held seen octets c.args.searched c.loop-ahead.start from (from + ahead) _ _ _ _ before.begun before.later (omega arith) none (before.stands first held seen s)));
+          Stands-behind first held seen octets c.args.front.len (from + ahead) _ _ _ (omega (arith, before.later)) inside newline
+          (c.in_ok-end_line.ensures.stands first held (seen ++ slice_range octets c.args.front.len (from + ahead))
+          (Stands-along first held seen octets c.args.front.len c.loop-ahead.start from (from + ahead) _ _ _ _ before.begun before.later (omega arith) none (before.stands first held seen s)));
     }
-
-pub returns-then-long-clause-stands : goal.returns-then-long-clause-stands
-returns-then-long-clause-stands g c = λ first held seen s.
-    let octets = c.args.octets.now in
-    let before = c.loop-ahead.invariant in
-    let judged = c.if-octets-start-gt-LONGEST_LINE in
-    Stands-long first held _ _ _ c.loop-ahead.long judged.long _ _ _
-    (elim judged.branch [ then-octets-start-gt-LONGEST_LINE w ↦ inl (w.long-is, omega (arith, length-drop c.loop-ahead.start octets)) | else-octets-start-gt-LONGEST_LINE w ↦ inr w.long-is ])
-    c.if-long.true
-    (Stands-end first held seen octets c.args.searched c.loop-ahead.start _ _ _ _
-    (Stands-along first held seen octets c.args.searched c.loop-ahead.start c.loop-ahead.from (length octets) _ _ _ _ before.begun before.later before.within c.in_default.ensures.none (before.stands first held seen s)))
-
-pub returns-else-long-clause-stands : goal.returns-else-long-clause-stands
-returns-else-long-clause-stands g c = λ first held seen s.
-    let octets = c.args.octets.now in
-    let before = c.loop-ahead.invariant in
-    let judged = c.if-octets-start-gt-LONGEST_LINE in
-    Stands-short first held _ _ c.loop-ahead.long judged.long _ _ _
-    (elim judged.branch [ then-octets-start-gt-LONGEST_LINE w ↦ inl (w.long-is, omega (arith, length-drop c.loop-ahead.start octets)) | else-octets-start-gt-LONGEST_LINE w ↦ inr w.long-is ])
-    c.if-long.false
-    (Stands-end first held seen octets c.args.searched c.loop-ahead.start _ _ _ _
-    (Stands-along first held seen octets c.args.searched c.loop-ahead.start c.loop-ahead.from (length octets) _ _ _ _ before.begun before.later before.within c.in_default.ensures.none (before.stands first held seen s)))
 
 pub returns-in_err-end_line-clause-stops : goal.returns-in_err-end_line-clause-stops
 returns-in_err-end_line-clause-stops g c =
@@ -63,9 +41,29 @@ returns-in_err-end_line-clause-stops g c =
     let newline : get_or octets (from + ahead) 0 ≡ 10 = sym (get_or-drop from octets ahead 0) ∙ subst (λ t. get_or t ahead 0 ≡ 10) tail found.1 in
     let failed = err_from_is_err_and c.from_residual.result c.from_residual.ensures.1 in
     rw failed.1 (λ first held seen s. (
-      (seen ++ slice_range octets c.args.searched (from + ahead)) ++ 10 ∷ [],
+      (seen ++ slice_range octets c.args.front.len (from + ahead)) ++ 10 ∷ [],
       drop (from + ahead + 1) octets,
-      seen_parts seen octets c.args.searched (from + ahead) (omega (arith, before.later)) inside newline,
-      c.in_err-end_line.ensures.stops first held (seen ++ slice_range octets c.args.searched (from + ahead))
-          (Stands-along first held seen octets c.args.searched c.loop-ahead.start from (from + ahead) _ _ _ _ before.begun before.later (omega arith) none (before.stands first held seen s)),
+      seen_parts seen octets c.args.front.len (from + ahead) (omega (arith, before.later)) inside newline,
+      c.in_err-end_line.ensures.stops first held (seen ++ slice_range octets c.args.front.len (from + ahead))
+          (Stands-along first held seen octets c.args.front.len c.loop-ahead.start from (from + ahead) _ _ _ _ before.begun before.later (omega arith) none (before.stands first held seen s)),
     ))
+
+pub returns-then-long-clause-stands : goal.returns-then-long-clause-stands
+returns-then-long-clause-stands g c = λ first held seen s.
+    let octets = c.args.octets.now in
+    let before = c.loop-ahead.invariant in
+    Stands-long first held _ (drop c.loop-ahead.start octets) _ c.loop-ahead.long _ _ _
+    (elim c.then-long.branch [
+      | then-long-via-then-long w ↦ inl w.if-long.true
+      | then-long-via-else-long+then-len-gt-LONGEST_LINE w ↦ inr (omega (arith, length-drop c.loop-ahead.start octets))
+    ])
+    (Stands-end first held seen octets c.args.front.len c.loop-ahead.start _ _ _ _
+    (Stands-along first held seen octets c.args.front.len c.loop-ahead.start c.loop-ahead.from (length octets) _ _ _ _ before.begun before.later before.within c.in_default.ensures.none (before.stands first held seen s)))
+
+pub returns-clause-stands : goal.returns-clause-stands
+returns-clause-stands g c = λ first held seen s.
+    let octets = c.args.octets.now in
+    let before = c.loop-ahead.invariant in
+    Stands-short first held _ octets c.loop-ahead.start c.loop-ahead.long _ _ _ (omega (arith, before.begun, before.within)) c.if-long.false
+    (Stands-end first held seen octets c.args.front.len c.loop-ahead.start _ _ _ _
+    (Stands-along first held seen octets c.args.front.len c.loop-ahead.start c.loop-ahead.from (length octets) _ _ _ _ before.begun before.later before.within c.in_default.ensures.none (before.stands first held seen s)))

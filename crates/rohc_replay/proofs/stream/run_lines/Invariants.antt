@@ -8,11 +8,11 @@ use Rattle.rohc_replay.proofs.stream.run_lines.Given as goal
 abbrev pub invariant-loop-ahead : goal.invariant-loop-ahead
 invariant-loop-ahead g l = record {
   begun : l.start ≤ l.from;
-  later : l.searched ≤ l.from;
+  later : l.fn.front.len ≤ l.from;
   within : l.from ≤ length l.octets;
   stands : (first : Concentrator) (held : Option (List ℕ)) (seen : List ℕ) →
-      Stands (change first held l.fn.concentrator (g.W.Write.contents l.fn.writer)) seen (take l.searched l.octets) l.fn.long l.fn.counts →
-      Stands (change first held l.concentrator (g.W.Write.contents l.writer)) (seen ++ slice_range l.octets l.searched l.from) (slice_range l.octets l.start l.from) l.long l.counts;
+      Stands (change first held l.fn.concentrator (g.W.Write.contents l.fn.writer)) seen (take l.fn.front.len l.octets) l.fn.front.long l.fn.counts →
+      Stands (change first held l.concentrator (g.W.Write.contents l.writer)) (seen ++ slice_range l.octets l.fn.front.len l.from) (slice_range l.octets l.start l.from) l.long l.counts;
 }
 
 abbrev pub decreases-loop-ahead : goal.decreases-loop-ahead

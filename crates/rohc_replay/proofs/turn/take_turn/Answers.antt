@@ -31,7 +31,7 @@ returns-in-Ok g c =
       is_line = (search rules);
       turns = (None, (record { forgotten = said.forgotten; settings = said.settings; others = said.others; emptied = said.emptied; order = said.order }, reset_silent (setting_at c.args.concentrator.now c.in-Some-Reset.link) (λ e. let h = c.in-Ok.ensures.absent.1 e in cc)), refl);
       tally = search rules;
-      offers = (Appends-nil (g.W.Write.contents c.args.writer.now), counted_none c.args.counts.now.taken c.args.counts.now.in_range);
+      offers = (Appends-nil (g.W.Write.contents c.args.writer.now), counted_none c.args.counts.now.answers.taken c.args.counts.now.answers.in_range);
     }
 
 pub returns-in-Err : goal.returns-in-Err

@@ -4,7 +4,7 @@ use Rattle.rohc_frame.specs.Reading.{elements_of}
 use Rattle.rohc_replay.specs.AnswerLines.{relay_line, response_lines}
 use Rattle.rohc_replay.proofs.LineLemmas.{text-append}
 use Rattle.rohc_replay.proofs.OfferLemmas.{offers_more}
-use Rattle.rohc_replay.proofs.output.offer_answer.Goals as goal
+use Rattle.rohc_replay.proofs.output.Answers.offer_answer.Goals as goal
 
 pub returns-in_ok-offer_relays-in-Arrived : goal.returns-in_ok-offer_relays-in-Arrived
 returns-in_ok-offer_relays-in-Arrived g c =

@@ -1,4 +1,4 @@
--- What is to be sent for a datagram. Words: Held, held_of; refused_for, sends_of a report.
+-- What is to be sent for a datagram. Words: Outgoing, outgoing_of; refused_for, sends_of a report.
 use Rattle.std.specs.Prelude.{ℕ, List, [], Bool, true, false, Option, None}
 use Rattle.rohc_frame.specs.Reading.{elements_of}
 use Rattle.rohc_feedback.specs.Element.{octets_of}
@@ -8,7 +8,7 @@ use Rattle.rohc_replay.specs.declared.links.Ports.{Ports}
 use Rattle.rohc_serve.specs.declared.sends.Sends.{Sends}
 
 -- What is to be sent, apart from where its octets lie in memory.
-pub record Held : Type 0 where
+pub record Outgoing : Type 0 where
   pub ports : Option Ports
   pub relayed : List (List ℕ)
   pub packet : Option Packet
@@ -16,8 +16,8 @@ pub record Held : Type 0 where
   pub refused : Bool
 
 -- the sends of the code as such a value
-abbrev pub held_of : Sends → Held
-held_of s = record {
+abbrev pub outgoing_of : Sends → Outgoing
+outgoing_of s = record {
   ports = s.ports;
   relayed = elements_of s.relayed;
   packet = packet_in s.packet;
@@ -26,11 +26,11 @@ held_of s = record {
 }
 
 -- nothing is sent, since the datagram was refused
-abbrev pub refused_for : Option Ports → Held
+abbrev pub refused_for : Option Ports → Outgoing
 refused_for ports = record { ports = ports; relayed = []; packet = None; feedback = None; refused = true }
 
 -- what is sent for a report, by the ports of its link: exactly its relayed data, its packet and its feedback
-abbrev pub sends_of : Option Ports → Report → Held
+abbrev pub sends_of : Option Ports → Report → Outgoing
 sends_of ports (Arrived cid response relayed) = record {
   ports = ports;
   relayed = relayed;

@@ -1,7 +1,8 @@
 use Rattle.std.proofs.Common.{◌≡◌, ◌+◌, ◌-◌, ◌++◌, ap, ◌∙◌, List, ℕ, arith}
 use Rattle.std.proofs.lemmas.List.{length-set}
+use Rattle.rohc_replay.specs.LineText.{text_in}
 use Rattle.rohc_replay.proofs.NumberLemmas.{place_left, shorter, digit_put, first_digit_put}
-use Rattle.rohc_replay.proofs.line_text.put_number.Goals as goal
+use Rattle.rohc_replay.proofs.line_text.LineText.put_number.Goals as goal
 
 pub loop-rest-preserved : goal.loop-rest-preserved
 loop-rest-preserved c =
@@ -19,5 +20,5 @@ pub returns-clause-text : goal.returns-clause-text
 returns-clause-text c =
     let l = c.loop-rest in
     c.put.ensures.text
-    ∙ ap (λ (digits : List ℕ). c.args.line.now.items ++ digits)
+    ∙ ap (λ (digits : List ℕ). text_in c.args.self.now ++ digits)
     (first_digit_put l.rest l.at l.digits _ c.loop-rest-test.false (omega arith) l.invariant.five l.invariant.digits)

@@ -1,6 +1,6 @@
 use Rattle.std.proofs.Common.{◌+◌, ◌≡◌, ◌<◌, ◌^◌, ◌++◌, drop, length}
 use Rattle.std.specs.Fmt.{decimal}
-use Rattle.rohc_replay.proofs.line_text.put_number.Given as goal
+use Rattle.rohc_replay.proofs.line_text.LineText.put_number.Given as goal
 
 -- the digits behind the place are the last of the number's
 abbrev pub invariant-loop-rest : goal.invariant-loop-rest

@@ -3,7 +3,7 @@ use Rattle.rohc_replay.specs.AnswerLines.{relay_line, text_of}
 use Rattle.rohc_frame.specs.Reading.{elements_of}
 use Rattle.rohc_replay.proofs.LineLemmas.{text-relays, text-no_relays}
 use Rattle.rohc_replay.proofs.OfferLemmas.{front_more, front_part, front_all, offers_stopped}
-use Rattle.rohc_replay.proofs.output.offer_relays.Goals as goal
+use Rattle.rohc_replay.proofs.output.Answers.offer_relays.Goals as goal
 
 pub loop-feedback-preserved : goal.loop-feedback-preserved
 loop-feedback-preserved g c =

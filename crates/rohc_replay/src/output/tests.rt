@@ -1,0 +1,214 @@
+use super::*;
+use arrayvec::ArrayVec;
+use rohc_context::Delivered;
+use rohc_frame::{CidKind, cut};
+use std::alloc::{AllocError, Global};
+use std::io::{self, Error, ErrorKind};
+use std::process::Abort;
+
+/// A writer that takes a few octets at a call and fails at one.
+#[derive(Drop)]
+struct Taker {
+    text: Vec<u8>,
+    calls: u32,
+    most: usize,
+    fails_at: u32,
+}
+
+impl Write for Taker {
+    ghost use Rattle.std.specs.Prelude.{Some};
+
+    ghost contents = { λ taker. Some taker.text.items };
+
+    fn write(&mut self, text: &[u8]) -> io::Result<usize> {
+        self.calls = self.calls.wrapping_add(1);
+        if self.calls == self.fails_at {
+            return Err(Error::from(ErrorKind::TimedOut));
+        }
+        let size = text.len().min(self.most);
+        self.text.extend_from_slice(&text[..size])?;
+        Ok(size)
+    }
+
+    fn flush(&mut self) -> io::Result<()> {
+        Ok(())
+    }
+}
+
+fn taking(alloc: Global, most: usize, fails_at: u32) -> Taker {
+    Taker {
+        text: Vec::new(alloc),
+        calls: 0,
+        most,
+        fails_at,
+    }
+}
+
+/// A reply with these octets, where they aren't empty, and this feedback.
+fn reply<'a>(head: &[u8], payload: &'a [u8], feedback: &[u8], outcome: Outcome) -> Reply<'a> {
+    let mut packet = None;
+    if outcome == Outcome::Delivered {
+        let mut all = ArrayVec::new();
+        let _ = all.try_extend_from_slice(head);
+        packet = Some(Delivered { head: all, payload });
+    }
+    let mut element = None;
+    if !feedback.is_empty() {
+        let mut all = ArrayVec::new();
+        let _ = all.try_extend_from_slice(feedback);
+        element = Some(all);
+    }
+    Reply {
+        packet,
+        feedback: element,
+        outcome,
+    }
+}
+
+/// The answer of one identifier, without anything to relay.
+fn arrived<'a>(cid: u16, reply: Reply<'a>) -> Answer<'a> {
+    match cut(CidKind::Small, 15, &[0x10]) {
+        Ok(framed) => Answer::Arrived {
+            cid,
+            reply,
+            relayed: framed.feedback(),
+        },
+        Err(_) => Answer::Refused(Refusal::Empty),
+    }
+}
+
+/// A reply of an identifier of a link, and its lines.
+#[derive(Clone, Copy)]
+struct Told {
+    link: u16,
+    cid: u16,
+    head: &'static [u8],
+    payload: &'static [u8],
+    feedback: &'static [u8],
+    outcome: Outcome,
+    lines: &'static str,
+}
+
+/// A reply without octets and feedback.
+const NOTHING: Told = Told {
+    link: 1,
+    cid: 0,
+    head: b"",
+    payload: b"",
+    feedback: b"",
+    outcome: Outcome::Delivered,
+    lines: "1 0 ip -\n",
+};
+
+const REPLIES: [Told; 6] = [
+    Told {
+        payload: b"\x45\xaa",
+        feedback: b"\xf1\x00",
+        lines: "1 0 ip 45aa\n1 0 feedback f100\n",
+        ..NOTHING
+    },
+    Told {
+        feedback: b"\xf1\x00",
+        outcome: Outcome::Stored,
+        lines: "1 0 stored\n1 0 feedback f100\n",
+        ..NOTHING
+    },
+    Told {
+        link: 2,
+        cid: 300,
+        head: b"\x45",
+        payload: b"\x01\x02",
+        lines: "2 300 ip 450102\n",
+        ..NOTHING
+    },
+    Told {
+        cid: 1,
+        outcome: Outcome::Refused(Refusal::NoContext),
+        lines: "1 1 refused NoContext\n",
+        ..NOTHING
+    },
+    Told {
+        feedback: b"\xf4\x60\x01\x11\x0d",
+        outcome: Outcome::Refused(Refusal::Check),
+        lines: "1 0 feedback f46001110d\n1 0 refused Check\n",
+        ..NOTHING
+    },
+    NOTHING,
+];
+
+/// Offers an answer, and compares what was taken with these lines.
+fn says(rt: &impl Abort, alloc: Global, link: u16, answer: Answer<'_>, lines: &str) {
+    let mut taker = taking(alloc, usize::MAX, 0);
+    let mut answers = Answers::new();
+    assert!(rt;
+        answers.offer_answer(&mut taker, link, &answer).is_ok(),
+        "{lines}"
+    );
+    assert_eq!(rt; taker.text.as_slice(), lines.as_bytes(), "{lines}");
+    assert_eq!(rt; answers.taken, lines.len() as u64, "{lines}");
+}
+
+#[test]
+fn answers_are_lines(rt: HostRuntime) -> Result<(), AllocError> {
+    for told in REPLIES {
+        let reply = reply(told.head, told.payload, told.feedback, told.outcome);
+        let answer = arrived(told.cid, reply);
+        says(&rt, rt.alloc(), told.link, answer, told.lines);
+    }
+    let refused = Answer::Refused(Refusal::NoLink);
+    says(&rt, rt.alloc(), 9, refused, "9 - refused NoLink\n");
+    Ok(())
+}
+
+#[test]
+fn relayed_feedback_is_a_line(rt: HostRuntime) -> Result<(), AllocError> {
+    for (feedback, text) in [
+        (b"\x20\x07".as_slice(), "1 - relay 2007\n"),
+        (b"".as_slice(), "1 - relay -\n"),
+    ] {
+        let mut taker = taking(rt.alloc(), usize::MAX, 0);
+        assert!(rt; Answers::new().offer_relay(&mut taker, 1, feedback).is_ok());
+        assert_eq!(rt; taker.text.as_slice(), text.as_bytes());
+    }
+    Ok(())
+}
+
+#[test]
+fn a_short_line_is_one_write_and_a_long_one_goes_in_parts(
+    rt: HostRuntime,
+) -> Result<(), AllocError> {
+    for (size, calls) in [(200, 1), (1400, 3)] {
+        let mut payload = Vec::new(rt.alloc());
+        payload.resize(size, 0x5a)?;
+        let answer = arrived(0, reply(&[], &payload, &[], Outcome::Delivered));
+        let mut whole = taking(rt.alloc(), usize::MAX, 0);
+        let mut slow = taking(rt.alloc(), 7, 0);
+        assert!(rt; Answers::new().offer_answer(&mut whole, 1, &answer).is_ok());
+        assert!(rt; Answers::new().offer_answer(&mut slow, 1, &answer).is_ok());
+        assert_eq!(rt; whole.calls, calls);
+        assert_eq!(rt; whole.text.len(), 2 * size + 8);
+        assert!(rt; whole.text.ends_with(b"5a5a5a\n"));
+        assert_eq!(rt; whole.text.as_slice(), slow.text.as_slice());
+    }
+    Ok(())
+}
+
+#[test]
+fn a_fault_stops_the_line(rt: HostRuntime) -> Result<(), AllocError> {
+    for (most, fails_at, text) in [
+        (3, 2, "9 -"),
+        (7, 3, "9 - refused No"),
+        (0, 0, ""),
+        (usize::MAX, 1, ""),
+    ] {
+        let mut taker = taking(rt.alloc(), most, fails_at);
+        let mut answers = Answers::new();
+        assert_eq!(rt;
+            answers.offer_refusal(&mut taker, 9, Refusal::NoLink),
+            Err(Stopped)
+        );
+        assert_eq!(rt; taker.text.as_slice(), text.as_bytes());
+        assert_eq!(rt; answers.taken, text.len() as u64);
+    }
+    Ok(())
+}
