@@ -1,0 +1,5 @@
+pub mod LooseValues
+pub mod HandleValues
+pub mod RelayLemmas
+pub mod SetupLemmas
+pub mod PacketLemmas

@@ -1,0 +1,51 @@
+-- What the exported functions do to a gateway. Words: HasRoom; Takes, HasArrived; HasReset;
+-- has_link, has_record.
+use Rattle.std.specs.Prelude.{◌≡◌, ℕ, ◌+◌, ◌≤◌, List, length, Bool, false, is_some, Option, Some, None}
+use Rattle.rohc_concentrator.specs.declared.concentrator.Concentrator.{Concentrator}
+use Rattle.rohc_concentrator.specs.Report.{Report}
+use Rattle.rohc_concentrator.specs.Events.{Arrives, Resets}
+use Rattle.rohc_concentrator.specs.Tables.{setting_at, record_at}
+use Rattle.rohc_c.specs.Written.{Places, IsWritten}
+use Rattle.rohc_c.specs.declared.arrival.RohcArrival.{RohcArrival}
+
+-- the buffers have room for all that a packet of these octets may be answered
+pub record HasRoom (octets : List ℕ) (p : Places) : Type 0 where
+  pub packet : length octets + 40 ≤ length p.packet
+  pub feedback : 8 ≤ length p.feedback
+  pub relayed : length octets ≤ length p.relayed
+
+-- a gateway's concentrator before a call and after it
+pub record Change : Type 0 where
+  pub old : Option Concentrator
+  pub new : Option Concentrator
+
+-- there is a concentrator, and it takes one arrival, of this report
+pub record Takes (c : Change) (link moment : ℕ) (octets : List ℕ) (report : Report) : Type 0 where
+  pub before : Concentrator
+  pub after : Concentrator
+  pub was : c.old ≡ Some before
+  pub is : c.new ≡ Some after
+  pub arrives : Arrives before link moment octets report after
+
+-- an arrival, whose whole answer stands in the buffers and the struct
+abbrev pub HasArrived : Change → (link moment : ℕ) → List ℕ → Places → RohcArrival → Type 0
+HasArrived c link moment octets p a =
+    (report : Report) × Takes c link moment octets report × IsWritten report p a
+
+-- there is a concentrator, and every record of the link is forgotten, and no other
+pub record HasReset (c : Change) (link : ℕ) : Type 0 where
+  pub before : Concentrator
+  pub after : Concentrator
+  pub was : c.old ≡ Some before
+  pub is : c.new ≡ Some after
+  pub resets : Resets before link after
+
+-- there is a concentrator, with the link or without it
+abbrev pub has_link : Option Concentrator → ℕ → Bool
+has_link None link = false
+has_link (Some k) link = is_some (setting_at k link)
+
+-- there is a concentrator, and a record stands for the identifier of the link
+abbrev pub has_record : Option Concentrator → (link cid : ℕ) → Bool
+has_record None link cid = false
+has_record (Some k) link cid = is_some (record_at k link cid)

@@ -1,0 +1,71 @@
+-- An answer as C reads it. Words: Places, the caller's buffers; StandsIn, IsTold, Tells; IsWritten; IsWithin.
+use Rattle.std.specs.Prelude.{◌≡◌, ℕ, ◌≤◌, List, [], ◌++◌, length, take, Bool, true, false, Option, Some, None, IfSome}
+use Rattle.rohc_context.specs.Response.{Packet}
+use Rattle.rohc_context.specs.Refusal.{number_of}
+use Rattle.rohc_context.specs.declared.reply.Outcome.{Outcome}
+use Rattle.rohc_context.specs.declared.reply.Outcome.TheVariants.{Delivered, Stored}
+use Rattle.rohc_context.specs.declared.reply.Outcome.TheVariants as outcomes
+use Rattle.rohc_concentrator.specs.Report.{Report, Arrived, OnlyFront, Refused}
+use Rattle.rohc_c.specs.Relay.{told}
+use Rattle.rohc_c.specs.declared.arrival.RohcArrival.{RohcArrival}
+
+-- the caller's buffers
+pub record Places : Type 0 where
+  pub packet : List ℕ
+  pub feedback : List ℕ
+  pub relayed : List ℕ
+
+-- all of these octets, so many, stand at the front of a buffer
+abbrev pub StandsIn : List ℕ → ℕ → List ℕ → Type 0
+StandsIn octets count place = (count ≡ length octets) × (take count place ≡ octets)
+
+-- the number of an outcome: 0 for a packet, 31 where the context was made or renewed without one, else the
+-- refusal's
+abbrev pub outcome_number : Outcome → ℕ
+outcome_number Delivered = 0
+outcome_number Stored = 31
+outcome_number (outcomes.Refused refusal) = number_of refusal
+
+-- octets, or none: whether there are some, and if so all of them at the front of a buffer
+abbrev pub IsTold : Option (List ℕ) → List ℕ → (some : Bool) → (count : ℕ) → Type 0
+IsTold None place some count = (some ≡ false) × (count ≡ 0)
+IsTold (Some octets) place some count = (some ≡ true) × StandsIn octets count place
+
+-- the octets of a packet that was rebuilt, if there is one
+abbrev pub packet_octets : Option Packet → Option (List ℕ)
+packet_octets None = None
+packet_octets (Some p) = Some (p.head ++ p.payload)
+
+-- what became of a packet, by these numbers, with its packet, its feedback and what it relayed
+pub record Tells (kind outcome cid : ℕ) (packet : Option (List ℕ)) (feedback : Option (List ℕ))
+    (relayed : List (List ℕ)) (p : Places) (a : RohcArrival) : Type 0 where
+  pub kind_told : a.kind ≡ kind
+  pub outcome_told : a.outcome ≡ outcome
+  pub cid_told : a.cid ≡ cid
+  pub packet_told : IsTold packet p.packet a.has_packet a.packet_length
+  pub feedback_told : IsTold feedback p.feedback a.has_feedback a.feedback_length
+  pub relayed_count : a.relayed_count ≡ length relayed
+  pub relayed_told : StandsIn (told relayed) a.relayed_length p.relayed
+
+-- An answer stands in the buffers and the struct: of kind 0 for an identifier's own, 1 for padding and
+-- feedback alone, 2 for a refusal without an identifier.
+abbrev pub IsWritten : Report → Places → RohcArrival → Type 0
+IsWritten (Arrived cid r relayed) p a =
+    Tells 0 (outcome_number r.outcome) cid (packet_octets r.packet) r.feedback relayed p a
+IsWritten (OnlyFront relayed) p a = Tells 1 0 0 None None relayed p a
+IsWritten (Refused refusal) p a = Tells 2 (number_of refusal) 0 None None [] p a
+
+-- the feedback for this side that an answer relays
+abbrev pub relayed_in : Report → List (List ℕ)
+relayed_in (Arrived cid response relayed) = relayed
+relayed_in (OnlyFront relayed) = relayed
+relayed_in (Refused refusal) = []
+
+-- a packet that was rebuilt has so many octets at most behind its head
+abbrev pub IsPacketWithin : ℕ → Option Packet → Type 0
+IsPacketWithin most packet = IfSome packet (λ (p : Packet). length p.payload ≤ most)
+
+abbrev pub IsWithin : ℕ → Report → Type 0
+IsWithin most (Arrived cid response relayed) = IsPacketWithin most response.packet
+IsWithin most (OnlyFront relayed) = Unit {0}
+IsWithin most (Refused refusal) = Unit {0}

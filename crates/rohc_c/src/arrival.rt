@@ -1,0 +1,154 @@
+//! An answer, into the caller's buffers.
+
+ghost use Rattle.std.specs.Prelude.{◌≡◌, ◌≤◌, ◌+◌, ◌-◌, ◌++◌, length};
+ghost use Rattle.rohc_frame.specs.Reading.{elements_of};
+ghost use Rattle.rohc_context.specs.Response.{response_of};
+ghost use Rattle.rohc_concentrator.specs.Report.{report_of, Arrived};
+ghost use Rattle.rohc_c.specs.Relay.{Fits};
+ghost use Rattle.rohc_c.specs.Written.{outcome_number, packet_octets, relayed_in, StandsIn, IsTold, IsWritten, IsPacketWithin, IsWithin};
+
+use crate::relay::{put_behind, put_elements};
+use rohc_concentrator::Answer;
+use rohc_context::{Delivered, Outcome, Reply};
+use rohc_frame::Elements;
+
+/// The answer to an arrival: `struct rohc_arrival` of include/rohc.h. The octets stand in the caller's buffers.
+#[repr(C)]
+#[derive(Clone, Copy, Debug, Default, Drop)]
+pub struct RohcArrival {
+    /// 0 where the packet bore an identifier, 1 where padding and feedback were all, 2 for a refusal without one.
+    pub kind: u8,
+    /// 0 for a packet, 31 where the context was made or renewed without one, else the refusal's number.
+    pub outcome: u8,
+    /// The identifier, and 0 where there is none.
+    pub cid: u16,
+    /// Whether a packet was rebuilt.
+    pub has_packet: bool,
+    /// Whether there is feedback for the compressor.
+    pub has_feedback: bool,
+    /// How many octets the packet has.
+    pub packet_length: usize,
+    /// How many octets the feedback has.
+    pub feedback_length: usize,
+    /// How many octets stand in the buffer for the feedback that the packet carried for this side.
+    pub relayed_length: usize,
+    /// How many elements they are, each one octet that counts its data, and the data.
+    pub relayed_count: usize,
+}
+
+/// The number of an outcome.
+fn number(outcome: Outcome) -> u8
+    ensures { result ≡ outcome_number outcome }
+{
+    match outcome {
+        Outcome::Delivered => 0,
+        Outcome::Stored => 31,
+        Outcome::Refused(refusal) => refusal.number(),
+    }
+}
+
+/// Puts a packet into a buffer, and answers its length.
+fn put_packet(delivered: &Delivered<'_>, place: &mut [u8]) -> usize
+    requires { 40 + length delivered.now.payload.now ≤ length place.old }
+    ensures { StandsIn (delivered.now.head.items ++ delivered.now.payload.now) result place.new }
+{
+    let head = delivered.head.as_slice();
+    put_behind(place, 0, head);
+    put_behind(place, head.len(), delivered.payload);
+    head.len() + delivered.payload.len()
+}
+
+/// What is told of a reply's packet: whether there is one, and its length.
+fn tell_packet(reply: &Reply<'_>, place: &mut [u8]) -> (bool, usize)
+    requires head { 40 ≤ length place.old }
+    requires within { IsPacketWithin (length place.old - 40) (response_of reply.now).packet }
+    ensures { IsTold (packet_octets (response_of reply.now).packet) place.new result.0 result.1 }
+{
+    match &reply.packet {
+        Some(delivered) => (true, put_packet(delivered, place)),
+        None => (false, 0),
+    }
+}
+
+/// What is told of a reply's feedback: whether there is some, and its length.
+fn tell_feedback(reply: &Reply<'_>, place: &mut [u8]) -> (bool, usize)
+    requires { 8 ≤ length place.old }
+    ensures { IsTold (response_of reply.now).feedback place.new result.0 result.1 }
+{
+    match &reply.feedback {
+        Some(element) => {
+            put_behind(place, 0, element.as_slice());
+            (true, element.len())
+        }
+        None => (false, 0),
+    }
+}
+
+/// Puts a context's answer and what the packet relayed into the buffers.
+fn tell_reply(
+    cid: u16,
+    reply: &Reply<'_>,
+    elements: Elements<'_>,
+    packet: &mut [u8],
+    feedback: &mut [u8],
+    relayed: &mut [u8],
+) -> RohcArrival
+    requires head { 40 ≤ length packet.old }
+    requires packet { IsPacketWithin (length packet.old - 40) (response_of reply.now).packet }
+    requires feedback { 8 ≤ length feedback.old }
+    requires relayed { Fits (elements_of elements) (length relayed.old) }
+    ensures { IsWritten (Arrived cid (response_of reply.now) (elements_of elements.entry))
+        (record { packet = packet.new; feedback = feedback.new; relayed = relayed.new }) result }
+{
+    let (has_packet, packet_length) = tell_packet(reply, packet);
+    let (has_feedback, feedback_length) = tell_feedback(reply, feedback);
+    let told = put_elements(elements, relayed);
+    RohcArrival {
+        kind: 0,
+        outcome: number(reply.outcome),
+        cid,
+        has_packet,
+        has_feedback,
+        packet_length,
+        feedback_length,
+        relayed_length: told.length,
+        relayed_count: told.count,
+    }
+}
+
+/// Puts an answer into the buffers.
+pub(crate) fn write(
+    answer: &Answer<'_>,
+    packet: &mut [u8],
+    feedback: &mut [u8],
+    relayed: &mut [u8],
+) -> RohcArrival
+    requires head { 40 ≤ length packet.old }
+    requires packet { IsWithin (length packet.old - 40) (report_of answer.now) }
+    requires feedback { 8 ≤ length feedback.old }
+    requires relayed { Fits (relayed_in (report_of answer.now)) (length relayed.old) }
+    ensures { IsWritten (report_of answer.now)
+        (record { packet = packet.new; feedback = feedback.new; relayed = relayed.new }) result }
+{
+    match answer {
+        Answer::Arrived {
+            cid,
+            reply,
+            relayed: elements,
+        } => tell_reply(*cid, reply, *elements, packet, feedback, relayed),
+        Answer::OnlyFront { relayed: elements } => {
+            let told = put_elements(*elements, relayed);
+            RohcArrival {
+                kind: 1,
+                relayed_length: told.length,
+                relayed_count: told.count,
+                ..RohcArrival::default()
+            }
+        }
+        Answer::Refused(refusal) => RohcArrival {
+            kind: 2,
+            outcome: refusal.number(),
+            ..RohcArrival::default()
+        },
+    }
+}

@@ -1,0 +1,51 @@
+//! What C keeps: a concentrator, or none.
+
+ghost use Rattle.std.specs.Prelude.{◌≡◌, Some, None, IsSome, is_some};
+
+use crate::handle::Handle;
+use crate::loose::Loose;
+use rohc_concentrator::Concentrator;
+use std::alloc::Global;
+
+/// A concentrator, or none where all its octets are 0: `struct rohc_gateway` of include/rohc.h.
+#[repr(C)]
+#[derive(Drop)]
+pub struct Gateway {
+    /// Whether there is a concentrator.
+    pub(crate) live: bool,
+    /// Where it lies.
+    pub(crate) handle: Handle,
+    ghost agrees: { live ≡ is_some handle.concentrator },
+}
+
+impl Gateway {
+    /// No concentrator.
+    pub(crate) fn none() -> Gateway
+        ensures { result.handle.concentrator ≡ None }
+    {
+        Gateway {
+            live: false,
+            handle: Handle::none(),
+        }
+    }
+
+    /// This concentrator.
+    pub(crate) fn of(concentrator: Box<Concentrator>) -> Gateway
+        ensures { result.handle.concentrator ≡ Some concentrator.value }
+    {
+        Gateway {
+            live: true,
+            handle: Handle::of(Loose::of(concentrator)),
+        }
+    }
+
+    /// Takes the concentrator out, and leaves none.
+    pub(crate) fn take(&mut self, alloc: Global) -> Box<Concentrator>
+        requires { IsSome self.old.handle.concentrator }
+        ensures taken { self.old.handle.concentrator ≡ Some result.value }
+        ensures none { self.new.handle.concentrator ≡ None }
+    {
+        let Gateway { live: _, handle } = std::mem::replace(self, Gateway::none());
+        handle.open(alloc).into_box()
+    }
+}

@@ -1,0 +1,43 @@
+//! Feedback for this side, into a buffer.
+
+ghost use Rattle.std.specs.Prelude.{◌≡◌, ◌≤◌, ◌+◌, ◌++◌, length, take};
+ghost use Rattle.rohc_frame.specs.Reading.{elements_of};
+ghost use Rattle.rohc_c.specs.Relay.{told, Fits};
+ghost use Rattle.rohc_c.specs.Written.{StandsIn};
+
+use rohc_frame::Elements;
+
+/// Puts octets behind the first `at` of a buffer.
+pub(crate) fn put_behind(place: &mut [u8], at: usize, octets: &[u8])
+    requires { at + length octets.now ≤ length place.old }
+    ensures len { length place.new ≡ length place.old }
+    ensures put { take (at + length octets.now) place.new ≡ take at place.old ++ octets.now }
+{
+    place[at..at + octets.len()].copy_from_slice(octets);
+}
+
+/// What was put into the buffer for feedback.
+#[derive(Clone, Copy, Debug)]
+pub(crate) struct Relayed {
+    /// How many elements.
+    pub(crate) count: usize,
+    /// How many octets.
+    pub(crate) length: usize,
+}
+
+/// Puts each element's data into a buffer, behind one octet that counts it.
+pub(crate) fn put_elements(elements: Elements<'_>, place: &mut [u8]) -> Relayed
+    requires { Fits (elements_of elements) (length place.old) }
+    ensures count { result.count ≡ length (elements_of elements.entry) }
+    ensures told { StandsIn (told (elements_of elements.entry)) result.length place.new }
+{
+    let mut count = 0;
+    let mut at = 0;
+    for data in elements {
+        put_behind(place, at, &[data.len() as u8]);
+        put_behind(place, at + 1, data);
+        at = at + 1 + data.len();
+        count += 1;
+    }
+    Relayed { count, length: at }
+}

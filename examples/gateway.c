@@ -1,0 +1,100 @@
+/* Runs a script and prints its answer lines, as `rohcd replay` does:  gateway LINKS < SCRIPT
+ * LINKS is what tools/link_lines.py writes of a links file. docs/FORMATS.md has the scripts and the answer lines. */
+#include <inttypes.h>
+#include <stdio.h>
+#include <stdlib.h>
+#include <string.h>
+
+#include "link_lines.h"
+#include "rohc.h"
+
+enum { PACKET = 65535, LINE = 131200 };
+
+static struct rohc_gateway gateway;
+static struct rohc_link links[ROHC_LINKS];
+
+static void print_octets(const uint8_t *octets, size_t count) {
+    if (count == 0) putchar('-');
+    for (size_t i = 0; i < count; i++) printf("%02x", octets[i]);
+    putchar('\n');
+}
+
+static void print_refusal(unsigned link, const char *cid, uint8_t number) {
+    uint8_t name[ROHC_NAME_ROOM];
+    if (rohc_refusal_name(number, name, sizeof name) > 0) printf("%u %s refused %s\n", link, cid, (const char *)name);
+}
+
+static void arrive(unsigned link, uint64_t moment, const uint8_t *octets, size_t count) {
+    static uint8_t packet[PACKET + ROHC_HEAD_ROOM], relayed[PACKET];
+    uint8_t feedback[ROHC_FEEDBACK_ROOM];
+    struct rohc_arrival a;
+    char cid[8] = "-";
+    if (rohc_arrive(&gateway, (uint16_t)link, moment, octets, count, packet, sizeof packet, feedback, sizeof feedback,
+                    relayed, sizeof relayed, &a) != ROHC_ARRIVED) exit(4);
+    for (size_t at = 0; at < a.relayed_length; at += 1 + relayed[at]) {
+        printf("%u - relay ", link);
+        print_octets(relayed + at + 1, relayed[at]);
+    }
+    if (a.kind == ROHC_CONTEXT) sprintf(cid, "%u", a.cid);
+    if (a.has_packet) printf("%u %s ip ", link, cid), print_octets(packet, a.packet_length);
+    if (a.outcome == ROHC_STORED) printf("%u %s stored\n", link, cid);
+    if (a.has_feedback) printf("%u %s feedback ", link, cid), print_octets(feedback, a.feedback_length);
+    if (a.outcome != ROHC_DELIVERED && a.outcome != ROHC_STORED) print_refusal(link, cid, a.outcome);
+}
+
+/* Reads pairs of digits as far as they go. */
+static size_t read_octets(const char *text, size_t length, uint8_t *octets) {
+    static const char digits[] = "0123456789abcdef";
+    size_t count = 0;
+    for (; count < PACKET && 2 * count + 1 < length; count++) {
+        const char *high = strchr(digits, text[2 * count]), *low = strchr(digits, text[2 * count + 1]);
+        if (!high || !low) break;
+        octets[count] = (uint8_t)(16 * (high - digits) + (low - digits));
+    }
+    return count;
+}
+
+/* Runs a line and answers whether it is good: the very line that its event is written as. */
+static bool run(const char *line, size_t length) {
+    static uint8_t octets[PACKET];
+    static char text[LINE + 1];
+    unsigned link;
+    uint64_t moment;
+    size_t count, at;
+    if (sscanf(line, "arrive %u %" SCNu64, &link, &moment) == 2 && link <= UINT16_MAX) {
+        at = (size_t)sprintf(text, "arrive %u %" PRIu64 " ", link, moment);
+        count = at < length ? read_octets(line + at, length - at, octets) : 0;
+        for (size_t i = 0; i < count; i++) at += (size_t)sprintf(text + at, "%02x", octets[i]);
+        if (count == 0) text[at++] = '-';
+        if (at != length || memcmp(line, text, length) != 0) return false;
+        arrive(link, moment, octets, count);
+        return true;
+    }
+    if (sscanf(line, "reset %u", &link) != 1 || link > UINT16_MAX) return false;
+    at = (size_t)sprintf(text, "reset %u", link);
+    if (at != length || memcmp(line, text, length) != 0) return false;
+    if (rohc_reset(&gateway, (uint16_t)link) == ROHC_FORGOT_LINK) print_refusal(link, "-", 29);
+    return true;
+}
+
+int main(int count, char **words) {
+    static char line[LINE + 2];
+    FILE *file = count == 2 ? fopen(words[1], "r") : NULL;
+    size_t length = 0, place;
+    int octet;
+    if (!file || rohc_new(&gateway, links, read_links(file, links), &place) != ROHC_MADE) return 3;
+    fclose(file);
+    do {
+        octet = getchar();
+        if (octet != '\n' && octet != EOF) {
+            if (length <= LINE) line[length++] = (char)octet;
+        } else if (octet == '\n' || length > 0) {
+            line[length] = 0;
+            if (length > LINE) puts("- - refused LongLine");
+            else if (!run(line, length)) puts("- - refused BadLine");
+            length = 0;
+        }
+    } while (octet != EOF);
+    rohc_free(&gateway);
+    return 0;
+}

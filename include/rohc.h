@@ -1,0 +1,210 @@
+/**
+ * @file rohc.h
+ * @brief A ROHC decompressor for many links: packets in, IP packets and feedback out.
+ *
+ * Profiles 0x0000 and 0x0001 of RFC 3095 in U and O mode, with the framing and feedback of RFC 5795. The library is proved:
+ * docs/LIBRARY.md says what of. The proof rests on what the caller owes:
+ *
+ * - A gateway is all zeros before its first call. It is never copied, and neither of its fields is read or written.
+ * - No pointer is null or dangling, also where a length is 0, and each is aligned for its type.
+ * - No buffer of a call overlaps another, or a struct of the same call; @p octets and @p links may only be read meanwhile.
+ * - Each buffer has as many octets as its length says, and each `bool` is 0 or 1.
+ * - A gateway serves one call at a time. Between calls it may go to another thread, ordered by a lock or a join.
+ * - No call is made from a signal handler, or in the forked child of a process with threads.
+ * - malloc, realloc and free are of one allocator, and align blocks as C asks.
+ *
+ * A gateway that holds anything else, or another program's, can't be told from a good one.
+ */
+#ifndef ROHC_H
+#define ROHC_H
+
+#include <stdbool.h>
+#include <stddef.h>
+#include <stdint.h>
+
+#ifdef __cplusplus
+extern "C" {
+#endif
+
+/** What a rebuilt packet may have more than the packet that arrived. */
+#define ROHC_HEAD_ROOM 40
+/** The longest feedback for a compressor. */
+#define ROHC_FEEDBACK_ROOM 8
+/** Room for the name of each refusal. */
+#define ROHC_NAME_ROOM 16
+/** The greatest number of links. */
+#define ROHC_LINKS 256
+/** The greatest number of ranges of a link. */
+#define ROHC_RANGES 8
+
+/** What rohc_new() answers. */
+enum rohc_made {
+    ROHC_MADE = 0,            /**< There is a concentrator. */
+    ROHC_NO_LINKS = 1,        /**< There are no links. */
+    ROHC_TOO_MANY_LINKS = 2,  /**< There are more than #ROHC_LINKS. */
+    ROHC_TOO_MANY_RANGES = 3, /**< A link counts more than #ROHC_RANGES ranges. */
+    ROHC_BAD_SETTING = 4,     /**< A link's settings or ranges are outside their limits. */
+    ROHC_DUPLICATE_LINK = 5,  /**< A link has the number of one before it. */
+    ROHC_NO_MEMORY = 6        /**< There is no memory. */
+};
+
+/** What rohc_arrive() answers. */
+enum rohc_arrived {
+    ROHC_ARRIVED = 0,      /**< The packet was taken, and the answer stands in the buffers. */
+    ROHC_ARRIVED_NONE = 1, /**< There is no concentrator. */
+    ROHC_NO_ROOM = 2       /**< A buffer is below its bound. Nothing was changed. */
+};
+
+/** What rohc_reset() answers. */
+enum rohc_forgot {
+    ROHC_FORGOT = 0,      /**< The link's contexts are forgotten. */
+    ROHC_FORGOT_NONE = 1, /**< There is no concentrator. */
+    ROHC_FORGOT_LINK = 2  /**< There is no such link. */
+};
+
+/** Of what kind an answer is. */
+enum rohc_kind {
+    ROHC_CONTEXT = 0,  /**< The packet bore an identifier, and its context answers. */
+    ROHC_FEEDBACK = 1, /**< Padding and feedback were all. */
+    ROHC_REFUSED = 2   /**< The packet was refused, and bears no identifier. */
+};
+
+/** What became of a packet; the numbers between are those of refusals, see rohc_refusal_name(). */
+enum rohc_outcome {
+    ROHC_DELIVERED = 0, /**< A packet was rebuilt. */
+    ROHC_STORED = 31    /**< The context was made or renewed without one. */
+};
+
+/** A gateway: a concentrator, or none. All zeros is none. */
+struct rohc_gateway {
+    bool live; /**< The library's own. */
+    void *at;  /**< The library's own. */
+};
+
+/** Identifiers of a link that have a mode of their own. */
+struct rohc_range {
+    uint16_t first;  /**< The least identifier. */
+    uint16_t last;   /**< The greatest one, which belongs to the range. */
+    bool optimistic; /**< O mode, else U mode. */
+};
+
+/** What is set for a link. */
+struct rohc_link {
+    uint16_t link;            /**< Its number. */
+    uint16_t max_cid;         /**< The greatest identifier: at most 15, or 16,383 for large ones. */
+    bool large;               /**< Large identifiers, else small ones. */
+    bool optimistic;          /**< O mode, else U mode, in which no feedback is sent. */
+    uint8_t k1;               /**< Failures among the last n1 outcomes that lead to Static Context: 1 to n1. */
+    uint8_t n1;               /**< At most 64. */
+    uint8_t k2;               /**< Failures among the last n2 outcomes that lead to No Context: 1 to n2. */
+    uint8_t n2;               /**< At most 64. */
+    uint8_t range_count;      /**< How many of the ranges count. */
+    uint32_t packet_ms;       /**< Milliseconds between two packets of a sender: 1 to 60,000. */
+    uint32_t static_nack_ms;  /**< Least milliseconds between STATIC-NACKs in No Context: at most 3,600,000. */
+    uint32_t idle_ms;         /**< A context counts as none after so many milliseconds: at most 86,400,000; 0 is never. */
+    struct rohc_range ranges[ROHC_RANGES]; /**< In ascending order, apart, and within max_cid. */
+};
+
+/** The answer to a packet; its octets stand in the caller's buffers. What isn't there is false or 0. */
+struct rohc_arrival {
+    uint8_t kind;           /**< One of enum rohc_kind. */
+    uint8_t outcome;        /**< One of enum rohc_outcome, or a refusal's number, 1 to 30; 0 for ROHC_FEEDBACK. */
+    uint16_t cid;           /**< The identifier. */
+    bool has_packet;        /**< A packet was rebuilt. */
+    bool has_feedback;      /**< There is feedback for the compressor. */
+    size_t packet_length;   /**< The packet's octets. */
+    size_t feedback_length; /**< The feedback's octets. */
+    size_t relayed_length;  /**< The octets of what is relayed. */
+    size_t relayed_count;   /**< The elements that are relayed: each one octet that counts its data, and the data. */
+};
+
+/**
+ * Makes a concentrator of links, in this order and without contexts, in the place of what the gateway had.
+ *
+ * Faults come in the order of their numbers, and those of single links link by link; want of memory may come before any
+ * of ROHC_NO_LINKS, ROHC_BAD_SETTING and ROHC_DUPLICATE_LINK. At a fault the gateway stays as it was.
+ *
+ * @param gateway the gateway
+ * @param links the links
+ * @param count how many they are
+ * @param place is set to the place of the link at fault, counted from 1, and to 0 where there is none
+ * @return one of enum rohc_made
+ */
+uint8_t rohc_new(struct rohc_gateway *gateway, const struct rohc_link *links, size_t count, size_t *place);
+
+/** Frees the concentrator, if there is one. The gateway then has none. */
+void rohc_free(struct rohc_gateway *gateway);
+
+/**
+ * Takes one packet of a link, and puts the whole answer into the buffers.
+ *
+ * The buffers are bounded before the packet is taken, so no answer is lost. What is behind an answer in a buffer means
+ * nothing. At ROHC_ARRIVED_NONE and ROHC_NO_ROOM nothing is changed, the buffers and the arrival included.
+ *
+ * @param gateway the gateway
+ * @param link the link's number
+ * @param moment when the packet arrived, in milliseconds
+ * @param octets the packet
+ * @param count its length
+ * @param packet gets the rebuilt packet
+ * @param packet_room at least @p count + #ROHC_HEAD_ROOM
+ * @param feedback gets the feedback for the compressor
+ * @param feedback_room at least #ROHC_FEEDBACK_ROOM
+ * @param relayed gets the feedback that the packet carried for this side
+ * @param relayed_room at least @p count
+ * @param arrival gets the rest
+ * @return one of enum rohc_arrived
+ */
+uint8_t rohc_arrive(struct rohc_gateway *gateway, uint16_t link, uint64_t moment, const uint8_t *octets, size_t count,
+                    uint8_t *packet, size_t packet_room, uint8_t *feedback, size_t feedback_room, uint8_t *relayed,
+                    size_t relayed_room, struct rohc_arrival *arrival);
+
+/** Forgets every context of a link, and no other. @return one of enum rohc_forgot */
+uint8_t rohc_reset(struct rohc_gateway *gateway, uint16_t link);
+
+/** Whether there is a context for an identifier of a link, one that counts as none included. The gateway stays as it was. */
+bool rohc_has_context(struct rohc_gateway *gateway, uint16_t link, uint16_t cid);
+
+/**
+ * Puts the name of a refusal and an octet 0 into a buffer.
+ *
+ * @param number the refusal's number, 1 to 30
+ * @param name gets the name
+ * @param room the buffer's length; #ROHC_NAME_ROOM is enough for each name
+ * @return the name's length without the octet 0; 0 where there is no such refusal, or no room
+ */
+size_t rohc_refusal_name(uint8_t number, uint8_t *name, size_t room);
+
+#ifdef __cplusplus
+}
+#endif
+
+/* The layout that the library was proved with, on machines of 64 bits. */
+#if defined(__cplusplus) && __cplusplus >= 201103L
+#define ROHC_LAYOUT(fact) static_assert(fact, "the layout of rohc.h")
+#elif defined(__STDC_VERSION__) && __STDC_VERSION__ >= 201112L
+#define ROHC_LAYOUT(fact) _Static_assert(fact, "the layout of rohc.h")
+#else
+#define ROHC_LAYOUT(fact) struct rohc_layout
+#endif
+
+ROHC_LAYOUT(sizeof(size_t) == 8 && sizeof(bool) == 1);
+ROHC_LAYOUT(sizeof(struct rohc_gateway) == 16 && offsetof(struct rohc_gateway, at) == 8);
+ROHC_LAYOUT(sizeof(struct rohc_range) == 6 && offsetof(struct rohc_range, last) == 2);
+ROHC_LAYOUT(offsetof(struct rohc_range, optimistic) == 4);
+ROHC_LAYOUT(sizeof(struct rohc_link) == 72 && offsetof(struct rohc_link, max_cid) == 2);
+ROHC_LAYOUT(offsetof(struct rohc_link, large) == 4 && offsetof(struct rohc_link, optimistic) == 5);
+ROHC_LAYOUT(offsetof(struct rohc_link, k1) == 6 && offsetof(struct rohc_link, n1) == 7);
+ROHC_LAYOUT(offsetof(struct rohc_link, k2) == 8 && offsetof(struct rohc_link, n2) == 9);
+ROHC_LAYOUT(offsetof(struct rohc_link, range_count) == 10 && offsetof(struct rohc_link, packet_ms) == 12);
+ROHC_LAYOUT(offsetof(struct rohc_link, static_nack_ms) == 16 && offsetof(struct rohc_link, idle_ms) == 20);
+ROHC_LAYOUT(offsetof(struct rohc_link, ranges) == 24);
+ROHC_LAYOUT(sizeof(struct rohc_arrival) == 40 && offsetof(struct rohc_arrival, outcome) == 1);
+ROHC_LAYOUT(offsetof(struct rohc_arrival, cid) == 2 && offsetof(struct rohc_arrival, has_packet) == 4);
+ROHC_LAYOUT(offsetof(struct rohc_arrival, has_feedback) == 5 && offsetof(struct rohc_arrival, packet_length) == 8);
+ROHC_LAYOUT(offsetof(struct rohc_arrival, feedback_length) == 16 && offsetof(struct rohc_arrival, relayed_length) == 24);
+ROHC_LAYOUT(offsetof(struct rohc_arrival, relayed_count) == 32);
+
+#undef ROHC_LAYOUT
+
+#endif

@@ -1,0 +1,174 @@
+"""A ROHC decompressor for many links: packets in, IP packets and feedback out.
+
+A thin layer over the library for C, librohc.so, which `bin/lib` builds. It is looked for in the folder or file that the
+variable ROHC_LIBRARY names, in the folder out/ of this repository, and where the system has its libraries. The library is
+proved, and this layer isn't.
+
+    from rohc import Concentrator, Link
+
+    with Concentrator([Link(1)]) as concentrator:
+        answer = concentrator.arrive(1, 0, bytes.fromhex("fc00b745aa"))
+        print(answer.packet, answer.feedback)
+"""
+
+from __future__ import annotations
+
+from collections.abc import Iterable, Sequence
+from dataclasses import dataclass
+from enum import IntEnum
+
+from . import _library
+
+__all__ = ["Answer", "Closed", "Concentrator", "Kind", "Link", "NoLink", "Range", "SetupError"]
+
+
+class Kind(IntEnum):
+    """Of what kind an answer is."""
+
+    CONTEXT = 0
+    """The packet bore an identifier, and its context answers."""
+    FEEDBACK = 1
+    """Padding and feedback were all."""
+    REFUSED = 2
+    """The packet was refused, and bears no identifier."""
+
+
+@dataclass(frozen=True)
+class Range:
+    """Identifiers of a link that have a mode of their own, `first` and `last` among them."""
+
+    first: int
+    last: int
+    optimistic: bool
+
+
+@dataclass(frozen=True)
+class Link:
+    """What is set for a link, by its number. The fields are those of `struct rohc_link` in include/rohc.h."""
+
+    link: int
+    max_cid: int = 15
+    large: bool = False
+    optimistic: bool = True
+    k1: int = 2
+    n1: int = 3
+    k2: int = 2
+    n2: int = 3
+    packet_ms: int = 20
+    static_nack_ms: int = 1000
+    idle_ms: int = 0
+    ranges: Sequence[Range] = ()
+
+
+@dataclass(frozen=True)
+class Answer:
+    """The answer to a packet."""
+
+    kind: Kind
+    cid: int | None
+    """The identifier; None where the packet bears none."""
+    packet: bytes | None
+    """The rebuilt IP packet."""
+    feedback: bytes | None
+    """The feedback element for the compressor."""
+    relayed: tuple[bytes, ...]
+    """The data of the feedback elements that the packet carried for this side."""
+    refusal: str | None
+    """The refusal's name; None where the packet was taken."""
+
+    @property
+    def stored(self) -> bool:
+        """Whether the context was made or renewed without a packet."""
+        return self.kind == Kind.CONTEXT and self.packet is None and self.refusal is None
+
+
+class SetupError(ValueError):
+    """No concentrator is made of these links: `status` is one of enum rohc_made, and `place` the link's place from 1, or 0."""
+
+    def __init__(self, status: int, place: int) -> None:
+        where = f" at link {place}" if place else ""
+        super().__init__(f"{_library.MADE.get(status, status)}{where}")
+        self.status = status
+        self.place = place
+
+
+class NoLink(KeyError):
+    """There is no such link."""
+
+
+class Closed(ValueError):
+    """The concentrator is closed."""
+
+
+class Concentrator:
+    """The contexts of all links, kept apart. One call at a time; `close` or a `with` block frees it."""
+
+    def __init__(self, links: Iterable[Link]) -> None:
+        self._gateway = _library.Gateway()
+        status, place = _library.new(self._gateway, [_link(link) for link in links])
+        if status != 0:
+            raise SetupError(status, place)
+
+    def arrive(self, link: int, moment: int, octets: bytes) -> Answer:
+        """Takes one packet of a link, with the moment of its arrival in milliseconds, and answers it."""
+        told = _library.arrive(self._gateway, _within(link, 16), _within(moment, 64), octets)
+        if told is None:
+            raise Closed("the concentrator is closed")
+        arrival, packet, feedback, relayed = told
+        kind = Kind(arrival.kind)
+        return Answer(
+            kind=kind,
+            cid=arrival.cid if kind == Kind.CONTEXT else None,
+            packet=packet if arrival.has_packet else None,
+            feedback=feedback if arrival.has_feedback else None,
+            relayed=relayed,
+            refusal=_library.refusal_name(arrival.outcome),
+        )
+
+    def reset(self, link: int) -> None:
+        """Forgets every context of a link, and no other."""
+        status = _library.reset(self._gateway, _within(link, 16))
+        if status == 2:
+            raise NoLink(link)
+        if status != 0:
+            raise Closed("the concentrator is closed")
+
+    def has_context(self, link: int, cid: int) -> bool:
+        """Whether there is a context for an identifier of a link, one that counts as none included."""
+        return _library.has_context(self._gateway, _within(link, 16), _within(cid, 16))
+
+    def close(self) -> None:
+        """Frees the concentrator. It may be called again."""
+        _library.free(self._gateway)
+
+    def __enter__(self) -> Concentrator:
+        return self
+
+    def __exit__(self, *_: object) -> None:
+        self.close()
+
+    def __del__(self) -> None:
+        if hasattr(self, "_gateway"):
+            self.close()
+
+
+def _within(number: int, bits: int) -> int:
+    """The number, where it is one of so many bits."""
+    if not 0 <= number < 1 << bits:
+        raise OverflowError(f"{number} is no number of {bits} bits")
+    return number
+
+
+def _link(link: Link) -> _library.Link:
+    """A link as C writes it. More ranges than there are places for are refused by their count."""
+    raw = _library.Link(
+        _within(link.link, 16),
+        _within(link.max_cid, 16),
+        link.large,
+        link.optimistic,
+        *(_within(number, 8) for number in (link.k1, link.n1, link.k2, link.n2, len(link.ranges))),
+        *(_within(number, 32) for number in (link.packet_ms, link.static_nack_ms, link.idle_ms)),
+    )
+    for place, part in enumerate(link.ranges[: len(raw.ranges)]):
+        raw.ranges[place] = _library.Range(_within(part.first, 16), _within(part.last, 16), part.optimistic)
+    return raw

@@ -1,0 +1,144 @@
+#!/usr/bin/env python3
+"""Runs the examples through the package, and a capture. ROHC_LIBRARY names the folder of librohc.so, if it isn't out/."""
+
+from __future__ import annotations
+
+import io
+import re
+import struct
+import sys
+import tomllib
+import unittest
+from collections.abc import Iterator
+from pathlib import Path
+
+TOP = Path(__file__).resolve().parent.parent
+sys.path[:0] = [str(TOP / "python"), str(TOP / "python/examples")]
+
+import pcap  # noqa: E402
+from rohc import Answer, Closed, Concentrator, Kind, Link, NoLink, Range, SetupError  # noqa: E402
+
+EVENT = re.compile(rb"arrive (0|[1-9]\d{0,4}) (0|[1-9]\d{0,19}) (-|(?:[0-9a-f]{2})+)|reset (0|[1-9]\d{0,4})")
+
+
+def links_of(path: Path) -> list[Link]:
+    """The links of a links file."""
+    return [
+        Link(
+            entry["number"],
+            entry["max_cid"],
+            entry["cid"] == "large",
+            entry["mode"] == "O",
+            *(entry[key] for key in ("k1", "n1", "k2", "n2", "packet_ms", "static_nack_ms")),
+            entry.get("idle_ms", 0),
+            [Range(part["first"], part["last"], part["mode"] == "O") for part in entry.get("range", [])],
+        )
+        for entry in tomllib.loads(path.read_text())["link"]
+    ]
+
+
+def hex_of(octets: bytes) -> str:
+    return octets.hex() or "-"
+
+
+def answer_lines(link: int, answer: Answer) -> Iterator[str]:
+    """The lines of an answer, as docs/FORMATS.md has them."""
+    pair = f"{link} {'-' if answer.cid is None else answer.cid}"
+    yield from (f"{link} - relay {hex_of(element)}" for element in answer.relayed)
+    if answer.packet is not None:
+        yield f"{pair} ip {hex_of(answer.packet)}"
+    if answer.stored:
+        yield f"{pair} stored"
+    if answer.feedback is not None:
+        yield f"{pair} feedback {hex_of(answer.feedback)}"
+    if answer.refusal is not None:
+        yield f"{pair} refused {answer.refusal}"
+
+
+def run_line(concentrator: Concentrator, line: bytes) -> Iterator[str]:
+    event = EVENT.fullmatch(line)
+    if len(line) > 131200:
+        yield "- - refused LongLine"
+    elif event is None or any(int(event[n] or 0) >= 1 << bits for n, bits in ((1, 16), (2, 64), (4, 16))):
+        yield "- - refused BadLine"
+    elif event[4] is not None:
+        try:
+            concentrator.reset(int(event[4]))
+        except NoLink:
+            yield f"{int(event[4])} - refused NoLink"
+    else:
+        octets = b"" if event[3] == b"-" else bytes.fromhex(event[3].decode())
+        yield from answer_lines(int(event[1]), concentrator.arrive(int(event[1]), int(event[2]), octets))
+
+
+def replay(links: list[Link], script: bytes) -> str:
+    lines = script.split(b"\n")
+    with Concentrator(links) as concentrator:
+        answers = [text for line in lines[:-1] + lines[-1:] * bool(lines[-1]) for text in run_line(concentrator, line)]
+    return "".join(f"{text}\n" for text in answers)
+
+
+class Examples(unittest.TestCase):
+    def test_each_example(self) -> None:
+        runs = [(script, TOP / "examples/worked/links-2.toml") for script in TOP.glob("examples/worked/*.script")]
+        runs += [(script, script.with_suffix(".toml")) for script in TOP.glob("examples/scripts/*.script")]
+        self.assertGreater(len(runs), 50)
+        for script, links in runs:
+            with self.subTest(script.name):
+                wanted = script.with_suffix(".answers").read_text()
+                self.assertEqual(replay(links_of(links), script.read_bytes()), wanted)
+
+
+class Calls(unittest.TestCase):
+    IR = bytes.fromhex("fc00b745aa")
+
+    def test_an_answer(self) -> None:
+        with Concentrator([Link(1)]) as concentrator:
+            answer = concentrator.arrive(1, 0, self.IR)
+            self.assertEqual((answer.kind, answer.cid, answer.packet), (Kind.CONTEXT, 0, b"\x45\xaa"))
+            self.assertEqual((answer.feedback, answer.relayed, answer.refusal), (b"\xf1\x00", (), None))
+            self.assertTrue(concentrator.has_context(1, 0))
+            concentrator.reset(1)
+            self.assertFalse(concentrator.has_context(1, 0))
+            self.assertEqual(concentrator.arrive(1, 0, b"").refusal, "Empty")
+
+    def test_faults(self) -> None:
+        for links, status, place in (
+            ([], 1, 0),
+            ([Link(number) for number in range(257)], 2, 0),
+            ([Link(1), Link(2, ranges=[Range(0, 0, True)] * 9)], 3, 2),
+            ([Link(1, k1=4)], 4, 1),
+            ([Link(1), Link(1)], 5, 2),
+        ):
+            with self.assertRaises(SetupError) as raised:
+                Concentrator(links)
+            self.assertEqual((raised.exception.status, raised.exception.place), (status, place))
+
+    def test_closed(self) -> None:
+        concentrator = Concentrator([Link(1)])
+        with self.assertRaises(NoLink):
+            concentrator.reset(2)
+        concentrator.close()
+        concentrator.close()
+        with self.assertRaises(Closed):
+            concentrator.arrive(1, 0, self.IR)
+        with self.assertRaises(OverflowError):
+            concentrator.arrive(65536, 0, self.IR)
+
+
+class Capture(unittest.TestCase):
+    def test_a_capture(self) -> None:
+        source, target = io.BytesIO(), io.BytesIO()
+        source.write(struct.pack("<IHHiIII", 0xA1B2C3D4, 2, 4, 0, 0, 65535, pcap.ETHERNET))
+        for moment, kind, octets in ((0, b"\x22\xf1", "fc00b745aa"), (7, b"\x08\x00", "45"), (9, b"\x22\xf1", "45bb")):
+            frame = bytes(12) + kind + bytes.fromhex(octets)
+            source.write(struct.pack("<IIII", 0, moment, len(frame), len(frame)) + frame)
+        source.seek(0)
+        counts = pcap.decompress(source, target)
+        self.assertEqual(counts, {"packets": 2, "delivered": 2, "stored": 0, "refused": 0})
+        packets = target.getvalue()[24:]
+        self.assertEqual((packets[16:18], packets[34:36], len(packets)), (b"\x45\xaa", b"\x45\xbb", 36))
+
+
+if __name__ == "__main__":
+    unittest.main()

@@ -1,0 +1,239 @@
+/*
+ * Calls the library for C at its edges: no gateway, each fault, buffers of exactly the bound and one less, want of memory.
+ * bin/check_library links it with --wrap=malloc and --wrap=realloc. The octets are those of docs/EXAMPLES.md.
+ */
+#include <stdio.h>
+#include <stdlib.h>
+#include <string.h>
+
+#include "rohc.h"
+
+#define CHECK(fact) check((fact), #fact, __LINE__)
+
+void *__real_malloc(size_t size);
+void *__real_realloc(void *old, size_t size);
+
+/* The request for memory that is refused, counting from 1 down to it; 0 for none. */
+static unsigned long refused;
+static unsigned failed;
+
+void *__wrap_malloc(size_t size) { return refused && --refused == 0 ? NULL : __real_malloc(size); }
+
+void *__wrap_realloc(void *old, size_t size) { return refused && --refused == 0 ? NULL : __real_realloc(old, size); }
+
+static void check(bool holds, const char *fact, int line) {
+    if (!holds) {
+        fprintf(stderr, "line %d: not so: %s\n", line, fact);
+        failed++;
+    }
+}
+
+/* Link NUMBER of the worked examples, with small identifiers in O mode. */
+static struct rohc_link link_of(uint16_t number) {
+    struct rohc_link link;
+    memset(&link, 0, sizeof link);
+    link.link = number;
+    link.max_cid = 15;
+    link.optimistic = true;
+    link.k1 = link.k2 = 2;
+    link.n1 = link.n2 = 3;
+    link.packet_ms = 20;
+    link.static_nack_ms = 1000;
+    return link;
+}
+
+/* What an arrival answered, with buffers of their own blocks. */
+struct answer {
+    uint8_t status, packet[64], feedback[8], relayed[64];
+    struct rohc_arrival arrival;
+};
+
+/* A packet arrives with these octets less in the buffers than their bounds; the blocks have no octet more. */
+static struct answer arrive_tight(struct rohc_gateway *g, uint16_t link, const char *octets, size_t count, size_t packet_less,
+                                  size_t feedback_less, size_t relayed_less) {
+    size_t packet_room = count + ROHC_HEAD_ROOM - packet_less, feedback_room = ROHC_FEEDBACK_ROOM - feedback_less;
+    size_t relayed_room = count - relayed_less;
+    uint8_t *packet = __real_malloc(packet_room + 1), *feedback = __real_malloc(feedback_room);
+    uint8_t *relayed = __real_malloc(relayed_room + 1), *copy = __real_malloc(count + 1);
+    struct answer a;
+    memset(&a, 0x77, sizeof a);
+    memset(packet, 0x55, packet_room + 1);
+    memset(feedback, 0x55, feedback_room);
+    memset(relayed, 0x55, relayed_room + 1);
+    memcpy(copy, octets, count);
+    a.status = rohc_arrive(g, link, 0, copy, count, packet, packet_room, feedback, feedback_room, relayed, relayed_room,
+                           &a.arrival);
+    CHECK(packet[packet_room] == 0x55 && relayed[relayed_room] == 0x55 && memcmp(copy, octets, count) == 0);
+    memcpy(a.packet, packet, packet_room < 64 ? packet_room : 64);
+    memcpy(a.feedback, feedback, feedback_room);
+    memcpy(a.relayed, relayed, relayed_room < 64 ? relayed_room : 64);
+    free(packet);
+    free(feedback);
+    free(relayed);
+    free(copy);
+    return a;
+}
+
+static struct answer arrive(struct rohc_gateway *g, uint16_t link, const char *octets, size_t count) {
+    return arrive_tight(g, link, octets, count, 0, 0, 0);
+}
+
+static struct rohc_gateway gateway_of(struct rohc_link *links, size_t count) {
+    struct rohc_gateway g = {0};
+    size_t place = 7;
+    CHECK(rohc_new(&g, links, count, &place) == ROHC_MADE && place == 0);
+    return g;
+}
+
+/* The plain call of the worked examples: an IR of profile 0x0000 with the IP packet 45 aa. */
+#define PLAIN_IR "\xfc\x00\xb7\x45\xaa"
+
+static void without_a_concentrator(void) {
+    struct rohc_gateway g = {0};
+    struct answer a;
+    rohc_free(&g);
+    rohc_free(&g);
+    a = arrive(&g, 1, PLAIN_IR, 5);
+    CHECK(a.status == ROHC_ARRIVED_NONE && a.packet[0] == 0x55 && a.arrival.kind == 0x77);
+    CHECK(rohc_reset(&g, 1) == ROHC_FORGOT_NONE);
+    CHECK(!rohc_has_context(&g, 1, 0));
+}
+
+static void freed_twice(void) {
+    struct rohc_link link = link_of(1);
+    struct rohc_gateway g = gateway_of(&link, 1);
+    CHECK(arrive(&g, 1, PLAIN_IR, 5).status == ROHC_ARRIVED);
+    rohc_free(&g);
+    rohc_free(&g);
+    CHECK(arrive(&g, 1, PLAIN_IR, 5).status == ROHC_ARRIVED_NONE);
+    CHECK(!rohc_has_context(&g, 1, 0));
+}
+
+/* Each fault, at its place; the gateway stays as it was. */
+static void faults(void) {
+    static struct rohc_link links[ROHC_LINKS + 1];
+    struct rohc_gateway g;
+    size_t place = 7;
+    for (unsigned i = 0; i <= ROHC_LINKS; i++) links[i] = link_of((uint16_t)i);
+    g = gateway_of(links, ROHC_LINKS);
+    CHECK(arrive(&g, 1, PLAIN_IR, 5).status == ROHC_ARRIVED);
+    CHECK(rohc_new(&g, links, 0, &place) == ROHC_NO_LINKS && place == 0);
+    CHECK(rohc_new(&g, links, ROHC_LINKS + 1, &place) == ROHC_TOO_MANY_LINKS && place == 0);
+    links[1].k1 = 4;
+    links[2].range_count = ROHC_RANGES + 1;
+    CHECK(rohc_new(&g, links, 3, &place) == ROHC_TOO_MANY_RANGES && place == 3);
+    CHECK(rohc_new(&g, links, 2, &place) == ROHC_BAD_SETTING && place == 2);
+    links[2] = links[0];
+    CHECK(rohc_new(&g, links, 3, &place) == ROHC_BAD_SETTING && place == 2);
+    links[1].k1 = 2;
+    CHECK(rohc_new(&g, links, 3, &place) == ROHC_DUPLICATE_LINK && place == 3);
+    links[2] = link_of(2);
+    links[2].range_count = 1;
+    links[2].ranges[0].first = 8;
+    links[2].ranges[0].last = 16;
+    CHECK(rohc_new(&g, links, 3, &place) == ROHC_BAD_SETTING && place == 3);
+    CHECK(rohc_has_context(&g, 1, 0) && !rohc_has_context(&g, 2, 0));
+    CHECK(rohc_new(&g, links, 2, &place) == ROHC_MADE && place == 0 && !rohc_has_context(&g, 1, 0));
+    rohc_free(&g);
+}
+
+/* One octet less in any buffer, and nothing happens. */
+static void bounds(void) {
+    struct rohc_link link = link_of(1);
+    struct rohc_gateway g = gateway_of(&link, 1);
+    for (int which = 0; which < 3; which++) {
+        struct answer a = arrive_tight(&g, 1, PLAIN_IR, 5, which == 0, which == 1, which == 2);
+        CHECK(a.status == ROHC_NO_ROOM && a.arrival.kind == 0x77 && !rohc_has_context(&g, 1, 0));
+        CHECK(a.packet[0] == 0x55 && a.feedback[0] == 0x55 && a.relayed[0] == 0x55);
+    }
+    struct answer a = arrive(&g, 1, PLAIN_IR, 5);
+    CHECK(a.status == ROHC_ARRIVED && a.arrival.kind == ROHC_CONTEXT && a.arrival.outcome == ROHC_DELIVERED);
+    CHECK(a.arrival.cid == 0 && a.arrival.has_packet && a.arrival.packet_length == 2 && !memcmp(a.packet, "\x45\xaa", 2));
+    CHECK(a.arrival.has_feedback && a.arrival.feedback_length == 2 && !memcmp(a.feedback, "\xf1\x00", 2));
+    CHECK(a.arrival.relayed_count == 0 && a.arrival.relayed_length == 0);
+    a = arrive(&g, 1, "", 0);
+    CHECK(a.status == ROHC_ARRIVED && a.arrival.kind == ROHC_REFUSED && a.arrival.outcome == 1);
+    rohc_free(&g);
+}
+
+/* A relayed element, and nothing of an earlier answer. */
+static void relayed(void) {
+    struct rohc_link link = link_of(1);
+    struct rohc_gateway g = gateway_of(&link, 1);
+    struct answer a = arrive(&g, 1, "\xe0\xe0\xf2\x20\x07" PLAIN_IR, 10);
+    CHECK(a.arrival.relayed_count == 1 && a.arrival.relayed_length == 3 && !memcmp(a.relayed, "\x02\x20\x07", 3));
+    a = arrive(&g, 1, "\xf0\x00", 2);
+    CHECK(a.arrival.kind == ROHC_FEEDBACK && a.arrival.relayed_count == 1 && a.arrival.relayed_length == 1);
+    CHECK(a.relayed[0] == 0 && !a.arrival.has_packet && a.arrival.packet_length == 0);
+    CHECK(!a.arrival.has_feedback && a.arrival.feedback_length == 0 && a.arrival.cid == 0 && a.arrival.outcome == 0);
+    a = arrive(&g, 1, "\xf0", 1);
+    CHECK(a.arrival.kind == ROHC_REFUSED && a.arrival.outcome == 2 && a.arrival.relayed_count == 0);
+    CHECK(!a.arrival.has_packet && !a.arrival.has_feedback && a.arrival.relayed_length == 0);
+    rohc_free(&g);
+}
+
+/* A range of U mode sends no feedback; a reset forgets its own link alone; gateways are apart. */
+static void links_apart(void) {
+    struct rohc_link links[2] = {link_of(1), link_of(2)};
+    links[0].range_count = 1;
+    links[0].ranges[0].first = 4;
+    links[0].ranges[0].last = 7;
+    struct rohc_gateway g = gateway_of(links, 2), other = gateway_of(links, 2);
+    CHECK(!arrive(&g, 1, "\xe5\xfc\x00\xf2\x45\xaa", 6).arrival.has_feedback);
+    CHECK(arrive(&g, 1, "\xe1\xfc\x00\x30\x45\xaa", 6).arrival.has_feedback);
+    CHECK(arrive(&g, 2, PLAIN_IR, 5).status == ROHC_ARRIVED);
+    CHECK(rohc_has_context(&g, 1, 5) && rohc_has_context(&g, 1, 1) && rohc_has_context(&g, 2, 0));
+    CHECK(!rohc_has_context(&g, 1, 0) && !rohc_has_context(&other, 1, 5));
+    CHECK(rohc_reset(&g, 3) == ROHC_FORGOT_LINK && rohc_has_context(&g, 1, 5));
+    CHECK(rohc_reset(&g, 1) == ROHC_FORGOT && !rohc_has_context(&g, 1, 5) && !rohc_has_context(&g, 1, 1));
+    CHECK(rohc_has_context(&g, 2, 0));
+    CHECK(arrive(&g, 3, PLAIN_IR, 5).arrival.outcome == 29);
+    rohc_free(&g);
+    rohc_free(&other);
+}
+
+static void names(void) {
+    uint8_t name[ROHC_NAME_ROOM];
+    CHECK(rohc_refusal_name(1, name, sizeof name) == 5 && !strcmp((char *)name, "Empty"));
+    CHECK(rohc_refusal_name(16, name, sizeof name) == 13 && !strcmp((char *)name, "ExtensionList"));
+    CHECK(rohc_refusal_name(30, name, sizeof name) == 8 && !strcmp((char *)name, "NoMemory"));
+    CHECK(rohc_refusal_name(29, name, 7) == 6 && !strcmp((char *)name, "NoLink"));
+    CHECK(rohc_refusal_name(29, name, 6) == 0 && rohc_refusal_name(29, name, 0) == 0);
+    CHECK(rohc_refusal_name(0, name, sizeof name) == 0 && rohc_refusal_name(31, name, sizeof name) == 0);
+}
+
+/* Each request for memory of rohc_new refused in turn, and then those of a first IR: all stays as it was. */
+static void want_of_memory(void) {
+    struct rohc_link links[2] = {link_of(1), link_of(2)};
+    struct rohc_gateway g = gateway_of(links, 2);
+    size_t place = 7;
+    unsigned long request = 1;
+    CHECK(arrive(&g, 1, PLAIN_IR, 5).status == ROHC_ARRIVED);
+    for (;; request++) {
+        refused = request;
+        uint8_t made = rohc_new(&g, links, 2, &place);
+        if (refused != 0) break;
+        CHECK(made == ROHC_NO_MEMORY && place == 0 && rohc_has_context(&g, 1, 0));
+    }
+    CHECK(request > 3 && !rohc_has_context(&g, 1, 0));
+    refused = 1;
+    struct answer a = arrive(&g, 1, PLAIN_IR, 5);
+    CHECK(refused == 0 && a.status == ROHC_ARRIVED && a.arrival.kind == ROHC_CONTEXT && a.arrival.outcome == 30);
+    CHECK(!a.arrival.has_packet && !a.arrival.has_feedback && !rohc_has_context(&g, 1, 0));
+    refused = 0;
+    CHECK(arrive(&g, 1, PLAIN_IR, 5).arrival.outcome == ROHC_DELIVERED);
+    rohc_free(&g);
+}
+
+int main(void) {
+    without_a_concentrator();
+    freed_twice();
+    faults();
+    bounds();
+    relayed();
+    links_apart();
+    names();
+    want_of_memory();
+    puts(failed ? "calls at the edges: NOT as wanted" : "calls at the edges as wanted");
+    return failed != 0;
+}
