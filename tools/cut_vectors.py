@@ -7,6 +7,9 @@ DIR holds checks.tsv, values.tsv, framing.tsv, fields.tsv, feedback.tsv, headers
 forms.tsv, whose first lines name their columns; a line that begins with # is a comment. The questions go to
 crates/vectors/stdin, the wanted answers to crates/vectors/stdout. Of a long table the first 500 lines are
 kept, and each fifth of the others.
+
+The tables were computed by a model that was written from the rules alone, bit by bit and over whole lists,
+apart from the crates here. The model and the whole tables aren't in this repository; what is cut from them is.
 """
 
 import pathlib
@@ -41,6 +44,14 @@ def question_and_answer(line, answer_columns):
     return "\t".join(columns[:-answer_columns]), "\t".join(columns[-answer_columns:])
 
 
+def lines_of(table):
+    """The lines of a table, without the one that names its columns."""
+    try:
+        return table.read_text().splitlines()[1:]
+    except (OSError, UnicodeDecodeError) as fault:
+        sys.exit(f"cut_vectors.py: {table} can't be read: {getattr(fault, 'strerror', None) or 'it is no text'}")
+
+
 def main():
     if len(sys.argv) != 2:
         sys.exit(__doc__)
@@ -50,7 +61,7 @@ def main():
     for name, answer_columns in TABLES.items():
         questions.append(f"# {name}")
         answers.append(f"# {name}")
-        _columns, *lines = (tables / f"{name}.tsv").read_text().splitlines()
+        lines = lines_of(tables / f"{name}.tsv")
         for line in cut([line for line in lines if not line.startswith("#")]):
             question, answer = question_and_answer(line, answer_columns)
             questions.append(question)
