@@ -1,7 +1,7 @@
 /* A gateway on UDP sockets of 127.0.0.1:  udp_gateway LINKS PORT DELIVER RELAY [COUNT]
  * The packets of the first link come to PORT, those of the second to PORT + 1 and so on. Rebuilt packets go to the port
  * DELIVER, feedback goes back to where its packet came from, and feedback for this side's compressors goes to the port
- * RELAY. It ends after COUNT packets, or at SIGINT or SIGTERM. LINKS is what tools/link_lines.py writes of a links file. */
+ * RELAY. It ends after COUNT packets, or at SIGINT or SIGTERM, and prints the contexts that stand then. LINKS is what tools/link_lines.py writes of a links file. */
 #define _POSIX_C_SOURCE 200809L
 #include <arpa/inet.h>
 #include <inttypes.h>
@@ -60,6 +60,16 @@ static void take(struct rohc_gateway *gateway, uint16_t link, int socket, struct
     if (a.has_feedback) send_octets(socket, &peer, feedback, a.feedback_length);
 }
 
+/* Prints each context of each link. */
+static void show(struct rohc_gateway *gateway) {
+    static const char *const states[] = {"No Context", "Static Context", "Full Context"};
+    struct rohc_context_info context;
+    uint16_t link;
+    for (size_t i = 0; rohc_link_at(gateway, i, &link); i++)
+        for (size_t j = 0; rohc_context_at(gateway, link, j, &context); j++)
+            printf("link %u CID %u: profile 0x%04x, %s\n", link, context.cid, context.profile, states[context.state]);
+}
+
 int main(int count, char **words) {
     static struct rohc_link links[ROHC_LINKS];
     static struct pollfd sockets[ROHC_LINKS];
@@ -94,6 +104,7 @@ int main(int count, char **words) {
                 left--;
             }
     for (size_t i = 0; i < link_count; i++) close(sockets[i].fd);
+    show(&gateway);
     rohc_free(&gateway);
     return 0;
 }

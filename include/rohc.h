@@ -75,6 +75,13 @@ enum rohc_outcome {
     ROHC_STORED = 31    /**< The context was made or renewed without one. */
 };
 
+/** The state of a decompressor for one context (RFC 3095 4.3.2). */
+enum rohc_state {
+    ROHC_NO_CONTEXT = 0,     /**< Only an IR is taken. */
+    ROHC_STATIC_CONTEXT = 1, /**< The static part is known. */
+    ROHC_FULL_CONTEXT = 2    /**< Every packet may be taken. Profile 0x0000 is always in this state. */
+};
+
 /** A gateway: a concentrator, or none. All zeros is none. */
 struct rohc_gateway {
     bool live; /**< The library's own. */
@@ -116,6 +123,14 @@ struct rohc_arrival {
     size_t feedback_length; /**< The feedback's octets. */
     size_t relayed_length;  /**< The octets of what is relayed. */
     size_t relayed_count;   /**< The elements that are relayed: each one octet that counts its data, and the data. */
+};
+
+/** A context that stands. */
+struct rohc_context_info {
+    uint16_t cid;      /**< Its identifier. */
+    uint16_t profile;  /**< Its profile: 0x0000 or 0x0001. */
+    uint8_t state;     /**< One of enum rohc_state. */
+    uint64_t accepted; /**< The moment of its last accepted packet, in milliseconds. */
 };
 
 /**
@@ -166,6 +181,30 @@ uint8_t rohc_reset(struct rohc_gateway *gateway, uint16_t link);
 bool rohc_has_context(struct rohc_gateway *gateway, uint16_t link, uint16_t cid);
 
 /**
+ * Tells the number of the link at a place. The gateway stays as it was.
+ *
+ * @param gateway the gateway
+ * @param place the place, counted from 0 in the order of rohc_new()'s links
+ * @param link gets the number
+ * @return whether there is a link at the place; if not, @p link stays as it was
+ */
+bool rohc_link_at(struct rohc_gateway *gateway, size_t place, uint16_t *link);
+
+/**
+ * Tells the context at a place among those of a link. The gateway stays as it was.
+ *
+ * Contexts stand in the order of their first IR, those that count as none for their age included. A renewed context
+ * keeps its place; rohc_reset() takes all of a link's.
+ *
+ * @param gateway the gateway
+ * @param link the link's number
+ * @param place the place, counted from 0
+ * @param context gets the context
+ * @return whether there is a context at the place; if not, @p context stays as it was
+ */
+bool rohc_context_at(struct rohc_gateway *gateway, uint16_t link, size_t place, struct rohc_context_info *context);
+
+/**
  * Puts the name of a refusal and an octet 0 into a buffer.
  *
  * @param number the refusal's number, 1 to 30
@@ -204,6 +243,8 @@ ROHC_LAYOUT(offsetof(struct rohc_arrival, cid) == 2 && offsetof(struct rohc_arri
 ROHC_LAYOUT(offsetof(struct rohc_arrival, has_feedback) == 5 && offsetof(struct rohc_arrival, packet_length) == 8);
 ROHC_LAYOUT(offsetof(struct rohc_arrival, feedback_length) == 16 && offsetof(struct rohc_arrival, relayed_length) == 24);
 ROHC_LAYOUT(offsetof(struct rohc_arrival, relayed_count) == 32);
+ROHC_LAYOUT(sizeof(struct rohc_context_info) == 16 && offsetof(struct rohc_context_info, profile) == 2);
+ROHC_LAYOUT(offsetof(struct rohc_context_info, state) == 4 && offsetof(struct rohc_context_info, accepted) == 8);
 
 #undef ROHC_LAYOUT
 

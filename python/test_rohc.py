@@ -16,7 +16,18 @@ TOP = Path(__file__).resolve().parent.parent
 sys.path[:0] = [str(TOP / "python"), str(TOP / "python/examples")]
 
 import pcap  # noqa: E402
-from rohc import Answer, Closed, Concentrator, Kind, Link, NoLink, Range, SetupError  # noqa: E402
+from rohc import (  # noqa: E402
+    Answer,
+    Closed,
+    Concentrator,
+    Context,
+    Kind,
+    Link,
+    NoLink,
+    Range,
+    SetupError,
+    State,
+)
 
 EVENT = re.compile(rb"arrive (0|[1-9]\d{0,4}) (0|[1-9]\d{0,19}) (-|(?:[0-9a-f]{2})+)|reset (0|[1-9]\d{0,4})")
 
@@ -101,6 +112,16 @@ class Calls(unittest.TestCase):
             concentrator.reset(1)
             self.assertFalse(concentrator.has_context(1, 0))
             self.assertEqual(concentrator.arrive(1, 0, b"").refusal, "Empty")
+
+    def test_what_stands(self) -> None:
+        with Concentrator([Link(7), Link(1)]) as concentrator:
+            self.assertEqual((concentrator.links(), concentrator.contexts(1), concentrator.contexts(2)), ([7, 1], [], []))
+            concentrator.arrive(1, 5, bytes.fromhex("e5fc00f245aa"))
+            concentrator.arrive(1, 6, self.IR)
+            full = State.FULL_CONTEXT
+            self.assertEqual(concentrator.contexts(1), [Context(5, 0x0000, full, 5), Context(0, 0x0000, full, 6)])
+            self.assertEqual(concentrator.contexts(7), [])
+        self.assertEqual((concentrator.links(), concentrator.contexts(1)), ([], []))
 
     def test_faults(self) -> None:
         for links, status, place in (

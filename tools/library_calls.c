@@ -192,6 +192,52 @@ static void links_apart(void) {
     rohc_free(&other);
 }
 
+/* The static chain and the dynamic chain of the worked examples. */
+#define STATIC_CHAIN "\x40\x11\x0a\x00\x00\x01\x0a\x00\x00\x02\x13\x88\x13\x8a\x00\x00\x00\x01"
+#define DYNAMIC_CHAIN "\x00\x40\x00\x01\x20\x00\x00\x00\x90\x00\x00\x01\x00\x00\x00\xa0\x00\x00\x98\x0a\x00"
+#define STATIC_IR "\xfc\x01\xde" STATIC_CHAIN
+#define WHOLE_IR "\xfd\x01\x2b" STATIC_CHAIN DYNAMIC_CHAIN "\xab"
+#define PLAIN_IR_5 "\xe5\xfc\x00\xf2\x45\xaa"
+
+/* Whether a packet arrives at this moment, with this outcome. */
+static bool arrives(struct rohc_gateway *g, uint64_t moment, const char *octets, size_t count, uint8_t outcome) {
+    uint8_t packet[128], feedback[ROHC_FEEDBACK_ROOM], relayed[128];
+    struct rohc_arrival arrival;
+    return rohc_arrive(g, 1, moment, (const uint8_t *)octets, count, packet, sizeof packet, feedback, sizeof feedback, relayed,
+                       sizeof relayed, &arrival) == ROHC_ARRIVED && arrival.outcome == outcome;
+}
+
+/* Whether this context stands at the place on link 1. */
+static bool is_context(struct rohc_gateway *g, size_t place, uint16_t cid, uint16_t profile, uint8_t state,
+                       uint64_t accepted) {
+    struct rohc_context_info context;
+    memset(&context, 0x77, sizeof context);
+    return rohc_context_at(g, 1, place, &context) && context.cid == cid && context.profile == profile &&
+           context.state == state && context.accepted == accepted;
+}
+
+/* The links in their order by place, and contexts in the order of their first IR. */
+static void places(void) {
+    struct rohc_link links[2] = {link_of(7), link_of(1)};
+    struct rohc_gateway g = gateway_of(links, 2), none = {0};
+    struct rohc_context_info context = {.cid = 0x77};
+    uint16_t link = 0x77;
+    CHECK(!rohc_link_at(&none, 0, &link) && !rohc_context_at(&none, 1, 0, &context) && link == 0x77 && context.cid == 0x77);
+    CHECK(rohc_link_at(&g, 0, &link) && link == 7 && rohc_link_at(&g, 1, &link) && link == 1);
+    CHECK(!rohc_link_at(&g, 2, &link) && !rohc_link_at(&g, SIZE_MAX, &link) && link == 1);
+    CHECK(!rohc_context_at(&g, 1, 0, &context) && context.cid == 0x77);
+    CHECK(arrives(&g, 5, STATIC_IR, sizeof STATIC_IR - 1, ROHC_STORED));
+    CHECK(arrives(&g, 6, PLAIN_IR_5, sizeof PLAIN_IR_5 - 1, ROHC_DELIVERED));
+    CHECK(is_context(&g, 0, 0, 0x0001, ROHC_STATIC_CONTEXT, 5) && is_context(&g, 1, 5, 0x0000, ROHC_FULL_CONTEXT, 6));
+    CHECK(!rohc_context_at(&g, 1, 2, &context) && !rohc_context_at(&g, 7, 0, &context) && !rohc_context_at(&g, 2, 0, &context));
+    CHECK(!rohc_context_at(&g, 1, SIZE_MAX, &context) && context.cid == 0x77);
+    CHECK(arrives(&g, 7, WHOLE_IR, sizeof WHOLE_IR - 1, ROHC_DELIVERED));
+    CHECK(is_context(&g, 0, 0, 0x0001, ROHC_FULL_CONTEXT, 7) && is_context(&g, 1, 5, 0x0000, ROHC_FULL_CONTEXT, 6));
+    CHECK(rohc_reset(&g, 1) == ROHC_FORGOT && !rohc_context_at(&g, 1, 0, &context));
+    rohc_free(&g);
+    CHECK(!rohc_link_at(&g, 0, &link));
+}
+
 static void names(void) {
     uint8_t name[ROHC_NAME_ROOM];
     CHECK(rohc_refusal_name(1, name, sizeof name) == 5 && !strcmp((char *)name, "Empty"));
@@ -232,6 +278,7 @@ int main(void) {
     bounds();
     relayed();
     links_apart();
+    places();
     names();
     want_of_memory();
     puts(failed ? "calls at the edges: NOT as wanted" : "calls at the edges as wanted");

@@ -47,9 +47,11 @@ def main():
         finally:
             gateway.send_signal(signal.SIGTERM)
             status = gateway.wait(10)
-    if (ready, came, status) != (b"ready\n", ["2007", "45aa", "f100"], 0):
-        sys.exit(f"udp_gateway: NOT as wanted: {ready} {came} {status}")
-    print("udp_gateway: a packet, its feedback and what it relayed as wanted")
+        shown = gateway.stdout.read()
+    stands = b"link 1 CID 0: profile 0x0000, Full Context\n"
+    if (ready, came, shown, status) != (b"ready\n", ["2007", "45aa", "f100"], stands, 0):
+        sys.exit(f"udp_gateway: NOT as wanted: {ready} {came} {shown} {status}")
+    print("udp_gateway: a packet, its feedback, what it relayed and what stands as wanted")
 
 
 if __name__ == "__main__":

@@ -13,13 +13,16 @@ proved, and this layer isn't.
 
 from __future__ import annotations
 
-from collections.abc import Iterable, Sequence
+from collections.abc import Callable, Iterable, Iterator, Sequence
 from dataclasses import dataclass
 from enum import IntEnum
+from typing import TypeVar
 
 from . import _library
 
-__all__ = ["Answer", "Closed", "Concentrator", "Kind", "Link", "NoLink", "Range", "SetupError"]
+T = TypeVar("T")
+
+__all__ = ["Answer", "Closed", "Concentrator", "Context", "Kind", "Link", "NoLink", "Range", "SetupError", "State"]
 
 
 class Kind(IntEnum):
@@ -31,6 +34,26 @@ class Kind(IntEnum):
     """Padding and feedback were all."""
     REFUSED = 2
     """The packet was refused, and bears no identifier."""
+
+
+class State(IntEnum):
+    """The state of a decompressor for one context (RFC 3095 4.3.2)."""
+
+    NO_CONTEXT = 0
+    STATIC_CONTEXT = 1
+    FULL_CONTEXT = 2
+
+
+@dataclass(frozen=True)
+class Context:
+    """A context that stands."""
+
+    cid: int
+    profile: int
+    """0x0000 or 0x0001."""
+    state: State
+    accepted: int
+    """The moment of its last accepted packet, in milliseconds."""
 
 
 @dataclass(frozen=True)
@@ -137,6 +160,16 @@ class Concentrator:
         """Whether there is a context for an identifier of a link, one that counts as none included."""
         return _library.has_context(self._gateway, _within(link, 16), _within(cid, 16))
 
+    def links(self) -> list[int]:
+        """The numbers of the links, in their order; none of a closed concentrator."""
+        return list(_standing(lambda place: _library.link_at(self._gateway, place)))
+
+    def contexts(self, link: int) -> list[Context]:
+        """The contexts of a link, in the order of their first IR; none where there is no such link."""
+        number = _within(link, 16)
+        found = _standing(lambda place: _library.context_at(self._gateway, number, place))
+        return [Context(it.cid, it.profile, State(it.state), it.accepted) for it in found]
+
     def close(self) -> None:
         """Frees the concentrator. It may be called again."""
         _library.free(self._gateway)
@@ -150,6 +183,14 @@ class Concentrator:
     def __del__(self) -> None:
         if hasattr(self, "_gateway"):
             self.close()
+
+
+def _standing(at: Callable[[int], T | None]) -> Iterator[T]:
+    """What stands at the places from 0 on, up to the first where nothing does."""
+    place = 0
+    while (found := at(place)) is not None:
+        yield found
+        place += 1
 
 
 def _within(number: int, bits: int) -> int:

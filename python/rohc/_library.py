@@ -61,6 +61,10 @@ class Arrival(ctypes.Structure):
     ]
 
 
+class ContextInfo(ctypes.Structure):
+    _fields_ = [("cid", c_uint16), ("profile", c_uint16), ("state", c_uint8), ("accepted", c_uint64)]
+
+
 def _path() -> str:
     """Where the library is."""
     given = os.environ.get("ROHC_LIBRARY")
@@ -87,6 +91,8 @@ def _functions() -> ctypes.PyDLL:
         ),
         "rohc_reset": (c_uint8, [POINTER(Gateway), c_uint16]),
         "rohc_has_context": (c_bool, [POINTER(Gateway), c_uint16, c_uint16]),
+        "rohc_link_at": (c_bool, [POINTER(Gateway), c_size_t, POINTER(c_uint16)]),
+        "rohc_context_at": (c_bool, [POINTER(Gateway), c_uint16, c_size_t, POINTER(ContextInfo)]),
         "rohc_refusal_name": (c_size_t, [c_uint8, octets, c_size_t]),
     }
     for name, (result, arguments) in types.items():
@@ -143,6 +149,18 @@ def reset(gateway: Gateway, link: int) -> int:
 
 def has_context(gateway: Gateway, link: int, cid: int) -> bool:
     return _functions().rohc_has_context(byref(gateway), link, cid)
+
+
+def link_at(gateway: Gateway, place: int) -> int | None:
+    """The number of the link at a place."""
+    link = c_uint16()
+    return link.value if _functions().rohc_link_at(byref(gateway), place, byref(link)) else None
+
+
+def context_at(gateway: Gateway, link: int, place: int) -> ContextInfo | None:
+    """The context at a place among those of a link."""
+    context = ContextInfo()
+    return context if _functions().rohc_context_at(byref(gateway), link, place, byref(context)) else None
 
 
 def refusal_name(number: int) -> str | None:

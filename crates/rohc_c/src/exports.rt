@@ -1,6 +1,6 @@
 //! The functions that C calls.
 
-ghost use Rattle.std.specs.Prelude.{◌≡◌, ◌≢◌, ◌⊎◌, ◌↔◌, length, IsTrue, None, IfSome, IsSome};
+ghost use Rattle.std.specs.Prelude.{◌≡◌, ◌≢◌, ◌⊎◌, ◌↔◌, length, IsTrue, Some, None, true, false, IfSome, IsSome};
 ghost use Rattle.rohc_c.specs.Setup.{IsNew, IsNewFault, fault_number, fault_place};
 ghost use Rattle.rohc_c.specs.declared.setup.NewFault.{NewFault};
 
@@ -10,6 +10,7 @@ use crate::link::RohcLink;
 use crate::names::{put_name, refusal_of};
 use crate::room::has_room;
 use crate::setup::build;
+use crate::standing::{RohcContextInfo, context_at};
 use std::alloc::Global;
 
 /// Makes the concentrator of these links, in this order and with no record, in the place of what the gateway had.
@@ -139,6 +140,64 @@ pub extern "C" fn rohc_has_context(
     let stands = concentrator.has_context(link, cid);
     *gateway = Gateway::of(concentrator);
     stands
+}
+
+ghost use Rattle.rohc_c.specs.Standing.{link_at, identifier_at, IsContextAt};
+
+/// Tells the number of the link at a place, counted from 0 in the order of the settings, and whether there is one.
+///
+/// Behind the last link, and where there is no concentrator, `link` stays as it was.
+#[unsafe(no_mangle)]
+pub extern "C" fn rohc_link_at(
+    alloc: Global,
+    gateway: &mut Gateway,
+    place: usize,
+    link: &mut u16,
+) -> bool
+    ensures shown { result ≡ true → link_at gateway.old.handle.concentrator place ≡ Some link.new }
+    ensures behind { result ≡ false → (link_at gateway.old.handle.concentrator place ≡ None) × (link.new ≡ link.old) }
+    ensures kept { gateway.new.handle.concentrator ≡ gateway.old.handle.concentrator }
+{
+    if !gateway.live {
+        return false;
+    }
+    let concentrator = gateway.take(alloc);
+    let number = concentrator.link_at(place);
+    *gateway = Gateway::of(concentrator);
+    let Some(number) = number else {
+        return false;
+    };
+    *link = number;
+    true
+}
+
+/// Tells the context at a place among those of a link, counted from 0 in the order of their first IR, and whether
+/// there is one.
+///
+/// Behind the last one, where there is no such link, and where there is no concentrator, `context` stays as it was.
+#[unsafe(no_mangle)]
+pub extern "C" fn rohc_context_at(
+    alloc: Global,
+    gateway: &mut Gateway,
+    link: u16,
+    place: usize,
+    context: &mut RohcContextInfo,
+) -> bool
+    ensures shown { result ≡ true → IsContextAt gateway.old.handle.concentrator link place context.new }
+    ensures behind { result ≡ false → (identifier_at gateway.old.handle.concentrator link place ≡ None) × (context.new ≡ context.old) }
+    ensures kept { gateway.new.handle.concentrator ≡ gateway.old.handle.concentrator }
+{
+    if !gateway.live {
+        return false;
+    }
+    let concentrator = gateway.take(alloc);
+    let shown = context_at(&concentrator, link, place);
+    *gateway = Gateway::of(concentrator);
+    let Some(shown) = shown else {
+        return false;
+    };
+    *context = shown;
+    true
 }
 
 ghost use Rattle.rohc_c.specs.Names.{IsNamed, IsUnnamed};

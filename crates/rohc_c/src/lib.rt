@@ -14,5 +14,6 @@ mod names;
 mod relay;
 mod room;
 pub mod setup;
+pub mod standing;
 #[cfg(test)]
 mod tests;

@@ -2,10 +2,12 @@
 
 use crate::arrival::RohcArrival;
 use crate::exports::{
-    rohc_arrive, rohc_free, rohc_has_context, rohc_new, rohc_refusal_name, rohc_reset,
+    rohc_arrive, rohc_context_at, rohc_free, rohc_has_context, rohc_link_at, rohc_new,
+    rohc_refusal_name, rohc_reset,
 };
 use crate::gateway::Gateway;
 use crate::link::{RohcLink, RohcRange};
+use crate::standing::RohcContextInfo;
 use std::test::Fail;
 
 /// Link 1 of the worked examples.
@@ -49,7 +51,7 @@ fn a_gateway_comes_and_goes(rt: HostRuntime) -> Result<(), Fail> {
         rt.alloc(),
         &mut gateway,
         1,
-        0,
+        3,
         octets,
         &mut packet,
         &mut feedback,
@@ -62,6 +64,15 @@ fn a_gateway_comes_and_goes(rt: HostRuntime) -> Result<(), Fail> {
     assert_eq!(rt; &relayed[..3], b"\x02\x20\x07".as_slice());
     assert_eq!(rt; arrival.packet_length, 2);
     assert!(rt; rohc_has_context(rt.alloc(), &mut gateway, 1, 0));
+    let mut link = 7;
+    assert!(rt; rohc_link_at(rt.alloc(), &mut gateway, 0, &mut link));
+    assert_eq!(rt; link, 1);
+    assert!(rt; !rohc_link_at(rt.alloc(), &mut gateway, 1, &mut link));
+    let mut context = RohcContextInfo::default();
+    assert!(rt; rohc_context_at(rt.alloc(), &mut gateway, 1, 0, &mut context));
+    assert_eq!(rt; (context.cid, context.profile), (0, 0));
+    assert_eq!(rt; (context.state, context.accepted), (2, 3));
+    assert!(rt; !rohc_context_at(rt.alloc(), &mut gateway, 1, 1, &mut context));
     assert_eq!(rt; rohc_reset(rt.alloc(), &mut gateway, 1), 0);
     assert!(rt; !rohc_has_context(rt.alloc(), &mut gateway, 1, 0));
     assert_eq!(rt; rohc_reset(rt.alloc(), &mut gateway, 2), 2);

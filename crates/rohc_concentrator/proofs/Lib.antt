@@ -6,4 +6,5 @@ pub mod OrderLemmas
 pub mod SameLemmas
 pub mod SetupLaws
 pub mod SetupLemmas
+pub mod StandingLemmas
 pub mod WorldLemmas

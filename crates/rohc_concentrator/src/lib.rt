@@ -10,6 +10,7 @@ mod link;
 pub mod records;
 pub mod setting;
 pub mod setup;
+mod standing;
 
 pub use answer::{Answer, NoLink};
 pub use concentrator::Concentrator;

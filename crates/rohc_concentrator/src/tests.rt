@@ -115,6 +115,15 @@ fn tables_keep_the_order_of_first_records(rt: HostRuntime) -> Result<(), Fail> {
             .collect::<Vec<u16>>(rt.alloc())?;
         assert_eq!(rt; identifiers.as_slice(), [1, 0].as_slice());
     }
+    assert_eq!(rt;
+        (concentrator.link_at(0), concentrator.link_at(1)),
+        (Some(1), None)
+    );
+    for (place, wanted) in [(0, Some(1)), (1, Some(0)), (2, None)] {
+        let stands = concentrator.context_at(1, place);
+        assert_eq!(rt; stands.map(|(cid, _context)| cid), wanted);
+    }
+    assert!(rt; concentrator.context_at(2, 0).is_none());
     Ok(())
 }
 

@@ -2,6 +2,7 @@ pub mod Refusal
 pub mod Framing
 pub mod Faults
 pub mod Settings
+pub mod Standing
 pub mod Window
 pub mod Record
 pub mod Response

@@ -18,6 +18,7 @@ mod reference;
 pub mod refusal;
 pub mod reply;
 pub mod settings;
+pub mod standing;
 mod state;
 mod step;
 mod tries;
@@ -28,6 +29,7 @@ pub use record::Context;
 pub use refusal::Refusal;
 pub use reply::{Delivered, Outcome, Reply};
 pub use settings::{Mode, Settings};
+pub use standing::{ContextState, Profile};
 pub use window::Window;
 
 #[cfg(test)]

@@ -1,6 +1,6 @@
 //! Arrivals of one context, from the worked examples.
 
-use crate::{Context, Mode, Outcome, Refusal, Reply, Settings};
+use crate::{Context, ContextState, Mode, Outcome, Profile, Refusal, Reply, Settings};
 use rohc_frame::{CidKind, cut};
 
 const SETTINGS: Settings = Settings {
@@ -48,6 +48,10 @@ fn answer(context: &mut Context, packet: &[u8]) -> Option<(Outcome, Option<u8>, 
 
 const UNFIT: Outcome = Outcome::Refused(Refusal::Check);
 
+const FULL: ContextState = ContextState::FullContext;
+
+const STATIC: ContextState = ContextState::StaticContext;
+
 const LOW: Outcome = Outcome::Refused(Refusal::StateTooLow);
 
 // Examples first UO-0, fall to Static and UOR-2-TS jump.
@@ -56,22 +60,25 @@ fn a_call_falls_and_is_taken_up_again(rt: HostRuntime) {
     let Some(mut context) = first(&WHOLE_IR) else {
         panic!(rt; "refused");
     };
-    let answers: [(&[u8], Outcome, Option<u8>, Option<u8>); 7] = [
-        (&[0x10, 0xac], Outcome::Delivered, Some(2), None),
-        (&[0x11, 0xac], UNFIT, None, None),
-        (&[0x11, 0xac], UNFIT, None, Some(0xf4)),
-        (&[0x10, 0xac], LOW, None, None),
-        (&[0x10, 0xac], LOW, None, Some(0xf4)),
+    let answers: [(&[u8], Outcome, Option<u8>, Option<u8>, ContextState); 7] = [
+        (&[0x10, 0xac], Outcome::Delivered, Some(2), None, FULL),
+        (&[0x11, 0xac], UNFIT, None, None, FULL),
+        (&[0x11, 0xac], UNFIT, None, Some(0xf4), STATIC),
+        (&[0x10, 0xac], LOW, None, None, STATIC),
+        (&[0x10, 0xac], LOW, None, Some(0xf4), STATIC),
         (
             &[0xd4, 0xc3, 0x3e, 0xad],
             Outcome::Delivered,
             Some(3),
             Some(0xf4),
+            FULL,
         ),
-        (&WHOLE_IR, Outcome::Delivered, Some(1), Some(0xf4)),
+        (&WHOLE_IR, Outcome::Delivered, Some(1), Some(0xf4), FULL),
     ];
-    for (packet, outcome, sn, feedback) in answers {
+    assert_eq!(rt; context.profile(), Profile::Rtp);
+    for (packet, outcome, sn, feedback, state) in answers {
         assert_eq!(rt; answer(&mut context, packet), Some((outcome, sn, feedback)));
+        assert_eq!(rt; context.state(), state);
     }
 }
 
@@ -98,4 +105,6 @@ fn a_plain_context_lends_nothing(rt: HostRuntime) {
     };
     assert!(rt; context.windows().is_none());
     assert!(rt; context.saved().is_none());
+    assert_eq!(rt; context.profile(), Profile::Uncompressed);
+    assert_eq!(rt; (context.state(), context.accepted()), (FULL, 0));
 }
