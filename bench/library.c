@@ -1,6 +1,6 @@
 /* Times the arrivals of a script through the library for C:  library LINKS SCRIPT TURNS
- * LINKS is what tools/link_lines.py writes of a links file. The script is read before the clock starts, and each turn begins
- * without contexts. It prints the packets, how many were delivered, and the nanoseconds of the best turn. */
+ * LINKS is the output of tools/link_lines.py for a links file. The script is read before the clock starts. Each turn starts
+ * without contexts. The program prints the number of packets, the number delivered, and the nanoseconds of the best turn. */
 #include <inttypes.h>
 #include <stdio.h>
 #include <stdlib.h>

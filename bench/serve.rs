@@ -1,4 +1,4 @@
-//! Datagrams a second through `rohcd serve` on loopback, beside a plain echo with the same socket calls.
+//! Datagrams per second through `rohcd serve` on loopback, compared with a plain echo with the same socket calls.
 //!
 //!     serve PROGRAM COUNT ROUNDS
 //!
@@ -19,7 +19,7 @@ const WINDOW: u32 = 32;
 const LINK: &str = "version = 1\n[[link]]\nnumber = 1\ncid = \"small\"\nmax_cid = 15\nmode = \"O\"\nk1 = 2\nn1 = 3\n\
     k2 = 2\nn2 = 3\npacket_ms = 20\nstatic_nack_ms = 1000\n";
 
-/// The plain echo: what comes at a port goes on to another, without its first two octets.
+/// The plain echo: each datagram at a port is sent on to another port, without its first two octets.
 fn echo(port: u16, count: u32, deliver: u16) -> Result<()> {
     let socket = UdpSocket::bind((Ipv4Addr::LOCALHOST, port))?;
     let start = Instant::now();
@@ -41,7 +41,7 @@ fn wait_until_bound(port: u16) -> Result<()> {
     Ok(())
 }
 
-/// Sends so many datagrams to a server at this port, and answers how many a second come back.
+/// Sends `count` datagrams to a server at this port, and returns how many per second come back.
 fn rate(port: u16, count: u32, deliver: &UdpSocket, server: &mut Child) -> Result<f64> {
     wait_until_bound(port)?;
     let sender = UdpSocket::bind((Ipv4Addr::LOCALHOST, 0))?;

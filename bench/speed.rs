@@ -1,4 +1,4 @@
-//! What `crates/speed` times, written plainly in Rust: the same turns, the same lines.
+//! The work that `crates/speed` times, in plain Rust: the same turns and the same output.
 
 use std::time::Instant;
 

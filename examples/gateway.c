@@ -1,5 +1,5 @@
 /* Runs a script and prints its answer lines, as `rohcd replay` does:  gateway LINKS < SCRIPT
- * LINKS is what tools/link_lines.py writes of a links file. docs/FORMATS.md has the scripts and the answer lines. */
+ * LINKS is the output of tools/link_lines.py for a links file. docs/FORMATS.md describes scripts and answer lines. */
 #include <inttypes.h>
 #include <stdio.h>
 #include <stdlib.h>
@@ -42,7 +42,7 @@ static void arrive(unsigned link, uint64_t moment, const uint8_t *octets, size_t
     if (a.outcome != ROHC_DELIVERED && a.outcome != ROHC_STORED) print_refusal(link, cid, a.outcome);
 }
 
-/* Reads pairs of digits as far as they go. */
+/* Reads pairs of lower case digits up to the first other character, and returns how many octets they are. */
 static size_t read_octets(const char *text, size_t length, uint8_t *octets) {
     static const char digits[] = "0123456789abcdef";
     size_t count = 0;
@@ -54,7 +54,7 @@ static size_t read_octets(const char *text, size_t length, uint8_t *octets) {
     return count;
 }
 
-/* Runs a line and answers whether it is good: the very line that its event is written as. */
+/* Runs a line, and returns whether it is good, which means that it is exactly the line of an event. */
 static bool run(const char *line, size_t length) {
     static uint8_t octets[PACKET];
     static char text[LINE + 1];

@@ -1,6 +1,6 @@
-/* The settings of links as lines, for the examples; tools/link_lines.py writes them of a links file. For each link
+/* The settings of links as lines, for the examples. tools/link_lines.py writes them from a links file. For each link
  *     link NUMBER SIZE MAX_CID MODE K1 N1 K2 N2 PACKET_MS STATIC_NACK_MS IDLE_MS
- * and behind it for each of its ranges
+ * and after it for each of its ranges
  *     range FIRST LAST MODE */
 #ifndef LINK_LINES_H
 #define LINK_LINES_H
@@ -27,7 +27,7 @@ static void read_link(FILE *file, struct rohc_link *l) {
     l->optimistic = mode == 'O';
 }
 
-/* Reads lines into links that are all zeros, and answers how many links there are. It exits with 3 where a line is none. */
+/* Reads lines into links that are all zeros, and returns how many links there are. It exits with 3 if a line is wrong. */
 static size_t read_links(FILE *file, struct rohc_link *links) {
     char word[8];
     size_t count = 0;

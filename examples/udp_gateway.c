@@ -1,7 +1,8 @@
 /* A gateway on UDP sockets of 127.0.0.1:  udp_gateway LINKS PORT DELIVER RELAY [COUNT]
- * The packets of the first link come to PORT, those of the second to PORT + 1 and so on. Rebuilt packets go to the port
- * DELIVER, feedback goes back to where its packet came from, and feedback for this side's compressors goes to the port
- * RELAY. It ends after COUNT packets, or at SIGINT or SIGTERM, and prints the contexts that stand then. LINKS is what tools/link_lines.py writes of a links file. */
+ * The packets of the first link arrive at PORT, those of the second at PORT + 1, and so on. Rebuilt packets are sent to the
+ * port DELIVER, feedback to the sender of its packet, and feedback for this side's compressors to the port RELAY. The program
+ * ends after COUNT packets, or at SIGINT or SIGTERM, and prints the contexts that stand then. LINKS is the output of
+ * tools/link_lines.py for a links file. */
 #define _POSIX_C_SOURCE 200809L
 #include <arpa/inet.h>
 #include <inttypes.h>
@@ -42,7 +43,7 @@ static void send_octets(int from, const struct sockaddr_in *to, const uint8_t *o
     if (sendto(from, octets, count, 0, (const struct sockaddr *)to, sizeof *to) < 0) perror("udp_gateway: send");
 }
 
-/* One packet of a link: it is taken, and what it gives is sent. */
+/* Receives one packet of a link, and sends what it gives. */
 static void take(struct rohc_gateway *gateway, uint16_t link, int socket, struct sockaddr_in deliver,
                  struct sockaddr_in relay) {
     static uint8_t octets[PACKET], packet[PACKET + ROHC_HEAD_ROOM], relayed[PACKET];

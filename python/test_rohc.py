@@ -53,7 +53,7 @@ def hex_of(octets: bytes) -> str:
 
 
 def answer_lines(link: int, answer: Answer) -> Iterator[str]:
-    """The lines of an answer, as docs/FORMATS.md has them."""
+    """The answer lines of an answer, as in docs/FORMATS.md."""
     pair = f"{link} {'-' if answer.cid is None else answer.cid}"
     yield from (f"{link} - relay {hex_of(element)}" for element in answer.relayed)
     if answer.packet is not None:

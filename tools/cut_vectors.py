@@ -15,7 +15,7 @@ apart from the crates here. The model and the whole tables aren't in this reposi
 import pathlib
 import sys
 
-# The tables, and how many of the last columns are the answer.
+# The tables, each with the number of columns at its end that are the answer.
 TABLES = {
     "checks": 1,
     "values": 2,
@@ -31,7 +31,7 @@ KEPT_OF_THE_OTHERS = 5
 
 
 def cut(lines):
-    """The first lines, and each fifth of the others."""
+    """The first lines, and every fifth of the others."""
     return lines[:KEPT_WHOLE] + lines[KEPT_WHOLE::KEPT_OF_THE_OTHERS]
 
 
@@ -39,7 +39,7 @@ def question_and_answer(line, answer_columns):
     """A line's columns before the answer, and the answer's."""
     columns = line.split("\t")
     if columns[0].startswith("write "):
-        # What is written has no number of octets taken behind it.
+        # A value that is written has no number of octets after it.
         return columns[0], columns[1]
     return "\t".join(columns[:-answer_columns]), "\t".join(columns[-answer_columns:])
 

@@ -1,7 +1,7 @@
 """A canvas for the pictures of docs/pictures, written as SVG.
 
-A picture is readable on light and on dark pages. No text leaves its box or the frame, no two texts overlap, and no
-arrow runs through a text: else the picture is refused. Widths are estimated, and generously.
+A picture is readable on light and on dark pages. A picture is refused if a text leaves its box or the frame, if two texts
+overlap, or if an arrow runs through a text. The widths of texts are estimated generously.
 """
 
 from xml.sax.saxutils import escape
@@ -34,7 +34,7 @@ STYLE = """
 
 
 class BadPicture(Exception):
-    """A text that can't be read where it stands."""
+    """A text can't be read where it stands."""
 
 
 def overlap(a, b):
@@ -43,7 +43,7 @@ def overlap(a, b):
 
 
 class Canvas:
-    """A picture of so many pixels."""
+    """A picture of this width and height in pixels."""
 
     def __init__(self, name, width, height):
         self.name, self.width, self.height = name, width, height
@@ -70,7 +70,7 @@ class Canvas:
         )
 
     def box(self, x, y, width, height, words, kind="box", fonts=""):
-        """A box with lines of text in its middle. `fonts` names a font for each line, with commas between."""
+        """A box with lines of text in its middle. `fonts` names a font for each line, separated by commas."""
         lines, fonts = words.split("\n"), fonts.split(",")
         self.parts.append(f'<rect class="{kind}" x="{x:g}" y="{y:g}" width="{width:g}" height="{height:g}" rx="6"/>')
         top = y + height / 2 - (len(lines) - 1) * 9
@@ -83,7 +83,7 @@ class Canvas:
         self.parts.append(f'<rect class="{kind}" x="{x:g}" y="{y:g}" width="{width:g}" height="{height:g}" rx="6"/>')
 
     def arrow(self, *points):
-        """A line through these points, upright or level from each to the next, with a tip at its end."""
+        """A line through these points, with a tip at its end. Each part of it is vertical or horizontal."""
         for start, end in zip(points, points[1:]):
             if start[0] != end[0] and start[1] != end[1]:
                 raise BadPicture(f"{self.name}: the line {start} to {end} is neither upright nor level")
@@ -100,7 +100,7 @@ class Canvas:
         self.parts.append(f'<path class="arrow" d="M {path}"/><polygon class="tip" points="{tip}"/>')
 
     def check_lines(self):
-        """No line runs through a text, and none leaves the frame."""
+        """Refuses a line that runs through a text or leaves the frame."""
         for (x, y), (a, b) in self.lines:
             line = (min(x, a) - 1, min(y, b) - 1, max(x, a) + 1, max(y, b) + 1)
             if line[0] < 0 or line[1] < 0 or line[2] > self.width or line[3] > self.height:
@@ -110,7 +110,7 @@ class Canvas:
                     raise BadPicture(f"{self.name}: a line runs through '{words}'")
 
     def svg(self, shows):
-        """The picture as a text, with what it shows in words, by its name."""
+        """The picture as SVG, with a name and a description in words."""
         self.check_lines()
         body = "\n  ".join(self.parts)
         return (

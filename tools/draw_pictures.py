@@ -12,7 +12,7 @@ from pathlib import Path
 
 from draw_canvas import BadPicture, Canvas
 
-# What each picture shows, for who can't see it.
+# What each picture shows, in words, for readers who can't see it.
 SHOWS = {
     "packet": "The flow of a packet, from a line or a datagram to the packet that is rebuilt",
     "states": "The states of a context, what leads from one to the next, and the feedback that is sent in O mode",
@@ -55,7 +55,7 @@ def packet():
 
 
 def states():
-    """The states of a context, who leads where, and what is sent."""
+    """The states of a context, what leads from one to another, and the feedback that is sent."""
     c = Canvas("states", 900, 500)
     c.box(40, 60, 160, 60, "no record", "plain", "bold")
     c.box(600, 60, 200, 60, "Full Context\ntakes every packet", "alone", "bold,small")
@@ -108,7 +108,7 @@ def state_changes(c):
 
 
 def tries():
-    """The three tries to explain a packet."""
+    """The three tries of a packet."""
     c = Canvas("tries", 900, 390)
     c.box(30, 40, 130, 60, "a packet\nof kind Other")
     c.arrow((160, 70), (200, 70))
@@ -131,7 +131,7 @@ def tries():
     return c
 
 
-# Lines of a script, their answers, and whose they are.
+# Lines of a script, their answers, and the calls that they belong to.
 EVENTS = [
     ("arrive 1 0  IR", "1 0 ip 45..", "alone"),
     ("arrive 1 3  noise", "1 7 refused NoContext", "hostile"),
@@ -143,7 +143,7 @@ EVENTS = [
 
 
 def isolation():
-    """The lines of one call among others, and alone."""
+    """The lines of one call, among others and alone."""
     c = Canvas("isolation", 900, 400)
     for place, (line, answer, kind) in enumerate(EVENTS):
         c.box(30, 50 + place * 30, 190, 26, line, kind, "mono")

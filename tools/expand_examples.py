@@ -18,7 +18,7 @@ DYNAMIC_CHAIN = "004000012000000090000001000000a0000980a0"
 
 
 def header(fields):
-    """The octets of the header P(tos id sum m sn ts), with a UDP checksum where one is named."""
+    """The octets of the header P(tos id sum m sn ts), with a UDP checksum if one is given."""
     tos, ip_id, header_sum, marker, sn, ts, udp_sum = (fields.split() + ["0000"])[:7]
     return (
         f"45{tos}0029{ip_id}00004011{header_sum}0a0000010a000002"
@@ -27,7 +27,7 @@ def header(fields):
 
 
 def written_out(line):
-    """The line with its octets in full, as one word: the fourth of an arrival, and of an answer with octets."""
+    """The line with its octets in full, as one word: the fourth word of an arrival, or of an answer with octets."""
     words = line.split(" ", 3)
     if len(words) < 4:
         return line

@@ -1,5 +1,5 @@
 /*
- * Calls the library for C at its edges: no gateway, each fault, buffers of exactly the bound and one less, want of memory.
+ * Calls the library for C at its limits: no gateway, each fault, buffers of exactly the bound and one less, lack of memory.
  * bin/check_library links it with --wrap=malloc and --wrap=realloc. The octets are those of docs/EXAMPLES.md.
  */
 #include <stdio.h>
@@ -13,7 +13,7 @@
 void *__real_malloc(size_t size);
 void *__real_realloc(void *old, size_t size);
 
-/* The request for memory that is refused, counting from 1 down to it; 0 for none. */
+/* The request for memory that is refused, as the number of requests up to it; 0 for none. It counts down. */
 static unsigned long refused;
 static unsigned failed;
 
@@ -28,7 +28,7 @@ static void check(bool holds, const char *fact, int line) {
     }
 }
 
-/* Link NUMBER of the worked examples, with small identifiers in O mode. */
+/* Link NUMBER of the worked examples, with small CIDs in O mode. */
 static struct rohc_link link_of(uint16_t number) {
     struct rohc_link link;
     memset(&link, 0, sizeof link);
@@ -42,13 +42,14 @@ static struct rohc_link link_of(uint16_t number) {
     return link;
 }
 
-/* What an arrival answered, with buffers of their own blocks. */
+/* The answer to an arrival, with copies of the buffers. */
 struct answer {
     uint8_t status, packet[64], feedback[8], relayed[64];
     struct rohc_arrival arrival;
 };
 
-/* A packet arrives with these octets less in the buffers than their bounds; the blocks have no octet more. */
+/* A packet arrives with buffers that are smaller than their bounds by these numbers. The octet
+ * after the buffers for the packet and for relayed feedback must stay as it is. */
 static struct answer arrive_tight(struct rohc_gateway *g, uint16_t link, const char *octets, size_t count, size_t packet_less,
                                   size_t feedback_less, size_t relayed_less) {
     size_t packet_room = count + ROHC_HEAD_ROOM - packet_less, feedback_room = ROHC_FEEDBACK_ROOM - feedback_less;
@@ -109,7 +110,7 @@ static void freed_twice(void) {
     CHECK(!rohc_has_context(&g, 1, 0));
 }
 
-/* Each fault, at its place; the gateway stays as it was. */
+/* Each fault, at its place. The gateway stays as it was. */
 static void faults(void) {
     static struct rohc_link links[ROHC_LINKS + 1];
     struct rohc_gateway g;
@@ -137,7 +138,7 @@ static void faults(void) {
     rohc_free(&g);
 }
 
-/* One octet less in any buffer, and nothing happens. */
+/* With one octet less in any buffer nothing is changed. */
 static void bounds(void) {
     struct rohc_link link = link_of(1);
     struct rohc_gateway g = gateway_of(&link, 1);
@@ -156,7 +157,7 @@ static void bounds(void) {
     rohc_free(&g);
 }
 
-/* A relayed element, and nothing of an earlier answer. */
+/* A relayed element, and nothing left of an earlier answer. */
 static void relayed(void) {
     struct rohc_link link = link_of(1);
     struct rohc_gateway g = gateway_of(&link, 1);
@@ -172,7 +173,7 @@ static void relayed(void) {
     rohc_free(&g);
 }
 
-/* A range of U mode sends no feedback; a reset forgets its own link alone; gateways are apart. */
+/* A range in U mode sends no feedback. A reset forgets only its own link. Gateways are independent. */
 static void links_apart(void) {
     struct rohc_link links[2] = {link_of(1), link_of(2)};
     links[0].range_count = 1;
@@ -248,7 +249,7 @@ static void names(void) {
     CHECK(rohc_refusal_name(0, name, sizeof name) == 0 && rohc_refusal_name(31, name, sizeof name) == 0);
 }
 
-/* Each request for memory of rohc_new refused in turn, and then those of a first IR: all stays as it was. */
+/* Each request for memory of rohc_new is refused in turn, and then each of a first IR. Everything stays as it was. */
 static void want_of_memory(void) {
     struct rohc_link links[2] = {link_of(1), link_of(2)};
     struct rohc_gateway g = gateway_of(links, 2);

@@ -38,7 +38,7 @@ def normal(link, cid):
 
 
 def calls(number, cids):
-    """First each IR, then each call's packet."""
+    """First the IR of each call, then a packet of each."""
     pairs = [(link, cid) for link in number for cid in range(cids if link % 2 == 0 else min(cids, 16))]
     for make in plain_ir, normal:
         for link, cid in pairs:
@@ -46,7 +46,7 @@ def calls(number, cids):
 
 
 def flood(count):
-    """Lines for other identifiers and another link, and bad ones; none resets link 1."""
+    """Lines for other CIDs and another link, and bad lines. None of them resets link 1."""
     dice = random.Random(count)
     refused = ["f100", "ff00", "f9", "e0", "fcc0", "", "c00380c104", "c00380c201", "c00380c1c0", "8090c202", "c003", "11ac"]
     for _ in range(count):

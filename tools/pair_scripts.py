@@ -13,7 +13,7 @@ from collections import defaultdict
 
 
 def after_items(octets):
-    """What stands behind padding and feedback elements, or None where an element is cut off."""
+    """The octets after padding and feedback elements, or None if an element is cut off."""
     while octets and (octets[0] == 0xE0 or 0xF0 <= octets[0] <= 0xF7):
         if octets[0] == 0xE0:
             octets = octets[1:]
@@ -48,7 +48,7 @@ def large_identifier(octets):
 
 
 def identifier(link, octets):
-    """The identifier that a packet bears on this link, if it bears one (RFC 5795 5.2)."""
+    """The CID that a packet has on this link, if it has one (RFC 5795 5.2)."""
     rest = after_items(octets)
     if rest is None:
         return None
@@ -56,7 +56,7 @@ def identifier(link, octets):
 
 
 def own_scripts(lines):
-    """Each pair's own lines; a reset is every pair's of its link."""
+    """The own lines of each pair. A reset belongs to every pair of its link."""
     pairs, resets = defaultdict(list), defaultdict(list)
     for place, line in enumerate(lines):
         words = line.split(" ")

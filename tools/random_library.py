@@ -24,7 +24,7 @@ LINE = re.compile(
 
 
 def build(folder):
-    """The gateway, built with the sanitizers."""
+    """Builds the gateway with the sanitizers."""
     subprocess.run([TOP / "bin/lib", folder], check=True)
     flags = ["-std=c99", "-g", "-O1", "-fsanitize=address,undefined", "-fno-sanitize-recover=all", "-I", TOP / "include"]
     gateway = folder / "gateway"
@@ -36,7 +36,7 @@ def build(folder):
 
 
 def run(words, script):
-    """What a program answers to a script; it ends well."""
+    """The answers of a program to a script. The program must end well."""
     done = subprocess.run(words, input=script, capture_output=True)
     if done.returncode != 0 or done.stderr:
         sys.exit(f"{words[0]}: status {done.returncode}: {done.stderr.decode()}")

@@ -15,7 +15,7 @@ IR, IR_DYN, PLAIN_IR = 0xFD, 0xF8, 0xFC
 
 
 def check(octets, register, polynomial):
-    """A check over octets, least significant bit first (RFC 3095 5.9)."""
+    """A check over octets, the least significant bit of each first (RFC 3095 5.9)."""
     for octet in octets:
         register ^= octet
         for _ in range(8):
@@ -28,7 +28,7 @@ def check8(octets):
 
 
 class Wide:
-    """A check of 3 or 7 bits, for which the register is narrower than an octet."""
+    """A check of 3 or 7 bits. Its register is narrower than an octet."""
 
     def __init__(self, ones, polynomial):
         self.ones, self.polynomial = ones, polynomial
@@ -55,12 +55,12 @@ def header_sum(octets):
 
 
 def value(number):
-    """A self-describing value below 2^14 (RFC 3095 4.5.6)."""
+    """The encoding of a self-describing value below 2^14 (RFC 3095 4.5.6)."""
     return bytes([number]) if number < 1 << 7 else struct.pack(">H", number | 0x8000)
 
 
 class Call:
-    """A call of profile 0x0001 as its sender sees it."""
+    """A call of profile 0x0001, as its sender sees it."""
 
     def __init__(self, dice, cid_front, cid_behind):
         self.dice, self.cid_front, self.cid_behind = dice, cid_front, cid_behind
@@ -128,7 +128,7 @@ class Call:
         return front + bytes([check8(front + b"\x00" + chains)]) + chains + self.payload
 
     def behind(self, base):
-        """A packet of kind Other: the base octets, and what stands behind them."""
+        """A packet of kind Other: the base octets, and the octets after them."""
         octets = self.cid_front + base[:1] + self.cid_behind + base[1:]
         if self.rnd:
             octets += struct.pack(">H", self.id)
@@ -165,7 +165,7 @@ class Call:
 
 
 class PlainCall:
-    """A call of profile 0x0000: IP packets of any octets below E0."""
+    """A call of profile 0x0000: packets that start with 45, as IPv4 does, and are else random."""
 
     def __init__(self, dice, cid_front, cid_behind):
         self.dice, self.cid_front, self.cid_behind, self.sent = dice, cid_front, cid_behind, 0
@@ -181,14 +181,14 @@ class PlainCall:
 
 
 def identifier(link, cid):
-    """The octets of an identifier before and behind a header's first octet; odd links have small ones."""
+    """The CID octets before and after a header's first octet. Odd links have small CIDs."""
     if link % 2 == 1:
         return (bytes([0xE0 | cid]) if cid else b"", b"")
     return b"", bytes([cid]) if cid < 128 else struct.pack(">H", 0x8000 | cid)
 
 
 def spoilt(dice, octets):
-    """A packet cut, changed in one octet, begun with feedback, or of random octets."""
+    """A packet that is cut, changed in one octet, preceded by feedback, or replaced by random octets."""
     kind = dice.randrange(4)
     if kind == 0:
         return octets[: dice.randrange(len(octets) + 1)]
@@ -201,12 +201,12 @@ def spoilt(dice, octets):
 
 
 def made_calls(dice, pairs):
-    """A call for each pair of a link and an identifier, every fifth of profile 0x0000."""
+    """A call for each pair of a link and a CID. About every fifth is of profile 0x0000."""
     return [(link, (PlainCall if dice.random() < 0.2 else Call)(dice, *identifier(link, cid))) for link, cid in pairs]
 
 
 def line_of(dice, link, call, moment):
-    """A line for the next packet of a call, or none where it is lost."""
+    """A line for the next packet of a call, or None if it is lost."""
     octets = call.packet()
     roll = dice.random()
     if roll < 0.04:

@@ -1,7 +1,6 @@
 /*
- * Refuses one request for memory. Loaded before a program (LD_PRELOAD), it answers the request with the number in
- * REFUSED_REQUEST with no memory, counting from 1, and at the end of the program writes how many requests were made
- * to the file named in REQUEST_COUNT.
+ * Refuses one request for memory. Loaded before a program (LD_PRELOAD), it refuses the request whose number, counted from
+ * 1, is in REFUSED_REQUEST. At the end of the program it writes the number of requests to the file named in REQUEST_COUNT.
  */
 #include <errno.h>
 #include <stddef.h>

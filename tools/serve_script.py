@@ -28,7 +28,7 @@ def bound():
 
 
 def with_own_ports(text):
-    """The links file with a socket of ours for each port, and the sockets by link number and kind."""
+    """The links file with the port of a socket of ours in place of each port, and these sockets by link and kind."""
     sockets = {}
     lines = []
     link = None
@@ -45,7 +45,7 @@ def with_own_ports(text):
 
 
 def replayed(program, links, arrivals):
-    """The answer lines of each arrival, by `replay`. A bad line behind each marks where its answers end."""
+    """The answer lines of each arrival, by `replay`. A bad line after each arrival marks where its answers end."""
     script = "".join(f"arrive {link} 0 {octets}\n-\n" for link, octets in arrivals)
     words = [program, "replay", "--links", links]
     answers = subprocess.run(words, input=script, stdout=subprocess.PIPE, text=True, check=True).stdout
@@ -53,14 +53,14 @@ def replayed(program, links, arrivals):
 
 
 def sends_of(lines):
-    """What is sent for these answer lines: link, kind and octets of each datagram."""
+    """What must be sent for these answer lines: link, kind and octets of each datagram."""
     kinds = {"ip": "deliver", "feedback": "feedback", "relay": "relay"}
     words = [line.split(" ") for line in lines]
     return [(int(w[0]), kinds[w[2]], bytes.fromhex(w[3].strip("-"))) for w in words if w[2] in kinds]
 
 
 def wait_until_bound(port):
-    """Waits until the program has its port."""
+    """Waits until the program has bound its port."""
     name = f"0100007F:{port:04X} "
     until = time.monotonic() + WAIT
     while time.monotonic() < until:
@@ -72,14 +72,14 @@ def wait_until_bound(port):
 
 
 def received(sock):
-    """The next datagram at a socket, or None."""
+    """The next datagram at a socket, or None if none comes."""
     if not select.select([sock], [], [], WAIT)[0]:
         return None
     return sock.recv(65_536)
 
 
 def compare(program, text, script):
-    """Serves one script, and answers what differs from its replay."""
+    """Serves one script, and returns how the result differs from its replay."""
     with open(script, encoding="latin-1") as lines:
         found = [re.fullmatch(r"arrive (0|[1-9]\d*) \d+ (-|(?:[0-9a-f]{2})+)\n", line) for line in lines]
     arrivals = [(int(line[1]), line[2]) for line in found if line and int(line[1]) < 65_536]
@@ -119,7 +119,7 @@ def compare(program, text, script):
 
 
 def ends(program, links, text, port, output):
-    """Serves one datagram, and answers how it ends where that isn't status 4 with this text."""
+    """Serves one datagram. If the program doesn't end with status 4 and this text, returns how it ends."""
     command = [program, "serve", "--links", links, "--port", str(port), "--count", "1"]
     server = subprocess.Popen(command, stdout=output, stderr=subprocess.PIPE, text=True)
     try:

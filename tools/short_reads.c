@@ -1,6 +1,6 @@
 /*
- * Shortens reads. Loaded before a program (LD_PRELOAD), it lets a read of standard input give at most the octets named
- * in OCTETS_A_READ.
+ * Shortens reads. Loaded before a program (LD_PRELOAD), it lets each read of standard input return at most as many octets
+ * as OCTETS_A_READ says.
  */
 #include <stdlib.h>
 #include <sys/syscall.h>

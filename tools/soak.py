@@ -21,7 +21,7 @@ LINKS, CALLS, HOUR = 256, 64, 3_600_000
 
 
 def write_script(path, packets):
-    """So many packets, spread over an hour; a link of small identifiers has sixteen of them."""
+    """Writes a script of this many packets, spread over an hour. A link of small CIDs has sixteen calls."""
     dice = random.Random(packets)
     pairs = [(link, cid) for link in range(1, LINKS + 1) for cid in range(16 if link % 2 else 2 * CALLS - 16)]
     calls = made_calls(dice, pairs)
@@ -33,7 +33,7 @@ def write_script(path, packets):
 
 
 def watched(child):
-    """Waits for a program's end, and answers the peak of its memory as it was last seen, in KiB."""
+    """Waits until a program ends, and returns the peak of its memory as it was last seen, in KiB."""
     peak = 0
     while child.poll() is None:
         with contextlib.suppress(OSError), open(f"/proc/{child.pid}/status") as status:

@@ -18,7 +18,7 @@ def local_socket():
 
 
 def free_ports(count):
-    """The first of so many ports in a row that nothing listens at."""
+    """The first of this many consecutive ports at which nothing listens."""
     for first in range(20000, 60000, count):
         sockets = [socket.socket(socket.AF_INET, socket.SOCK_DGRAM) for _ in range(count)]
         try:

@@ -21,7 +21,7 @@ MOST_LINKS = 256
 
 
 def frames(file: BinaryIO) -> Iterator[tuple[int, bytes]]:
-    """The frames of a capture with their moments in microseconds."""
+    """The frames of a capture, with their times in microseconds."""
     header = file.read(24)
     order = "<" if header[:4] in (b"\xd4\xc3\xb2\xa1", b"\x4d\x3c\xb2\xa1") else ">"
     magic, _, _, _, _, _, network = struct.unpack(order + "IHHiIII", header)
@@ -42,7 +42,7 @@ def write_packet(file: BinaryIO, moment: int, packet: bytes) -> None:
 
 
 def decompress(source: BinaryIO, target: BinaryIO) -> dict[str, int]:
-    """Decompresses one capture into another, and counts."""
+    """Decompresses one capture into another, and returns the counts."""
     counts = {"packets": 0, "delivered": 0, "stored": 0, "refused": 0}
     links: dict[bytes, int] = {}
     write_header(target)

@@ -1,8 +1,8 @@
 """A ROHC decompressor for many links: packets in, IP packets and feedback out.
 
 A thin layer over the library for C, librohc.so, which `bin/lib` builds. It is looked for in the folder or file that the
-variable ROHC_LIBRARY names, in the folder out/ of this repository, and where the system has its libraries. The library is
-proved, and this layer isn't.
+environment variable ROHC_LIBRARY names, in the folder out/ of this repository, and among the system's libraries. The library
+is proved; this layer isn't.
 
     from rohc import Concentrator, Link
 
@@ -26,14 +26,14 @@ __all__ = ["Answer", "Closed", "Concentrator", "Context", "Kind", "Link", "NoLin
 
 
 class Kind(IntEnum):
-    """Of what kind an answer is."""
+    """The kind of an answer."""
 
     CONTEXT = 0
-    """The packet bore an identifier, and its context answers."""
+    """The packet has a CID, and its context answers."""
     FEEDBACK = 1
-    """Padding and feedback were all."""
+    """The packet has only padding and feedback."""
     REFUSED = 2
-    """The packet was refused, and bears no identifier."""
+    """The packet was refused, and has no CID."""
 
 
 class State(IntEnum):
@@ -58,7 +58,7 @@ class Context:
 
 @dataclass(frozen=True)
 class Range:
-    """Identifiers of a link that have a mode of their own, `first` and `last` among them."""
+    """A range of CIDs with a mode of its own, from `first` to `last`, both included."""
 
     first: int
     last: int
@@ -67,7 +67,7 @@ class Range:
 
 @dataclass(frozen=True)
 class Link:
-    """What is set for a link, by its number. The fields are those of `struct rohc_link` in include/rohc.h."""
+    """The settings of a link. The fields are those of `struct rohc_link` in include/rohc.h."""
 
     link: int
     max_cid: int = 15
@@ -89,15 +89,15 @@ class Answer:
 
     kind: Kind
     cid: int | None
-    """The identifier; None where the packet bears none."""
+    """The CID; None if the packet has none."""
     packet: bytes | None
     """The rebuilt IP packet."""
     feedback: bytes | None
     """The feedback element for the compressor."""
     relayed: tuple[bytes, ...]
-    """The data of the feedback elements that the packet carried for this side."""
+    """The data of the feedback elements in the packet, which are for this side's compressor."""
     refusal: str | None
-    """The refusal's name; None where the packet was taken."""
+    """The refusal's name; None if the packet was taken."""
 
     @property
     def stored(self) -> bool:
@@ -106,7 +106,7 @@ class Answer:
 
 
 class SetupError(ValueError):
-    """No concentrator is made of these links: `status` is one of enum rohc_made, and `place` the link's place from 1, or 0."""
+    """No concentrator is made. `status` is one of enum rohc_made; `place` is the place of the link at fault from 1, or 0."""
 
     def __init__(self, status: int, place: int) -> None:
         where = f" at link {place}" if place else ""
@@ -124,7 +124,7 @@ class Closed(ValueError):
 
 
 class Concentrator:
-    """The contexts of all links, kept apart. One call at a time; `close` or a `with` block frees it."""
+    """The contexts of all links. It takes one call at a time. `close` or a `with` block frees it."""
 
     def __init__(self, links: Iterable[Link]) -> None:
         self._gateway = _library.Gateway()
@@ -133,7 +133,7 @@ class Concentrator:
             raise SetupError(status, place)
 
     def arrive(self, link: int, moment: int, octets: bytes) -> Answer:
-        """Takes one packet of a link, with the moment of its arrival in milliseconds, and answers it."""
+        """Takes one packet of a link, with its arrival time in milliseconds, and returns the answer."""
         told = _library.arrive(self._gateway, _within(link, 16), _within(moment, 64), octets)
         if told is None:
             raise Closed("the concentrator is closed")
@@ -149,7 +149,7 @@ class Concentrator:
         )
 
     def reset(self, link: int) -> None:
-        """Forgets every context of a link, and no other."""
+        """Forgets every context of a link, and no other context."""
         status = _library.reset(self._gateway, _within(link, 16))
         if status == 2:
             raise NoLink(link)
@@ -157,7 +157,7 @@ class Concentrator:
             raise Closed("the concentrator is closed")
 
     def has_context(self, link: int, cid: int) -> bool:
-        """Whether there is a context for an identifier of a link, one that counts as none included."""
+        """Whether there is a context for a CID of a link, even one that counts as none because it was idle too long."""
         return _library.has_context(self._gateway, _within(link, 16), _within(cid, 16))
 
     def links(self) -> list[int]:
@@ -171,7 +171,7 @@ class Concentrator:
         return [Context(it.cid, it.profile, State(it.state), it.accepted) for it in found]
 
     def close(self) -> None:
-        """Frees the concentrator. It may be called again."""
+        """Frees the concentrator. A second call does nothing."""
         _library.free(self._gateway)
 
     def __enter__(self) -> Concentrator:
@@ -194,14 +194,14 @@ def _standing(at: Callable[[int], T | None]) -> Iterator[T]:
 
 
 def _within(number: int, bits: int) -> int:
-    """The number, where it is one of so many bits."""
+    """The number, if it fits into this many bits."""
     if not 0 <= number < 1 << bits:
         raise OverflowError(f"{number} is no number of {bits} bits")
     return number
 
 
 def _link(link: Link) -> _library.Link:
-    """A link as C writes it. More ranges than there are places for are refused by their count."""
+    """A link as a struct of C. If it has too many ranges, the library refuses it for their number."""
     raw = _library.Link(
         _within(link.link, 16),
         _within(link.max_cid, 16),

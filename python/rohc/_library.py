@@ -1,4 +1,4 @@
-"""The library for C, by ctypes: its structs as include/rohc.h has them, and its functions."""
+"""The library for C, by ctypes: its structs, as in include/rohc.h, and its functions."""
 
 from __future__ import annotations
 
@@ -79,7 +79,7 @@ def _path() -> str:
 
 @cache
 def _functions() -> ctypes.PyDLL:
-    """The library, with the types of its functions. A call keeps the interpreter's lock, so that one call at a time is made."""
+    """Loads the library, with the types of its functions. A call keeps the interpreter's lock, so calls never overlap."""
     library = ctypes.PyDLL(_path())
     octets = ctypes.c_void_p
     types = {
@@ -102,7 +102,7 @@ def _functions() -> ctypes.PyDLL:
 
 
 def new(gateway: Gateway, links: list[Link]) -> tuple[int, int]:
-    """The status, and the place of the link at fault."""
+    """Makes a concentrator, and returns the status and the place of the link at fault."""
     place = c_size_t()
     array = (Link * max(len(links), 1))(*links)
     return _functions().rohc_new(byref(gateway), array, len(links), byref(place)), place.value
@@ -115,7 +115,7 @@ def free(gateway: Gateway) -> None:
 def arrive(
     gateway: Gateway, link: int, moment: int, octets: bytes
 ) -> tuple[Arrival, bytes, bytes, tuple[bytes, ...]] | None:
-    """The answer, or None where there is no concentrator."""
+    """The answer to a packet, or None if there is no concentrator."""
     count = len(octets)
     packet = ctypes.create_string_buffer(count + HEAD_ROOM)
     feedback = ctypes.create_string_buffer(FEEDBACK_ROOM)
@@ -134,7 +134,7 @@ def arrive(
 
 
 def _elements(octets: bytes) -> tuple[bytes, ...]:
-    """The data of elements, each behind one octet that counts it."""
+    """The data of each element. In the buffer one octet before it counts it."""
     elements, at = [], 0
     while at < len(octets):
         end = at + 1 + octets[at]
@@ -164,7 +164,7 @@ def context_at(gateway: Gateway, link: int, place: int) -> ContextInfo | None:
 
 
 def refusal_name(number: int) -> str | None:
-    """The name of a refusal, or None where the number is of none."""
+    """The name of the refusal with this number, or None if there is none."""
     name = ctypes.create_string_buffer(NAME_ROOM)
     length = _functions().rohc_refusal_name(number, name, len(name))
     return name.raw[:length].decode("ascii") if length else None

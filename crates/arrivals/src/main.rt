@@ -1,9 +1,10 @@
-//! Times the arrivals of a script without its lines: the script is read before the clock starts.
+//! Times the arrivals of a script without the reading of its lines: the script is read before the clock starts.
 //!
 //!     arrivals LINKS SCRIPT [TURNS]
 //!
-//! Standard output tells how many packets came, how many were delivered, the octets of those, and the sum of the last
-//! octets of their heads; standard error tells the nanoseconds of each turn, which begins with no contexts. Without words there are no packets.
+//! Standard output gets the number of packets, the number delivered, the octets of those, and the sum of the last
+//! octets of their heads. Standard error gets the nanoseconds of each turn. Each turn starts without contexts.
+//! Without words on the command line there are no packets.
 #![tactic(auto)]
 
 use rohc_concentrator::{Answer, Concentrator};
@@ -13,7 +14,7 @@ use std::rt::{Clock, Env, Files};
 use std::time::Instant;
 use std::{env, fs, io};
 
-/// A packet of the script, whose octets stand in a row with those of the others.
+/// A packet of the script. Its octets stand in one buffer with those of the others.
 #[derive(Clone, Copy, Debug)]
 struct Packet {
     link: u16,
@@ -29,7 +30,7 @@ struct Script {
     octets: Vec<u8>,
 }
 
-/// What became of the packets.
+/// The sums over the outcomes of the packets.
 #[derive(Clone, Copy, Debug, PartialEq, Eq)]
 struct Sum {
     delivered: u64,
@@ -38,7 +39,7 @@ struct Sum {
     lasts: u64,
 }
 
-/// A file whose text isn't what it should be.
+/// The error for a file whose text isn't what it should be.
 fn bad() -> Error {
     Error::from(ErrorKind::InvalidData)
 }
@@ -61,7 +62,7 @@ fn digit(character: u8) -> Option<u8> {
 }
 
 impl Script {
-    /// Adds the octets that these digits spell.
+    /// Appends the octets that these digits encode.
     fn push_octets(&mut self, digits: &[u8]) -> io::Result<()> {
         for pair in digits.chunks_exact(2) {
             let [high, low] = pair else {
@@ -75,7 +76,7 @@ impl Script {
         Ok(())
     }
 
-    /// Adds the packet of a line.
+    /// Appends the packet of a line.
     fn push_line(&mut self, line: &str) -> io::Result<()> {
         let mut words = line.split(' ');
         let (Some("arrive"), Some(link), Some(moment), Some(digits)) = (
@@ -99,8 +100,8 @@ impl Script {
     }
 }
 
-/// What an answer delivers: how many octets, and the last of its head. It is a function of its own and reads an octet,
-/// so that the answer has to be made whole.
+/// What an answer delivers: the number of octets, and the last octet of its head. It is a function of its own and
+/// reads an octet, so that the answer must be made whole.
 #[inline(never)]
 fn delivered(answer: &Answer<'_>) -> Option<(u64, u8)> {
     let Answer::Arrived { reply, .. } = answer else {

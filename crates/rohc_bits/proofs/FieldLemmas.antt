@@ -1,15 +1,15 @@
--- What follows fields, and what reading them leaves.
+-- Lists of fields, compared with readers.
 use Rattle.std.proofs.Common.{◌≡◌, ℕ, List, [], ◌∷◌, Option, Some, None, Result, Ok, Err, refl, ◌∙◌}
 use Rattle.rohc_bits.specs.Reading.{◌>>=◌, judged, next_octet, next_word}
 use Rattle.rohc_bits.specs.FieldList.{FieldList, Octets, Octet, after_fields, any}
 
--- Two steps and what follows them, where the second goes on as g does.
+-- Two steps of a reader are one step of a list of fields, if g continues as the second step and k do.
 pub tied : {A B C E : Type 0} (r : Result A E) (f : A → Result B E) (k : B → Result C E) (g : A → Result C E) (whole : Result C E) →
     whole ≡ (r >>= g) → ((x : A) → g x ≡ (f x >>= k)) → whole ≡ ((r >>= f) >>= k)
 tied (Ok x) f k g whole e same = e ∙ same x
 tied (Err refusal) f k g whole e same = e
 
--- Fields and what a reader gives: they go as far.
+-- Lemmas on a reader and its list of fields: both leave the same octets, or give the same first fault.
 pub octet_fields : {E : Type 0} (short : E) (more : FieldList E) (text : List ℕ) →
     after_fields short (Octets 1 more) text ≡ (next_octet short text >>= λ x. after_fields short more x.1)
 unfolding next_octet

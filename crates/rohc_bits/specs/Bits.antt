@@ -11,7 +11,7 @@ unfoldable pub bits : (k n : ℕ) → List Bool
 bits zero n = []
 bits (suc k) n = (n / 2 ^ k % 2 == 1) ∷ bits k n
 
--- the number that bits spell
+-- the number that bits stand for
 unfoldable pub number : List Bool → ℕ
 number [] = 0
 number (b ∷ bs) = (if b then 2 ^ length bs else 0) + number bs

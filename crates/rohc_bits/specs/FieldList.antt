@@ -2,9 +2,9 @@
 use Rattle.std.specs.Prelude.{ℕ, zero, suc, List, [], ◌∷◌, Bool, if◌then◌else◌, Option, None, Result, Ok, Err}
 use Rattle.rohc_bits.specs.Reading.{◌>>=◌, judged, next_value}
 
--- The fields that stand one behind the other, with refusals: octets that are taken as they are; an octet with
--- its refusal, which names the fields behind it; a self-describing value with its refusal; what takes no
--- octets, with its refusal. Then comes a payload, or nothing may follow.
+-- Fields one after the other, each with its refusals. A field is octets that are never refused; an octet with
+-- its refusal, which decides the fields after it; a self-describing value with its refusal; or a judgement
+-- that takes no octets. After the last field comes a payload, or nothing may follow.
 pub data FieldList (E : Type 0) : Type 0 where
   Payload : FieldList E
   Nothing : E → FieldList E
@@ -13,22 +13,22 @@ pub data FieldList (E : Type 0) : Type 0 where
   Value : (ℕ → Option E) → FieldList E → FieldList E
   Judged : Option E → FieldList E → FieldList E
 
--- no refusal
+-- a field that is never refused
 abbrev pub any : {E : Type 0} → ℕ → Option E
 any n = None
 
--- a field, if a flag names it, and the fields behind it
+-- a field, if a flag announces it, and the fields after it
 abbrev pub if_named : {E : Type 0} → Bool → (FieldList E → FieldList E) → FieldList E → FieldList E
 if_named named field more = if named then field more else more
 
--- what stands behind so many octets; where there are fewer, this refusal
+-- what follows this many octets; if there are fewer, this refusal
 abbrev pub behind_octets : {E : Type 0} → E → ℕ → List ℕ → Result (List ℕ) E
 behind_octets short zero text = Ok text
 behind_octets short (suc count) [] = Err short
 behind_octets short (suc count) (octet ∷ text) = behind_octets short count text
 
--- What follows the fields, or the first fault: the first field that is refused, or is cut off, which is
--- refused by `short`.
+-- The octets after the fields, or the first fault: the first field that is refused or cut off. A field that
+-- is cut off is refused by `short`.
 abbrev pub after_fields : {E : Type 0} → E → FieldList E → List ℕ → Result (List ℕ) E
 after_fields short Payload text = Ok text
 after_fields short (Nothing more) [] = Ok []

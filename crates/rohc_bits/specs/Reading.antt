@@ -1,32 +1,32 @@
--- Parts of a text, read from left to right: what a part says and the octets behind it, or a refusal.
+-- Reading a text from left to right. A step gives what it read and the octets after it, or a refusal.
 use Rattle.std.specs.Prelude.{◌≡◌, ℕ, ◌+◌, ◌*◌, ◌/◌, ◌%◌, ◌^◌, List, [], ◌∷◌, drop, Bool, ◌==◌, Option, Some, None, Result, Ok, Err, MatchResult}
 use Rattle.rohc_bits.specs.Fronts.{front_value, value_bits}
 use Rattle.rohc_bits.specs.LowBits.{LowBits}
 
 infixl 10 ◌>>=◌
--- what follows a part that was read
+-- the next step, from what the step before it gave
 abbrev pub ◌>>=◌ : {A B E : Type 0} → Result A E → (A → Result B E) → Result B E
 (Ok x) >>= f = f x
 (Err e) >>= f = Err e
 
--- A reader's result, seen as `view` sees it, and the octets that it left, are what reading gives.
+-- A reader's result, by `view`, and the octets that it left are what the definition gives.
 abbrev pub ReadsAs : {A B E : Type 0} → (A → B) → Result A E → List ℕ → Result (B × List ℕ) E → Type 0
 ReadsAs view result behind read = MatchResult result (λ x. read ≡ Ok (view x, behind)) (λ e. read ≡ Err e)
 
--- the same of a result that is seen as it is
+-- the same without a `view`
 abbrev pub Reads : {A E : Type 0} → Result A E → List ℕ → Result (A × List ℕ) E → Type 0
 Reads result behind read = MatchResult result (λ x. read ≡ Ok (x, behind)) (λ e. read ≡ Err e)
 
--- what was read, or its refusal where there is one
+-- the value, or the refusal if there is one
 abbrev pub judged : {A E : Type 0} → Option E → A → Result A E
 judged None x = Ok x
 judged (Some refusal) x = Err refusal
 
--- the bit of this place, counted from the least significant
+-- the bit at this place, counted from the least significant
 abbrev pub bit : ℕ → ℕ → Bool
 bit place n = n / 2 ^ place % 2 == 1
 
--- an octet, and the octets behind it; where there is none, this refusal
+-- an octet, and the octets after it; if there is none, this refusal
 unfoldable pub next_octet : {E : Type 0} → E → List ℕ → Result (ℕ × List ℕ) E
 next_octet short [] = Err short
 next_octet short (octet ∷ text) = Ok (octet, text)
@@ -38,8 +38,8 @@ next_word short text = do
   (low, text) ← next_octet short text
   Ok (high * 256 + low, text)
 
--- the value at the front of a text, if one stands there, with as many bits as spell it, and the octets behind
--- it
+-- the value that was found at the start of a text, if any, with as many bits as its encoding has, and the
+-- octets after it
 abbrev pub value_or : {E : Type 0} → E → List ℕ → Option (ℕ × ℕ) → Result (LowBits × List ℕ) E
 value_or short text None = Err short
 value_or short text (Some (value, count)) =

@@ -1,20 +1,20 @@
-//! Bits and how many there are.
+//! Bit strings: a number together with its width in bits.
 
 ghost use Rattle.std.specs.Prelude.{◌≡◌, ◌<◌, ◌≤◌, ◌+◌, ◌*◌, ◌^◌, ◌%◌, min};
 
-/// The low `count` bits of a field, most significant first.
+/// The `count` least significant bits of a field.
 #[derive(Clone, Copy, Debug, PartialEq, Eq)]
 pub struct Bits {
-    /// The number that the bits spell.
+    /// The number that the bits stand for.
     pub value: u32,
-    /// How many bits there are, at most 32.
+    /// The number of bits, at most 32.
     pub count: u8,
     ghost narrow: { count ≤ 32 },
     ghost fits: { value < 2 ^ count },
 }
 
 impl Bits {
-    /// The bits that spell `value` in `count` places.
+    /// The number `value` as a string of `count` bits.
     pub fn new(value: u32, count: u8) -> Self
         requires narrow { count ≤ 32 }
         requires fits { value < 2 ^ count }
@@ -24,7 +24,8 @@ impl Bits {
         Bits { value, count }
     }
 
-    /// These bits with less significant ones behind them. Of more than 32 the low 32 are kept.
+    /// These bits followed by the `count` bits of `value`, which are less significant. If there are
+    /// more than 32, the low 32 bits are kept.
     pub fn append(self, value: u32, count: u8) -> Self
         requires narrow { count ≤ 32 }
         requires fits { value < 2 ^ count }
@@ -38,7 +39,7 @@ impl Bits {
     }
 }
 
-/// The low 32 bits of `high` with the `count` bits of `low` behind it.
+/// The low 32 bits of `high` followed by the `count` bits of `low`.
 fn joined(high: u32, low: u32, count: u8) -> u32
     requires narrow { count ≤ 32 }
     requires fits { low < 2 ^ count }

@@ -1,10 +1,11 @@
-//! Octets taken from the front of a text.
+//! Reading octets from the start of a buffer.
 
 ghost use Rattle.std.specs.Prelude.{◌≡◌, ◌<◌, ◌↔◌, ℕ, List, [], ◌∷◌, ◌++◌, length, IfSome, IfNone, IsNone};
 
 use std::marker::Model;
 
-/// The octets of a text that are left to be read. Contracts see it as their list.
+/// The octets of a buffer that are still to be read. Contracts see a cursor as the list of these
+/// octets.
 #[derive(Debug, Drop)]
 pub struct Cursor<'a> {
     octets: &'a [u8],
@@ -17,14 +18,14 @@ impl<'a> Model for Cursor<'a> {
 }
 
 impl<'a> Cursor<'a> {
-    /// A cursor at the front of a text.
+    /// A cursor at the start of the buffer.
     pub fn new(octets: &'a [u8]) -> Self
         ensures { result ≡ octets.entry.now }
     {
         Cursor { octets }
     }
 
-    /// The next octet, or `None` where none is left.
+    /// Takes the next octet. Returns `None`, and takes nothing, if no octet is left.
     pub fn octet(&mut self) -> Option<u8>
         ensures split { IfSome result (λ octet. self.old ≡ octet ∷ self.new) }
         ensures none { IsNone result ↔ (self.old ≡ []) }
@@ -35,7 +36,7 @@ impl<'a> Cursor<'a> {
         Some(*first)
     }
 
-    /// The next `count` octets, or `None` where fewer are left.
+    /// Takes the next `count` octets. Returns `None`, and takes nothing, if fewer are left.
     pub fn take(&mut self, count: usize) -> Option<&'a [u8]>
         ensures split { IfSome result (λ front. self.old ≡ front.now ++ self.new) }
         ensures counted { IfSome result (λ front. length front.now ≡ count) }
@@ -47,7 +48,7 @@ impl<'a> Cursor<'a> {
         Some(front)
     }
 
-    /// What is left.
+    /// The octets that are left.
     pub fn rest(&self) -> &'a [u8]
         ensures { result.now ≡ self.now }
     {

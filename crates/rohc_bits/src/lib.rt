@@ -1,4 +1,5 @@
-//! Octets and bits: a cursor, self-describing values and bits with their number (RFC 3095 4.5).
+//! Octets and bits: a cursor over octets, self-describing values (RFC 3095 4.5.6), and bit strings
+//! with their width.
 #![tactic(auto)]
 
 mod bits;

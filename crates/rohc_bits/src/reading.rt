@@ -1,4 +1,4 @@
-//! Octets, numbers and self-describing values off the front of a text.
+//! Readers of octets, 16-bit numbers and self-describing values from the start of a buffer.
 
 ghost use Rattle.std.specs.Prelude.{◌≡◌, ◌<◌, ◌≤◌, length, drop, All, Ok, Err, IfOk, MatchResult};
 ghost use Rattle.rohc_bits.specs.Bits.{IsOctet};
@@ -10,7 +10,7 @@ use crate::bits::Bits;
 use crate::cursor::Cursor;
 use crate::value::read_value;
 
-/// A cursor at the front of octets, each of which is below 256.
+/// A cursor at the start of `octets`. Its contract adds that each octet is below 256.
 pub fn cursor_over<'a>(octets: &'a [u8]) -> Cursor<'a>
     ensures text { result ≡ octets.entry.now }
     ensures octets { All IsOctet octets.entry.now }
@@ -18,7 +18,7 @@ pub fn cursor_over<'a>(octets: &'a [u8]) -> Cursor<'a>
     Cursor::new(octets)
 }
 
-/// The bit of this place, counted from the least significant, which is 0.
+/// Whether the bit at `place` is set. Place 0 is the least significant bit; `place` is below 32.
 pub fn is_set(number: u32, place: u8) -> bool
     requires { place < 32 }
     ensures { result ≡ bit place number }
@@ -26,7 +26,7 @@ pub fn is_set(number: u32, place: u8) -> bool
     (number >> place) & 1 == 1
 }
 
-/// The next octet, or this error where none is left.
+/// Takes the next octet, or returns the error `short` if none is left.
 #[tactic(auto, unfolding(crate::specs::Reading::next_octet))]
 pub fn octet<E: Copy>(cursor: &mut Cursor<'_>, short: E) -> Result<u8, E>
     ensures reads { Reads result cursor.new (next_octet short cursor.old) }
@@ -35,7 +35,8 @@ pub fn octet<E: Copy>(cursor: &mut Cursor<'_>, short: E) -> Result<u8, E>
     cursor.octet().ok_or(short)
 }
 
-/// The next two octets, most significant first, or this error where fewer are left.
+/// Takes the next two octets as a number, most significant octet first. Returns the error `short` if fewer than
+/// two are left.
 #[tactic(auto, unfolding(crate::specs::Reading::next_word))]
 pub fn word<E: Copy>(cursor: &mut Cursor<'_>, short: E) -> Result<u16, E>
     ensures reads { Reads result cursor.new (next_word short cursor.old) }
@@ -46,7 +47,7 @@ pub fn word<E: Copy>(cursor: &mut Cursor<'_>, short: E) -> Result<u16, E>
     Ok(u16::from_be_bytes([high, low]))
 }
 
-/// How many bits of so many octets spell a value: the first 1, 2 or 3 bits say how many octets.
+/// How many bits of value an encoding of 1, 2, 3 or 4 octets has.
 fn value_width(octets: usize) -> u8
     ensures { result ≡ value_bits octets }
 {
@@ -58,7 +59,8 @@ fn value_width(octets: usize) -> u8
     }
 }
 
-/// The self-describing value at the front of the octets, and how many of them spell it (RFC 3095 4.5.6).
+/// Decodes the self-describing value at the start of the octets, and returns how many octets it takes (RFC 3095
+/// 4.5.6). The error is `short`.
 fn value_in<E: Copy>(octets: &[u8], short: E) -> Result<(Bits, usize), E>
     ensures within { IfOk result (λ read. read.1 ≤ length octets.now) }
     ensures fits { IfOk result (λ read. read.0.value ≤ 536870911) }
@@ -70,8 +72,8 @@ fn value_in<E: Copy>(octets: &[u8], short: E) -> Result<(Bits, usize), E>
     }
 }
 
-/// The next self-describing value with as many bits as spell it, or this error where the octets end before it does
-/// (RFC 3095 4.5.6).
+/// Takes the next self-describing value, with the 7, 14, 21 or 29 bits that its encoding has (RFC 3095 4.5.6).
+/// Returns the error `short` if the octets end before the value does.
 pub fn value<E: Copy>(cursor: &mut Cursor<'_>, short: E) -> Result<Bits, E>
     ensures reads { ReadsAs low_bits result cursor.new (next_value short cursor.old) }
     ensures fits { IfOk result (λ bits. bits.value ≤ 536870911) }

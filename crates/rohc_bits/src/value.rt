@@ -6,9 +6,11 @@ ghost use Rattle.rohc_bits.specs.Fronts.{value_bits};
 
 use arrayvec::ArrayVec;
 
-/// The self-describing value at the front of the octets, and how many of them spell it.
+/// Decodes the self-describing value at the start of the octets, and returns it with the number of octets that it
+/// takes (RFC 3095 4.5.6).
 ///
-/// It has at most the 7, 14, 21 or 29 bits of so many octets, and a longer spelling than needed is read. `None` where the octets end before the value does.
+/// One, two, three or four octets give a value of 7, 14, 21 or 29 bits. An encoding that is longer than needed is
+/// accepted. Returns `None` if the octets end before the value does.
 pub fn read_value(octets: &[u8]) -> Option<(u32, usize)>
     ensures within { IfSome result (λ read. read.1 ≤ length octets.now) }
     ensures spelled { IfSome result (λ read. IsSpelled (take read.1 octets.now) read.0) }
@@ -24,7 +26,7 @@ pub fn read_value(octets: &[u8]) -> Option<(u32, usize)>
     }
 }
 
-/// The shortest spelling of a value, or `None` above 536,870,911, which none has.
+/// The shortest encoding of a value (RFC 3095 4.5.6), or `None` for a value above 536,870,911, which has no encoding.
 pub fn write_value(value: u32) -> Option<ArrayVec<u8, 4>>
     ensures spelled { IfSome result (λ text. IsSpelled text.items value) }
     ensures shortest { IfSome result (λ text. (other : List ℕ) → IsSpelled other value → length text.items ≤ length other) }

@@ -8,7 +8,7 @@ use Rattle.rohc_concentrator.specs.Tables.{setting_at, record_at}
 use Rattle.rohc_c.specs.Written.{Places, IsWritten}
 use Rattle.rohc_c.specs.declared.arrival.RohcArrival.{RohcArrival}
 
--- the buffers have room for all that a packet of these octets may be answered
+-- the buffers have room for any answer to a packet of these octets
 pub record HasRoom (octets : List ℕ) (p : Places) : Type 0 where
   pub packet : length octets + 40 ≤ length p.packet
   pub feedback : 8 ≤ length p.feedback
@@ -19,7 +19,7 @@ pub record Change : Type 0 where
   pub old : Option Concentrator
   pub new : Option Concentrator
 
--- there is a concentrator, and it takes one arrival, of this report
+-- there is a concentrator, and it takes one arrival, with this report
 pub record Takes (c : Change) (link moment : ℕ) (octets : List ℕ) (report : Report) : Type 0 where
   pub before : Concentrator
   pub after : Concentrator
@@ -27,12 +27,12 @@ pub record Takes (c : Change) (link moment : ℕ) (octets : List ℕ) (report : 
   pub is : c.new ≡ Some after
   pub arrives : Arrives before link moment octets report after
 
--- an arrival, whose whole answer stands in the buffers and the struct
+-- an arrival, whose whole answer stands in the struct and the buffers
 abbrev pub HasArrived : Change → (link moment : ℕ) → List ℕ → Places → RohcArrival → Type 0
 HasArrived c link moment octets p a =
     (report : Report) × Takes c link moment octets report × IsWritten report p a
 
--- there is a concentrator, and every record of the link is forgotten, and no other
+-- there is a concentrator, and it forgets every record of the link, and no other
 pub record HasReset (c : Change) (link : ℕ) : Type 0 where
   pub before : Concentrator
   pub after : Concentrator
@@ -40,12 +40,12 @@ pub record HasReset (c : Change) (link : ℕ) : Type 0 where
   pub is : c.new ≡ Some after
   pub resets : Resets before link after
 
--- there is a concentrator, with the link or without it
+-- there is a concentrator, and it has the link
 abbrev pub has_link : Option Concentrator → ℕ → Bool
 has_link None link = false
 has_link (Some k) link = is_some (setting_at k link)
 
--- there is a concentrator, and a record stands for the identifier of the link
+-- there is a concentrator, and it has a record for the CID of the link
 abbrev pub has_record : Option Concentrator → (link cid : ℕ) → Bool
 has_record None link cid = false
 has_record (Some k) link cid = is_some (record_at k link cid)

@@ -8,12 +8,12 @@ use Rattle.rohc_c.specs.Written.{StandsIn}
 abbrev pub NamesNone : ℕ → Type 0
 NamesNone number = (r : Refusal) → number ≢ number_of r
 
--- The refusal of this number stands by its name, with an octet 0 behind it, at the front of a buffer.
+-- The name of the refusal with this number stands at the start of a buffer, followed by an octet 0.
 abbrev pub IsNamed : (number result : ℕ) → List ℕ → Type 0
 IsNamed number result place =
     (r : Refusal) × (number ≡ number_of r) × StandsIn (name_of r ++ 0 ∷ []) (result + 1) place
 
--- there is no such refusal, or no room for its name and the octet behind it
+-- there is no such refusal, or no room for its name and the octet after it
 abbrev pub IsUnnamed : (number : ℕ) → List ℕ → Type 0
 IsUnnamed number place =
     NamesNone number ⊎ ((r : Refusal) × (number ≡ number_of r) × (length place ≤ length (name_of r)))

@@ -14,12 +14,12 @@ abbrev pub mode_of : (optimistic : Bool) → Mode
 mode_of true = O
 mode_of false = U
 
--- large identifiers or small ones
+-- large CIDs or small ones
 abbrev pub size_of : (large : Bool) → CidKind
 size_of true = Large
 size_of false = Small
 
--- a range of identifiers with its mode
+-- a range of CIDs with its mode
 abbrev pub range_of : RohcRange → CidRange
 range_of r = record { first = r.first; last = r.last; mode = mode_of r.optimistic }
 
@@ -46,6 +46,6 @@ setting_of l = record {
 abbrev pub settings_of : List RohcLink → List LinkSetting
 settings_of links = map setting_of links
 
--- a link counts eight ranges at most, which is as many as there are places for
+-- a link counts at most eight ranges; there is room for no more
 abbrev pub HasFewRanges : RohcLink → Type 0
 HasFewRanges l = l.range_count ≤ 8

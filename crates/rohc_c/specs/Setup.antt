@@ -1,4 +1,4 @@
--- What `rohc_new` makes, and why it makes nothing. Words: IsNew; IsNewFault; fault_number, fault_place.
+-- What `rohc_new` makes, and why it fails. Words: IsNew; IsNewFault; fault_number, fault_place.
 use Rattle.std.specs.Prelude.{◌≡◌, ℕ, ◌+◌, ◌<◌, ◌≤◌, List, [], length, take, slice_get, All, Some, None}
 use Rattle.rohc_concentrator.specs.declared.concentrator.Concentrator.{Concentrator}
 use Rattle.rohc_concentrator.specs.declared.setup.SetupFault.{SetupFault}
@@ -10,7 +10,7 @@ use Rattle.rohc_c.specs.declared.link.RohcLink.{RohcLink}
 use Rattle.rohc_c.specs.declared.setup.NewFault.{NewFault}
 use Rattle.rohc_c.specs.declared.setup.NewFault.TheVariants.{TooManyRanges, Setup}
 
--- a concentrator of these links, in this order, with no record
+-- a concentrator with these links, in this order, and without a record
 pub record IsNew (links : List RohcLink) (k : Concentrator) : Type 0 where
   pub few : All HasFewRanges links
   pub fine : AreFine (settings_of links)
@@ -27,8 +27,8 @@ pub record StandsFirst (links : List RohcLink) (place : ℕ) : Type 0 where
   pub few_before : All HasFewRanges (take index links)
   pub many : 8 < link.range_count
 
--- A fault of the settings in general. Where it is of one link or of memory, no link counts more than eight
--- ranges; memory may be wanting before the settings are judged.
+-- A fault of the settings. If it is of one link or of memory, no link counts more than eight ranges. Memory
+-- may run out before the settings are judged.
 abbrev pub IsSetupFault : List RohcLink → SetupFault → Type 0
 IsSetupFault links setup.NoLinks = links ≡ []
 IsSetupFault links setup.TooManyLinks = 256 < length links
@@ -38,12 +38,13 @@ IsSetupFault links (setup.DuplicateLink place) =
     All HasFewRanges links × IsFault (settings_of links) (setup.DuplicateLink place)
 IsSetupFault links setup.NoMemory = All HasFewRanges links × (length links ≤ 256)
 
--- why nothing is made of these links: their count, else ranges, else their settings, else want of memory
+-- why no concentrator is made from these links: their number, else their ranges, else their settings, else
+-- lack of memory
 abbrev pub IsNewFault : List RohcLink → NewFault → Type 0
 IsNewFault links (TooManyRanges place) = (length links ≤ 256) × StandsFirst links place
 IsNewFault links (Setup fault) = IsSetupFault links fault
 
--- the statuses of the faults
+-- the status of each fault
 abbrev pub fault_number : NewFault → ℕ
 fault_number (Setup setup.NoLinks) = 1
 fault_number (Setup setup.TooManyLinks) = 2
@@ -52,7 +53,7 @@ fault_number (Setup (setup.BadSetting place)) = 4
 fault_number (Setup (setup.DuplicateLink place)) = 5
 fault_number (Setup setup.NoMemory) = 6
 
--- the place of the link that a fault is of, counted from 1; 0 where it is of none
+-- the place of the link at fault, counted from 1; 0 if the fault is of no single link
 abbrev pub fault_place : NewFault → ℕ
 fault_place (TooManyRanges place) = place
 fault_place (Setup (setup.BadSetting place)) = place

@@ -15,28 +15,28 @@ pub record Places : Type 0 where
   pub feedback : List ℕ
   pub relayed : List ℕ
 
--- all of these octets, so many, stand at the front of a buffer
+-- all of these octets stand at the start of a buffer; `count` is their number
 abbrev pub StandsIn : List ℕ → ℕ → List ℕ → Type 0
 StandsIn octets count place = (count ≡ length octets) × (take count place ≡ octets)
 
--- the number of an outcome: 0 for a packet, 31 where the context was made or renewed without one, else the
+-- the number of an outcome: 0 for a packet, 31 if the context was made or renewed without one, else the
 -- refusal's
 abbrev pub outcome_number : Outcome → ℕ
 outcome_number Delivered = 0
 outcome_number Stored = 31
 outcome_number (outcomes.Refused refusal) = number_of refusal
 
--- octets, or none: whether there are some, and if so all of them at the front of a buffer
+-- octets, or none: whether there are some, and if so, all of them at the start of a buffer
 abbrev pub IsTold : Option (List ℕ) → List ℕ → (some : Bool) → (count : ℕ) → Type 0
 IsTold None place some count = (some ≡ false) × (count ≡ 0)
 IsTold (Some octets) place some count = (some ≡ true) × StandsIn octets count place
 
--- the octets of a packet that was rebuilt, if there is one
+-- the octets of a rebuilt packet, if there is one
 abbrev pub packet_octets : Option Packet → Option (List ℕ)
 packet_octets None = None
 packet_octets (Some p) = Some (p.head ++ p.payload)
 
--- what became of a packet, by these numbers, with its packet, its feedback and what it relayed
+-- the struct has these numbers, and the buffers have this packet, feedback and relayed feedback
 pub record Tells (kind outcome cid : ℕ) (packet : Option (List ℕ)) (feedback : Option (List ℕ))
     (relayed : List (List ℕ)) (p : Places) (a : RohcArrival) : Type 0 where
   pub kind_told : a.kind ≡ kind
@@ -47,21 +47,21 @@ pub record Tells (kind outcome cid : ℕ) (packet : Option (List ℕ)) (feedback
   pub relayed_count : a.relayed_count ≡ length relayed
   pub relayed_told : StandsIn (told relayed) a.relayed_length p.relayed
 
--- An answer stands in the buffers and the struct: of kind 0 for an identifier's own, 1 for padding and
--- feedback alone, 2 for a refusal without an identifier.
+-- An answer stands in the struct and the buffers: kind 0 for the answer of a CID's context, 1 for padding and
+-- feedback alone, 2 for a refusal without a CID.
 abbrev pub IsWritten : Report → Places → RohcArrival → Type 0
 IsWritten (Arrived cid r relayed) p a =
     Tells 0 (outcome_number r.outcome) cid (packet_octets r.packet) r.feedback relayed p a
 IsWritten (OnlyFront relayed) p a = Tells 1 0 0 None None relayed p a
 IsWritten (Refused refusal) p a = Tells 2 (number_of refusal) 0 None None [] p a
 
--- the feedback for this side that an answer relays
+-- the feedback for this side's compressor that an answer relays
 abbrev pub relayed_in : Report → List (List ℕ)
 relayed_in (Arrived cid response relayed) = relayed
 relayed_in (OnlyFront relayed) = relayed
 relayed_in (Refused refusal) = []
 
--- a packet that was rebuilt has so many octets at most behind its head
+-- the payload of a rebuilt packet, if there is one, has at most this many octets
 abbrev pub IsPacketWithin : ℕ → Option Packet → Type 0
 IsPacketWithin most packet = IfSome packet (λ (p : Packet). length p.payload ≤ most)
 

@@ -1,4 +1,4 @@
-//! An answer, into the caller's buffers.
+//! Writing an answer into the caller's struct and buffers.
 
 ghost use Rattle.std.specs.Prelude.{◌≡◌, ◌≤◌, ◌+◌, ◌-◌, ◌++◌, length};
 ghost use Rattle.rohc_frame.specs.Reading.{elements_of};
@@ -12,27 +12,27 @@ use rohc_concentrator::Answer;
 use rohc_context::{Delivered, Outcome, Reply};
 use rohc_frame::Elements;
 
-/// The answer to an arrival: `struct rohc_arrival` of include/rohc.h. The octets stand in the caller's buffers.
+/// The answer to an arrival: `struct rohc_arrival` of include/rohc.h. Its octets stand in the caller's buffers.
 #[repr(C)]
 #[derive(Clone, Copy, Debug, Default, Drop)]
 pub struct RohcArrival {
-    /// 0 where the packet bore an identifier, 1 where padding and feedback were all, 2 for a refusal without one.
+    /// 0 if the packet has a CID; 1 if it has only padding and feedback; 2 for a refusal without a CID.
     pub kind: u8,
-    /// 0 for a packet, 31 where the context was made or renewed without one, else the refusal's number.
+    /// 0 for a delivered packet; 31 if the context was made or renewed without one; else the refusal's number.
     pub outcome: u8,
-    /// The identifier, and 0 where there is none.
+    /// The CID, or 0 if there is none.
     pub cid: u16,
-    /// Whether a packet was rebuilt.
+    /// Whether a rebuilt packet stands in its buffer.
     pub has_packet: bool,
-    /// Whether there is feedback for the compressor.
+    /// Whether feedback for the compressor stands in its buffer.
     pub has_feedback: bool,
-    /// How many octets the packet has.
+    /// The length of the packet, in octets.
     pub packet_length: usize,
-    /// How many octets the feedback has.
+    /// The length of the feedback, in octets.
     pub feedback_length: usize,
-    /// How many octets stand in the buffer for the feedback that the packet carried for this side.
+    /// How many octets stand in the buffer for the feedback that the packet carried for this side's compressor.
     pub relayed_length: usize,
-    /// How many elements they are, each one octet that counts its data, and the data.
+    /// How many feedback elements these octets are. Each is one octet, which counts its data, and the data.
     pub relayed_count: usize,
 }
 
@@ -47,7 +47,7 @@ fn number(outcome: Outcome) -> u8
     }
 }
 
-/// Puts a packet into a buffer, and answers its length.
+/// Writes a packet into a buffer, and returns its length.
 fn put_packet(delivered: &Delivered<'_>, place: &mut [u8]) -> usize
     requires { 40 + length delivered.now.payload.now ≤ length place.old }
     ensures { StandsIn (delivered.now.head.items ++ delivered.now.payload.now) result place.new }
@@ -58,7 +58,7 @@ fn put_packet(delivered: &Delivered<'_>, place: &mut [u8]) -> usize
     head.len() + delivered.payload.len()
 }
 
-/// What is told of a reply's packet: whether there is one, and its length.
+/// Writes a reply's packet into its buffer. Returns whether there is one, and its length.
 fn tell_packet(reply: &Reply<'_>, place: &mut [u8]) -> (bool, usize)
     requires head { 40 ≤ length place.old }
     requires within { IsPacketWithin (length place.old - 40) (response_of reply.now).packet }
@@ -70,7 +70,7 @@ fn tell_packet(reply: &Reply<'_>, place: &mut [u8]) -> (bool, usize)
     }
 }
 
-/// What is told of a reply's feedback: whether there is some, and its length.
+/// Writes a reply's feedback into its buffer. Returns whether there is some, and its length.
 fn tell_feedback(reply: &Reply<'_>, place: &mut [u8]) -> (bool, usize)
     requires { 8 ≤ length place.old }
     ensures { IsTold (response_of reply.now).feedback place.new result.0 result.1 }
@@ -84,7 +84,7 @@ fn tell_feedback(reply: &Reply<'_>, place: &mut [u8]) -> (bool, usize)
     }
 }
 
-/// Puts a context's answer and what the packet relayed into the buffers.
+/// Writes a context's answer, and the feedback that the packet relays, into the buffers.
 fn tell_reply(
     cid: u16,
     reply: &Reply<'_>,
@@ -116,7 +116,7 @@ fn tell_reply(
     }
 }
 
-/// Puts an answer into the buffers.
+/// Writes an answer into the buffers.
 pub(crate) fn write(
     answer: &Answer<'_>,
     packet: &mut [u8],

@@ -13,12 +13,12 @@ use crate::setup::build;
 use crate::standing::{RohcContextInfo, context_at};
 use std::alloc::Global;
 
-/// Makes the concentrator of these links, in this order and with no record, in the place of what the gateway had.
+/// Makes a concentrator with these links, in this order and without a record, in place of what the gateway had.
 ///
-/// It answers 0, or why nothing is made: 1 for no links, 2 for more than 256, then the first link that counts more
-/// than eight ranges (3), then link by link settings outside their limits (4) before a link that stands before it
-/// already (5), and 6 for want of memory. `place` is the place of that link, counted from 1, and 0 where the fault
-/// is of none. The gateway then stays as it was.
+/// Returns 0, or why none is made: 1 for no links; 2 for more than 256; 3 for the first link that counts more than
+/// eight ranges; then, link by link, 4 for settings outside their limits and 5 for the number of an earlier link; 6
+/// for lack of memory. `place` is set to the place of that link, counted from 1, or to 0 if the fault is of no single
+/// link. After a fault the gateway stays as it was.
 #[unsafe(no_mangle)]
 pub extern "C" fn rohc_new(
     alloc: Global,
@@ -57,11 +57,12 @@ pub extern "C" fn rohc_free(alloc: Global, gateway: &mut Gateway)
 
 ghost use Rattle.rohc_c.specs.Calls.{HasRoom, HasArrived};
 
-/// Takes one packet of a link, with the moment of its arrival in milliseconds, and puts the answer into the buffers.
+/// Takes one packet of a link, and writes the answer into the struct and the buffers. `moment` is its arrival time in
+/// milliseconds.
 ///
-/// It answers 0 where that is done, 1 where there is no concentrator, and 2 where a buffer has not the room that this
-/// packet may take: 40 octets more than it has for the rebuilt packet, 8 for feedback, and as many as it has for
-/// what is relayed. At 1 and 2 nothing is changed.
+/// Returns 0 if that is done, 1 if there is no concentrator, and 2 if a buffer is too short for what this packet may
+/// need: 40 octets more than the packet for the rebuilt packet, 8 octets for feedback, and as many octets as the
+/// packet for relayed feedback. At 1 and 2 nothing is changed.
 #[unsafe(no_mangle)]
 pub extern "C" fn rohc_arrive(
     alloc: Global,
@@ -99,8 +100,8 @@ pub extern "C" fn rohc_arrive(
 
 ghost use Rattle.rohc_c.specs.Calls.{HasReset, has_link, has_record};
 
-/// Forgets every record of a link, and no other: 0 where that is done, 1 where there is no concentrator, 2 where it
-/// has no such link.
+/// Forgets every record of a link, and no other record. Returns 0 if that is done, 1 if there is no concentrator, and
+/// 2 if it has no such link.
 #[unsafe(no_mangle)]
 pub extern "C" fn rohc_reset(alloc: Global, gateway: &mut Gateway, link: u16) -> u8
     ensures done { result ≢ 1 → HasReset (record { old = gateway.old.handle.concentrator; new = gateway.new.handle.concentrator }) link }
@@ -121,8 +122,8 @@ pub extern "C" fn rohc_reset(alloc: Global, gateway: &mut Gateway, link: u16) ->
     }
 }
 
-/// Whether a record stands for an identifier of a link, one that counts as none included; false where there is no
-/// concentrator.
+/// Whether a CID of a link has a record, even one that counts as none because it was idle too long; false if there is
+/// no concentrator.
 #[unsafe(no_mangle)]
 pub extern "C" fn rohc_has_context(
     alloc: Global,
@@ -144,9 +145,9 @@ pub extern "C" fn rohc_has_context(
 
 ghost use Rattle.rohc_c.specs.Standing.{link_at, identifier_at, IsContextAt};
 
-/// Tells the number of the link at a place, counted from 0 in the order of the settings, and whether there is one.
+/// Gives the number of the link at a place, counted from 0 in the order of the settings. Returns whether there is one.
 ///
-/// Behind the last link, and where there is no concentrator, `link` stays as it was.
+/// After the last link, and without a concentrator, `link` stays as it was.
 #[unsafe(no_mangle)]
 pub extern "C" fn rohc_link_at(
     alloc: Global,
@@ -171,10 +172,10 @@ pub extern "C" fn rohc_link_at(
     true
 }
 
-/// Tells the context at a place among those of a link, counted from 0 in the order of their first IR, and whether
+/// Gives the context at a place among those of a link, counted from 0 in the order of their first IR. Returns whether
 /// there is one.
 ///
-/// Behind the last one, where there is no such link, and where there is no concentrator, `context` stays as it was.
+/// After the last one, without such a link, and without a concentrator, `context` stays as it was.
 #[unsafe(no_mangle)]
 pub extern "C" fn rohc_context_at(
     alloc: Global,
@@ -202,10 +203,10 @@ pub extern "C" fn rohc_context_at(
 
 ghost use Rattle.rohc_c.specs.Names.{IsNamed, IsUnnamed};
 
-/// Puts the name of the refusal of a number into a buffer, with an octet 0 behind it, and answers its length without
-/// that octet.
+/// Writes the name of the refusal with this number into a buffer, followed by an octet 0, and returns its length
+/// without that octet.
 ///
-/// It answers 0 where no refusal has the number, and where there is no room; 16 octets are room for each name.
+/// Returns 0 if no refusal has the number, or if there is no room. 16 octets are enough for each name.
 #[unsafe(no_mangle)]
 pub extern "C" fn rohc_refusal_name(number: u8, name: &mut [u8]) -> usize
     ensures named { result ≢ 0 → IsNamed number result name.new }

@@ -1,4 +1,4 @@
-//! What C keeps: a concentrator, or none.
+//! The gateway that a caller in C keeps: a concentrator, or none.
 
 ghost use Rattle.std.specs.Prelude.{◌≡◌, Some, None, IsSome, is_some};
 
@@ -7,19 +7,20 @@ use crate::loose::Loose;
 use rohc_concentrator::Concentrator;
 use std::alloc::Global;
 
-/// A concentrator, or none where all its octets are 0: `struct rohc_gateway` of include/rohc.h.
+/// A concentrator, or none if all octets of the struct are 0: `struct rohc_gateway` of
+/// include/rohc.h.
 #[repr(C)]
 #[derive(Drop)]
 pub struct Gateway {
     /// Whether there is a concentrator.
     pub(crate) live: bool,
-    /// Where it lies.
+    /// The address of the concentrator.
     pub(crate) handle: Handle,
     ghost agrees: { live ≡ is_some handle.concentrator },
 }
 
 impl Gateway {
-    /// No concentrator.
+    /// A gateway without a concentrator.
     pub(crate) fn none() -> Gateway
         ensures { result.handle.concentrator ≡ None }
     {
@@ -29,7 +30,7 @@ impl Gateway {
         }
     }
 
-    /// This concentrator.
+    /// A gateway with this concentrator.
     pub(crate) fn of(concentrator: Box<Concentrator>) -> Gateway
         ensures { result.handle.concentrator ≡ Some concentrator.value }
     {
@@ -39,7 +40,7 @@ impl Gateway {
         }
     }
 
-    /// Takes the concentrator out, and leaves none.
+    /// Takes the concentrator out of the gateway, and leaves none.
     pub(crate) fn take(&mut self, alloc: Global) -> Box<Concentrator>
         requires { IsSome self.old.handle.concentrator }
         ensures taken { self.old.handle.concentrator ≡ Some result.value }

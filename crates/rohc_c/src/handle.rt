@@ -11,9 +11,9 @@ use rohc_concentrator::Concentrator;
 use std::alloc::Global;
 use std::marker::Model;
 
-/// The address of a concentrator on the heap, which it owns, or of nothing.
+/// The address of a concentrator on the heap, which the handle owns, or of nothing.
 ///
-/// C may hold no type that points to a concentrator, so the address is one of an octet.
+/// C may not hold a type that points to a concentrator, so the address is that of an octet.
 #[repr(C)]
 #[derive(Drop)]
 pub struct Handle {
@@ -34,7 +34,7 @@ impl Handle {
         Handle { at: at as *mut u8 }
     }
 
-    /// The handle of nothing.
+    /// The handle of no concentrator.
     pub(crate) fn none() -> Handle
         ensures { result.concentrator ≡ None }
     {
@@ -43,7 +43,7 @@ impl Handle {
         }
     }
 
-    /// The concentrator of a handle that has one.
+    /// The concentrator of a handle that owns one.
     pub(crate) fn open(self, alloc: Global) -> Loose<Concentrator, Global>
         requires { IsSome self.concentrator }
         ensures { Some result.value ≡ self.concentrator }

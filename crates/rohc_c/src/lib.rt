@@ -1,7 +1,7 @@
-//! The concentrator for callers in C.
+//! The concentrator as a library for C.
 //!
-//! Each function that C calls restates the clauses of the safe library that it calls. include/rohc.h declares them,
-//! and says what the caller owes.
+//! Each exported function restates the contract clauses of the safe function that it calls. include/rohc.h declares
+//! the functions, and says what the caller must guarantee.
 #![tactic(auto)]
 
 pub mod arrival;

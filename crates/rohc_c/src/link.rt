@@ -1,4 +1,4 @@
-//! The settings of links, as C writes them.
+//! The settings of links, as a caller in C gives them.
 
 ghost use Rattle.std.specs.Prelude.{◌≡◌, ◌≤◌, length, map, All, IfOk};
 ghost use Rattle.rohc_c.specs.Settings.{mode_of, size_of, range_of, setting_of, settings_of, HasFewRanges};
@@ -9,19 +9,19 @@ use rohc_context::{Mode, Settings};
 use rohc_frame::CidKind;
 use std::alloc::{AllocError, Global};
 
-/// Identifiers that have a mode of their own: `struct rohc_range` of include/rohc.h.
+/// A range of CIDs with a mode of its own: `struct rohc_range` of include/rohc.h.
 #[repr(C)]
 #[derive(Clone, Copy, Debug)]
 pub struct RohcRange {
-    /// The least identifier of the range.
+    /// The least CID of the range.
     pub first: u16,
-    /// The greatest one, which belongs to it.
+    /// The greatest CID of the range, inclusive.
     pub last: u16,
-    /// Whether feedback is sent for them: O mode, else U mode.
+    /// The mode of these CIDs: O mode, which sends feedback, if true; else U mode.
     pub optimistic: bool,
 }
 
-/// What is set for a link: `struct rohc_link` of include/rohc.h. Its fields are those of `Settings` and
+/// The setting of a link: `struct rohc_link` of include/rohc.h. Its fields are those of `Settings` and
 /// `LinkSetting`.
 #[repr(C)]
 #[derive(Clone, Copy, Debug)]
@@ -34,7 +34,7 @@ pub struct RohcLink {
     pub n1: u8,
     pub k2: u8,
     pub n2: u8,
-    /// How many of the ranges count, at most eight.
+    /// How many of the ranges are used, at most eight.
     pub range_count: u8,
     pub packet_ms: u32,
     pub static_nack_ms: u32,
@@ -42,14 +42,14 @@ pub struct RohcLink {
     pub ranges: [RohcRange; 8],
 }
 
-/// The mode that a flag says.
+/// O mode if the flag is set, else U mode.
 fn mode_of(optimistic: bool) -> Mode
     ensures { result ≡ mode_of optimistic }
 {
     if optimistic { Mode::O } else { Mode::U }
 }
 
-/// The size of identifiers that a flag says.
+/// Large CIDs if the flag is set, else small ones.
 fn size_of(large: bool) -> CidKind
     ensures { result ≡ size_of large }
 {

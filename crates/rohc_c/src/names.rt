@@ -8,7 +8,7 @@ ghost use Rattle.rohc_c.specs.Written.{StandsIn};
 use crate::relay::put_behind;
 use rohc_context::Refusal;
 
-/// The refusal of a number.
+/// The refusal with this number, if there is one.
 pub(crate) fn refusal_of(number: u8) -> Option<Refusal>
     ensures some { IfSome result (λ r. number ≡ number_of r) }
     ensures none { IfNone result (NamesNone number) }
@@ -48,7 +48,7 @@ pub(crate) fn refusal_of(number: u8) -> Option<Refusal>
     })
 }
 
-/// Puts a name with an octet 0 behind it into a buffer that has the room.
+/// Writes a name, followed by an octet 0, into a buffer that has room for both.
 pub(crate) fn put_name(name: &[u8], place: &mut [u8])
     requires { length name.now < length place.old }
     ensures { StandsIn (name.now ++ 0 ∷ []) (length name.now + 1) place.new }

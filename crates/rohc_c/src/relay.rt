@@ -1,4 +1,4 @@
-//! Feedback for this side, into a buffer.
+//! Writing feedback for this side's compressor into a buffer.
 
 ghost use Rattle.std.specs.Prelude.{◌≡◌, ◌≤◌, ◌+◌, ◌++◌, length, take};
 ghost use Rattle.rohc_frame.specs.Reading.{elements_of};
@@ -7,7 +7,7 @@ ghost use Rattle.rohc_c.specs.Written.{StandsIn};
 
 use rohc_frame::Elements;
 
-/// Puts octets behind the first `at` of a buffer.
+/// Writes octets into a buffer after its first `at` octets.
 pub(crate) fn put_behind(place: &mut [u8], at: usize, octets: &[u8])
     requires { at + length octets.now ≤ length place.old }
     ensures len { length place.new ≡ length place.old }
@@ -16,7 +16,7 @@ pub(crate) fn put_behind(place: &mut [u8], at: usize, octets: &[u8])
     place[at..at + octets.len()].copy_from_slice(octets);
 }
 
-/// What was put into the buffer for feedback.
+/// What was written into the buffer for feedback.
 #[derive(Clone, Copy, Debug)]
 pub(crate) struct Relayed {
     /// How many elements.
@@ -25,7 +25,7 @@ pub(crate) struct Relayed {
     pub(crate) length: usize,
 }
 
-/// Puts each element's data into a buffer, behind one octet that counts it.
+/// Writes the data of each element into a buffer, after one octet that counts it.
 pub(crate) fn put_elements(elements: Elements<'_>, place: &mut [u8]) -> Relayed
     requires { Fits (elements_of elements) (length place.old) }
     ensures count { result.count ≡ length (elements_of elements.entry) }

@@ -1,15 +1,15 @@
-//! The room that an answer may take.
+//! The room that an answer may need.
 
 ghost use Rattle.std.specs.Prelude.{◌↔◌, IsTrue};
 ghost use Rattle.rohc_c.specs.Calls.{HasRoom};
 
-/// The longest head of a packet.
+/// The longest head of a packet, in octets.
 const HEAD: usize = 40;
 
-/// The longest feedback element.
+/// The longest feedback element, in octets.
 const FEEDBACK: usize = 8;
 
-/// Whether the buffers have room for all that a packet of these octets may be answered.
+/// Whether the buffers have room for any answer to a packet of these octets.
 pub(crate) fn has_room(octets: &[u8], packet: &[u8], feedback: &[u8], relayed: &[u8]) -> bool
     ensures { IsTrue result ↔ HasRoom octets.now
         (record { packet = packet.now; feedback = feedback.now; relayed = relayed.now }) }

@@ -1,4 +1,4 @@
-//! A concentrator of links that C describes.
+//! Making a concentrator from the links that a caller in C describes.
 
 ghost use Rattle.std.specs.Prelude.{◌≡◌, ◌≤◌, length, All, IfOk, OnOk, IfErr};
 ghost use Rattle.rohc_c.specs.Settings.{HasFewRanges};
@@ -8,12 +8,12 @@ use crate::link::{RohcLink, settings_of};
 use rohc_concentrator::{Concentrator, SetupFault};
 use std::alloc::{AllocError, Global};
 
-/// Why nothing is made of links. Places count from 1.
+/// Why no concentrator is made from links. A place counts the links from 1.
 #[derive(Clone, Copy, Debug, PartialEq, Eq)]
 pub enum NewFault {
     /// A link counts more than eight ranges.
     TooManyRanges { place: usize },
-    /// A fault of the settings in general.
+    /// A fault of the settings, or lack of memory.
     Setup(SetupFault),
 }
 
@@ -21,7 +21,7 @@ impl NewFault {
     ghost use Rattle.std.specs.Prelude.{◌≡◌};
     ghost use Rattle.rohc_c.specs.Setup.{fault_number, fault_place};
 
-    /// The status that tells the fault.
+    /// The status that C gets for the fault.
     pub(crate) fn number(self) -> u8
         ensures { result ≡ fault_number self }
     {
@@ -35,7 +35,7 @@ impl NewFault {
         }
     }
 
-    /// The place of the link that the fault is of, and 0 where it is of none.
+    /// The place of the link at fault, or 0 if the fault is of no single link.
     pub(crate) fn place(self) -> usize
         ensures { result ≡ fault_place self }
     {
@@ -55,13 +55,13 @@ impl From<AllocError> for NewFault {
 
     ghost from_gives = { λ refused fault. fault ≡ Setup NoMemory };
 
-    /// A refused request for memory.
+    /// The fault for a refused request for memory.
     fn from(_refused: AllocError) -> NewFault {
         NewFault::Setup(SetupFault::NoMemory)
     }
 }
 
-/// Finds the first link that counts more than eight ranges, where there are at most 256 links.
+/// Finds more than 256 links, or else the first link that counts more than eight ranges.
 fn judge(links: &[RohcLink]) -> Result<(), NewFault>
     ensures few { OnOk result (All HasFewRanges links.now) }
     ensures within { OnOk result (length links.now ≤ 256) }
@@ -78,7 +78,7 @@ fn judge(links: &[RohcLink]) -> Result<(), NewFault>
     Ok(())
 }
 
-/// The concentrator of these links, in this order, with no record.
+/// Makes a concentrator with these links, in this order, and without a record.
 pub(crate) fn build(alloc: Global, links: &[RohcLink]) -> Result<Box<Concentrator>, NewFault>
     ensures made { IfOk result (λ b. IsNew links.now b.value) }
     ensures fault { IfErr result (λ e. IsNewFault links.now e) }

@@ -10,13 +10,13 @@ use rohc_context::{ContextState, Profile};
 #[repr(C)]
 #[derive(Clone, Copy, Debug, Default, Drop)]
 pub struct RohcContextInfo {
-    /// Its identifier.
+    /// Its CID.
     pub cid: u16,
     /// Its profile: 0x0000 or 0x0001.
     pub profile: u16,
     /// Its state: 0 for No Context, 1 for Static Context, 2 for Full Context.
     pub state: u8,
-    /// The moment of its last accepted arrival, in milliseconds.
+    /// The time of its last accepted arrival, in milliseconds.
     pub accepted: u64,
 }
 

@@ -1,4 +1,4 @@
-//! Each call once, as C makes it.
+//! Each exported function once, as C calls it.
 
 use crate::arrival::RohcArrival;
 use crate::exports::{

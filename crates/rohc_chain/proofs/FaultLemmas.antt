@@ -20,7 +20,7 @@ use Rattle.rohc_bits.proofs.Steps.{octet_found, judged_found}
 use Rattle.rohc_bits.proofs.FieldLemmas.{octet_fields, judged_fields}
 use Rattle.rohc_chain.proofs.FieldLemmas.{static_chain_fields, dynamic_chain_fields}
 
--- a step that both go
+-- a step that the reader and the fields have in common
 same_step : {A B : Type 0} (last : List ℕ → Option ChainRefusal) (r : Result A ChainRefusal) (g : A → Result (List ℕ) ChainRefusal) (f : A → Result B ChainRefusal) →
     ((x : A) → fault_among last (g x) ≡ result_err (f x)) → fault_among last (r >>= g) ≡ result_err (r >>= f)
 same_step last (Ok x) g f same = same x
@@ -71,13 +71,13 @@ chain_faults h dynamic true profile octet text is e = rw (e, is, e) (judged_faul
 chain_faults h true false profile octet text is e = rw e (whole_faults h octet text (last_ir_fault h) (λ payload. rw (is, e) refl))
 chain_faults h false false profile octet text is e = rw e (static_faults h octet text (last_ir_fault h) (rw (is, e, all_before text) refl))
 
--- a step that both go, and what it gave
+-- the same, with what the step gave
 step_from : {A B : Type 0} (last : List ℕ → Option ChainRefusal) (r : Result A ChainRefusal) (g : A → Result (List ℕ) ChainRefusal) (f : A → Result B ChainRefusal) →
     ((x : A) → r ≡ Ok x → fault_among last (g x) ≡ result_err (f x)) → fault_among last (r >>= g) ≡ result_err (r >>= f)
 step_from last (Ok x) g f same = same x refl
 step_from last (Err refusal) g f same = refl
 
--- the Profile octet and the check octet, and then the same
+-- the Profile octet and the check octet, which both read, and then steps with the same fault
 two_octets : {B : Type 0} (last : List ℕ → Option ChainRefusal) (fault : ℕ → Option ChainRefusal) (more : ℕ → ChainFields) (rest : List ℕ) (f : ℕ → ℕ → List ℕ → Result B ChainRefusal) →
     ((profile octet : ℕ) (text : List ℕ) → rest ≡ profile ∷ octet ∷ text → fault_among last (after_fields Truncated (more profile) text) ≡ result_err (f profile octet text)) →
     fault_among last (after_fields Truncated (Octet fault (λ profile. Octets 1 (more profile))) rest)

@@ -1,4 +1,4 @@
--- Reading a chain goes as far as its fields, and stops at the first fault among them.
+-- Reading a chain leaves the octets that its list of fields leaves, or stops at the same first fault.
 use Rattle.std.proofs.Common.{◌≡◌, ℕ, Bool, true, false, List, [], ◌∷◌, Option, Result, Ok, Err, refl}
 use Rattle.rohc_bits.specs.LowBits.{LowBits}
 use Rattle.rohc_bits.specs.Reading.{◌>>=◌, bit, judged, next_octet, next_word, next_value}
@@ -13,7 +13,7 @@ use Rattle.rohc_chain.specs.Chains.{judged_octet, judged_value, ip_static_at, st
 use Rattle.rohc_chain.proofs.Values.{numbered}
 use Rattle.rohc_chain.specs.Fields.{ChainFields, static_fields, ip_dynamic_fields, time_stride_fields, stride_fields, given_fields, rtp_dynamic_fields, dynamic_fields}
 
--- Fields and what a reader gives: they go as far.
+-- Lemmas on a reader and its list of fields: both leave the same octets, or give the same first fault.
 four_fields : (more : ChainFields) (text : List ℕ) → after_fields Truncated (Octets 4 more) text ≡ (four_octets_at text >>= λ x. after_fields Truncated more x.1)
 unfolding next_octet four_octets_at
 four_fields more [] = refl

@@ -261,14 +261,14 @@ dyn_one h profile kept a b is also =
     let made : Dynamic → List ℕ → DynContent = λ m p. record { moving = m; payload = p } in
     ap (λ (m : Dynamic). made m a.payload) parts.0 ∙ ap (made b.moving) parts.1
 
--- What a reader answers, which reads these definitions.
+-- The contract of a reader whose result is what the definitions give.
 
--- the value is what was read
+-- the value that it returns
 ok_said : {A B : Type 0} (view : A → B) (r : Result A ChainRefusal) (read : Result B ChainRefusal) (P : B → Type 0) → result_map_both view (λ e. e) r ≡ read → ((x : B) → read ≡ Ok x → P x) → IfOk r (λ x. P (view x))
 ok_said view (Ok x) read P e holds = holds (view x) (sym e)
 ok_said view (Err refusal) read P e holds = tt
 
--- and the error its refusal
+-- the error that it returns
 err_said : {A B : Type 0} (view : A → B) (r : Result A ChainRefusal) (read : Result B ChainRefusal) (fault : Option ChainRefusal) → result_map_both view (λ e. e) r ≡ read → fault ≡ result_err read → IfErr r (λ e. fault ≡ Some e)
 err_said view (Ok x) read fault e same = tt
 err_said view (Err refusal) read fault e same = same ∙ ap result_err (sym e)

@@ -1,5 +1,5 @@
--- The octets that spell what a chain says, bits that a reader ignores being free (RFC 3095 5.7.7.4 to
--- 5.7.7.6).
+-- The octets that encode the content of a chain; bits that a reader ignores may be anything (RFC 3095 5.7.7.4
+-- to 5.7.7.6).
 use Rattle.std.specs.Prelude.{◌≡◌, ℕ, ◌+◌, ◌*◌, ◌<◌, ◌≤◌, List, [], ◌∷◌, ◌++◌, length, Bool, true, false, Option, Some, None}
 use Rattle.rohc_bits.specs.Spelling.{IsSpelled}
 use Rattle.rohc_header.specs.declared.fields.Static.{Static}
@@ -20,7 +20,7 @@ pub record SpellsIpStatic (source destination : List ℕ) (text : List ℕ) : Ty
   pub also_four : length destination ≡ 4
   pub whole : text ≡ (0x40 + ignored) ∷ 17 ∷ source ++ destination
 
--- IPv4, UDP and RTP, static: behind IPv4's the ports, and the synchronization source (RFC 3095 5.7.7.5 and
+-- The static chains of IPv4, UDP and RTP: after IPv4's, the ports and the SSRC (RFC 3095 5.7.7.5 and
 -- 5.7.7.6).
 --
 --   /          Source Port          /  2 octets
@@ -45,18 +45,18 @@ pub record SpellsIpDynamic (moving : Dynamic) (text : List ℕ) : Type 0 where
   pub whole : text ≡ moving.tos ∷ moving.ttl ∷ word moving.id ++
       (flag moving.df 0x80 + flag moving.rnd 0x40 + flag moving.nbo 0x20 + ignored) ∷ 0 ∷ []
 
--- the stride of timestamps: a value above 0, or none where the one that is kept stays
+-- TS_STRIDE: a value above 0, or no octets, and then the stride that is kept stays
 abbrev pub SpellsStride : Bool → Option ℕ → Option ℕ → List ℕ → Type 0
 SpellsStride false kept stride text = (text ≡ []) × (stride ≡ kept)
 SpellsStride true kept None text = ⊥
 SpellsStride true kept (Some stride) text = IsSpelled text stride × (1 ≤ stride)
 
--- a stride of time: any value, or none
+-- TIME_STRIDE: any value, or no octets
 abbrev pub SpellsTimeStride : Bool → List ℕ → Type 0
 SpellsTimeStride false text = text ≡ []
 SpellsTimeStride true text = (value : ℕ) × IsSpelled text value
 
--- Three ignored bits, X, Mode, TIS and TSS; the stride, if TSS; the stride of time, if TIS (RFC 3095
+-- Three ignored bits, X, Mode, TIS and TSS; TS_STRIDE, if TSS is set; TIME_STRIDE, if TIS is set (RFC 3095
 -- 5.7.7.6).
 --
 --   | Reserved  | X | Mode  |TIS|TSS|
@@ -76,14 +76,14 @@ pub record SpellsFlags (kept : Option ℕ) (extension : Bool) (stride : Option �
   pub whole : text ≡ (32 * ignored + flag extension 0x10 + 4 * mode + flag tis 2 + flag tss 1) ∷
       stride_text ++ time_text
 
--- the octet of these flags and what it names, or nothing where what is kept stays
+-- the octet of flags and what it announces, or no octets, and then what is kept stays
 abbrev pub SpellsGiven : Bool → Kept → Bool → Option ℕ → List ℕ → Type 0
 SpellsGiven false kept extension stride text = (text ≡ []) × (extension ≡ kept.extension)
     × (stride ≡ kept.stride)
 SpellsGiven true kept extension stride text = SpellsFlags kept.stride extension stride text
 
--- RTP, dynamic: version 2, P, RX and no contributing sources; M and PT; SN; TS; an empty list of
--- contributing sources; the octet of flags, if RX (RFC 3095 5.7.7.6).
+-- RTP, dynamic: version 2, P, RX and no contributing sources; M and PT; SN; TS; an empty CSRC list; the octet
+-- of flags, if RX is set (RFC 3095 5.7.7.6).
 --
 --   |  V=2  | P | RX|    CC = 0     |
 --   | M |            PT             |

@@ -1,4 +1,4 @@
--- The chains of an IR or IR-DYN, read from left to right, with the first fault that is met.
+-- The chains of an IR or IR-DYN, read from left to right up to the first fault.
 use Rattle.std.specs.Prelude.{ℕ, ◌%◌, List, Bool, if◌then◌else◌, Option, Some, Result, Ok}
 use Rattle.rohc_bits.specs.Reading.{◌>>=◌, judged, bit}
 use Rattle.rohc_header.specs.declared.fields.Static.{Static}
@@ -10,11 +10,11 @@ use Rattle.rohc_chain.specs.declared.refusal.ChainRefusal.{ChainRefusal}
 use Rattle.rohc_chain.specs.Octets.{octet_at, word_at, four_octets_at, quad_at, value_at}
 use Rattle.rohc_chain.specs.Faults.{version_fault, protocol_fault, extension_list_fault, csrc_list_fault, rtp_fault, mode_fault, stride_fault}
 
--- an octet, where it isn't refused
+-- an octet, unless it is refused
 abbrev pub judged_octet : (ℕ → Option ChainRefusal) → List ℕ → Result (ℕ × List ℕ) ChainRefusal
 judged_octet fault text = octet_at text >>= λ x. judged (fault x.0) x
 
--- a self-describing value, where it isn't refused
+-- a self-describing value, unless it is refused
 abbrev pub judged_value : (ℕ → Option ChainRefusal) → List ℕ → Result (ℕ × List ℕ) ChainRefusal
 judged_value fault text = value_at text >>= λ x. judged (fault x.0) x
 
@@ -56,21 +56,21 @@ ip_dynamic_at text = do
   (extensions, text) ← judged_octet extension_list_fault text
   Ok (record { tos = tos; ttl = ttl; id = id; df = bit 7 flags; rnd = bit 6 flags; nbo = bit 5 flags }, text)
 
--- the stride, where the flags name one, else the one that is kept
+-- TS_STRIDE, if the flags announce it, else the stride that is kept
 unfoldable pub stride_at : Option ℕ → ℕ → List ℕ → Result (Option ℕ × List ℕ) ChainRefusal
 stride_at kept flags text =
     if bit 0 flags
     then (judged_value stride_fault text >>= λ x. Ok (Some x.0, x.1))
     else Ok (kept, text)
 
--- a stride of time is read where the flags name one, and dropped
+-- TIME_STRIDE is read if the flags announce it, and dropped
 unfoldable pub behind_time_stride : ℕ → List ℕ → Result (Unit {0} × List ℕ) ChainRefusal
 behind_time_stride flags text =
     if bit 1 flags
     then (value_at text >>= λ x. Ok (tt, x.1))
     else Ok (tt, text)
 
--- the flag X and the stride, where the octet of flags stands, else those that are kept
+-- the flag X and the stride, if there is an octet of flags, else those that are kept
 unfoldable pub flags_at : Kept → Bool → List ℕ → Result (Kept × List ℕ) ChainRefusal
 flags_at kept present text =
     if present
@@ -104,7 +104,7 @@ rtp_dynamic_at kept text = do
     text,
   )
 
--- the fields of the three chains together
+-- the fields of the three chains as one record
 abbrev pub joined : IpDynamic → ℕ → RtpDynamic → Dynamic
 joined ip udp_sum rtp = record {
   tos = ip.tos;

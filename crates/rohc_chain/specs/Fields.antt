@@ -11,7 +11,7 @@ use Rattle.rohc_chain.specs.Faults.{ir_profile_fault, dyn_profile_fault, version
 abbrev pub ChainFields : Type 0
 ChainFields = FieldList ChainRefusal
 
--- version, protocol, addresses; ports; synchronization source
+-- version, protocol, addresses; ports; SSRC
 abbrev pub static_fields : ChainFields → ChainFields
 static_fields more =
     Octet version_fault (λ _. Octet protocol_fault
@@ -21,30 +21,30 @@ static_fields more =
 abbrev pub ip_dynamic_fields : ChainFields → ChainFields
 ip_dynamic_fields more = Octets 1 (Octets 1 (Octets 2 (Octets 1 (Octet extension_list_fault (λ _. more)))))
 
--- the stride of time, if the octet of flags names one
+-- TIME_STRIDE, if the octet of flags announces it
 abbrev pub time_stride_fields : ℕ → ChainFields → ChainFields
 time_stride_fields flags more = if_named (bit 1 flags) (Value any) more
 
--- and before them the stride of timestamps
+-- before it TS_STRIDE
 abbrev pub stride_fields : ℕ → ChainFields → ChainFields
 stride_fields flags more = if_named (bit 0 flags) (Value stride_fault) (time_stride_fields flags more)
 
--- the octet of flags, if RX, and what it names
+-- the octet of flags, if RX announces it, and what it announces
 abbrev pub given_fields : Bool → ChainFields → ChainFields
 given_fields rx more = if_named rx (λ more. Octet mode_fault (λ flags. stride_fields flags more)) more
 
--- V, P, RX, CC; M, PT; SN; TS; list of contributing sources; octet of flags
+-- V, P, RX, CC; M, PT; SN; TS; CSRC list; octet of flags
 abbrev pub rtp_dynamic_fields : ChainFields → ChainFields
 rtp_dynamic_fields more =
     Octet rtp_fault (λ first. Octets 1 (Octets 2
     (Octets 4 (Octet csrc_list_fault (λ _. given_fields (bit 4 first) more)))))
 
--- UDP's checksum stands between IPv4's and RTP's
+-- the UDP checksum stands between the chains of IPv4 and RTP
 abbrev pub dynamic_fields : ChainFields → ChainFields
 dynamic_fields more = ip_dynamic_fields (Octets 2 (rtp_dynamic_fields more))
 
--- Behind an IR's check octet: of profile 0x0000 anything, else the static chain, then the dynamic chain and
--- the payload, or nothing.
+-- After the check octet of an IR: any octets for profile 0x0000. For profile 0x0001 the static chain, and
+-- then the dynamic chain and the payload, or nothing.
 abbrev pub chain_fields : Bool → ℕ → ChainFields
 chain_fields dynamic profile =
     if profile == 0 then Payload

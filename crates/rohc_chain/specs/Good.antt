@@ -10,7 +10,7 @@ pub record IsAddress (octets : List ℕ) : Type 0 where
   pub four : length octets ≡ 4
   pub each : All IsOctet octets
 
--- what a static chain says
+-- the numbers of a static chain
 pub record IsGoodStatic (fixed : Static) : Type 0 where
   pub source : IsAddress fixed.source
   pub destination : IsAddress fixed.destination
@@ -18,11 +18,11 @@ pub record IsGoodStatic (fixed : Static) : Type 0 where
   pub destination_port : fixed.destination_port < 65536
   pub ssrc : fixed.ssrc < 4294967296
 
--- a stride, where there is one, is above 0 and has a spelling
+-- a stride, if there is one, is above 0 and has an encoding
 abbrev pub IsGoodStride : Option ℕ → Type 0
 IsGoodStride stride = IfSome stride (λ s. (1 ≤ s) × (s ≤ 536870911))
 
--- what a dynamic chain says
+-- the numbers of a dynamic chain
 pub record IsGoodDynamic (moving : Dynamic) : Type 0 where
   pub tos : moving.tos < 256
   pub ttl : moving.ttl < 256
@@ -33,7 +33,7 @@ pub record IsGoodDynamic (moving : Dynamic) : Type 0 where
   pub ts : moving.ts < 4294967296
   pub stride : IsGoodStride moving.stride
 
--- what an IR says
+-- the numbers of an IR
 abbrev pub IsGoodContent : IrContent → Type 0
 IsGoodContent (Plain packet) = All IsOctet packet
 IsGoodContent (StaticOnly fixed) = IsGoodStatic fixed

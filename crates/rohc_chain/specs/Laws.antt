@@ -1,4 +1,4 @@
--- What the readers of IR and IR-DYN packets and the definitions of their octets have to do with one another.
+-- How the readers of IR and IR-DYN packets and the definitions of their octets fit together.
 use Rattle.std.specs.Prelude.{◌≡◌, ℕ, ◌≤◌, ◌↔◌, List, length, All, Some, Ok, Err}
 use Rattle.rohc_frame.specs.Header.{Header}
 use Rattle.rohc_frame.specs.Laws.{IsOctet}
@@ -11,53 +11,53 @@ use Rattle.rohc_chain.specs.Good.{IsGoodStatic, IsGoodStride, IsGoodDynamic, IsG
 use Rattle.rohc_chain.specs.ChainText.{SpellsStatic, SpellsDynamic}
 use Rattle.rohc_chain.specs.Texts.{IsIrText, IsIrDynText, IsShort, ir_fault, ir_dyn_fault}
 
--- what an IR of octets says is read exactly where its octets spell it and the rebuilt packet isn't too long
+-- an IR of octets is read exactly if its octets encode what is read and the rebuilt packet isn't too long
 abbrev pub ReadsIrs : Type 0
 ReadsIrs = (h : Header) (content : IrContent) → IsIr h.kind → All IsOctet h.rest →
     (ir_at h ≡ Ok content) ↔ (IsIrText h content × IsShort content)
 
--- and it is refused exactly where that is its first fault
+-- it is refused exactly if that is its first fault
 abbrev pub RefusesIrs : Type 0
 RefusesIrs = (h : Header) (refusal : ChainRefusal) → (ir_at h ≡ Err refusal) ↔ (ir_fault h ≡ Some refusal)
 
--- an IR says one thing at most
+-- an IR says at most one thing
 abbrev pub SaysOne : Type 0
 SaysOne = (h : Header) (a b : IrContent) → IsIrText h a → IsIrText h b → a ≡ b
 
--- the same of an IR-DYN for a context of profile 0 or 1
+-- the same for an IR-DYN, in a context of profile 0 or 1
 abbrev pub ReadsIrDyns : Type 0
 ReadsIrDyns = (h : Header) (profile : ℕ) (kept : Kept) (packet : DynContent) → IsIrDyn h.kind → profile ≤ 1 →
     All IsOctet h.rest →
     (ir_dyn_at h profile kept ≡ Ok packet) ↔ (IsIrDynText h profile kept packet
     × (length packet.payload ≤ longest_payload))
 
--- and it is refused exactly where that is its first fault
+-- it is refused exactly if that is its first fault
 abbrev pub RefusesIrDyns : Type 0
 RefusesIrDyns = (h : Header) (profile : ℕ) (kept : Kept) (refusal : ChainRefusal) →
     (ir_dyn_at h profile kept ≡ Err refusal) ↔ (ir_dyn_fault h profile ≡ Some refusal)
 
--- and says one thing at most
+-- it says at most one thing
 abbrev pub DynSaysOne : Type 0
 DynSaysOne = (h : Header) (profile : ℕ) (kept : Kept) (a b : DynContent) → IsIrDynText h profile kept a →
     IsIrDynText h profile kept b → a ≡ b
 
--- what an IR of octets says is good
+-- the numbers of an IR of octets are in their ranges
 abbrev pub SaysGood : Type 0
 SaysGood = (h : Header) (content : IrContent) → All IsOctet h.rest → IsIrText h content →
     IsGoodContent content
 
--- and what an IR-DYN says, where the stride that is kept is good
+-- so are those of an IR-DYN, if the stride that is kept is good
 abbrev pub DynSaysGood : Type 0
 DynSaysGood = (h : Header) (profile : ℕ) (kept : Kept) (packet : DynContent) → All IsOctet h.rest →
     IsGoodStride kept.stride →
     IsIrDynText h profile kept packet → IsGoodDynamic packet.moving × All IsOctet packet.payload
 
--- and what is good is spelled by octets: each static chain
+-- conversely, octets can encode what is good: each static chain
 abbrev pub SpellsEachStatic : Type 0
 SpellsEachStatic = (fixed : Static) → IsGoodStatic fixed →
     (text : List ℕ) × All IsOctet text × SpellsStatic fixed text
 
--- and each dynamic chain, with no value that is kept
+-- and each dynamic chain, without values that are kept
 abbrev pub SpellsEachDynamic : Type 0
 SpellsEachDynamic = (moving : Dynamic) → IsGoodDynamic moving →
     (text : List ℕ) × All IsOctet text × SpellsDynamic nothing_kept moving text

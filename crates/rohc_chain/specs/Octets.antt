@@ -1,10 +1,10 @@
--- Fields read off the front of a packet's octets, or why they can't be.
+-- Fields read from the start of a packet's octets, or why they can't be read.
 use Rattle.std.specs.Prelude.{ℕ, ◌+◌, ◌*◌, List, [], ◌∷◌, Result, Ok}
 use Rattle.rohc_bits.specs.Reading.{◌>>=◌, next_octet, next_word, next_value}
 use Rattle.rohc_chain.specs.declared.refusal.ChainRefusal.{ChainRefusal}
 use Rattle.rohc_chain.specs.declared.refusal.ChainRefusal.TheVariants.{Truncated}
 
--- an octet and a number of two; a packet that ends before is truncated
+-- an octet, and a number of two octets; a packet that ends too early is truncated
 abbrev pub octet_at : List ℕ → Result (ℕ × List ℕ) ChainRefusal
 octet_at = next_octet Truncated
 
@@ -27,6 +27,6 @@ quad_at text = do
   (low, text) ← word_at text
   Ok (high * 65536 + low, text)
 
--- the number that a self-describing value spells (RFC 3095 4.5.6)
+-- a self-describing value (RFC 3095 4.5.6)
 unfoldable pub value_at : List ℕ → Result (ℕ × List ℕ) ChainRefusal
 value_at text = next_value Truncated text >>= λ x. Ok (x.0.value, x.1)

@@ -13,8 +13,8 @@ use Rattle.rohc_bits.specs.FieldList.{after_fields}
 use Rattle.rohc_chain.specs.declared.refusal.ChainRefusal.TheVariants.{Truncated}
 use Rattle.rohc_chain.specs.Fields.{ir_fields, ir_dyn_fields}
 
--- An IR begins with FC, or FD where it has a dynamic chain (RFC 3095 5.7.7.1); an IR-DYN with F8, and has no
--- static chain (5.7.7.2). These stand behind the first octet and a large identifier:
+-- An IR starts with FC, or with FD if it has a dynamic chain (RFC 3095 5.7.7.1). An IR-DYN starts with F8 and
+-- has no static chain (5.7.7.2). After the first octet and a large CID come:
 --
 --   |            Profile            |
 --   |              CRC              |
@@ -38,7 +38,7 @@ pub record IsStaticText (h : Header) (fixed : Static) : Type 0 where
   pub spells_static : SpellsStatic fixed chains
   pub whole : h.rest ≡ 1 ∷ check_of (cover h chains) ∷ chains
 
--- An IR with one: Profile octet 01, the check, both chains, the payload.
+-- An IR with a dynamic chain: Profile octet 01, the check, both chains, the payload.
 pub record IsWholeText (h : Header) (fixed : Static) (moving : Dynamic) (payload : List ℕ) : Type 0 where
   pub static_chain : List ℕ
   pub dynamic_chain : List ℕ
@@ -48,7 +48,7 @@ pub record IsWholeText (h : Header) (fixed : Static) (moving : Dynamic) (payload
   pub whole : h.rest ≡ 1 ∷ check_of (cover h (static_chain ++ dynamic_chain)) ∷ static_chain ++
       (dynamic_chain ++ payload)
 
--- the packet's octets are those of an IR that says this
+-- the packet's octets are those of an IR with this content
 abbrev pub IsIrText : Header → IrContent → Type 0
 IsIrText h (Plain packet) = IsPlainText h packet
 IsIrText h (StaticOnly fixed) = IsStaticText h fixed
@@ -78,21 +78,21 @@ or_else (Some refusal) later = Some refusal
 abbrev pub profile_octet : Header → ℕ
 profile_octet h = get_or h.rest 0 0
 
--- and the check octet behind it
+-- the check octet after it
 abbrev pub check_octet : Header → ℕ
 check_octet h = get_or h.rest 1 0
 
--- what is judged after all fields, of profile 0x0001: the length, and then the check
+-- what is judged after all fields, for profile 0x0001: the length, and then the check
 abbrev pub last_fault : Header → List ℕ → Option ChainRefusal
 last_fault h payload =
     or_else (length_fault payload) (check_fault (check_octet h) (cover h (before payload (drop 2 h.rest))))
 
--- of either profile: of profile 0x0000 only the check
+-- for either profile; for profile 0x0000 only the check
 abbrev pub last_ir_fault : Header → List ℕ → Option ChainRefusal
 last_ir_fault h payload =
     if profile_octet h == 0 then check_fault (check_octet h) (plain_cover h) else last_fault h payload
 
--- the first fault among the fields, else the last one
+-- the first fault among the fields, else the fault that is judged last
 abbrev pub fault_among : (List ℕ → Option ChainRefusal) → Result (List ℕ) ChainRefusal → Option ChainRefusal
 fault_among last (Ok payload) = last payload
 fault_among last (Err refusal) = Some refusal

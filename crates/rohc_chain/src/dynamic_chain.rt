@@ -1,4 +1,4 @@
-//! The dynamic chain: what moves from header to header (RFC 3095 5.7.7.4 to 5.7.7.6).
+//! The dynamic chain: the fields that change from header to header (RFC 3095 5.7.7.4 to 5.7.7.6).
 
 ghost use Rattle.std.specs.Prelude.{◌≤◌, length};
 ghost use Rattle.rohc_bits.specs.Reading.{Reads};
@@ -10,7 +10,7 @@ use crate::refusal::ChainRefusal;
 use rohc_bits::Cursor;
 use rohc_header::Dynamic;
 
-/// The dynamic chain of IPv4. The low five bits of its flags are ignored.
+/// Reads the dynamic chain of IPv4. The low five bits of its flags are ignored.
 #[tactic(auto, unfolding(crate::specs::Chains::ip_dynamic_at))]
 fn ip_dynamic(cursor: &mut Cursor<'_>) -> Result<IpDynamic, ChainRefusal>
     ensures reads { Reads result cursor.new (ip_dynamic_at cursor.old) }
@@ -34,7 +34,7 @@ fn ip_dynamic(cursor: &mut Cursor<'_>) -> Result<IpDynamic, ChainRefusal>
     })
 }
 
-/// The stride of timestamps, where the flag TSS names one, else the one that is kept.
+/// Reads TS_STRIDE if the flag TSS announces it, and else returns the stride that is kept.
 #[tactic(auto, unfolding(crate::specs::Chains::stride_at))]
 fn stride(
     kept: Option<u32>,
@@ -53,7 +53,7 @@ fn stride(
     }
 }
 
-/// A stride of time is read, where the flag TIS names one, and dropped.
+/// Reads TIME_STRIDE if the flag TIS announces it, and drops it.
 #[tactic(auto, unfolding(crate::specs::Chains::behind_time_stride))]
 fn skip_time_stride(flags: u8, cursor: &mut Cursor<'_>) -> Result<(), ChainRefusal>
     ensures reads { Reads result cursor.new (behind_time_stride flags cursor.old) }
@@ -65,8 +65,8 @@ fn skip_time_stride(flags: u8, cursor: &mut Cursor<'_>) -> Result<(), ChainRefus
     Ok(())
 }
 
-/// The flag X and the stride, where the flag RX says that their octet is there, else those that are
-/// kept. Modes 0, 1 and 2 have no effect.
+/// Reads the octet of flags if RX announces it, for the flag X and the stride, and else returns
+/// those that are kept. Modes 0, 1 and 2 have no effect.
 #[tactic(auto, unfolding(crate::specs::Chains::flags_at))]
 fn flags(kept: Kept, present: bool, cursor: &mut Cursor<'_>) -> Result<Kept, ChainRefusal>
     ensures reads { Reads result cursor.new (flags_at kept present cursor.old) }
@@ -87,7 +87,7 @@ fn flags(kept: Kept, present: bool, cursor: &mut Cursor<'_>) -> Result<Kept, Cha
     })
 }
 
-/// The dynamic chain of RTP.
+/// Reads the dynamic chain of RTP.
 #[tactic(auto, unfolding(crate::specs::Chains::rtp_dynamic_at))]
 fn rtp_dynamic(kept: Kept, cursor: &mut Cursor<'_>) -> Result<RtpDynamic, ChainRefusal>
     ensures reads { Reads result cursor.new (rtp_dynamic_at kept cursor.old) }
@@ -119,7 +119,7 @@ fn rtp_dynamic(kept: Kept, cursor: &mut Cursor<'_>) -> Result<RtpDynamic, ChainR
     })
 }
 
-/// The dynamic chains of IPv4, UDP and RTP.
+/// Reads the dynamic chains of IPv4, UDP and RTP.
 #[tactic(auto, unfolding(crate::specs::Chains::dynamic_at))]
 pub(crate) fn dynamic_chain(kept: Kept, cursor: &mut Cursor<'_>) -> Result<Dynamic, ChainRefusal>
     ensures reads { Reads result cursor.new (dynamic_at kept cursor.old) }

@@ -25,7 +25,7 @@ const UNCOMPRESSED: u8 = 0x00;
 
 const RTP: u8 = 0x01;
 
-/// An IR of profile 0x0000 behind its check octet.
+/// Reads an IR of profile 0x0000 after its check octet.
 fn plain<'a>(forward: &Forward<'a>, check: u8, packet: &'a [u8]) -> Result<Ir<'a>, ChainRefusal>
     ensures { result_map_both ir_content (λ e. e) result ≡ plain_at (header_of forward.now) check packet.entry.now }
 {
@@ -35,7 +35,7 @@ fn plain<'a>(forward: &Forward<'a>, check: u8, packet: &'a [u8]) -> Result<Ir<'a
     Ok(Ir::Plain { packet })
 }
 
-/// An IR without a dynamic chain behind its check octet.
+/// Reads an IR without a dynamic chain after its check octet.
 #[tactic(auto, unfolding(crate::specs::Packets::static_only_at))]
 fn static_only<'a>(
     forward: &Forward<'a>,
@@ -55,7 +55,7 @@ fn static_only<'a>(
     Ok(Ir::StaticOnly { fixed })
 }
 
-/// An IR with both chains behind its check octet.
+/// Reads an IR with both chains after its check octet.
 #[tactic(auto, unfolding(crate::specs::Packets::whole_at))]
 fn whole<'a>(forward: &Forward<'a>, check: u8, octets: &'a [u8]) -> Result<Ir<'a>, ChainRefusal>
     ensures { result_map_both ir_content (λ e. e) result ≡ whole_at (header_of forward.now) check octets.entry.now }
@@ -78,7 +78,7 @@ fn whole<'a>(forward: &Forward<'a>, check: u8, octets: &'a [u8]) -> Result<Ir<'a
     })
 }
 
-/// What an IR says, by its Profile octet.
+/// Reads an IR, by its Profile octet.
 #[tactic(auto, unfolding(crate::specs::Packets::ir_at))]
 fn by_profile<'a>(forward: &Forward<'a>) -> Result<Ir<'a>, ChainRefusal>
     ensures reads { result_map_both ir_content (λ e. e) result ≡ ir_at (header_of forward.now) }
@@ -98,10 +98,10 @@ fn by_profile<'a>(forward: &Forward<'a>) -> Result<Ir<'a>, ChainRefusal>
     }
 }
 
-/// What an IR says.
+/// Decodes an IR (RFC 3095 5.7.7.1 and 5.10.1).
 ///
-/// The header is an IR's. The refusals come in the order of the octets, then `TooLong`, then `Check`
-/// (RFC 3095 5.7.7 and 5.10).
+/// `forward` is the header of an IR. The error is the first fault: the faults of the fields in the
+/// order of their octets, then `TooLong`, then `Check`.
 pub fn read_ir<'a>(forward: &Forward<'a>) -> Result<Ir<'a>, ChainRefusal>
     requires { IsIr forward.now.kind }
     ensures text { IfOk result (λ ir. IsIrText (header_of forward.now) (ir_content ir)) }

@@ -44,11 +44,11 @@ fn in_order<'a>(forward: &Forward<'a>, profile: u8, kept: Kept) -> Result<IrDyn<
     Ok(IrDyn { moving, payload })
 }
 
-/// What an IR-DYN says to a context of profile 0 or 1.
+/// Decodes an IR-DYN for a context of profile 0 or 1 (RFC 3095 5.7.7.2).
 ///
-/// The header is an IR-DYN's. `extension` and `stride` are what stays where the dynamic chain doesn't
-/// give them. The refusals come in the order of the octets, then `TooLong`, then `Check`
-/// (RFC 3095 5.7.7).
+/// `forward` is the header of an IR-DYN. `extension` and `stride` are RTP's X and TS_STRIDE of the
+/// context, which stay if the dynamic chain doesn't give them. The error is the first fault: the
+/// faults of the fields in the order of their octets, then `TooLong`, then `Check`.
 pub fn read_ir_dyn<'a>(
     forward: &Forward<'a>,
     profile: u8,

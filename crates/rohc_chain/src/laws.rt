@@ -1,10 +1,11 @@
-//! Laws of the definitions, as contracts of functions that do nothing. The crates above know what a
-//! packet says by these.
+//! Laws of the definitions, as contracts of functions that do nothing. The crates above rely on them
+//! for what a packet says.
 
 ghost use Rattle.rohc_chain.specs.Laws.{ReadsIrs, RefusesIrs, SaysOne, SaysGood, ReadsIrDyns, RefusesIrDyns, DynSaysOne, DynSaysGood, SpellsEachStatic, SpellsEachDynamic};
 
-/// An IR of octets is read exactly where they spell what it says and it isn't too long; else its first
-/// fault is the refusal. It says one thing at most, whose numbers lie in the ranges of their fields.
+/// An IR of octets is read exactly if its octets encode what is read and the rebuilt packet isn't too
+/// long. Otherwise its first fault is the refusal. An IR says at most one thing, and its numbers are
+/// in the ranges of their fields.
 pub fn one_ir()
     ensures reads { ReadsIrs }
     ensures refuses { RefusesIrs }
@@ -12,7 +13,7 @@ pub fn one_ir()
     ensures good { SaysGood }
 {}
 
-/// The same of an IR-DYN.
+/// The same for an IR-DYN. Its numbers are in their ranges if the stride that is kept is.
 pub fn one_ir_dyn()
     ensures reads { ReadsIrDyns }
     ensures refuses { RefusesIrDyns }
@@ -20,7 +21,8 @@ pub fn one_ir_dyn()
     ensures good { DynSaysGood }
 {}
 
-/// Octets spell each static chain and each dynamic chain whose numbers lie in their ranges.
+/// Each static chain and each dynamic chain whose numbers are in their ranges can be encoded in
+/// octets.
 pub fn each_chain()
     ensures fixed { SpellsEachStatic }
     ensures moving { SpellsEachDynamic }

@@ -1,5 +1,5 @@
-//! IR and IR-DYN packets: their chains, and what they say (RFC 3095 5.7.7 and 5.10). Nothing allocates;
-//! payloads are lent from the packet.
+//! IR and IR-DYN packets, with their static and dynamic chains (RFC 3095 5.7.7 and 5.10). No function
+//! allocates memory; payloads are borrowed from the packet.
 #![tactic(auto)]
 
 mod cover;

@@ -1,4 +1,5 @@
-//! Fields read off the front of a packet's octets.
+//! Readers of fields from the start of a packet's octets. If the octets end too early, the refusal
+//! is `Truncated`.
 
 ghost use Rattle.std.specs.Prelude.{◌≡◌, ◌<◌, ◌≤◌, length, drop, All, IfOk, MatchResult};
 ghost use Rattle.rohc_bits.specs.Reading.{Reads, bit};
@@ -8,7 +9,7 @@ ghost use Rattle.rohc_chain.specs.Octets.{octet_at, word_at, four_octets_at, qua
 use crate::refusal::ChainRefusal;
 use rohc_bits::{Cursor, reading};
 
-/// The next octet.
+/// Takes the next octet.
 pub(crate) fn octet(cursor: &mut Cursor<'_>) -> Result<u8, ChainRefusal>
     ensures reads { Reads result cursor.new (octet_at cursor.old) }
     ensures shorter { length cursor.new ≤ length cursor.old }
@@ -16,7 +17,7 @@ pub(crate) fn octet(cursor: &mut Cursor<'_>) -> Result<u8, ChainRefusal>
     reading::octet(cursor, ChainRefusal::Truncated)
 }
 
-/// The next two octets, most significant first.
+/// Takes the next two octets as a number, most significant octet first.
 pub(crate) fn word(cursor: &mut Cursor<'_>) -> Result<u16, ChainRefusal>
     ensures reads { Reads result cursor.new (word_at cursor.old) }
     ensures shorter { length cursor.new ≤ length cursor.old }
@@ -24,7 +25,7 @@ pub(crate) fn word(cursor: &mut Cursor<'_>) -> Result<u16, ChainRefusal>
     reading::word(cursor, ChainRefusal::Truncated)
 }
 
-/// The next four octets, as they stand.
+/// Takes the next four octets as they are.
 #[tactic(auto, unfolding(crate::specs::Octets::four_octets_at))]
 pub(crate) fn four_octets(cursor: &mut Cursor<'_>) -> Result<[u8; 4], ChainRefusal>
     ensures reads { Reads result cursor.new (four_octets_at cursor.old) }
@@ -37,7 +38,7 @@ pub(crate) fn four_octets(cursor: &mut Cursor<'_>) -> Result<[u8; 4], ChainRefus
     Ok([a, b, c, d])
 }
 
-/// The next four octets, most significant first.
+/// Takes the next four octets as a number, most significant octet first.
 #[tactic(auto, unfolding(crate::specs::Octets::quad_at))]
 pub(crate) fn quad(cursor: &mut Cursor<'_>) -> Result<u32, ChainRefusal>
     ensures reads { Reads result cursor.new (quad_at cursor.old) }
@@ -48,7 +49,7 @@ pub(crate) fn quad(cursor: &mut Cursor<'_>) -> Result<u32, ChainRefusal>
     Ok((u32::from(high) << 16) | u32::from(low))
 }
 
-/// The number that the next self-describing value spells (RFC 3095 4.5.6).
+/// Takes the next self-describing value (RFC 3095 4.5.6).
 #[tactic(auto, unfolding(crate::specs::Octets::value_at))]
 pub(crate) fn value(cursor: &mut Cursor<'_>) -> Result<u32, ChainRefusal>
     ensures reads { Reads result cursor.new (value_at cursor.old) }
@@ -57,7 +58,7 @@ pub(crate) fn value(cursor: &mut Cursor<'_>) -> Result<u32, ChainRefusal>
     Ok(reading::value(cursor, ChainRefusal::Truncated)?.value)
 }
 
-/// The bit of this place, counted from the least significant, which is 0.
+/// Whether the bit at `place` is set. Place 0 is the least significant bit; `place` is below 8.
 pub(crate) fn is_set(octet: u8, place: u8) -> bool
     requires { place < 8 }
     ensures { result ≡ bit place octet }

@@ -2,18 +2,18 @@
 
 use rohc_header::{Dynamic, Static};
 
-/// What an IR packet says.
+/// The content of an IR packet.
 #[derive(Clone, Copy, Debug)]
 pub enum Ir<'a> {
-    /// Of profile 0x0000: an IP packet, or no octets.
+    /// Profile 0x0000: the IP packet that it carries, or no octets.
     Plain {
         packet: &'a [u8],
     },
-    /// Of profile 0x0001, without a dynamic chain.
+    /// Profile 0x0001, without a dynamic chain.
     StaticOnly {
         fixed: Static,
     },
-    /// Of profile 0x0001, with both chains.
+    /// Profile 0x0001, with both chains.
     Whole {
         fixed: Static,
         moving: Dynamic,
@@ -21,11 +21,11 @@ pub enum Ir<'a> {
     },
 }
 
-/// What an IR-DYN packet of profile 0x0001 says.
+/// The content of an IR-DYN packet of profile 0x0001.
 #[derive(Clone, Copy, Debug)]
 pub struct IrDyn<'a> {
-    /// The fields that move.
+    /// The fields of the dynamic chain.
     pub moving: Dynamic,
-    /// What follows the header.
+    /// The octets after the header.
     pub payload: &'a [u8],
 }

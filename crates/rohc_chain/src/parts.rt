@@ -1,6 +1,6 @@
-//! What single chains say.
+//! The content of single chains.
 
-/// What the dynamic chain of IPv4 says.
+/// The content of the dynamic chain of IPv4.
 #[derive(Clone, Copy, Debug)]
 pub(crate) struct IpDynamic {
     pub tos: u8,
@@ -11,7 +11,7 @@ pub(crate) struct IpDynamic {
     pub nbo: bool,
 }
 
-/// What the dynamic chain of RTP says.
+/// The content of the dynamic chain of RTP.
 #[derive(Clone, Copy, Debug)]
 pub(crate) struct RtpDynamic {
     pub padding: bool,
@@ -23,7 +23,7 @@ pub(crate) struct RtpDynamic {
     pub stride: Option<u32>,
 }
 
-/// The values that stay where a dynamic chain doesn't give them.
+/// The context's values that stay if a dynamic chain doesn't give them: RTP's X and TS_STRIDE.
 #[derive(Clone, Copy, Debug)]
 pub(crate) struct Kept {
     pub extension: bool,
@@ -31,7 +31,7 @@ pub(crate) struct Kept {
 }
 
 impl Kept {
-    /// What is kept where there is nothing to keep.
+    /// The values that are kept for an IR: none.
     pub(crate) const NOTHING: Kept = Kept {
         extension: false,
         stride: None,

@@ -1,4 +1,5 @@
-//! The static chain: what stays as it is in all headers of a call (RFC 3095 5.7.7.4 to 5.7.7.6).
+//! The static chain: the fields that are the same in all headers of a call (RFC 3095 5.7.7.4 to
+//! 5.7.7.6).
 
 ghost use Rattle.std.specs.Prelude.{◌≤◌, length};
 ghost use Rattle.rohc_bits.specs.Reading.{Reads};
@@ -9,11 +10,11 @@ use crate::refusal::ChainRefusal;
 use rohc_bits::Cursor;
 use rohc_header::Static;
 
-/// The number of UDP among the protocols over IP.
+/// The protocol number of UDP.
 const UDP: u8 = 17;
 
-/// The static chain of IPv4: source and destination address. The low four bits of the version octet
-/// are ignored.
+/// Reads the static chain of IPv4, and returns the source and the destination address. The low four
+/// bits of the version octet are ignored.
 #[tactic(auto, unfolding(crate::specs::Chains::ip_static_at))]
 fn ip_static(cursor: &mut Cursor<'_>) -> Result<([u8; 4], [u8; 4]), ChainRefusal>
     ensures reads { Reads result cursor.new (ip_static_at cursor.old) }
@@ -32,7 +33,7 @@ fn ip_static(cursor: &mut Cursor<'_>) -> Result<([u8; 4], [u8; 4]), ChainRefusal
     Ok((source, destination))
 }
 
-/// The static chains of IPv4, UDP and RTP.
+/// Reads the static chains of IPv4, UDP and RTP.
 #[tactic(auto, unfolding(crate::specs::Chains::static_at))]
 pub(crate) fn static_chain(cursor: &mut Cursor<'_>) -> Result<Static, ChainRefusal>
     ensures reads { Reads result cursor.new (static_at cursor.old) }

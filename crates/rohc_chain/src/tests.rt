@@ -7,7 +7,7 @@ use std::test::Fail;
 // A packet by its parts.
 type Parts = [&'static [u8]; 4];
 
-// The fields of a static chain, and those of a dynamic chain by their protocols.
+// The fields of a static chain, and those of a dynamic chain by protocol.
 type Fixed = ([u8; 4], [u8; 4], u16, u16, u32);
 
 type Ip = (u8, u8, u16, bool, bool, bool);
@@ -47,7 +47,7 @@ fn header_in(size: CidKind, packet: &[u8]) -> Option<Forward<'_>> {
     cut(size, max_cid, packet).ok()?.forward
 }
 
-// What an IR says; none where the packet isn't one.
+// The content of an IR; `None` if the packet isn't one.
 fn ir_in(size: CidKind, packet: &[u8]) -> Option<Result<Ir<'_>, ChainRefusal>> {
     let forward = header_in(size, packet)?;
     let HeadKind::Ir { .. } = forward.kind else {
@@ -56,7 +56,7 @@ fn ir_in(size: CidKind, packet: &[u8]) -> Option<Result<Ir<'_>, ChainRefusal>> {
     Some(read_ir(&forward))
 }
 
-// What an IR-DYN says to a context that keeps these values; none where the packet isn't one.
+// The content of an IR-DYN for a context that keeps these values; `None` if the packet isn't one.
 fn ir_dyn_in(
     size: CidKind,
     packet: &[u8],
@@ -102,8 +102,8 @@ fn moving_fields(moving: Dynamic) -> Moving {
     (ip, moving.udp_sum, rtp)
 }
 
-// The IRs of profile 0x0000: how the link spells identifiers, the packet, and its IP packet. Plain
-// call, without an IP packet, behind Add-CID, and on a large identifier.
+// IRs of profile 0x0000: the CID kind, the packet, and the IP packet in it. Example plain call, without an IP
+// packet, after Add-CID, and on a large CID.
 const PLAIN: [(CidKind, &[u8], &[u8]); 4] = [
     (CidKind::Small, &[0xfc, 0, 0xb7, 0x45, 0xaa], &[0x45, 0xaa]),
     (CidKind::Small, &[0xfc, 0, 0xb7], &[]),
@@ -129,7 +129,7 @@ fn plain_irs(rt: HostRuntime) {
     }
 }
 
-// The whole IRs: the packet, and what its dynamic chain says.
+// IRs with both chains: the packet, and the content of its dynamic chain.
 const WHOLE: [(Parts, Moving); 5] = [
     // Whole IR.
     (
@@ -226,8 +226,7 @@ fn an_ir_of_a_static_chain(rt: HostRuntime) -> Result<(), Fail> {
     Ok(())
 }
 
-// The IR-DYN of example static first, and one whose RTP part gives neither X nor a stride, whatever
-// is kept.
+// The IR-DYN of example static first, and one whose RTP chain gives neither X nor a stride, whatever is kept.
 const DYNAMIC: [(Parts, bool, Option<u32>, Moving); 2] = [
     (
         [&[0xf8, 0x01, 0x0e], MOVING, &[0xab], &[]],
@@ -263,8 +262,8 @@ fn ir_dyns(rt: HostRuntime) -> Result<(), Fail> {
     Ok(())
 }
 
-// IR-DYNs of other streams, some behind identifiers: how the link spells these, the packet, the stride that is
-// kept, what its dynamic chain says, and its payload.
+// IR-DYNs of other streams, some of them after CID octets: the CID kind, the packet, the stride that is kept,
+// the content of the dynamic chain, and the payload.
 const OTHER_DYNAMIC: [(CidKind, &[u8], Option<u32>, Moving, &[u8]); 4] = [
     (
         CidKind::Small,
@@ -344,7 +343,7 @@ fn ir_dyns_of_other_streams(rt: HostRuntime) {
     }
 }
 
-// IRs of other streams behind identifiers: how the link spells these, the packet, what its chains say, and its
+// IRs of other streams, after CID octets: the CID kind, the packet, the content of the chains, and the
 // payload.
 const OTHER_WHOLE: [(CidKind, &[u8], Fixed, Moving, &[u8]); 2] = [
     (
@@ -451,8 +450,7 @@ fn refused_irs(rt: HostRuntime) -> Result<(), Fail> {
     Ok(())
 }
 
-// The IR-DYNs of example refused chains, and the profiles of the context: the profile, the packet, and
-// its refusal.
+// The IR-DYNs of example refused chains: the profile of the context, the packet, and its refusal.
 const REFUSED_IR_DYNS: [(u8, &[u8], ChainRefusal); 13] = [
     (
         1,
@@ -526,8 +524,8 @@ fn payload_in<'a>(forward: &Forward<'a>) -> Result<&'a [u8], ChainRefusal> {
     }
 }
 
-// Whether each beginning of the packet that has a first octet and an identifier, which are `framed`
-// octets, says what it has to: Truncated inside the header, and behind it a shorter payload.
+// Whether each prefix of the packet that has the first octet and the CID, which are `framed` octets, is read
+// as it must be: inside the header it is Truncated, after it the payload is shorter.
 fn is_read_at_each_cut(size: CidKind, packet: &[u8], framed: usize, header: usize) -> bool {
     for count in framed..packet.len() + 1 {
         let expected = if count < header {
@@ -543,8 +541,7 @@ fn is_read_at_each_cut(size: CidKind, packet: &[u8], framed: usize, header: usiz
     true
 }
 
-// How the link spells identifiers, a packet, how many octets have its first octet and its identifier,
-// and how many its header.
+// The CID kind, a packet, how many octets its first octet and CID have, and how many its header has.
 const CUT: [(CidKind, Parts, usize, usize); 5] = [
     (
         CidKind::Small,
@@ -587,7 +584,7 @@ fn each_beginning_of_a_packet(rt: HostRuntime) -> Result<(), Fail> {
     Ok(())
 }
 
-// The whole IRs, whose payload is one octet.
+// IRs with both chains, whose payload is one octet.
 #[test]
 fn each_beginning_of_a_whole_ir(rt: HostRuntime) -> Result<(), Fail> {
     for (parts, _) in WHOLE {
@@ -598,8 +595,8 @@ fn each_beginning_of_a_whole_ir(rt: HostRuntime) -> Result<(), Fail> {
     Ok(())
 }
 
-// A packet whose rebuilt header and payload are over 65,535 octets is too long, and the check is judged
-// after that: the header's octets, its check octet, and the answer.
+// A packet is too long if its rebuilt header and payload have more than 65,535 octets; the check is judged
+// after that. The header's octets, its check octet, and the result.
 const LONG: [(u8, usize, Option<ChainRefusal>); 4] = [
     (0x2b, 65_495, None),
     (0x2c, 65_495, Some(ChainRefusal::Check)),

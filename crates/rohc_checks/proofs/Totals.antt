@@ -1,4 +1,4 @@
--- The sum of Internet headers, two octets at a time.
+-- The Internet checksum, two octets at a time.
 use Rattle.std.proofs.Common.{◌≡◌, ◌==◌, ℕ, suc, ◌+◌, ◌-◌, ◌*◌, ◌/◌, ◌%◌, ◌^◌, ◌<◌, ◌≤◌, if◌then◌else◌, List, [], ◌∷◌, length, get_or, take, take_all, drop, add-zero, zero-add, sym, ap, ◌∙◌, arith, sum}
 use Rattle.std.proofs.lemmas.List.Sums.{sum_by-cons}
 use Rattle.std.proofs.lemmas.Bool.Decides.{nat_tests}
@@ -8,7 +8,7 @@ use Rattle.rohc_checks.specs.Sum.{header_sum, words}
 complement : ℕ → ℕ
 complement s = if s == 0 then 65535 else 65535 - ((s - 1) % 65535 + 1)
 
--- 65,535 more or less make no difference but at 0
+-- a total above 0 may be raised by 65,535 without a change
 complement-add : (s : ℕ) → 0 < s → complement (s + 65535) ≡ complement s
 unfolding complement
 complement-add s h = grind (arith, nat_tests)

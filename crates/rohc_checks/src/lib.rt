@@ -1,5 +1,4 @@
-//! The checks of robust header compression, and the sum of Internet headers. Nothing allocates, and
-//! nothing fails.
+//! The ROHC checks (CRCs) and the Internet checksum. No function allocates memory, and none fails.
 #![tactic(auto)]
 
 mod crc;

@@ -1,9 +1,10 @@
-//! The sum of Internet headers (RFC 791, section 3.1; RFC 1071, section 1).
+//! The Internet checksum (RFC 791 3.1; RFC 1071 1).
 
 ghost use Rattle.std.specs.Prelude.{◌≡◌, ℕ, ◌<◌, ◌≤◌, [], ◌∷◌, List, length, sum};
 ghost use Rattle.rohc_checks.specs.Sum.{header_sum, words};
 
-/// The complement of the one's complement sum of words that come to this total (RFC 1071, section 1).
+/// The Internet checksum of any 16-bit words whose sum is `total`: the complement of their one's
+/// complement sum (RFC 1071 1).
 pub fn sum_of_total(total: u32) -> u16
     ensures { (all : List ℕ) → sum all ≡ total → result ≡ header_sum all }
 {
@@ -12,8 +13,8 @@ pub fn sum_of_total(total: u32) -> u16
     0xffff - twice as u16
 }
 
-/// The complement of the one's complement sum of the 16-bit words of `octets`, whose odd last octet
-/// stands before a zero octet (RFC 791, section 3.1).
+/// The Internet checksum of `octets`: the complement of the one's complement sum of their 16-bit
+/// words. An odd last octet is padded with a zero octet (RFC 791 3.1).
 pub fn internet_sum(octets: &[u8]) -> u16
     ensures { result ≡ header_sum (words octets.now) }
 {
@@ -29,7 +30,7 @@ pub fn internet_sum(octets: &[u8]) -> u16
     }
 }
 
-// The one's complement sum of two words: it stands for both among any others.
+// The one's complement sum of two words. In a header sum it may replace both words.
 fn with_carry(total: u16, word: u16) -> u16
     ensures { (others : List ℕ) → header_sum (result ∷ others) ≡ header_sum (total ∷ word ∷ others) }
 {

@@ -5,14 +5,14 @@ use std::test::Fail;
 
 const DIGITS: &[u8] = b"123456789";
 
-// The coefficients of each polynomial below its highest power, from the next one down.
+// The coefficients of each polynomial without the highest power, from the next power down.
 const LOWER3: &[bool] = &[false, true, true];
 
 const LOWER7: &[bool] = &[true, false, false, true, true, true, true];
 
 const LOWER8: &[bool] = &[false, false, false, false, false, true, true, true];
 
-// The check values of the nine digits, begun from all ones.
+// The check values of the nine digits, starting from all ones.
 #[test]
 fn check_values(rt: HostRuntime) {
     assert_eq!(rt; crc3(0x07, DIGITS), 0x06);
@@ -115,8 +115,8 @@ fn each_octet(rt: HostRuntime) -> Result<(), Fail> {
     Ok(())
 }
 
-// The check as it is defined: the whole message with a zero for each lower coefficient, divided
-// place by place.
+// The check as it is defined: the whole message, followed by a zero for each lower coefficient, is
+// divided place by place.
 fn by_division(alloc: Global, lower: &[bool], reg: u8, octets: &[u8]) -> Result<u8, AllocError> {
     let mut places = VecDeque::new(alloc);
     for octet in octets {
@@ -171,7 +171,7 @@ fn header_sums(rt: HostRuntime) {
     }
 }
 
-// Total, sum. The last but one is the example of RFC 1071, section 3.
+// Total, sum. The last but one is the example of RFC 1071 3.
 #[test]
 fn sums_of_totals(rt: HostRuntime) {
     let cases: [(u32, u16); 6] = [

@@ -1,4 +1,4 @@
--- Isolation over events: what a run answers a pair is the run of one context machine over its own events.
+-- Isolation over events: the answers of a run to a pair are those of one context run over the pair's own events.
 use Rattle.std.proofs.Common.{◌≡◌, ◌≢◌, ℕ, List, [], ◌∷◌, ◌++◌, map, filter, Bool, true, false, ◌==◌, Option, Some, None, Result, Ok, Err, ◌⊎◌, inl, inr, ⊎_elim, eq-eqb, ne_eqb, refl, sym, ◌∙◌, ap, subst}
 use Rattle.std.specs.List.{AllByRecursion}
 use Rattle.std.proofs.lemmas.Bool.{cases_eq}
@@ -24,7 +24,7 @@ use Rattle.rohc_concentrator.specs.LoneRun.{LoneEvent, Arrival, Forget, LoneRun,
 use Rattle.rohc_concentrator.specs.Isolation.{own_event, is_marked, own_events, reply_of, own_reply, own_replies, is_rich}
 use Rattle.rohc_concentrator.specs.Laws.{IsolatedEvents}
 
--- an outcome that isn't want of memory
+-- an outcome that isn't `NoMemory`
 pub is_no_memory-not : (o : Outcome) → o ≢ outcomes.Refused refusals.NoMemory → is_no_memory o ≡ false
 is_no_memory-not outcomes.Delivered rich = refl
 is_no_memory-not outcomes.Stored rich = refl
@@ -72,13 +72,13 @@ MarkedRun-append s a b c ((Arrival m h, mark) ∷ xs) ys (p ∷ ps) qs first sec
 abbrev pub with_mark : Bool → List LoneEvent → List (LoneEvent × Bool)
 with_mark mark events = map (λ event. (event, mark)) events
 
--- the own step of an identifier: its reply, or want of memory, which is marked
+-- the own step of a CID: its reply, or lack of memory, which is marked
 own_run : (s : Settings) (m : ℕ) (h : Header) (before after : Option Record) (response : Response) → OwnStep s m h before response after →
     MarkedRun s before ((Arrival m h, is_no_memory response.outcome) ∷ []) (response ∷ []) after
 own_run s m h before after response (inl step) = rw (is_no_memory-not response.outcome (never_poor before s m h response after step)) (after, step, refl)
 own_run s m h before after response (inr poor) = rw poor.2 (after, (poor.0, poor.1, refl, poor.3), refl)
 
--- The answer to a packet is the step of the identifier that it bears, and nothing to each other one of the link.
+-- The answer to a packet is the step of the CID that it bears. To every other CID of the link it is nothing.
 module _ (s : LinkSetting) (c m : ℕ) (before after : ℕ → Option Record) (report : Report) where
   header_run : (relayed : List (List ℕ)) (h : Header) → (h.cid ≢ c → after c ≡ before c) → IsArrival s m h relayed before report after →
       MarkedRun (settings_of s c) (before c) (with_mark (wants_memory report) (arrival_of c m (Some h))) (reply_of c report) (after c)
@@ -98,7 +98,7 @@ module _ (s : LinkSetting) (c m : ℕ) (before after : ℕ → Option Record) (r
   read_run (Ok r) others a = cut_run r.elements r.header others a
   read_run (Err refusal) others a = rw a (others (λ e. let same : ◌≡◌ {A = Option ℕ} None (Some c) = e in cc))
 
--- what a reset is answered is no want of memory
+-- the answer to a reset isn't `NoMemory`
 reset_unmarked : (set : Option LinkSetting) → is_marked (reset_report set) ≡ false
 reset_unmarked (Some s) = refl
 reset_unmarked None = refl
@@ -171,7 +171,7 @@ runs_alone s before after ((Arrival m h, true) ∷ marked) (reply ∷ replies) r
     let same : run.0 ≡ before = run.1.1 ∙ sym run.1.0 in
     rw poor (subst (λ r. LoneRun s r (unmarked marked) (filter is_rich replies) after) same (runs_alone s run.0 after marked replies run.2))
 
--- In a marked run a reply that is want of memory is nothing else.
+-- In a marked run a reply `NoMemory` has no packet and no feedback.
 abbrev pub IsRichOrPoor : Response → Type 0
 IsRichOrPoor reply = (reply.outcome ≢ outcomes.Refused refusals.NoMemory) ⊎ (reply ≡ refused refusals.NoMemory)
 

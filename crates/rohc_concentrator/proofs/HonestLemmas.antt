@@ -17,7 +17,7 @@ use Rattle.rohc_concentrator.specs.Honest.{references, IsHonest, Arrived, Reache
 abbrev reference_of : Held → Written → Held
 reference_of first p = held_by first p.header
 
--- where the past ends in what is held, the packets lost since then stand behind it
+-- if what is held is the last reference of the past, the references of the packets lost since then follow it
 lost_behind : (first held : Held) (past lost : List Written) (older : List Held) → references first past ≡ older ++ held ∷ []
     → references first (past ++ lost) ≡ older ++ held ∷ map (reference_of first) lost
 lost_behind first held past lost older e =
@@ -25,7 +25,7 @@ lost_behind first held past lost older e =
     ∙ ap (λ (l : List Held). l ++ map (reference_of first) lost) e
     ∙ append_assoc older (held ∷ []) (map (reference_of first) lost)
 
--- with one packet more the past ends in its header
+-- one more packet adds its header as the last reference
 one_more : (first : Held) (past : List Written) (p : Written) → references first (past ++ p ∷ []) ≡ references first past ++ held_by first p.header ∷ []
 one_more first past p = ap (λ l. first ∷ l) (map-append (reference_of first) past (p ∷ []))
 
@@ -33,7 +33,7 @@ behind_lost : (sent past lost rest : List Written) (p : Written) (later : List W
 behind_lost sent past lost rest p later e f = e ∙ ap (λ l. past ++ l) f ∙ sym (append_assoc past lost (p ∷ later))
 
 module _ (s : Settings) (w : ℕ) (first : Held) (sent : List Written) where
-  -- Of what is sent the past is over, and the record holds the last header of it.
+  -- The past packets were sent, and the record holds the last of their references.
   record Goes (past rest : List Written) (older : List Held) (held : Held) (before : Record) (arrivals : List Arrived) : Type 0 where
     split : sent ≡ past ++ rest
     last : references first past ≡ older ++ held ∷ []
@@ -98,12 +98,12 @@ has_honest_run s before arrivals good settings all = run_from s (Some before) ar
 
 -- ---- There is such a sender
 
--- a list of one doesn't go on
+-- a list of one element has no second one
 no_end : {X : Type 0} {x y : X} (front : List X) (z : X) (back : List X) → x ∷ [] ≡ y ∷ (front ++ z ∷ back) → ⊥
 no_end [] z back e = cc
 no_end (u ∷ front) z back e = cc
 
--- of one packet's references the first alone stands before it
+-- a single packet has only the first reference before it
 one_is_honest : (w : ℕ) (first : Held) (p : Written) → IsWrittenFor first p → IsHonest w first (p ∷ [])
 one_is_honest w first p written [] later q [] newer held split last few =
     let is_held : first ≡ held = cc in

@@ -1,4 +1,4 @@
--- Bears: the header of a packet's one reading, and the identifier that the packet bears by it.
+-- Bears: the header of a packet's one reading, and the CID that the packet bears by it.
 use Rattle.std.specs.Prelude.{ℕ, List, Option, Some, None, Result, Ok, Err}
 use Rattle.rohc_frame.specs.Header.{Header}
 use Rattle.rohc_frame.specs.Reading.{Reading}
@@ -11,16 +11,16 @@ abbrev pub header_in : Result Reading FrameRefusal → Option Header
 header_in (Ok reading) = reading.header
 header_in (Err refusal) = None
 
--- the header that a packet has on a link, if it has one
+-- the header of a packet on a link, if it has one
 abbrev pub header_on : LinkSetting → List ℕ → Option Header
 header_on s octets = header_in (parts_of s.settings.size s.settings.max_cid octets)
 
--- the identifier of a header, if there is one
+-- the CID of a header, if there is one
 abbrev pub cid_in : Option Header → Option ℕ
 cid_in None = None
 cid_in (Some h) = Some h.cid
 
--- the identifier that a packet bears on a link, if the link is there and the packet bears one
+-- the CID that a packet bears on a link, if the link is there and the packet bears one
 abbrev pub borne : Option LinkSetting → List ℕ → Option ℕ
 borne None octets = None
 borne (Some s) octets = cid_in (header_on s octets)

@@ -1,5 +1,5 @@
--- Promises over two concentrators, over what is refused, and over the definitions themselves.
--- Words: Agree (on one identifier), AreAlike (on all), IsAcceptedIr, IsFit; then each law.
+-- Laws of two concentrators, of what is refused, and of the definitions themselves.
+-- Words: Agree (on one CID), AreAlike (on all), IsAcceptedIr, IsFit; then each law.
 use Rattle.std.specs.Prelude.{◌≡◌, ℕ, ◌<◌, ◌^◌, List, map, filter, All, Bool, true, false, Option, Some, None, IfSome, ◌⊎◌, ◌↔◌}
 use Rattle.std.specs.List.{AllByRecursion}
 use Rattle.rohc_frame.specs.Header.{Header}
@@ -22,7 +22,7 @@ use Rattle.rohc_concentrator.specs.declared.setup.SetupFault.{SetupFault}
 use Rattle.rohc_concentrator.specs.Setup.{IsFault, AreFine}
 use Rattle.rohc_concentrator.specs.LoneRun.{LoneEvent, LoneRun, MarkedStep, MarkedRun, unmarked}
 
--- two concentrators agree on an identifier of a link: on its settings there, and on its record or on none
+-- two concentrators agree on a CID of a link: on its settings there, and on its record or on none
 pub record Agree (a b : Concentrator) (l c : ℕ) : Type 0 where
   pub here : LinkSetting
   pub there : LinkSetting
@@ -31,8 +31,7 @@ pub record Agree (a b : Concentrator) (l c : ℕ) : Type 0 where
   pub settings : settings_of here c ≡ settings_of there c
   pub records : record_at a l c ≡ record_at b l c
 
--- Two worlds: an arrival that bears the identifier is answered alike by both, and leaves equal records,
--- want of memory aside.
+-- Two worlds: both answer an arrival that bears the CID alike and leave equal records, lack of memory aside.
 abbrev pub TwoWorlds : Type 0
 TwoWorlds = (a b after_a after_b : Concentrator) (l c moment : ℕ) (octets : List ℕ) (x y : Report) →
     Agree a b l c → moment < 2 ^ 64 → All IsOctet octets → borne (setting_at a l) octets ≡ Some c →
@@ -40,22 +39,22 @@ TwoWorlds = (a b after_a after_b : Concentrator) (l c moment : ℕ) (octets : Li
     wants_memory x ≡ false → wants_memory y ≡ false →
     (x ≡ y) × (record_at after_a l c ≡ record_at after_b l c)
 
--- two concentrators are alike: in all settings and all records
+-- two concentrators are alike: all their settings and all their records are equal
 pub record AreAlike (a b : Concentrator) : Type 0 where
   pub settings : (l : ℕ) → setting_at a l ≡ setting_at b l
   pub records : (l c : ℕ) → record_at a l c ≡ record_at b l c
 
--- No trace: an arrival that is refused leaves no record where there was none.
+-- No trace: an arrival that is refused makes no record where there was none.
 abbrev pub NoTrace : Type 0
 NoTrace = (old new : Concentrator) (l moment : ℕ) (octets : List ℕ) (report : Report) →
     Arrives old l moment octets report new → is_refused report ≡ true →
     (c : ℕ) → record_at old l c ≡ None → record_at new l c ≡ None
 
--- What wants memory is refused.
+-- An arrival that finds no memory is refused.
 abbrev pub WantIsRefusal : Type 0
 WantIsRefusal = (report : Report) → wants_memory report ≡ true → is_refused report ≡ true
 
--- What isn't refused came on a link that is there.
+-- An arrival that isn't refused came on a link that is there.
 abbrev pub TakenHasALink : Type 0
 TakenHasALink = (old new : Concentrator) (l moment : ℕ) (octets : List ℕ) (report : Report) →
     Arrives old l moment octets report new → is_refused report ≡ false →
@@ -75,12 +74,12 @@ abbrev pub FineOrFaulty : Type 0
 FineOrFaulty = (settings : List LinkSetting) →
     AreFine settings ⊎ ((fault : SetupFault) × IsFault settings fault)
 
--- Settings have one fault at most.
+-- Settings have at most one fault.
 abbrev pub HasOneFault : Type 0
 HasOneFault = (settings : List LinkSetting) (a b : SetupFault) →
     IsFault settings a → IsFault settings b → a ≡ b
 
--- the header is of an IR that the lone step accepts where there is no record
+-- the header is that of an IR which the lone step accepts without a record
 pub record IsAcceptedIr (s : Settings) (moment : ℕ) (h : Header) : Type 0 where
   pub dynamic : Bool
   pub kind : h.kind ≡ Ir dynamic
@@ -89,7 +88,7 @@ pub record IsAcceptedIr (s : Settings) (moment : ℕ) (h : Header) : Type 0 wher
   pub step : LoneStep None s moment h reply after
   pub accepted : is_refusal reply.outcome ≡ false
 
--- A marked arrival is such an IR, for an identifier without a record.
+-- A marked arrival is such an IR, for a CID without a record.
 abbrev pub MarkedIsAcceptedIr : Type 0
 MarkedIsAcceptedIr =
     (s : Settings) (moment : ℕ) (h : Header) (before after : Option Record) (reply : Response) →
@@ -102,17 +101,17 @@ LoneRunIsUnmarked =
     LoneRun s before events replies after
     ↔ MarkedRun s before (map (λ (event : LoneEvent). (event, false)) events) replies after
 
--- Every run of events, whatever they are, isolates each identifier of each link.
+-- Every run of events, whatever they are, isolates each CID of each link.
 abbrev pub IsolatedEvents : Type 0
 IsolatedEvents = (r : EventRun) → RunsEvents r.before r.turns r.after → IsIsolatedRun r
 
--- the moment has 64 bits, and the packet is of octets
+-- the arrival time has 64 bits, and the packet consists of octets
 abbrev pub IsFit : Event → Type 0
 IsFit (Arrive link moment octets) = (moment < 2 ^ 64) × All IsOctet octets
 IsFit (Reset link) = Unit {0}
 
--- Two runs of events that agree there, in their own events without a mark, their settings and their records,
--- answer an identifier of a link alike, want of memory aside, and leave it equal records.
+-- Let two runs of events agree on a CID of a link: in its own events without a mark, its settings and its
+-- record. Then both answer it alike, lack of memory aside, and leave it equal records.
 abbrev pub SameReplies : Type 0
 SameReplies = (a b : EventRun) (l c : ℕ) (agree : Agree a.before b.before l c) →
     AllByRecursion (λ (turn : Event × Option Report). IsFit turn.0) a.turns →

@@ -1,4 +1,4 @@
--- What an arrival is answered. Words: Report, the answer as plain data; OwnStep, IsPoor (want of memory),
+-- The answer to an arrival. Words: Report, the answer as plain data; OwnStep, IsPoor (lack of memory),
 -- IsAnswered.
 use Rattle.std.specs.Prelude.{◌≡◌, ℕ, List, Bool, true, false, Option, Some, None, Result, Ok, Err, ◌⊎◌}
 use Rattle.rohc_frame.specs.Header.{Header}
@@ -31,25 +31,25 @@ report_of (answers.Arrived cid reply relayed) = Arrived cid (response_of reply) 
 report_of (answers.OnlyFront relayed) = OnlyFront (elements_of relayed)
 report_of (answers.Refused refusal) = Refused refusal
 
--- A first IR that its context would accept finds no memory: nothing changes.
+-- A first IR that the lone step would accept finds no memory: nothing changes.
 abbrev pub IsPoor : Settings → ℕ → Header → Option Record → Response → Option Record → Type 0
 IsPoor s moment h before response next =
     (before ≡ None) × (next ≡ None) × (response ≡ refused refusals.NoMemory)
     × ((accepted : Response) × (r : Record) × LoneStep None s moment h accepted (Some r))
 
--- one arrival of an identifier: the lone step of its record, or want of memory
+-- one arrival for a CID: the lone step of its record, or lack of memory
 abbrev pub OwnStep : Settings → ℕ → Header → Option Record → Response → Option Record → Type 0
 OwnStep s moment h before response next =
     LoneStep before s moment h response next ⊎ IsPoor s moment h before response next
 
--- one arrival that bears a header: the answer is its identifier's own step, and only that record may change
+-- one arrival with a header: the answer is the own step of its CID, and only that record may change
 abbrev pub IsArrival : LinkSetting → ℕ → Header → List (List ℕ) → (ℕ → Option Record)
     → Report → (ℕ → Option Record) → Type 0
 IsArrival s moment h relayed before report after =
     (response : Response) × (report ≡ Arrived h.cid response relayed)
     × OwnStep (settings_of s h.cid) moment h (before h.cid) response (after h.cid)
 
--- a packet that was cut: padding and feedback alone, or a header too
+-- a packet that was split into its parts: padding and feedback alone, or a header too
 abbrev pub IsCut : LinkSetting → ℕ → List (List ℕ) → Option Header → (ℕ → Option Record)
     → Report → (ℕ → Option Record) → Type 0
 IsCut s moment relayed None before report after = report ≡ OnlyFront relayed
@@ -62,8 +62,8 @@ IsRead s moment (Err refusal) before report after = report ≡ Refused (refusal_
 IsRead s moment (Ok reading) before report after =
     IsCut s moment reading.elements reading.header before report after
 
--- What an arrival is answered, by the link's setting if it is there, the records of its identifiers before,
--- the moment and the packet, and those records after.
+-- The answer to an arrival, by the link's setting if it is there, the records of its CIDs before, the arrival
+-- time and the packet, and those records after.
 abbrev pub IsAnswered : Option LinkSetting → (ℕ → Option Record) → ℕ → List ℕ
     → Report → (ℕ → Option Record) → Type 0
 IsAnswered None before moment octets report after = report ≡ Refused refusals.NoLink
@@ -75,7 +75,7 @@ abbrev pub is_no_memory : Outcome → Bool
 is_no_memory (outcomes.Refused refusals.NoMemory) = true
 is_no_memory outcome = false
 
--- an arrival is answered `NoMemory`
+-- the answer to an arrival is `NoMemory`
 abbrev pub wants_memory : Report → Bool
 wants_memory (Arrived cid response relayed) = is_no_memory response.outcome
 wants_memory (OnlyFront relayed) = false
@@ -87,7 +87,7 @@ is_refusal (outcomes.Refused refusal) = true
 is_refusal outcomes.Delivered = false
 is_refusal outcomes.Stored = false
 
--- an arrival is answered a refusal
+-- the answer to an arrival is a refusal
 abbrev pub is_refused : Report → Bool
 is_refused (Arrived cid response relayed) = is_refusal response.outcome
 is_refused (OnlyFront relayed) = false

@@ -1,4 +1,4 @@
--- What a concentrator is made of. Words: entry_of l; AreSound, AreFine; IsFault, what StandsAt a place;
+-- What a concentrator is made from. Words: entry_of l; AreSound, AreFine; IsFault, what StandsAt a place;
 -- fault_name.
 use Rattle.std.specs.Prelude.{◌≡◌, ◌≢◌, ℕ, ◌+◌, ◌<◌, ◌≤◌, List, [], length, take, Bool, true, ◌==◌, Option, Some, find, All, AllPairs, slice_get, codes}
 use Rattle.std.specs.List.{list_any}
@@ -20,7 +20,7 @@ pub record AreSound (settings : List LinkSetting) : Type 0 where
   pub good : All IsGoodSetting settings
   pub apart : AllPairs (λ (s t : LinkSetting). s.link ≢ t.link) settings
 
--- the entry at this place, counted from 1, and those before it are sound, of at most 256
+-- an entry stands at this place, counted from 1; those before it are sound, and there are at most 256
 pub record StandsAt (settings : List LinkSetting) (place : ℕ) (before : List LinkSetting)
     (s : LinkSetting) : Type 0 where
   pub index : ℕ
@@ -30,7 +30,8 @@ pub record StandsAt (settings : List LinkSetting) (place : ℕ) (before : List L
   pub sound : AreSound before
   pub few : length settings ≤ 256
 
--- a fault of the settings: their count, else the first entry that isn't good or has a link of one before it
+-- a fault of the settings: their number, else the first entry that isn't good or has the link of an earlier
+-- entry
 abbrev pub IsFault : List LinkSetting → SetupFault → Type 0
 IsFault settings NoLinks = settings ≡ []
 IsFault settings TooManyLinks = 256 < length settings
@@ -41,7 +42,7 @@ IsFault settings (DuplicateLink place) =
     × IsGoodSetting s × (names_link s.link before ≡ true)
 IsFault settings NoMemory = ⊥
 
--- 1 to 256 settings, and sound
+-- 1 to 256 sound settings
 pub record AreFine (settings : List LinkSetting) : Type 0 where
   pub some : 1 ≤ length settings
   pub few : length settings ≤ 256

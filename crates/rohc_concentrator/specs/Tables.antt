@@ -1,5 +1,5 @@
--- What a concentrator keeps. Words: setting_at k l, record_at k l i, identifiers_at k l; AreTables;
--- Keeps: what stays.
+-- What a concentrator keeps. Words: setting_at k l, record_at k l i, identifiers_at k l; AreTables; Keeps,
+-- for what stays.
 use Rattle.std.specs.Prelude.{◌≡◌, ◌≢◌, ℕ, List, [], ◌∷◌, ◌++◌, ◌⊎◌, Option, Some, None, nat_eq, map, unwrap_or}
 use Rattle.std.specs.HashMap.{HashMap}
 use Rattle.std.specs.Option.{option_map, option_and_then}
@@ -9,19 +9,19 @@ use Rattle.rohc_concentrator.specs.declared.setting.LinkSetting.{LinkSetting}
 use Rattle.rohc_concentrator.specs.declared.records.LinkRecords.{LinkRecords}
 use Rattle.rohc_concentrator.specs.declared.concentrator.Concentrator.{Concentrator}
 
--- what is set for a link, if it is there
+-- the setting of a link, if it is there
 abbrev pub setting_at : Concentrator → ℕ → Option LinkSetting
 setting_at k link = option_map (λ (r : LinkRecords). r.setting) (get nat_eq k.links link)
 
--- the record of an identifier among those of a link, if there is one
+-- the record of a CID in a link's records, if there is one
 abbrev pub record_in : LinkRecords → ℕ → Option Record
 record_in r cid = option_map record_of (get nat_eq r.contexts cid)
 
--- the record of an identifier of a link, if the link is there and has one
+-- the record of a CID of a link, if the link is there and has one
 abbrev pub record_at : Concentrator → ℕ → ℕ → Option Record
 record_at k link cid = option_and_then (λ (r : LinkRecords). record_in r cid) (get nat_eq k.links link)
 
--- the identifiers of a link that have a record, in the order of their first IR
+-- the CIDs of a link that have a record, in the order of their first IR
 abbrev pub identifiers_at : Concentrator → ℕ → List ℕ
 identifiers_at k link =
     unwrap_or (option_map (λ (r : LinkRecords). keys r.contexts) (get nat_eq k.links link)) []
@@ -30,7 +30,7 @@ identifiers_at k link =
 abbrev pub settings_in_order : Concentrator → List LinkSetting
 settings_in_order k = map (λ (e : ℕ × LinkRecords). e.1.setting) k.links.entries
 
--- what is kept for a link: its setting, its records, and the order of their identifiers
+-- all that is kept for a link: its setting, its records, and the order of their CIDs
 pub record IsLink (k : Concentrator) (link : ℕ) (r : LinkRecords) : Type 0 where
   pub setting : setting_at k link ≡ Some r.setting
   pub records : (cid : ℕ) → record_at k link cid ≡ record_in r cid
@@ -47,7 +47,7 @@ pub record KeepsSettings (old new : Concentrator) : Type 0 where
   pub each : (link : ℕ) → setting_at new link ≡ setting_at old link
   pub in_order : settings_in_order new ≡ settings_in_order old
 
--- every record but that of this identifier of this link stays
+-- every record other than that of this CID of this link stays
 abbrev pub KeepsOthers : Concentrator → Concentrator → ℕ → Option ℕ → Type 0
 KeepsOthers old new link borne =
     (l cid : ℕ) → (l ≢ link) ⊎ (borne ≢ Some cid) → record_at new l cid ≡ record_at old l cid
@@ -57,12 +57,12 @@ abbrev pub KeepsPlace : List ℕ → List ℕ → ℕ → Option Record → Type
 KeepsPlace old new cid (Some r) = new ≡ old
 KeepsPlace old new cid None = (new ≡ old) ⊎ (new ≡ old ++ cid ∷ [])
 
--- the identifiers of a link keep their places, where a packet bore this identifier, or none
+-- the CIDs of a link keep their places, after a packet that bears this CID, or none
 abbrev pub KeepsPlaces : List ℕ → List ℕ → Option ℕ → (ℕ → Option Record) → Type 0
 KeepsPlaces old new None before = new ≡ old
 KeepsPlaces old new (Some cid) before = KeepsPlace old new cid (before cid)
 
--- the identifiers of each link keep their order, with a first one of this link last
+-- the CIDs of each link keep their order; a first record on this link goes last
 pub record KeepsOrder (old new : Concentrator) (link : ℕ) (borne : Option ℕ) : Type 0 where
   pub here : KeepsPlaces (identifiers_at old link) (identifiers_at new link) borne (record_at old link)
   pub elsewhere : (l : ℕ) → l ≢ link → identifiers_at new l ≡ identifiers_at old l

@@ -1,4 +1,4 @@
-//! What a concentrator answers.
+//! The answer of a concentrator.
 
 use rohc_context::{Refusal, Reply};
 use rohc_frame::Elements;
@@ -7,20 +7,20 @@ use std::fmt;
 /// The answer to an arrival.
 #[derive(Debug, Drop)]
 pub enum Answer<'a> {
-    /// The packet bore this identifier.
+    /// The packet has this CID.
     Arrived {
         cid: u16,
-        /// The answer of the identifier's context.
+        /// The answer of the CID's context.
         reply: Reply<'a>,
-        /// The data of the feedback that the packet carried for this side.
+        /// The data of the feedback in the packet, for this side's compressor.
         relayed: Elements<'a>,
     },
-    /// Padding and feedback were all.
+    /// The packet has only padding and feedback.
     OnlyFront {
-        /// The data of the feedback that the packet carried for this side.
+        /// The data of the feedback in the packet, for this side's compressor.
         relayed: Elements<'a>,
     },
-    /// The link isn't there, or the packet has no reading.
+    /// There is no such link, or the packet has no reading.
     Refused(Refusal),
 }
 

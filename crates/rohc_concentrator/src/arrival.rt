@@ -1,4 +1,4 @@
-//! One event of the concentrator.
+//! The events of a concentrator, and what it shows.
 
 use crate::answer::{Answer, NoLink};
 use crate::concentrator::Concentrator;
@@ -14,11 +14,11 @@ impl Concentrator {
     ghost use Rattle.rohc_concentrator.specs.Report.{report_of, IsAnswered};
     ghost use Rattle.rohc_concentrator.specs.Bears.{borne};
 
-    /// One packet of a link, with the moment of its arrival in milliseconds.
+    /// Takes one packet of a link. `moment` is its arrival time in milliseconds.
     ///
     /// The answer borrows its payload and relayed feedback from `octets`. A packet without a reading, or of a
-    /// link that isn't there, changes nothing. Memory is asked for only at an accepted IR for an identifier
-    /// without a record; where it is refused, the outcome is `NoMemory` and nothing changes.
+    /// link that isn't there, changes nothing. Memory is asked for only at an accepted IR for a CID without a
+    /// record. If there is none, the outcome is `NoMemory` and nothing changes.
     pub fn arrive<'a>(&mut self, link: u16, moment: u64, octets: &'a [u8]) -> Answer<'a>
         ensures answer { IsAnswered (setting_at self.old link) (record_at self.old link) moment octets.entry.now
             (report_of result) (record_at self.new link) }
@@ -47,7 +47,7 @@ impl Concentrator {
         }
     }
 
-    /// Forgets every record of a link, and no other.
+    /// Forgets every record of a link, and no other record. The error is `NoLink`.
     pub fn reset(&mut self, link: u16) -> Result<(), NoLink>
         ensures absent { IsErr result ↔ (setting_at self.old link ≡ None) }
         ensures forgotten { (cid : ℕ) → record_at self.new link cid ≡ None }
@@ -61,7 +61,7 @@ impl Concentrator {
         Ok(())
     }
 
-    /// Whether a record stands for the identifier, one that counts as none included.
+    /// Whether the CID has a record, even one that counts as none because it was idle too long.
     pub fn has_context(&self, link: u16, cid: u16) -> bool
         ensures { result ≡ is_some (record_at self.now link cid) }
     {
@@ -73,7 +73,7 @@ impl Concentrator {
 
     /// The links in the order of their settings, each with its setting and its records.
     ///
-    /// A link's records stand in the order of their first IR; a replaced one keeps its place.
+    /// The records of a link are in the order of their first IR. A record that is replaced keeps its place.
     pub fn tables(&self) -> &IndexMap<u16, LinkRecords>
         ensures { AreTables self.now result.now }
     {

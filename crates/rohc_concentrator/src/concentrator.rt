@@ -3,9 +3,9 @@
 use crate::records::LinkRecords;
 use indexmap::IndexMap;
 
-/// The contexts of all links, kept apart.
+/// The contexts of all links.
 #[derive(Debug, Drop)]
 pub struct Concentrator {
-    /// The links in the order of their settings, each under its number.
+    /// The links by number, in the order of their settings.
     pub(crate) links: IndexMap<u16, LinkRecords>,
 }

@@ -4,7 +4,7 @@ ghost use Rattle.rohc_context.specs.Laws.{HasAnswer, HasNoOther};
 ghost use Rattle.rohc_concentrator.specs.Laws.{TwoWorlds, NoTrace, WantIsRefusal, TakenHasALink, HoldsGoodRecords, FaultyIsNotFine, FineOrFaulty, HasOneFault, MarkedIsAcceptedIr, LoneRunIsUnmarked, IsolatedEvents, SameReplies};
 ghost use Rattle.rohc_concentrator.specs.Honest.{DeliversWhatWasSent, HasHonestRun, HasHonestSender};
 
-/// For good values, an arrival has exactly one answer and one record, or none, after it.
+/// For good values, an arrival has exactly one answer, and exactly one record after it, or none.
 pub fn one_answer()
     ensures exists { HasAnswer }
     ensures unique { HasNoOther }
@@ -12,18 +12,18 @@ pub fn one_answer()
     rohc_context::laws::one_answer();
 }
 
-/// Two concentrators that agree on an identifier of a link, in its settings and its record, answer an arrival
-/// that bears it alike and keep equal records of it, want of memory aside, whatever else they hold.
+/// Let two concentrators agree on a CID of a link: in its settings and its record. Then both answer an arrival for
+/// that CID alike and keep equal records of it, whatever else they hold, unless memory runs out at one.
 pub fn two_worlds()
     ensures { TwoWorlds }
 {}
 
-/// An arrival that is refused, for want of memory too, makes no record.
+/// An arrival that is refused, also for lack of memory, makes no record.
 pub fn no_trace()
     ensures { NoTrace }
 {}
 
-/// What wants memory is refused, and what isn't refused came on a link that is there.
+/// An arrival that finds no memory is refused. An arrival that isn't refused came on a link that is there.
 pub fn refusals()
     ensures want { WantIsRefusal }
     ensures taken { TakenHasALink }
@@ -34,14 +34,14 @@ pub fn good_records()
     ensures { HoldsGoodRecords }
 {}
 
-/// Settings are fine or have one fault, and not both.
+/// Settings are fine or have exactly one fault, and not both.
 pub fn fine_or_faulty()
     ensures exclusive { FaultyIsNotFine }
     ensures either { FineOrFaulty }
     ensures one { HasOneFault }
 {}
 
-/// Where want of memory is marked, there was an accepted IR for an identifier without a record.
+/// A marked arrival is an IR that the lone step accepts, for a CID without a record.
 pub fn marked_is_accepted_ir()
     ensures { MarkedIsAcceptedIr }
 {}
@@ -51,21 +51,21 @@ pub fn lone_run_is_unmarked()
     ensures { LoneRunIsUnmarked }
 {}
 
-/// Whatever events a concentrator takes one after another, each identifier of each link is answered what one
-/// context machine answers, run alone over the identifier's own events.
+/// Whatever events a concentrator takes one after another, each CID of each link gets the answers of one context
+/// run alone over its own events.
 pub fn isolated_events()
     ensures { IsolatedEvents }
 {}
 
-/// Two runs of events that agree on an identifier of a link, in its own events, its settings and its record
-/// before, answer it alike and leave it equal records, want of memory aside, whatever else they hold.
+/// Let two runs of events agree on a CID of a link: in its own events, its settings and its record before. Then
+/// both answer it alike and leave it equal records, lack of memory aside, whatever else they hold.
 pub fn same_replies()
     ensures { SameReplies }
 {}
 
-/// What is delivered was sent: where a sender's packets are written for each of the last w references, fewer than w
-/// of them are lost in a row and none comes too late, one context machine in Full Context delivers exactly the
-/// headers and payloads that they were written for (RFC 3095 4.5.2).
+/// What is delivered was sent. Let a sender write each packet for each of the last w references, let fewer than w
+/// packets be lost in a row, and let none come too late. Then one context in Full Context delivers exactly the
+/// headers and payloads that the packets were written for (RFC 3095 4.5.2).
 pub fn honest_runs()
     ensures delivered { DeliversWhatWasSent }
     ensures exists { HasHonestRun }

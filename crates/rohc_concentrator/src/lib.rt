@@ -1,5 +1,5 @@
-//! All contexts of all links: a packet is cut, its identifier names one context, and that context alone
-//! takes one step.
+//! The contexts of all links. A packet is split into its parts, its CID names one context, and that
+//! context alone takes one step.
 #![tactic(auto)]
 
 pub mod answer;

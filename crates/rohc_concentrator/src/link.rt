@@ -12,8 +12,8 @@ use crate::records::LinkRecords;
 use rohc_context::{Context, Refusal, Reply, Settings};
 use rohc_frame::Forward;
 
-/// An arrival of an identifier: its record takes one step, or a first IR makes it. The answer takes the place of
-/// what `reply` held.
+/// Takes an arrival for a CID: its record takes one step, or a first IR makes it. The answer overwrites what
+/// `reply` held.
 pub(crate) fn arrive_at<'a>(
     records: &mut LinkRecords,
     moment: u64,
@@ -35,7 +35,7 @@ pub(crate) fn arrive_at<'a>(
     }
 }
 
-/// An arrival of an identifier without a record, which a first IR makes.
+/// Takes an arrival for a CID without a record, which a first IR makes.
 #[inline(never)]
 fn first_at<'a>(
     records: &mut LinkRecords,

@@ -6,10 +6,10 @@ use crate::setting::LinkSetting;
 use indexmap::IndexMap;
 use rohc_context::Context;
 
-/// A link's setting, and a record for each identifier that has one.
+/// A link's setting, and a record for each CID that has one.
 #[derive(Debug, Drop)]
 pub struct LinkRecords {
-    /// What is set for the link.
+    /// The link's setting.
     pub setting: LinkSetting,
     /// The records in the order of their first IR.
     pub contexts: IndexMap<u16, Context>,

@@ -1,27 +1,27 @@
-//! The settings of one link, with those of its ranges of identifiers.
+//! The settings of one link, with those of its ranges of CIDs.
 
 use arrayvec::ArrayVec;
 use rohc_context::{Mode, Settings};
 
-/// Identifiers that have a mode of their own.
+/// A range of CIDs with a mode of its own.
 #[derive(Clone, Copy, Debug, Default, PartialEq, Eq)]
 pub struct CidRange {
-    /// The least identifier of the range.
+    /// The least CID of the range.
     pub first: u16,
-    /// The greatest one, which belongs to it.
+    /// The greatest CID of the range, inclusive.
     pub last: u16,
-    /// Their mode.
+    /// The mode of these CIDs.
     pub mode: Mode,
 }
 
-/// What is set for a link.
+/// The setting of a link.
 #[derive(Clone, Debug, Drop)]
 pub struct LinkSetting {
     /// The link's number.
     pub link: u16,
-    /// What holds for all its identifiers, but for the mode of those in a range.
+    /// The settings of all its CIDs, except for the mode of those in a range.
     pub settings: Settings,
-    /// The ranges, in ascending order and apart.
+    /// The ranges, in ascending order and without overlap.
     pub ranges: ArrayVec<CidRange, 8>,
 }
 
@@ -29,7 +29,7 @@ impl LinkSetting {
     ghost use Rattle.std.specs.Prelude.{◌≡◌, ◌↔◌, IsTrue};
     ghost use Rattle.rohc_concentrator.specs.Setting.{settings_of, IsGoodSetting};
 
-    /// The settings for an identifier: the link's, with the mode of the range that holds it, if one does.
+    /// The settings for a CID: the link's, with the mode of the range that holds the CID, if one does.
     pub fn settings_of(&self, cid: u16) -> Settings
         ensures { result ≡ settings_of self.now cid }
     {
@@ -40,7 +40,8 @@ impl LinkSetting {
         }
     }
 
-    /// Whether the settings are good, and the ranges in order, apart and within `max_cid`.
+    /// Whether the settings are within their limits, and the ranges in ascending order, without overlap
+    /// and within `max_cid`.
     pub fn is_good(&self) -> bool
         ensures { IsTrue result ↔ IsGoodSetting self.now }
     {
@@ -51,14 +52,14 @@ impl LinkSetting {
 ghost use Rattle.std.specs.Prelude.{◌≡◌};
 ghost use Rattle.rohc_concentrator.specs.Setting.{holds, mode_in, are_in_order};
 
-/// Whether the range holds the identifier.
+/// Whether the range holds the CID.
 fn holds(range: &CidRange, cid: u16) -> bool
     ensures { result ≡ holds cid range.now }
 {
     range.first <= cid && cid <= range.last
 }
 
-/// The mode of the range that holds the identifier, if one does.
+/// The mode of the range that holds the CID, if one does.
 fn mode_in(ranges: &[CidRange], cid: u16) -> Option<Mode>
     ensures { result ≡ mode_in cid ranges.now }
 {
@@ -70,7 +71,7 @@ fn mode_in(ranges: &[CidRange], cid: u16) -> Option<Mode>
     None
 }
 
-/// Whether each range is within `max_cid` and begins above the one before it.
+/// Whether each range goes from low to high within `max_cid`, and starts above the one before it.
 fn are_in_order(ranges: &[CidRange], max_cid: u16) -> bool
     ensures { result ≡ are_in_order 0 max_cid ranges.now }
 {

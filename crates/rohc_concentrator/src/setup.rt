@@ -1,4 +1,4 @@
-//! A concentrator from its links' settings.
+//! Making a concentrator from the settings of its links.
 
 ghost use Rattle.std.specs.Prelude.{◌≡◌, ℕ, ◌⊎◌, None, IfOk, OnOk, IfErr};
 
@@ -9,7 +9,7 @@ use indexmap::IndexMap;
 use std::alloc::{AllocError, Global};
 use thiserror::Error;
 
-/// Why no concentrator is made. Places count from 1.
+/// Why no concentrator is made. A place counts the entries from 1.
 #[derive(Clone, Copy, Debug, PartialEq, Eq, Error)]
 pub enum SetupFault {
     /// There are no entries.
@@ -21,10 +21,10 @@ pub enum SetupFault {
     /// An entry's settings or ranges are outside their limits.
     #[error("BadSetting")]
     BadSetting { place: usize },
-    /// An entry has the link of one before it.
+    /// An entry has the link number of an earlier entry.
     #[error("DuplicateLink")]
     DuplicateLink { place: usize },
-    /// There was no memory.
+    /// There is no memory.
     #[error("NoMemory")]
     NoMemory,
 }
@@ -49,7 +49,7 @@ impl SetupFault {
 ghost use Rattle.rohc_concentrator.specs.Tables.{settings_in_order, setting_at, record_at};
 ghost use Rattle.rohc_concentrator.specs.Setup.{IsFault, AreSound, AreFine, names_link, entry_of};
 
-/// The first fault of the settings, if there is one: their count first, then entry by entry.
+/// Finds the first fault of the settings: first their number, then entry by entry.
 fn judge(settings: &[LinkSetting]) -> Result<(), SetupFault>
     ensures sound { OnOk result (AreFine settings.now) }
     ensures fault { IfErr result (λ e. IsFault settings.now e) }
@@ -71,7 +71,7 @@ fn judge(settings: &[LinkSetting]) -> Result<(), SetupFault>
     Ok(())
 }
 
-/// Whether one of the settings is of this link.
+/// Whether one of the settings has this link number.
 fn names_link(settings: &[LinkSetting], link: u16) -> bool
     ensures { result ≡ names_link link settings.now }
 {
@@ -79,10 +79,10 @@ fn names_link(settings: &[LinkSetting], link: u16) -> bool
 }
 
 impl Concentrator {
-    /// The concentrator of these links, in this order, with no record.
+    /// Makes a concentrator with these links, in this order, and without a record.
     ///
-    /// The faults come in this order: `NoLinks`, `TooManyLinks`, then entry by entry `BadSetting` before
-    /// `DuplicateLink`, and `NoMemory` last.
+    /// The error is the first fault in this order: `NoLinks`, `TooManyLinks`, then entry by entry
+    /// `BadSetting` before `DuplicateLink`. `NoMemory` comes last, only for settings without a fault.
     pub fn new(alloc: Global, settings: &[LinkSetting]) -> Result<Concentrator, SetupFault>
         ensures fine { IfOk result (λ k. AreFine settings.now) }
         ensures in_order { IfOk result (λ k. settings_in_order k ≡ settings.now) }
@@ -96,7 +96,7 @@ impl Concentrator {
     }
 }
 
-/// The concentrator of sound settings, with no record.
+/// Makes the concentrator of sound settings, without a record.
 fn build(alloc: Global, settings: &[LinkSetting]) -> Result<Concentrator, AllocError>
     requires { AreSound settings.now }
     ensures in_order { IfOk result (λ k. settings_in_order k ≡ settings.now) }

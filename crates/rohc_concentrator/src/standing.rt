@@ -8,7 +8,7 @@ use crate::concentrator::Concentrator;
 use rohc_context::Context;
 
 impl Concentrator {
-    /// The number of the link at a place, counted from 0 in the order of the settings; `None` behind the last.
+    /// The number of the link at a place, counted from 0 in the order of the settings; `None` after the last.
     pub fn link_at(&self, place: usize) -> Option<u16>
         ensures { result ≡ option_map (λ s. s.link) (slice_get (settings_in_order self.now) place) }
     {
@@ -16,10 +16,10 @@ impl Concentrator {
         Some(records.setting.link)
     }
 
-    /// The identifier at a place among those of a link that have a record, and its context.
+    /// The CID at a place among those of a link that have a record, and its context.
     ///
-    /// Places count from 0, in the order of the identifiers' first IR. `None` stands behind the last one, and where
-    /// there is no such link. A record that counts as none for its age has a place too.
+    /// Places count from 0, in the order of the CIDs' first IRs. After the last one, and without such a link, the
+    /// result is `None`. A record has its place even if it counts as none because it was idle too long.
     pub fn context_at(&self, link: u16, place: usize) -> Option<(u16, &Context)>
         ensures identifier { option_map (λ c. c.0) result ≡ slice_get (identifiers_at self.now link) place }
         ensures record { IfSome result (λ c. record_at self.now link c.0 ≡ Some (record_of c.1.now)) }

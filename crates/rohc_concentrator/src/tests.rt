@@ -32,7 +32,7 @@ fn link_1(idle_ms: u32) -> LinkSetting {
     }
 }
 
-/// What became of a packet on link 1, where it bore an identifier.
+/// The outcome of a packet on link 1, if it has a CID.
 fn outcome(concentrator: &mut Concentrator, moment: u64, packet: &[u8]) -> Option<Outcome> {
     match concentrator.arrive(1, moment, packet) {
         Answer::Arrived { reply, .. } => Some(reply.outcome),
@@ -40,7 +40,7 @@ fn outcome(concentrator: &mut Concentrator, moment: u64, packet: &[u8]) -> Optio
     }
 }
 
-/// The concentrator of this link alone.
+/// The concentrator with this link alone.
 fn made(alloc: Global, setting: LinkSetting) -> Result<Concentrator, SetupFault> {
     Concentrator::new(alloc, &[setting])
 }
@@ -206,7 +206,7 @@ fn setup_faults(rt: HostRuntime) -> Result<(), Fail> {
     Ok(())
 }
 
-/// The place that a fault names, and 0 where it names none.
+/// The place in a fault, or 0 if it has none.
 fn place_of(fault: &SetupFault) -> usize {
     match fault {
         SetupFault::BadSetting { place } | SetupFault::DuplicateLink { place } => *place,

@@ -17,7 +17,7 @@ use Rattle.rohc_context.specs.InForce.{in_force, given_stride}
 use Rattle.rohc_context.specs.Record.{Reference}
 use Rattle.rohc_context.specs.Explains.{Explained, scale, AgreesByBits, AgreesInTs, AgreesInId, Means, Explains}
 
--- what exactly one has, two are one
+-- if exactly one value has P, two values with P are equal
 once : {A : Type 0} (P : A → Type 0) (x y : A) → ExactlyOne P → P x → P y → x ≡ y
 once P x y one px py = one.2 x px ∙ sym (one.2 y py)
 

@@ -1,4 +1,4 @@
--- What is to be sent to the compressor, and that only O mode sends it (RFC 3095 5.3.2.2, 5.4.1).
+-- The feedback that is sent to the compressor, in O mode alone (RFC 3095 5.3.2.2, 5.4.1).
 -- Words: sent.
 use Rattle.std.specs.Prelude.{ℕ, List, Option, Some, None}
 use Rattle.rohc_frame.specs.declared.header.CidKind.{CidKind}
@@ -9,7 +9,7 @@ use Rattle.rohc_context.specs.declared.due.Due.TheVariants.{Nothing, Ack, Nack, 
 use Rattle.rohc_context.specs.declared.settings.Mode.{Mode}
 use Rattle.rohc_context.specs.declared.settings.Mode.TheVariants.{U, O}
 
--- the element for what is due
+-- the feedback element for what is due
 abbrev pub element_of : CidKind → (cid : ℕ) → Due → Option (List ℕ)
 element_of size cid Nothing = None
 element_of size cid (Ack sn) = Some (ack_octets size cid sn)

@@ -10,13 +10,13 @@ use Rattle.rohc_forms.specs.Content.{Content, IdSaid, Same, Offset, Whole}
 use Rattle.rohc_context.specs.InForce.{in_force}
 use Rattle.rohc_context.specs.Record.{Reference}
 
--- A header: its fields, with RND, NBO and stride as they are in force, and its forty octets.
+-- A header: its fields, with the RND, NBO and stride in force, and its forty octets.
 pub record Explained : Type 0 where
   pub moving : Dynamic
   pub octets : List ℕ
 
--- The stride that bits of a timestamp are scaled by, if they are: Tsc of an extension 3 decides, and without
--- an extension 3 they are scaled wherever there is a stride.
+-- The stride by which bits of a timestamp are scaled, if they are. Tsc of an extension 3 decides; without an
+-- extension 3 they are scaled if there is a stride.
 abbrev pub scale : (tsc : Option Bool) → (stride : Option ℕ) → Option ℕ
 scale None stride = stride
 scale (Some true) stride = stride
@@ -33,7 +33,7 @@ abbrev pub AgreesInTs : (reference : ℕ) (stride : Option ℕ) (steps : ℤ) (t
 AgreesInTs reference stride steps tsc None ts = AgreesWithoutBits reference stride steps ts
 AgreesInTs reference stride steps tsc (Some bits) ts = AgreesByBits reference (scale tsc stride) bits ts
 
--- the Identification is the packet's, or its offset agrees with the reference's under the NBO in force
+-- the Identification is the packet's, or its offset agrees with the reference's offset under the NBO in force
 abbrev pub AgreesInId : (nbo : Bool) (reference : Dynamic) (said : IdSaid) (sn id : ℕ) → Type 0
 AgreesInId nbo reference (Whole whole) sn id = id ≡ whole
 AgreesInId nbo reference Same sn id =
@@ -42,8 +42,8 @@ AgreesInId nbo reference (Offset bits) sn id =
     (id < 2 ^ 16) × AgreesInOffset (offset_of nbo reference.sn reference.id) (Some bits) (offset_of nbo sn id)
 
 -- Against a reference whose SN is moved on by a shift, the packet means a header with these fields. The SN is
--- the one that its bits mean; the steps count from the reference's own SN. All else is in force, or the
--- packet's.
+-- the one that its bits mean. The steps count from the reference's own SN. The other fields are those in
+-- force, or the packet's.
 pub record Means (reference : Reference) (shift : ℕ) (c : Content) (moving : Dynamic) : Type 0 where
   pub steps : ℤ
   pub sn : AgreesInSn reference.moving.sn shift c.sn moving.sn steps
@@ -58,7 +58,7 @@ pub record Means (reference : Reference) (shift : ℕ) (c : Content) (moving : D
     marker = c.marker;
   }
 
--- the packet means this header, the original header of those fields and of its payload
+-- the packet means this header: the original header of those fields and of the packet's payload
 pub record Explains (fixed : Static) (reference : Reference) (shift : ℕ) (c : Content) (h : Explained) : Type
     0 where
   pub fields : Means reference shift c h.moving

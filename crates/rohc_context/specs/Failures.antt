@@ -1,4 +1,4 @@
--- Which state takes which packet, and what a packet that isn't accepted does to a state.
+-- Which state takes which packet, and what a packet that isn't accepted does to a state (RFC 3095 5.3.2.2).
 -- Words: takes, after_check, after_low_state.
 use Rattle.std.specs.Prelude.{ℕ, ◌-◌, [], Bool, true, false, nat_le, if◌then◌else◌, Option, Some, None, option_map}
 use Rattle.rohc_frame.specs.declared.header.HeadKind.{HeadKind}
@@ -9,8 +9,8 @@ use Rattle.rohc_context.specs.declared.settings.Settings.{Settings}
 use Rattle.rohc_context.specs.Record.{Reference, State, Plain, NoContext, StaticContext, FullContext}
 use Rattle.rohc_context.specs.Window.{and_outcome, is_filled}
 
--- No Context takes an IR alone; Static Context an IR, an IR-DYN and, with a reference, first octets from C0
--- on (the UOR-2 kinds); Full Context and profile 0x0000 take all (RFC 3095 5.3.2.2).
+-- No Context takes only an IR. Static Context takes an IR, an IR-DYN and, if it has a reference, the UOR-2
+-- formats (first octet C0 or above). Full Context and profile 0x0000 take all packets (RFC 3095 5.3.2.2).
 abbrev pub takes : State → HeadKind → (first : ℕ) → Bool
 takes state (Ir dynamic) first = true
 takes Plain IrDyn first = true
@@ -23,7 +23,7 @@ takes (StaticContext fixed (Some reference) w v) Other first = nat_le 192 first
 takes (FullContext fixed reference previous w) IrDyn first = true
 takes (FullContext fixed reference previous w) Other first = true
 
--- the state that is left, and what is to be sent
+-- the state after a packet, and the feedback that is due
 pub record Consequence : Type 0 where
   pub state : State
   pub due : Due
@@ -35,9 +35,9 @@ leads_to state due = record { state = state; due = due }
 abbrev pub sn_of : Option Reference → Option ℕ
 sn_of = option_map (λ (r : Reference). r.moving.sn)
 
--- A packet whose check doesn't fit. Full Context falls to Static Context where its window is filled. Static
--- Context falls to No Context where the second window is filled, which is judged first; else a filled first
--- window makes a NACK due and is emptied. Other states stay.
+-- A packet whose check doesn't match. Full Context falls to Static Context if its window is filled. Static
+-- Context falls to No Context if the second window is filled, which is judged first; otherwise, if the first
+-- window is filled, a NACK is due and that window is emptied. Other states stay.
 abbrev pub after_check : Settings → (moment : ℕ) → State → Consequence
 after_check s moment Plain = leads_to Plain Nothing
 after_check s moment (NoContext nacked) = leads_to (NoContext nacked) Nothing
@@ -53,8 +53,8 @@ after_check s moment (StaticContext fixed reference first second) =
     else leads_to (StaticContext fixed reference (and_outcome true first) (and_outcome true second)) Nothing
 
 -- A packet that the state doesn't take. In Static Context it is a failure in the first window alone. In No
--- Context a STATIC-NACK is due where `static_nack_ms` or more passed since the last one; an earlier moment
--- counts as no time passed.
+-- Context a STATIC-NACK is due if `static_nack_ms` or more have passed since the last one. An earlier arrival
+-- time counts as no time passed.
 abbrev pub after_low_state : Settings → (moment : ℕ) → State → Consequence
 after_low_state s moment Plain = leads_to Plain Nothing
 after_low_state s moment (NoContext nacked) =

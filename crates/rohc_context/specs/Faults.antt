@@ -1,4 +1,4 @@
--- What becomes of a part's refusal: a check that doesn't fit is unfit, and every other is refused under its
+-- The fault for a refusal of a packet: a check that doesn't match is unfit, and any other refusal keeps its
 -- name.
 -- Words: fault_of_chain, fault_of_form, read_chain, read_form.
 use Rattle.rohc_chain.specs.declared.refusal.ChainRefusal.{ChainRefusal}

@@ -3,7 +3,7 @@ use Rattle.rohc_frame.specs.declared.refusal.FrameRefusal.TheVariants as framing
 use Rattle.rohc_context.specs.declared.refusal.Refusal.{Refusal}
 use Rattle.rohc_context.specs.declared.refusal.Refusal.TheVariants as refusals
 
--- a refusal of framing, among the thirty
+-- a refusal of framing as one of the thirty refusals
 abbrev pub refusal_of_framing : FrameRefusal → Refusal
 refusal_of_framing framing.Empty = refusals.Empty
 refusal_of_framing framing.FeedbackShort = refusals.FeedbackShort

@@ -1,4 +1,4 @@
--- Good values: each number lies in the range of its field.
+-- Good values: each number is in the range of its field.
 -- Words: IsGoodReference, IsGoodRecord, IsGoodHeader, AreGoodValues.
 use Rattle.std.specs.Prelude.{◌≡◌, ℕ, ◌<◌, ◌≤◌, ◌^◌, List, length, Bool, false, Option, IfSome}
 use Rattle.rohc_frame.specs.Header.{Header}
@@ -8,7 +8,7 @@ use Rattle.rohc_context.specs.declared.settings.Settings.{Settings}
 use Rattle.rohc_context.specs.Settings.{AreGood}
 use Rattle.rohc_context.specs.Record.{Reference, State, Plain, NoContext, StaticContext, FullContext, Record}
 
--- the fields of a header without a marker
+-- the fields of a header, without a marker
 pub record IsGoodReference (r : Reference) : Type 0 where
   pub moving : IsGoodDynamic r.moving
   pub unmarked : r.moving.marker ≡ false
@@ -29,11 +29,11 @@ pub record IsGoodRecord (r : Record) : Type 0 where
   pub accepted : r.accepted < 2 ^ 64
   pub state : IsGoodState r.state
 
--- a header of these settings' size, within their greatest identifier, of octets
+-- a header of the settings' CID kind, with a CID within their greatest, made of octets
 abbrev pub IsGoodHeader : Settings → Header → Type 0
 IsGoodHeader s h = IsGood s.size s.max_cid h
 
--- what a step is said of: a good record or none, good settings, a moment and a good header
+-- the values of a step are good: the record, if there is one, the settings, the arrival time and the header
 pub record AreGoodValues (before : Option Record) (s : Settings) (moment : ℕ) (h : Header) : Type 0 where
   pub record_before : IfSome before IsGoodRecord
   pub settings : AreGood s

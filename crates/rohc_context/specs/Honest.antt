@@ -15,13 +15,13 @@ use Rattle.rohc_context.specs.Tries.{Fits, unshifted}
 use Rattle.rohc_context.specs.NextReference.{without_marker}
 use Rattle.rohc_context.specs.Update.{said_under}
 
--- what Full Context holds to explain packets against: the static part and the reference
+-- what Full Context holds for decoding: the static part and the reference
 pub record Held : Type 0 where
   pub fixed : Static
   pub reference : Reference
 
 -- A header taken as the reference: its fields without the marker, with the RND, the NBO, the stride and the
--- presence of a UDP checksum that were held at first.
+-- presence of a UDP checksum that were held first.
 abbrev pub held_by : (first : Held) → Explained → Held
 held_by first h = record {
   fixed = first.fixed;
@@ -56,10 +56,10 @@ pub record IsWrittenFor (held : Held) (p : Written) : Type 0 where
   pub few : length p.content.payload ≤ longest_payload
   pub fits : Fits held.fixed (unshifted held.reference) p.content p.header
 
--- the header and the payload that it was written for, without feedback
+-- the answer that delivers the header and the payload that it was written for, without feedback
 abbrev pub delivery_of : Written → Response
 delivery_of p = delivered p.header.octets p.content.payload None
 
--- an arrival at this moment finds a record that counts
+-- an arrival at this time finds a record that counts
 abbrev pub IsInTime : Settings → (accepted moment : ℕ) → Type 0
 IsInTime s accepted moment = (s.idle_ms ≡ 0) ⊎ (moment - accepted < s.idle_ms)

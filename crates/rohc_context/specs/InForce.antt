@@ -5,7 +5,7 @@ use Rattle.std.specs.Prelude.{ℕ, Option, Some, None, unwrap_or}
 use Rattle.rohc_header.specs.declared.fields.Dynamic.{Dynamic}
 use Rattle.rohc_forms.specs.Given.{ValuesSaid}
 
--- a stride that is given, else the one that is kept, if there is one
+-- the stride that is given, else the one that is kept, if any
 abbrev pub given_stride : Option ℕ → Option ℕ → Option ℕ
 given_stride None kept = kept
 given_stride (Some stride) kept = Some stride

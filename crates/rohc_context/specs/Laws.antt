@@ -28,13 +28,13 @@ use Rattle.rohc_context.specs.Due.{sent}
 use Rattle.rohc_context.specs.Honest.{Held, held_by, HoldsInFull, Written, IsWrittenFor, delivery_of, IsInTime}
 use Rattle.rohc_context.specs.Step.{LoneStep, counts}
 
--- a step from good values has an answer and a record, or none, after it
+-- a step from good values has an answer, and a record after it or none
 abbrev pub HasAnswer : Type 0
 HasAnswer = (before : Option Record) (s : Settings) (moment : ℕ) (h : Header) →
     AreGoodValues before s moment h →
     (response : Response) × (next : Option Record) × LoneStep before s moment h response next
 
--- and no others
+-- it has no other
 abbrev pub HasNoOther : Type 0
 HasNoOther = (before : Option Record) (s : Settings) (moment : ℕ) (h : Header) →
     AreGoodValues before s moment h →
@@ -48,18 +48,18 @@ LeavesGood = (before : Option Record) (s : Settings) (moment : ℕ) (h : Header)
     (response : Response) (next : Option Record) → LoneStep before s moment h response next →
     IfSome next IsGoodRecord
 
--- from none, only an IR leads to a record
+-- without a record, only an IR leads to one
 abbrev pub BeginsByIr : Type 0
 BeginsByIr = (s : Settings) (moment : ℕ) (h : Header) (response : Response) (r : Record) →
     LoneStep None s moment h response (Some r) → (dynamic : Bool) × (h.kind ≡ Ir dynamic)
 
--- from none, what is refused leaves none
+-- without a record, a refused packet leaves none
 abbrev pub LeavesNone : Type 0
 LeavesNone =
     (s : Settings) (moment : ℕ) (h : Header) (response : Response) (next : Option Record) (refusal : Refusal)
     → LoneStep None s moment h response next → response.outcome ≡ Refused refusal → next ≡ None
 
--- no step answers want of memory
+-- no step answers NoMemory
 abbrev pub NeverPoor : Type 0
 NeverPoor =
     (before : Option Record) (s : Settings) (moment : ℕ) (h : Header) (response : Response)
@@ -70,7 +70,7 @@ NeverPoor =
 abbrev pub KeepsGood : Type 0
 KeepsGood = (c : Context) → IsGoodRecord (record_of c)
 
--- what is refused for another reason than Check and StateTooLow changes nothing
+-- a refusal other than Check and StateTooLow changes nothing
 abbrev pub KeepsRefused : Type 0
 KeepsRefused =
     (before : Option Record) (s : Settings) (moment : ℕ) (h : Header) (response : Response)
@@ -78,8 +78,7 @@ KeepsRefused =
     LoneStep before s moment h response next → response.outcome ≡ Refused refusal →
     refusal ≢ Check → refusal ≢ StateTooLow → next ≡ before
 
--- A packet that is delivered has no more octets behind its head than stood behind the header's first octet
--- and identifier.
+-- The payload of a delivered packet is at most as long as what followed the header's first octet and CID.
 abbrev pub LendsPayload : Type 0
 LendsPayload =
     (before : Option Record) (s : Settings) (moment : ℕ) (h : Header) (response : Response)
@@ -87,15 +86,15 @@ LendsPayload =
     All IsOctet h.rest → LoneStep before s moment h response next →
     IfSome response.packet (λ (p : Packet). length p.payload ≤ length h.rest)
 
--- A refusal for a check changes nothing, or what a check that doesn't fit leads to in the state before.
+-- A refusal Check changes nothing, or leads to the state that follows a failed check.
 abbrev pub ChecksChange : Type 0
 ChecksChange = (before : Option Record) (s : Settings) (moment : ℕ) (h : Header) (response : Response)
     (next : Option Record) → LoneStep before s moment h response next → response.outcome ≡ Refused Check →
     (next ≡ before) ⊎ ((r : Record) × (before ≡ Some r) ×
     (next ≡ Some (record { accepted = r.accepted; state = (after_check s moment r.state).state })))
 
--- A refusal for a state that is too low comes from a record whose state doesn't take the packet, and leaves
--- what such a packet leads to.
+-- A refusal StateTooLow comes from a record whose state doesn't take the packet, and leads to the state that
+-- follows such a packet.
 abbrev pub LowStatesChange : Type 0
 LowStatesChange = (before : Option Record) (s : Settings) (moment : ℕ) (h : Header) (response : Response)
     (next : Option Record) → LoneStep before s moment h response next →
@@ -103,20 +102,22 @@ LowStatesChange = (before : Option Record) (s : Settings) (moment : ℕ) (h : He
     (r : Record) × (before ≡ Some r) × (takes r.state h.kind h.first ≡ false) ×
     (next ≡ Some (record { accepted = r.accepted; state = (after_low_state s moment r.state).state }))
 
--- The tries of what a packet says come to one verdict at most: one header, and the reference that it is by.
+-- The tries of a packet come to at most one verdict: one header, and the reference against which it was
+-- decoded.
 abbrev pub ComesToOne : Type 0
 ComesToOne = (first : ℕ) (udp_sum stride_known : Bool) (fixed : Static) (c : Content) (tries : List Try)
     (a b : Result Acceptance Fault) → IsGoodContent first udp_sum stride_known c →
     Verdict fixed c tries a → Verdict fixed c tries b → a ≡ b
 
--- What a packet that fits says means exactly one header, against any reference and any shift.
+-- What a packet says, if it is in range and not too long, means exactly one header against any reference and
+-- any shift.
 abbrev pub MeansOne : Type 0
 MeansOne = (first : ℕ) (udp_sum stride_known : Bool) (fixed : Static) (r : Reference) (shift : ℕ)
     (c : Content) → IsGoodStatic fixed →
     IsGoodContent first udp_sum stride_known c → length c.payload ≤ longest_payload →
     ExactlyOne (Explains fixed r shift c)
 
--- an IR of profile 0x0000 is taken whatever stands, and delivers the IP packet that its octets spell
+-- an IR of profile 0x0000 is taken in every state, and delivers the IP packet in its octets
 abbrev pub TakesPlain : Type 0
 TakesPlain =
     (before : Option Record) (s : Settings) (moment : ℕ) (h : Header) (octet : ℕ) (packet : List ℕ)
@@ -124,8 +125,8 @@ TakesPlain =
     IsIr h.kind → IsIrText h (PlainPacket (octet ∷ packet)) → LoneStep before s moment h response next →
     (response.packet ≡ Some (record { head = []; payload = octet ∷ packet })) × (response.outcome ≡ Delivered)
 
--- The honest step: in Full Context, where the record counts, a packet that means a header against the held
--- reference, and carries that header's check, is delivered as that header; the state stays, with the next
+-- The honest step. Let the record count and be in Full Context. A packet that means a header against the held
+-- reference, and carries that header's check, is delivered as that header. The state stays, with the next
 -- reference.
 abbrev pub DeliversHonest : Type 0
 DeliversHonest =
@@ -151,7 +152,8 @@ DeliversHonest =
           updated fixed reference window (record { content = c; reference = reference; header = e });
     }))
 
--- From Static Context such a packet of a UOR-2 kind is delivered and acknowledged, and leads to Full Context.
+-- From Static Context such a packet of a UOR-2 format is delivered and acknowledged, and leads to Full
+-- Context.
 abbrev pub PromotesHonest : Type 0
 PromotesHonest =
     (accepted : ℕ) (fixed : Static) (reference : Reference) (first second : List Bool)
@@ -176,8 +178,8 @@ PromotesHonest =
           promoted fixed (record { content = content; reference = reference; header = header });
     }))
 
--- A packet written against what Full Context holds is delivered as it was written, and Full Context then
--- holds its header as the reference.
+-- A packet written against what Full Context holds is delivered as it was written. Full Context then holds
+-- its header as the reference.
 abbrev pub DeliversWritten : Type 0
 DeliversWritten = (held : Held) (before : Record) (s : Settings) (moment : ℕ) (p : Written)
     (response : Response) (next : Option Record) →
@@ -186,6 +188,6 @@ DeliversWritten = (held : Held) (before : Record) (s : Settings) (moment : ℕ) 
     (response ≡ delivery_of p) × ((after : Record) × (next ≡ Some after) × (after.accepted ≡ moment) ×
     HoldsInFull (held_by held p.header) after)
 
--- There is such a packet.
+-- There is a packet that is written for a header.
 abbrev pub HasWritten : Type 0
 HasWritten = (held : Held) × (p : Written) × IsWrittenFor held p

@@ -8,11 +8,11 @@ use Rattle.rohc_forms.specs.Content.{Content}
 use Rattle.rohc_context.specs.Record.{Reference}
 use Rattle.rohc_context.specs.Tries.{Acceptance}
 
--- a marker is never kept
+-- a reference never has a marker
 abbrev pub without_marker : Dynamic → Dynamic
 without_marker moving = record moving { marker = false }
 
--- after an IR or an IR-DYN, whose UDP checksum says whether later packets carry one
+-- after an IR or an IR-DYN; its UDP checksum says whether later packets carry one
 abbrev pub first_reference : Dynamic → Reference
 first_reference moving = record { moving = without_marker moving; carries_sum = not (moving.udp_sum == 0) }
 
@@ -29,14 +29,14 @@ is_uo1_id Uor2Ts = false
 abbrev pub counts_once : Content → Bool
 counts_once c = is_uo1_id c.kind && is_some c.values
 
--- what is kept with the numbers of a header
+-- the kept fields, with the header's SN, TS, Identification and UDP checksum
 abbrev pub with_numbers : Dynamic → Dynamic → Dynamic
 with_numbers kept header =
     record kept { sn = header.sn; ts = header.ts; id = header.id; udp_sum = header.udp_sum }
 
--- The header's values, with RND, NBO and stride in force. Of an extension 3 in a UO-1-ID the reference takes
--- SN, TS, Identification and UDP checksum, and keeps the rest of the reference against which it was
--- explained.
+-- The header's values, with the RND, NBO and stride in force. After a UO-1-ID with an extension 3 the
+-- reference takes only SN, TS, Identification and UDP checksum, and keeps the other fields of the reference
+-- against which the packet was decoded.
 abbrev pub next_moving : Acceptance → Dynamic
 next_moving a =
     if counts_once a.content then with_numbers a.reference.moving a.header.moving else without_marker
@@ -59,8 +59,8 @@ same_flag false b = not b
 abbrev pub same_numbering : Dynamic → Dynamic → Bool
 same_numbering a b = same_flag a.rnd b.rnd && same_flag a.nbo b.nbo && same_stride a.stride b.stride
 
--- The reference against which the packet was explained, where it left RND, NBO and stride as the held
--- reference has them; else none.
+-- The reference against which the packet was decoded, if RND, NBO and stride stay as the held reference has
+-- them; else none.
 abbrev pub kept_previous : (held : Reference) (next : Dynamic) (explained_by : Reference) → Option Reference
 kept_previous held next explained_by = if same_numbering held.moving next then Some explained_by else None
 

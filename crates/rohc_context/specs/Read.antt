@@ -1,4 +1,4 @@
--- What the code's values say, apart from how they are kept.
+-- The code's values as plain data.
 -- Words: try_of, explained_of, acceptance_of, verdict_of, IsSound.
 use Rattle.std.specs.Prelude.{ℕ, Option, Some, None, Result, Ok, Err}
 use Rattle.rohc_header.specs.declared.fields.Static.{Static}
@@ -28,7 +28,7 @@ abbrev pub verdict_of : Content → Option Accepted → Result Acceptance Fault
 verdict_of c None = Err Unfit
 verdict_of c (Some a) = Ok (acceptance_of c a)
 
--- the fields of what was accepted are good, and its registers are those of its fields
+-- the fields of an accepted header are good, and its registers are those of its fields
 pub record IsSound (fixed : Static) (a : Accepted) : Type 0 where
   pub kept : IsKept fixed a.reference.moving a.reference.saved
   pub good : IsGoodDynamic a.header.moving

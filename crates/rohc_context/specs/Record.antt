@@ -9,27 +9,27 @@ use Rattle.rohc_context.specs.declared.state.State.TheVariants as states
 use Rattle.rohc_context.specs.declared.reference.Reference as saved
 use Rattle.rohc_context.specs.Window.{outcomes}
 
--- What packets of kind Other are explained against: the fields of the last header that was taken, without its
--- marker, with RND, NBO and stride as they are in force; and whether packets carry a UDP checksum.
+-- What packets of kind Other are decoded against: the fields of the last accepted header, without its marker,
+-- with the RND, NBO and stride in force; and whether packets carry a UDP checksum.
 pub record Reference : Type 0 where
   pub moving : Dynamic
   pub carries_sum : Bool
 
--- Profile 0x0000, or one of the three states of a decompressor of profile 0x0001 (RFC 3095 4.3.2): No Context
--- with the moment of the last STATIC-NACK; Static Context with the static part, perhaps a reference, and two
--- windows; Full Context with the static part, the reference, perhaps a previous one, and a window.
+-- Profile 0x0000, or one of the three states of a decompressor of profile 0x0001 (RFC 3095 4.3.2). No Context
+-- has the time of the last STATIC-NACK. Static Context has the static part, perhaps a reference, and two
+-- windows. Full Context has the static part, the reference, perhaps a previous one, and a window.
 pub data State : Type 0 where
   Plain : State
   NoContext : (nacked : ℕ) → State
   StaticContext : Static → Option Reference → (first second : List Bool) → State
   FullContext : Static → Reference → (previous : Option Reference) → (window : List Bool) → State
 
--- the state, and the moment of the last accepted arrival
+-- the state, and the time of the last accepted arrival
 pub record Record : Type 0 where
   pub accepted : ℕ
   pub state : State
 
--- what clauses see of a context
+-- the code's values as contracts see them
 abbrev pub reference_of : saved.Reference → Reference
 reference_of r = record { moving = r.moving; carries_sum = r.carries_sum }
 

@@ -1,4 +1,4 @@
--- An IR-DYN (RFC 3095 5.7.7.2).
+-- What an IR-DYN leads to (RFC 3095 5.7.7.2).
 -- Words: Refreshes.
 use Rattle.std.specs.Prelude.{ℕ, [], Bool, false, Option, Some, None, Result, Ok, Err}
 use Rattle.rohc_frame.specs.Header.{Header}
@@ -18,7 +18,7 @@ profile_of (NoContext nacked) = 1
 profile_of (StaticContext fixed reference first second) = 1
 profile_of (FullContext fixed reference previous window) = 1
 
--- X and the stride, which an IR-DYN keeps where it doesn't give them: the held reference's
+-- the X and the stride of the held reference, which stay if an IR-DYN doesn't give them
 abbrev pub kept_by : Option Reference → Bool × Option ℕ
 kept_by None = (false, None)
 kept_by (Some r) = (r.moving.extension, r.moving.stride)
@@ -33,7 +33,7 @@ kept_in (FullContext fixed reference previous window) = kept_by (Some reference)
 abbrev pub dyn_said : Header → (profile : ℕ) → (kept : Bool × Option ℕ) → Result DynContent ChainRefusal
 dyn_said h profile kept = ir_dyn_at h profile (kept_values kept.0 kept.1)
 
--- An IR-DYN leads to Full Context. One for profile 0x0000 says nothing, and No Context doesn't take it.
+-- An IR-DYN leads to Full Context. Profile 0x0000 refuses it, and No Context doesn't take it.
 abbrev pub RefreshesBy : Settings → (moment : ℕ) → Header → Record → State → Result DynContent ChainRefusal →
     Response → Option Record → Type 0
 RefreshesBy s moment h r state (Err refusal) response next =

@@ -1,4 +1,4 @@
--- An IR (RFC 3095 5.7.7.1, 5.10.1).
+-- What an IR leads to (RFC 3095 5.7.7.1, 5.10.1).
 -- Words: Renews.
 use Rattle.std.specs.Prelude.{ℕ, List, [], ◌∷◌, length, Bool, false, Option, Some, None, Result, Ok, Err}
 use Rattle.rohc_frame.specs.Header.{Header}
@@ -18,7 +18,7 @@ use Rattle.rohc_context.specs.NextReference.{first_reference}
 use Rattle.rohc_context.specs.Faults.{fault_of_chain}
 use Rattle.rohc_context.specs.Outcomes.{Takes, Ends}
 
--- The window of Full Context goes on with a success; from every other state it begins empty.
+-- The window of Full Context gets a success; from every other state it starts empty.
 abbrev pub full_window : State → List Bool
 full_window Plain = []
 full_window (NoContext nacked) = []
@@ -29,7 +29,7 @@ abbrev pub full_window_of : Option State → List Bool
 full_window_of None = []
 full_window_of (Some state) = full_window state
 
--- The windows of Static Context go on with a success each; from every other state they begin empty.
+-- The windows of Static Context get a success each; from every other state they start empty.
 abbrev pub static_windows : State → List Bool × List Bool
 static_windows Plain = ([], [])
 static_windows (NoContext nacked) = ([], [])
@@ -46,7 +46,7 @@ abbrev pub plain_answer : List ℕ → Option (List ℕ) → Response
 plain_answer [] feedback = stored feedback
 plain_answer (octet ∷ packet) feedback = delivered [] (octet ∷ packet) feedback
 
--- a header of these fields is delivered before the payload, and acknowledged
+-- the rebuilt packet of these fields and this payload is delivered, and acknowledged
 abbrev pub Delivers : Settings → (moment : ℕ) → Header → Static → Dynamic → (payload : List ℕ) →
     (window : List Bool) → Response → Option Record → Type 0
 Delivers s moment h fixed moving payload window response next =
@@ -54,9 +54,8 @@ Delivers s moment h fixed moving payload window response next =
     × Takes moment (FullContext fixed (first_reference moving) None window)
     (delivered octets payload (sent s.mode h (Ack moving.sn))) response next
 
--- What an IR says is taken in every state, the one that counts if there is one. One of profile 0x0000 leads
--- there; one without a dynamic chain to Static Context without a reference; one with a dynamic chain to Full
--- Context.
+-- An IR is taken in every state. One of profile 0x0000 leads to that profile's state, one without a dynamic
+-- chain to Static Context without a reference, and one with a dynamic chain to Full Context.
 abbrev pub Renewed : Settings → (moment : ℕ) → Header → (counting : Option State) → IrContent → Response →
     Option Record → Type 0
 Renewed s moment h counting (chain.Plain packet) response next =

@@ -6,7 +6,7 @@ use Rattle.rohc_context.specs.declared.reply.Outcome.TheVariants as outcomes
 use Rattle.rohc_context.specs.declared.reply.Reply.{Reply}
 use Rattle.rohc_feedback.specs.Element.{octets_of}
 
--- A rebuilt packet: its head, and the payload behind it.
+-- A rebuilt packet: its head, and the payload after it.
 pub record Packet : Type 0 where
   pub head : List ℕ
   pub payload : List ℕ
@@ -36,10 +36,10 @@ delivered head payload feedback = record {
 abbrev pub stored : Option (List ℕ) → Response
 stored feedback = record { packet = None; feedback = feedback; outcome = outcomes.Stored }
 
--- nothing is delivered or stored
+-- the packet is refused, with this feedback or none
 abbrev pub failed : Refusal → Option (List ℕ) → Response
 failed refusal feedback = record { packet = None; feedback = feedback; outcome = outcomes.Refused refusal }
 
--- and nothing is sent
+-- it is refused without feedback
 abbrev pub refused : Refusal → Response
 refused refusal = failed refusal None

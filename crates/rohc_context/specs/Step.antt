@@ -15,8 +15,8 @@ use Rattle.rohc_context.specs.Renewal.{Renews}
 use Rattle.rohc_context.specs.Refresh.{Refreshes}
 use Rattle.rohc_context.specs.Update.{Updates}
 
--- The record counts: fewer than `idle_ms` milliseconds passed since its last accepted arrival, or
--- `idle_ms` is 0. A moment before that one counts as no time passed.
+-- A record counts if fewer than `idle_ms` milliseconds have passed since its last accepted arrival, or if
+-- `idle_ms` is 0. An earlier arrival time counts as no time passed.
 abbrev pub counts : Settings → ℕ → Record → Bool
 counts s moment r = (s.idle_ms == 0) || nat_lt (moment - r.accepted) s.idle_ms
 
@@ -25,7 +25,7 @@ abbrev pub counting : Settings → ℕ → Option Record → Option Record
 counting s moment None = None
 counting s moment (Some r) = if counts s moment r then Some r else None
 
--- a packet of a kind that the state takes, or not
+-- a packet of a kind that the state takes, or doesn't take
 abbrev pub TakenBy : Bool → Settings → (moment : ℕ) → Header → HeadKind → Record → Response → Option Record →
     Type 0
 TakenBy false s moment h kind r response next =
@@ -34,8 +34,8 @@ TakenBy true s moment h (Ir dynamic) r response next = ⊥
 TakenBy true s moment h IrDyn r response next = Refreshes s moment h r response next
 TakenBy true s moment h Other r response next = Updates s moment h r response next
 
--- An IR is taken whatever stands. Without a record that counts every other packet is NoContext; else the
--- state says first whether it takes the packet.
+-- An IR is taken in every state. Without a record that counts, every other packet is NoContext. Otherwise the
+-- state first decides whether it takes the packet.
 abbrev pub Turn : Settings → (moment : ℕ) → Header → HeadKind → (counting before : Option Record) →
     Response → Option Record → Type 0
 Turn s moment h (Ir dynamic) counting before response next =
@@ -47,8 +47,8 @@ Turn s moment h IrDyn (Some r) before response next =
 Turn s moment h Other (Some r) before response next =
     TakenBy (takes r.state Other h.first) s moment h Other r response next
 
--- The record before, if there is one, the settings, the moment and the header, and then the answer and
--- the record after. This is what the crates above know as `LoneStep`, and they don't look inside.
+-- The record before, if there is one, the settings, the arrival time and the header, and then the answer and
+-- the record after. The crates above know this as `LoneStep` and don't look inside.
 abbrev pub Steps : Option Record → Settings → ℕ → Header → Response → Option Record → Type 0
 Steps before s moment h response next = Turn s moment h h.kind (counting s moment before) before response next
 

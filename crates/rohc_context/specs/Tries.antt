@@ -1,4 +1,4 @@
--- Which headers a packet may mean, in the order that they are tried, and the one that is accepted.
+-- Which headers a packet may mean, in the order in which they are tried, and the one that is accepted.
 -- Words: Try, full_tries, static_tries, Fits, Misses, Acceptance, Verdict.
 use Rattle.std.specs.Prelude.{◌≡◌, ◌≢◌, ℕ, ◌*◌, ◌^◌, List, [], ◌∷◌, ◌++◌, ◌⊎◌, Bool, not, ◌&&◌, nat_le, if◌then◌else◌, Option, Some, None, Result, Ok, Err}
 use Rattle.rohc_checks.specs.Division.{poly3, poly7}
@@ -13,15 +13,15 @@ use Rattle.rohc_context.specs.declared.settings.Settings.{Settings}
 use Rattle.rohc_context.specs.Record.{Reference}
 use Rattle.rohc_context.specs.Explains.{Explained, Explains}
 
--- UO-0 and the UO-1 kinds carry a check of 3 bits, the UOR-2 kinds one of 7 (RFC 3095 5.7.1 to 5.7.4).
+-- UO-0 and the UO-1 formats carry a 3-bit check, the UOR-2 formats a 7-bit one (RFC 3095 5.7.1 to 5.7.4).
 abbrev pub has_short_check : FormKind → Bool
 has_short_check kind = not (is_uor2 kind)
 
--- the header's check that a packet of this kind carries
+-- the check of a header that a packet of this format carries
 abbrev pub check_for : FormKind → List ℕ → ℕ
 check_for kind octets = if has_short_check kind then header_check poly3 octets else header_check poly7 octets
 
--- the reference to explain a packet against, and how far its SN is moved on
+-- the reference to decode a packet against, and how far its SN is moved on
 pub record Try : Type 0 where
   pub reference : Reference
   pub shift : ℕ
@@ -29,27 +29,27 @@ pub record Try : Type 0 where
 abbrev pub unshifted : Reference → Try
 unshifted reference = record { reference = reference; shift = 0 }
 
--- The second try takes it that the SN wrapped around once, where enough time passed for it: with k SN bits in
--- the packet, `packet_ms * 2^k` milliseconds or more since the last accepted arrival. It is for short checks
--- alone.
+-- The second try assumes that the SN bits wrapped around once. It is for short checks alone, and only if
+-- enough time has passed: with k SN bits in the packet, `packet_ms * 2^k` milliseconds or more since the last
+-- accepted arrival.
 abbrev pub second_tries : Settings → (passed : ℕ) → Reference → Content → List Try
 second_tries s passed reference c =
     if has_short_check c.kind && nat_le (s.packet_ms * 2 ^ c.sn.count) passed
     then record { reference = reference; shift = 2 ^ c.sn.count } ∷ []
     else []
 
--- the third try takes it that the last packet was accepted wrongly; it is for short checks alone
+-- the third try assumes that the last packet was accepted wrongly; it is for short checks alone
 abbrev pub third_tries : Option Reference → Content → List Try
 third_tries None c = []
 third_tries (Some previous) c = if has_short_check c.kind then unshifted previous ∷ [] else []
 
--- in Full Context
+-- the tries in Full Context
 abbrev pub full_tries : Settings → (passed : ℕ) → Reference → (previous : Option Reference) → Content →
     List Try
 full_tries s passed reference previous c =
     unshifted reference ∷ second_tries s passed reference c ++ third_tries previous c
 
--- in Static Context
+-- the try in Static Context
 abbrev pub static_tries : Reference → List Try
 static_tries reference = unshifted reference ∷ []
 
@@ -58,19 +58,19 @@ pub record Fits (fixed : Static) (t : Try) (c : Content) (h : Explained) : Type 
   pub explained : Explains fixed t.reference t.shift c h
   pub checked : check_for c.kind h.octets ≡ c.check
 
--- or is not
+-- it isn't
 pub record Misses (fixed : Static) (t : Try) (c : Content) : Type 0 where
   pub header : Explained
   pub explained : Explains fixed t.reference t.shift c header
   pub unchecked : check_for c.kind header.octets ≢ c.check
 
--- What is accepted: what the packet says, the reference against which it was explained, and its header.
+-- What is accepted: the packet's content, the reference against which it was decoded, and its header.
 pub record Acceptance : Type 0 where
   pub content : Content
   pub reference : Reference
   pub header : Explained
 
--- the header of the first try that fits; the packet is unfit where there is none
+-- the header of the first try that fits; if none fits, the packet is unfit
 abbrev pub Verdict : Static → Content → List Try → Result Acceptance Fault → Type 0
 Verdict fixed c [] verdict = verdict ≡ Err Unfit
 Verdict fixed c (t ∷ more) verdict =

@@ -1,4 +1,4 @@
--- A packet of kind Other (RFC 3095 5.7.1 to 5.7.5, 5.10.2).
+-- What a packet of kind Other leads to (RFC 3095 5.7.1 to 5.7.5, 5.10.2).
 -- Words: Updates.
 use Rattle.std.specs.Prelude.{◌≡◌, ℕ, ◌-◌, List, [], ◌∷◌, length, Bool, true, false, nat_lt, is_some, Option, Some, None, Result, Ok, Err}
 use Rattle.rohc_frame.specs.Header.{Header}
@@ -22,24 +22,24 @@ use Rattle.rohc_context.specs.Tries.{Try, Acceptance, Verdict, static_tries, ful
 use Rattle.rohc_context.specs.NextReference.{next_reference, next_previous}
 use Rattle.rohc_context.specs.Outcomes.{Takes, Ends}
 
--- what a packet says under a reference's RND, UDP checksum and stride
+-- the content of a packet under a reference's RND, UDP checksum and stride
 abbrev pub said_under : Header → Reference → Result Content FormRefusal
 said_under h reference =
     form_at h reference.moving.rnd reference.carries_sum (is_some reference.moving.stride)
 
--- Where the rebuilt packet would be over 65,535 octets, it is TooLong; else the tries decide.
+-- If the rebuilt packet would be longer than 65,535 octets, the verdict is TooLong; else the tries decide.
 abbrev pub VerdictUnless : (long : Bool) → Static → Content → List Try → Result Acceptance Fault → Type 0
 VerdictUnless true fixed c tries verdict = verdict ≡ Err (Refused TooLong)
 VerdictUnless false fixed c tries verdict = Verdict fixed c tries verdict
 
--- what a packet that is read comes to, or its refusal
+-- the verdict on a packet that was read, or its refusal
 abbrev pub Judges : Static → (Content → List Try) → Result Content FormRefusal → Result Acceptance Fault →
     Type 0
 Judges fixed tries (Err refusal) verdict = verdict ≡ Err (fault_of_form refusal)
 Judges fixed tries (Ok c) verdict =
     VerdictUnless (nat_lt longest_payload (length c.payload)) fixed c (tries c) verdict
 
--- the accepted header is delivered, and the state is this
+-- the accepted header is delivered, and this is the state after it
 abbrev pub Accepts : Settings → (moment : ℕ) → Header → Record → (Acceptance → State) → (Acceptance → Due) →
     Result Acceptance Fault → Response → Option Record → Type 0
 Accepts s moment h r state due (Ok a) response next =
@@ -62,9 +62,9 @@ acknowledged a = Ack (next_reference a).moving.sn
 abbrev pub silent : Acceptance → Due
 silent a = Nothing
 
--- A Normal packet of profile 0x0000 is its octets without the identifier's. In profile 0x0001 the packet is
--- read, the tries say which header it means, and the state goes on. A state that doesn't take it isn't met
--- here.
+-- In profile 0x0000 a Normal packet is delivered without its CID octets. In profile 0x0001 the packet is
+-- read, the tries decide which header it means, and the state is updated. A state that doesn't take the
+-- packet doesn't get here.
 abbrev pub UpdatesBy : Settings → (moment : ℕ) → Header → Record → State → Response → Option Record → Type 0
 UpdatesBy s moment h r Plain response next =
     Takes moment Plain (delivered (h.first ∷ []) h.rest None) response next

@@ -1,21 +1,22 @@
-//! Feedback that is due.
+//! Feedback that is due to the compressor.
 
 use crate::settings::Mode;
 use rohc_feedback::{Element, ack, nack, plain_ack, static_nack};
 use rohc_frame::{CidKind, Forward};
 
-/// What an arrival leads to for the compressor (RFC 3095 5.3.2.2).
+/// The feedback that an arrival makes due (RFC 3095 5.3.2.2).
 #[derive(Clone, Copy, Debug, PartialEq, Eq)]
 pub(crate) enum Due {
     /// Nothing.
     Nothing,
-    /// The packet with this sequence number is acknowledged.
+    /// An ACK for the packet with this sequence number.
     Ack(u16),
-    /// A refresh of the dynamic part is asked for; with the reference's sequence number, if there is one.
+    /// A NACK, which asks for a refresh of the dynamic part, with the reference's sequence number, if
+    /// there is a reference.
     Nack(Option<u16>),
-    /// A refresh of the whole context is asked for.
+    /// A STATIC-NACK, which asks for a refresh of the whole context.
     StaticNack,
-    /// An IR of profile 0x0000 is acknowledged.
+    /// FEEDBACK-1, which acknowledges an IR of profile 0x0000.
     PlainAck,
 }
 
@@ -26,7 +27,7 @@ impl Due {
     ghost use Rattle.rohc_feedback.specs.Element.{octets_of};
     ghost use Rattle.rohc_context.specs.Due.{element_of, sent};
 
-    /// The feedback element for the compressor of this identifier; there is none in U mode.
+    /// The feedback element for the compressor, for the CID of this header. In U mode there is none.
     pub(crate) fn feedback(self, mode: Mode, forward: &Forward<'_>) -> Option<Element>
         ensures { octets_of result ≡ sent mode (header_of forward.now) self }
     {
@@ -36,7 +37,7 @@ impl Due {
         }
     }
 
-    /// The feedback element for an identifier.
+    /// The feedback element for a CID.
     fn element(self, size: CidKind, cid: u16) -> Option<Element>
         requires { cid ≤ greatest_cid size }
         ensures { octets_of result ≡ element_of size cid self }

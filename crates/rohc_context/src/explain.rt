@@ -1,4 +1,4 @@
-//! The header that a packet means against a reference (RFC 3095 4.5, 5.7).
+//! Decompression of a packet of kind Other: the header that it means against a reference (RFC 3095 4.5, 5.7).
 
 ghost use Rattle.std.specs.Prelude.{◌≡◌, ◌≤◌, length, option_map, IfSome};
 ghost use Rattle.std.specs.Option.{ForSome};
@@ -19,18 +19,18 @@ use rohc_forms::{Form, IdBits, Values};
 use rohc_header::{Dynamic, Header, Static};
 use rohc_lsb::{inferred_ts, ip_id, scaled, sn_value, unscaled};
 
-/// A header that a packet means.
+/// A header that a packet means against a reference.
 #[derive(Clone, Copy, Debug)]
 pub(crate) struct Explained {
-    /// Its fields, with RND, NBO and stride as they are in force.
+    /// Its fields, with the RND, NBO and stride in force.
     pub moving: Dynamic,
-    /// Its octets.
+    /// Its 40 octets.
     pub header: Header,
-    /// The registers of the 3-bit and the 7-bit check over its static octets.
+    /// The registers of the 3-bit and the 7-bit check after its static octets.
     pub saved: (u8, u8),
 }
 
-/// The stride in force: the one that is given, else the one that is kept.
+/// The stride in force: the one that is given, else the one that is kept, if any.
 fn stride_of(given: Option<u32>, kept: Option<u32>) -> Option<u32>
     ensures { result ≡ given_stride given kept }
 {
@@ -40,7 +40,7 @@ fn stride_of(given: Option<u32>, kept: Option<u32>) -> Option<u32>
     }
 }
 
-/// The fields in force: those that an extension 3 gives, else the reference's (RFC 3095 5.7.5).
+/// The fields in force: those that an extension 3 gives, and the reference's for all others (RFC 3095 5.7.5).
 fn fields_in_force(kept: &Dynamic, values: Option<Values>) -> Dynamic
     requires { IsGoodDynamic kept.now }
     ensures fields { result ≡ in_force kept.now (option_map values_by values) }
@@ -63,7 +63,8 @@ fn fields_in_force(kept: &Dynamic, values: Option<Values>) -> Dynamic
     }
 }
 
-/// The timestamp that the bits mean, or without bits the steps of the sequence number (RFC 3095 4.5.3).
+/// The timestamp that the bits mean. Without bits it follows from the steps of the sequence number (RFC 3095
+/// 4.5.3).
 fn timestamp(
     reference: u32,
     stride: Option<u32>,
@@ -84,7 +85,7 @@ fn timestamp(
     }
 }
 
-/// The Identification that the packet holds, or that its bits mean (RFC 3095 4.5.5).
+/// The Identification that the packet carries, or that its bits mean against the reference (RFC 3095 4.5.5).
 fn identification(reference: &Dynamic, nbo: bool, said: IdBits, sn: u16) -> u16
     requires some { ForSome (offset_in said) (λ bits. 1 ≤ bits.count) }
     requires narrow { ForSome (offset_in said) (λ bits. bits.count ≤ 16) }
@@ -97,7 +98,7 @@ fn identification(reference: &Dynamic, nbo: bool, said: IdBits, sn: u16) -> u16
     }
 }
 
-/// The fields that the packet means against a reference whose sequence number is moved on by `shift`.
+/// The fields that the packet means against the reference, whose sequence number is moved on by `shift`.
 fn meant(reference: &Reference, shift: u32, form: &Form<'_>) -> Dynamic
     requires shift { shift ≤ 65536 }
     requires good { IsGoodDynamic reference.now.moving }
@@ -117,10 +118,11 @@ fn meant(reference: &Reference, shift: u32, form: &Form<'_>) -> Dynamic
     }
 }
 
-/// The header that the packet means against a reference whose sequence number is moved on by `shift`.
+/// Decodes a packet: the header that it means against the reference, whose sequence number is moved on by
+/// `shift`.
 ///
-/// The payload is at most 65,495 octets, so that a packet holds it. The registers are the reference's where no
-/// extension 3 gives values.
+/// The payload is at most 65,495 octets, so the rebuilt packet isn't too long. Without the values of an
+/// extension 3 the registers are those of the reference.
 pub(crate) fn explain(
     fixed: &Static,
     reference: &Reference,

@@ -27,7 +27,7 @@ impl State {
     ghost use Rattle.rohc_context.specs.Record.{state_of};
     ghost use Rattle.rohc_context.specs.Failures.{takes, leads_to, after_check, after_low_state};
 
-    /// Whether the state takes a packet of this kind, whose header has this first octet.
+    /// Whether this state takes a packet of this kind, with this first octet of its header.
     pub(crate) fn takes(&self, kind: HeadKind, first: u8) -> bool
         ensures { result ≡ takes (state_of self.now) kind first }
     {
@@ -41,7 +41,7 @@ impl State {
         }
     }
 
-    /// The state after a packet whose check doesn't fit, and the feedback that is due.
+    /// The state after a packet whose check doesn't match, and the feedback that is due.
     pub(crate) fn after_check(&self, settings: &Settings, moment: u64) -> (State, Due)
         requires { AreGood settings.now }
         ensures { leads_to (state_of result.0) result.1 ≡ after_check settings.now moment (state_of self.now) }
@@ -53,7 +53,7 @@ impl State {
         }
     }
 
-    /// The state after a packet that it doesn't take, and the feedback that is due.
+    /// The state after a packet that this state doesn't take, and the feedback that is due.
     pub(crate) fn after_low_state(&self, settings: &Settings, moment: u64) -> (State, Due)
         requires { AreGood settings.now }
         ensures { leads_to (state_of result.0) result.1 ≡ after_low_state settings.now moment (state_of self.now) }
@@ -81,7 +81,7 @@ impl StaticContext {
     ghost use Rattle.rohc_context.specs.Record.{reference_of, state_of, StaticContext as Seen};
     ghost use Rattle.rohc_context.specs.Failures.{leads_to, after_check, after_low_state};
 
-    /// This context with other windows.
+    /// The state of this context with these windows in place of its own.
     fn with(&self, first: Window, second: Window) -> State
         ensures { state_of result ≡ Seen self.now.fixed (option_map reference_of self.now.reference) (outcomes first) (outcomes second) }
     {

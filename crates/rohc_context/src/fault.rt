@@ -4,12 +4,12 @@ use crate::refusal::Refusal;
 use rohc_chain::ChainRefusal;
 use rohc_forms::FormRefusal;
 
-/// Why an arrival is not accepted.
+/// Why an arrival is not accepted, and whether that is a failure.
 #[derive(Clone, Copy, Debug, PartialEq, Eq)]
 pub(crate) enum Fault {
-    /// Its check doesn't fit, which counts as a failure of its context.
+    /// Its check doesn't match. That is a failure of the context.
     Unfit,
-    /// It is refused for another reason, and nothing changes.
+    /// It is refused for another reason, and the context stays as it is.
     Refused(Refusal),
 }
 
@@ -17,7 +17,7 @@ impl Fault {
     ghost use Rattle.std.specs.Prelude.{◌≡◌};
     ghost use Rattle.rohc_context.specs.Outcomes.{refusal_of};
 
-    /// The refusal that answers it.
+    /// The refusal that is answered.
     pub(crate) fn refusal(self) -> Refusal
         ensures { result ≡ refusal_of self }
     {
@@ -34,7 +34,7 @@ impl From<ChainRefusal> for Fault {
 
     ghost from_gives = { λ chain fault. fault ≡ fault_of_chain chain };
 
-    /// A refusal of an IR or IR-DYN.
+    /// The fault for a refusal of an IR or IR-DYN.
     fn from(chain: ChainRefusal) -> Fault {
         match chain {
             ChainRefusal::Profile => Fault::Refused(Refusal::Profile),
@@ -60,7 +60,7 @@ impl From<FormRefusal> for Fault {
 
     ghost from_gives = { λ form fault. fault ≡ fault_of_form form };
 
-    /// A refusal of a packet of kind Other.
+    /// The fault for a refusal of a packet of kind Other.
     fn from(form: FormRefusal) -> Fault {
         match form {
             FormRefusal::Truncated => Fault::Refused(Refusal::Truncated),

@@ -1,4 +1,4 @@
-//! Full Context, as an IR or an IR-DYN makes it (RFC 3095 5.7.7).
+//! Full Context, as it begins after an IR or an IR-DYN (RFC 3095 5.7.7).
 
 use crate::due::Due;
 use crate::next::first;
@@ -20,7 +20,8 @@ impl FullContext {
     ghost use Rattle.rohc_context.specs.Response.{response_of};
     ghost use Rattle.rohc_context.specs.Renewal.{Delivers};
 
-    /// The context after an IR or IR-DYN with these fields, and the answer: the packet, acknowledged.
+    /// The state after an IR or IR-DYN with these fields, and the answer: the rebuilt packet, with an
+    /// ACK if the settings send feedback.
     ///
     /// The payload is at most 65,495 octets.
     pub(crate) fn begin<'a>(

@@ -1,4 +1,4 @@
-//! An IR (RFC 3095 5.7.7.1, 5.10.1).
+//! What an IR leads to (RFC 3095 5.7.7.1, 5.10.1).
 
 ghost use Rattle.std.specs.Prelude.{◌≡◌, ℕ, IfOk, IfErr, Ok, Err, Some, option_map};
 ghost use Rattle.rohc_frame.specs.Reading.{header_of};
@@ -22,7 +22,8 @@ use arrayvec::ArrayVec;
 use rohc_chain::{Ir, read_ir};
 use rohc_frame::Forward;
 
-/// The answer to an IR of profile 0x0000 with this IP packet, or without one.
+/// The answer to an IR of profile 0x0000 with this IP packet. If it has no octets, the context is stored
+/// and nothing is delivered.
 fn plain_reply<'a>(settings: &Settings, forward: &Forward<'a>, packet: &'a [u8]) -> Reply<'a>
     ensures { response_of result ≡ plain_answer packet.entry.now (sent settings.now.mode (header_of forward.now) IsPlainAck) }
 {
@@ -34,7 +35,8 @@ fn plain_reply<'a>(settings: &Settings, forward: &Forward<'a>, packet: &'a [u8])
     }
 }
 
-/// The window of Full Context behind an IR, with a success, or an empty one from every other state.
+/// The window of Full Context after an IR: from Full Context its window with one more success, from every
+/// other state an empty one.
 fn full_window(counting: Option<State>) -> Window
     ensures { outcomes result ≡ full_window_of (option_map state_of counting) }
 {
@@ -44,7 +46,8 @@ fn full_window(counting: Option<State>) -> Window
     }
 }
 
-/// The windows of Static Context behind an IR, with a success each, or empty ones from every other state.
+/// The windows of Static Context after an IR: from Static Context its windows with one more success each,
+/// from every other state empty ones.
 fn static_windows(counting: Option<State>) -> (Window, Window)
     ensures { (outcomes result.0, outcomes result.1) ≡ static_windows_of (option_map state_of counting) }
 {
@@ -57,9 +60,10 @@ fn static_windows(counting: Option<State>) -> (Window, Window)
     }
 }
 
-/// The state that an IR leads to from the one that counts, if there is one, and its answer; or its fault.
+/// The state and the answer that an IR leads to, or its fault. `counting` is the state before, if there
+/// is a record and it counts.
 ///
-/// The header is an IR's.
+/// `forward` is the header of an IR.
 pub(crate) fn renewal<'a>(
     settings: &Settings,
     forward: &Forward<'a>,

@@ -1,4 +1,4 @@
-//! An IR-DYN (RFC 3095 5.7.7.2).
+//! What an IR-DYN leads to (RFC 3095 5.7.7.2).
 
 ghost use Rattle.std.specs.Prelude.{◌≡◌, ℕ, false, IfOk, IfErr, Ok, Err, Some, None, option_map};
 ghost use Rattle.std.specs.Option.{ForSome};
@@ -21,9 +21,9 @@ use rohc_chain::{ChainRefusal, read_ir_dyn};
 use rohc_frame::Forward;
 use rohc_header::Static;
 
-/// Why a context of profile 0x0000 refuses an IR-DYN, which says nothing to it.
+/// Why a context of profile 0x0000 refuses an IR-DYN: it takes none.
 ///
-/// The header is an IR-DYN's.
+/// `forward` is the header of an IR-DYN.
 pub(crate) fn plain_refusal(forward: &Forward<'_>) -> ChainRefusal
     requires { IsIrDyn forward.now.kind }
     ensures { dyn_said (header_of forward.now) 0 (false, None) ≡ Err result }
@@ -34,7 +34,8 @@ pub(crate) fn plain_refusal(forward: &Forward<'_>) -> ChainRefusal
     }
 }
 
-/// What an IR-DYN keeps where it doesn't give it: X and the stride of the reference, if there is one.
+/// RTP's X and the stride, which stay if an IR-DYN doesn't give them: those of the reference, or `false`
+/// and none without a reference.
 fn kept(reference: Option<Reference>) -> (bool, Option<u32>)
     ensures { result ≡ kept_by (option_map reference_of reference) }
 {
@@ -44,9 +45,10 @@ fn kept(reference: Option<Reference>) -> (bool, Option<u32>)
     }
 }
 
-/// The state that an IR-DYN leads to in profile 0x0001, with this window, and its answer; or its refusal.
+/// The state and the answer that an IR-DYN leads to in profile 0x0001, with this window of Full Context;
+/// or its refusal.
 ///
-/// The header is an IR-DYN's.
+/// `forward` is the header of an IR-DYN.
 pub(crate) fn refresh<'a>(
     settings: &Settings,
     forward: &Forward<'a>,

@@ -1,8 +1,8 @@
-//! Laws of one step, as contracts of functions that do nothing. The crates above know a step by these.
+//! Laws of one step, as contracts of functions that do nothing. The crates above know a step by these laws alone.
 
 ghost use Rattle.rohc_context.specs.Laws.{HasAnswer, HasNoOther, LeavesGood, BeginsByIr, LeavesNone, NeverPoor, KeepsGood, KeepsRefused, LendsPayload, ChecksChange, LowStatesChange, ComesToOne, MeansOne, TakesPlain, DeliversHonest, PromotesHonest, DeliversWritten, HasWritten};
 
-/// A step from good values has exactly one answer and one record, or none, after it.
+/// A step from good values has exactly one answer, and exactly one record after it, or none.
 pub fn one_answer()
     ensures exists { HasAnswer }
     ensures unique { HasNoOther }
@@ -18,7 +18,7 @@ pub fn begins_by_ir()
     ensures { BeginsByIr }
 {}
 
-/// Without a record, what is refused leaves none.
+/// Without a record, a refused packet leaves none.
 pub fn refusal_leaves_none()
     ensures { LeavesNone }
 {}
@@ -33,50 +33,50 @@ pub fn kept_record()
     ensures { KeepsGood }
 {}
 
-/// What is refused for another reason than `Check` and `StateTooLow` changes nothing.
+/// A refusal other than `Check` and `StateTooLow` changes nothing.
 pub fn refusal_changes_nothing()
     ensures { KeepsRefused }
 {}
 
-/// A packet that is delivered has no more octets behind its head than stood behind the header's first octet and
-/// identifier.
+/// The payload of a delivered packet is at most as long as what followed the header's first octet and CID.
 pub fn payload_is_lent()
     ensures { LendsPayload }
 {}
 
-/// A refusal for a check changes nothing, or the state as a check that doesn't fit does.
+/// A refusal `Check` changes nothing, or leads to the state that follows a failed check.
 pub fn check_changes_the_state()
     ensures { ChecksChange }
 {}
 
-/// A refusal for a state that is too low leaves what a packet that the state doesn't take leads to.
+/// A refusal `StateTooLow` comes from a state that doesn't take the packet, and leads to the state that follows
+/// such a packet.
 pub fn low_state_changes_the_state()
     ensures { LowStatesChange }
 {}
 
-/// The tries of a packet come to one verdict at most: one header, and the reference that it is by.
+/// The tries of a packet come to at most one verdict: one header, and the reference against which it was decoded.
 pub fn one_verdict()
     ensures { ComesToOne }
 {}
 
-/// A packet that is read means exactly one header against a reference and a shift (RFC 3095 4.5).
+/// Against a reference and a shift, a packet that was read means exactly one header (RFC 3095 4.5).
 pub fn one_meaning()
     ensures { MeansOne }
 {}
 
-/// An IR of profile 0x0000 is taken whatever stands, and delivers its IP packet (RFC 3095 5.10.1).
+/// An IR of profile 0x0000 is taken in every state, and delivers its IP packet (RFC 3095 5.10.1).
 pub fn plain_ir_delivered()
     ensures { TakesPlain }
 {}
 
-/// A packet that means a header against the held reference, and carries its check, is delivered as that header. In
-/// Full Context the state stays; from Static Context a UOR-2 kind is acknowledged and leads to Full Context.
+/// A packet that means a header against the held reference, and carries that header's check, is delivered as that
+/// header. In Full Context the state stays. From Static Context a UOR-2 is acknowledged and leads to Full Context.
 pub fn honest_step()
     ensures full { DeliversHonest }
     ensures fixed { PromotesHonest }
 {}
 
-/// A packet that was written against what Full Context holds is delivered as it was written, and Full Context then
+/// A packet that was written against what Full Context holds is delivered as it was written. Full Context then
 /// holds its header as the reference.
 pub fn written_is_delivered()
     ensures delivered { DeliversWritten }

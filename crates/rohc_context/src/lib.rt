@@ -1,6 +1,6 @@
-//! One context: what an arrival answers, and the record that it leaves (RFC 3095 5.3).
+//! One context: the answer to an arrival, and the record after it (RFC 3095 5.3).
 //!
-//! Nothing allocates, and payloads are lent from the arrival.
+//! No function allocates memory; payloads are borrowed from the arrival.
 #![tactic(auto)]
 
 mod due;

@@ -15,7 +15,8 @@ use crate::tries::Accepted;
 use rohc_forms::{Form, FormKind};
 use rohc_header::Dynamic;
 
-/// The reference after an IR or IR-DYN with these fields: whose UDP checksum says whether packets carry one.
+/// The reference after an IR or IR-DYN with these fields. Their UDP checksum says whether later packets carry
+/// one.
 pub(crate) fn first(moving: &Dynamic, saved: (u8, u8)) -> Reference
     ensures reference { reference_of result ≡ first_reference moving.now }
     ensures kept { (fixed : Static) → IsGoodDynamic moving.now → AreRegisters fixed moving.now saved → IsKept fixed result.moving result.saved }
@@ -30,14 +31,14 @@ pub(crate) fn first(moving: &Dynamic, saved: (u8, u8)) -> Reference
     }
 }
 
-/// Whether the values of the packet's extension 3 count for that packet alone: a UO-1-ID's do.
+/// Whether the values of the packet's extension 3 count for this packet alone, as those of a UO-1-ID do.
 fn is_for_one_packet(form: &Form<'_>) -> bool
     ensures { result ≡ counts_once (content form.now) }
 {
     matches!(form.kind, FormKind::Uo1Id) && form.values.is_some()
 }
 
-/// The reference after an accepted packet.
+/// The reference after an accepted packet of kind Other.
 pub(crate) fn next(form: &Form<'_>, accepted: &Accepted) -> Reference
     ensures reference { reference_of result ≡ next_reference (acceptance_of (content form.now) accepted.now) }
     ensures kept { (fixed : Static) → IsSound fixed accepted.now → IsKept fixed result.moving result.saved }
@@ -65,7 +66,7 @@ pub(crate) fn next(form: &Form<'_>, accepted: &Accepted) -> Reference
     }
 }
 
-/// Whether RND, NBO and stride are the same.
+/// Whether RND, NBO and stride are equal.
 fn is_same_numbering(a: &Dynamic, b: &Dynamic) -> bool
     ensures { result ≡ same_numbering a.now b.now }
 {
@@ -82,8 +83,8 @@ fn is_same_stride(a: Option<u32>, b: Option<u32>) -> bool
     }
 }
 
-/// The previous reference after an accepted packet: the one against which it was explained, where RND, NBO and
-/// stride stay as the held reference has them.
+/// The previous reference after an accepted packet: the one against which the packet was decoded, if RND, NBO
+/// and stride stay as the held reference has them.
 pub(crate) fn previous(held: &Reference, next: &Reference, accepted: &Accepted) -> Option<Reference>
     ensures is { ForSome result (λ r. r ≡ accepted.now.reference) }
     ensures reference { option_map reference_of result ≡ kept_previous (reference_of held.now) next.now.moving (reference_of accepted.now.reference) }

@@ -1,4 +1,4 @@
-//! A packet of kind Other in profile 0x0001 (RFC 3095 5.7.1 to 5.7.5).
+//! What a packet of kind Other leads to in profile 0x0001 (RFC 3095 5.7.1 to 5.7.5).
 
 ghost use Rattle.std.specs.Prelude.{◌≡◌, ◌≤◌, List, IfOk, IfErr, Ok, Err, length};
 ghost use Rattle.rohc_frame.specs.Reading.{header_of};
@@ -24,8 +24,8 @@ use rohc_forms::{Form, read_form};
 use rohc_frame::Forward;
 use rohc_header::LONGEST_PAYLOAD;
 
-/// What a packet of kind Other says under a reference's RND, UDP checksum and stride, where a packet can hold its
-/// header and payload; or its fault.
+/// Decodes a packet of kind Other with the reference's RND, UDP checksum and stride. It is a fault if the rebuilt
+/// packet would be too long.
 fn read<'a>(forward: &Forward<'a>, reference: &Reference) -> Result<Form<'a>, Fault>
     requires { IsOther forward.now.kind }
     ensures read { IfOk result (λ form. said_under (header_of forward.now) (reference_of reference.now) ≡ Ok (content form)) }
@@ -45,7 +45,7 @@ fn read<'a>(forward: &Forward<'a>, reference: &Reference) -> Result<Form<'a>, Fa
     Ok(form)
 }
 
-/// The packet with this header.
+/// The rebuilt packet, with this header.
 fn packet<'a>(accepted: &Accepted, form: &Form<'a>) -> Delivered<'a>
     ensures head { result.head.items ≡ accepted.now.header.header.octets }
     ensures payload { result.payload.now ≡ form.now.payload.now }
@@ -67,8 +67,8 @@ impl FullContext {
     ghost use Rattle.rohc_context.specs.Tries.{Acceptance, full_tries};
     ghost use Rattle.rohc_context.specs.Update.{said_under, Judges, updated};
 
-    /// Takes a packet of kind Other, with so many milliseconds since the last accepted arrival: the packet as it was
-    /// before compression, or its fault, and then nothing changes.
+    /// Takes a packet of kind Other, `passed` milliseconds after the last accepted arrival. Returns the rebuilt
+    /// packet. If it returns a fault, this context stays as it was.
     pub(crate) fn update<'a>(
         &mut self,
         settings: &Settings,
@@ -110,8 +110,8 @@ impl StaticContext {
     ghost use Rattle.rohc_context.specs.NextReference.{next_reference};
     ghost use Rattle.rohc_context.specs.Update.{said_under, Judges, promoted};
 
-    /// Takes a packet of kind Other against the reference that is held: the Full Context that it leads to, and the
-    /// packet as it was before compression; or its fault.
+    /// Takes a packet of kind Other against this reference. Returns the Full Context that it leads to and the
+    /// rebuilt packet, or its fault.
     pub(crate) fn promote<'a>(
         &self,
         reference: &Reference,

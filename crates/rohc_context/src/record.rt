@@ -5,10 +5,10 @@ ghost use Rattle.std.specs.Prelude.{◌<◌, ◌^◌};
 use crate::state::State;
 use crate::window::Window;
 
-/// A context: its state, and when its last arrival was accepted.
+/// A context: its state, and the time of its last accepted arrival.
 #[derive(Clone, Copy, Debug, Drop)]
 pub struct Context {
-    /// The moment of the last accepted arrival, in milliseconds.
+    /// The time of the last accepted arrival, in milliseconds.
     pub(crate) accepted: u64,
     pub(crate) state: State,
     ghost in_range: { accepted < 2 ^ 64 },
@@ -20,8 +20,8 @@ impl Context {
     ghost use Rattle.rohc_context.specs.Record.{record_of};
     ghost use Rattle.rohc_context.specs.Lent.{windows_in, Saves};
 
-    /// The windows of recent outcomes, of which the second is empty in Full Context; `None` in No Context and for
-    /// profile 0x0000.
+    /// The windows of recent outcomes, or `None` in No Context and for profile 0x0000. In Full Context the second
+    /// window is empty.
     #[tactic(auto, unfolding(crate::specs::Record::record_of))]
     pub fn windows(&self) -> Option<&(Window, Window)>
         ensures { option_map (λ w. (outcomes w.now.0, outcomes w.now.1)) result ≡ windows_in (record_of self.now).state }
@@ -33,7 +33,8 @@ impl Context {
         }
     }
 
-    /// The registers of the 3-bit and the 7-bit check that are kept with the reference, if there is one.
+    /// The registers of the 3-bit and the 7-bit check after the static octets, which are kept with the reference;
+    /// `None` without a reference.
     #[tactic(auto, unfolding(crate::specs::Record::record_of))]
     pub fn saved(&self) -> Option<&(u8, u8)>
         ensures { Saves (record_of self.now).state (option_map (λ s. s.now) result) }

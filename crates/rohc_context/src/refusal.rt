@@ -1,70 +1,71 @@
-//! The thirty refusals, and their names and numbers.
+//! The thirty refusals, with their names and numbers.
 
 use rohc_frame::FrameRefusal;
 use std::fmt;
 
-/// Why a packet delivers and stores nothing.
+/// Why a packet is refused: it delivers nothing and stores nothing.
 #[derive(Clone, Copy, Debug, PartialEq, Eq)]
 pub enum Refusal {
     /// The packet has no octets.
     Empty,
     /// A feedback element's Size octet or data is cut off.
     FeedbackShort,
-    /// A feedback type octet straight after an Add-CID octet.
+    /// A feedback type octet follows an Add-CID octet.
     AfterAddCid,
     /// Type octet FE or FF.
     Segment,
     /// Type octet F9, FA or FB, or an octet E0 to EF after an Add-CID octet.
     ReservedType,
-    /// An Add-CID octet on a link of large identifiers.
+    /// An Add-CID octet on a link of large CIDs.
     AddCidOnLarge,
-    /// The first octet of a large identifier begins with bits 11.
+    /// The first octet of a large CID starts with the bits 11.
     LargeCid,
-    /// The identifier is above the link's greatest.
+    /// The CID is above the link's greatest.
     CidRange,
-    /// The packet ends after an Add-CID octet, or before a large identifier is complete.
+    /// The packet ends after an Add-CID octet, or before a large CID is complete.
     NoHeader,
-    /// No record of the identifier that counts, and the packet is no IR.
+    /// The CID has no record that counts, and the packet isn't an IR.
     NoContext,
-    /// The Profile octet is neither 00 nor 01, or it is 00 in an IR-DYN or behind type octet FD.
+    /// The Profile octet is neither 00 nor 01, or it is 00 in an IR-DYN or in an IR with a dynamic
+    /// chain (type octet FD).
     Profile,
     /// An IR-DYN with Profile octet 01 for a record of profile 0x0000.
     ProfileChange,
     /// The packet ends inside its header.
     Truncated,
-    /// IP version not 4 in a static chain.
+    /// The IP version in a static chain isn't 4.
     IpVersion,
-    /// Protocol not 17 in a static chain or an extension 3.
+    /// The protocol in a static chain or an extension 3 isn't 17, which is UDP.
     Protocol,
-    /// An extension header list that isn't one octet 00, or flag IPX.
+    /// A list of extension headers isn't one octet 00, or flag IPX is set.
     ExtensionList,
-    /// RTP version not 2.
+    /// The RTP version isn't 2.
     RtpVersion,
-    /// CC not 0, a CSRC list that isn't one octet 00, or flag CSRC.
+    /// CC isn't 0, a CSRC list isn't one octet 00, or flag CSRC is set.
     Csrc,
-    /// A TS_STRIDE of 0.
+    /// TS_STRIDE is 0.
     ZeroStride,
-    /// Mode 3 in a dynamic chain or an extension 3.
+    /// Mode 3, which is the reliable mode, in a dynamic chain or an extension 3.
     ReliableMode,
-    /// Flag ip2.
+    /// Flag ip2: there is an outer IP header.
     OuterHeader,
-    /// Tsc is 1 and no TS_STRIDE is in force.
+    /// Tsc is 1, but no TS_STRIDE is in force.
     NoStride,
-    /// An extension 3 of a UO-1-ID that gives RND 1.
+    /// An extension 3 of a UO-1-ID gives RND 1.
     RndInUo1,
-    /// Flag I while RND in force is 1.
+    /// Flag I is set, but the RND in force is 1, so the Identification would be there twice.
     IpIdTwice,
-    /// Octets after the static chain of an IR with D=0.
+    /// Octets follow the static chain of an IR with D=0.
     Trailing,
-    /// The rebuilt packet of profile 0x0001 would be over 65,535 octets.
+    /// The rebuilt packet of profile 0x0001 would be longer than 65,535 octets.
     TooLong,
     /// The state doesn't take this kind of packet.
     StateTooLow,
-    /// The check doesn't fit.
+    /// The check doesn't match.
     Check,
-    /// No such link.
+    /// There is no such link.
     NoLink,
-    /// No memory for a first record.
+    /// There is no memory for a first record.
     NoMemory,
 }
 
@@ -72,7 +73,7 @@ impl Refusal {
     ghost use Rattle.std.specs.Prelude.{◌≡◌};
     ghost use Rattle.rohc_context.specs.Refusal.{name_of, number_of};
 
-    /// The refusal's name, as answer lines print it.
+    /// The refusal's name, as answer lines show it.
     pub fn name(&self) -> &'static str
         ensures { result.now ≡ name_of self.now }
     {
@@ -155,7 +156,7 @@ impl From<FrameRefusal> for Refusal {
 
     ghost from_gives = { λ framing refusal. refusal ≡ refusal_of_framing framing };
 
-    /// A refusal of framing, under the same name.
+    /// The refusal of framing, under the same name.
     fn from(framing: FrameRefusal) -> Refusal {
         match framing {
             FrameRefusal::Empty => Refusal::Empty,

@@ -1,37 +1,38 @@
-//! What an arrival is answered.
+//! The answer of a context to an arrival.
 
 use crate::refusal::Refusal;
 use arrayvec::ArrayVec;
 use rohc_feedback::Element;
 
-/// A rebuilt packet: the head, followed by the payload as it arrived.
+/// A rebuilt packet: its head, followed by its payload.
 #[derive(Debug, Drop)]
 pub struct Delivered<'a> {
-    /// The first octet of a Normal packet; nothing for an IR of profile 0x0000.
+    /// The rebuilt header of a packet of profile 0x0001; the first octet of a Normal packet; no
+    /// octets for an IR of profile 0x0000.
     pub head: ArrayVec<u8, 40>,
-    /// The octets behind the head, lent from the arrival.
+    /// The octets after the head, borrowed from the arrival.
     pub payload: &'a [u8],
 }
 
-/// What became of an arrival.
+/// The outcome of an arrival.
 #[derive(Clone, Copy, Debug, PartialEq, Eq)]
 pub enum Outcome {
     /// A packet was rebuilt.
     Delivered,
-    /// The context was made or renewed, and there was no packet.
+    /// The context was made or renewed, and no packet was delivered.
     Stored,
-    /// Neither.
+    /// Nothing was delivered or stored.
     Refused(Refusal),
 }
 
-/// The answer to an arrival.
+/// The answer of a context to an arrival.
 #[derive(Debug, Drop)]
 pub struct Reply<'a> {
-    /// The packet that was rebuilt.
+    /// The rebuilt packet, if one was delivered.
     pub packet: Option<Delivered<'a>>,
-    /// The feedback for the compressor.
+    /// The feedback element for the compressor, if one is due.
     pub feedback: Option<Element>,
-    /// What became of the arrival.
+    /// The outcome of the arrival.
     pub outcome: Outcome,
 }
 
@@ -40,7 +41,7 @@ impl<'a> Reply<'a> {
     ghost use Rattle.rohc_feedback.specs.Element.{octets_of};
     ghost use Rattle.rohc_context.specs.Response.{response_of, delivered, stored, failed, refused};
 
-    /// A packet is delivered, with this feedback or none: its head, and the payload behind it.
+    /// The answer that delivers a packet with this head and payload, with this feedback or none.
     pub(crate) fn delivered(
         head: ArrayVec<u8, 40>,
         payload: &'a [u8],
@@ -55,7 +56,7 @@ impl<'a> Reply<'a> {
         }
     }
 
-    /// The context was made or renewed without a packet.
+    /// The answer if the context was made or renewed without a packet, with this feedback or none.
     pub(crate) fn stored(feedback: Option<Element>) -> Self
         ensures { response_of result ≡ stored (octets_of feedback) }
     {
@@ -66,7 +67,7 @@ impl<'a> Reply<'a> {
         }
     }
 
-    /// An arrival is refused, with this feedback or none.
+    /// The answer that refuses an arrival, with this feedback or none.
     pub(crate) fn failed(refusal: Refusal, feedback: Option<Element>) -> Self
         ensures { response_of result ≡ failed refusal (octets_of feedback) }
     {
@@ -77,7 +78,7 @@ impl<'a> Reply<'a> {
         }
     }
 
-    /// The answer to an arrival that is refused: no packet and no feedback.
+    /// The answer that refuses an arrival, without feedback.
     pub fn refused(refusal: Refusal) -> Self
         ensures { response_of result ≡ refused refusal }
     {

@@ -1,40 +1,41 @@
-//! What a link's operator sets.
+//! The settings of a link's contexts.
 
 use rohc_frame::CidKind;
 
-/// The mode of operation (RFC 3095 4.4): whether feedback is sent.
+/// The mode of operation (RFC 3095 4.4), which decides whether feedback is sent.
 #[derive(Clone, Copy, Debug, Default, PartialEq, Eq)]
 pub enum Mode {
     /// Unidirectional: no feedback is sent.
     #[default]
     U,
-    /// Bidirectional optimistic.
+    /// Bidirectional optimistic: feedback is sent.
     O,
 }
 
-/// What holds for the contexts of a link.
+/// The settings of the contexts of a link.
 #[derive(Clone, Copy, Debug, PartialEq, Eq)]
 pub struct Settings {
-    /// How identifiers are spelled.
+    /// Whether CIDs are small or large.
     pub size: CidKind,
-    /// The greatest identifier: at most 15 for small ones, 16,383 for large ones.
+    /// The greatest CID: at most 15 for small CIDs, at most 16,383 for large ones.
     pub max_cid: u16,
-    /// Whether feedback is sent.
+    /// The mode, which decides whether feedback is sent.
     pub mode: Mode,
-    /// How many failures among the last `n1` outcomes lead from Full to Static Context: 1 to `n1`.
+    /// How many failures among the last `n1` outcomes lead from Full to Static Context, or make a
+    /// NACK due in Static Context: 1 to `n1`.
     pub k1: u8,
-    /// At most 64.
+    /// The number of outcomes that `k1` is compared with, at most 64.
     pub n1: u8,
     /// How many failures among the last `n2` outcomes lead from Static to No Context: 1 to `n2`.
     pub k2: u8,
-    /// At most 64.
+    /// The number of outcomes that `k2` is compared with, at most 64.
     pub n2: u8,
-    /// The time between two packets of a sender in milliseconds, 1 to 60,000.
+    /// The time between two packets of a sender, in milliseconds, 1 to 60,000.
     pub packet_ms: u32,
-    /// The least time between two STATIC-NACKs in milliseconds, at most 3,600,000.
+    /// The least time between two STATIC-NACKs, in milliseconds, at most 3,600,000.
     pub static_nack_ms: u32,
-    /// After how many milliseconds without an accepted arrival a record counts as none, at most
-    /// 86,400,000; 0 means never.
+    /// A record counts as none if no arrival was accepted for this many milliseconds. It is at most
+    /// 86,400,000; 0 means that a record always counts.
     pub idle_ms: u32,
 }
 

@@ -1,4 +1,4 @@
-//! What a caller may see of a context: its profile, its state and its moment.
+//! What a caller may see of a context: its profile, its state and the time of its last accepted arrival.
 
 ghost use Rattle.std.specs.Prelude.{◌≡◌};
 ghost use Rattle.rohc_context.specs.Record.{record_of};
@@ -51,7 +51,7 @@ impl Context {
         }
     }
 
-    /// The moment of the last accepted arrival, in milliseconds.
+    /// The time of the last accepted arrival, in milliseconds.
     #[tactic(auto, unfolding(crate::specs::Record::record_of))]
     pub fn accepted(&self) -> u64
         ensures { result ≡ (record_of self.now).accepted }

@@ -10,35 +10,35 @@ use crate::reference::Reference;
 use crate::window::Window;
 use rohc_header::Static;
 
-/// What is known of a context of profile 0x0001 in No Context.
+/// What is kept of a context of profile 0x0001 in No Context.
 #[derive(Clone, Copy, Debug)]
 pub(crate) struct NoContext {
-    /// The moment of the last STATIC-NACK, in milliseconds.
+    /// The time of the last STATIC-NACK, in milliseconds.
     pub nacked: u64,
     ghost in_range: { nacked < 2 ^ 64 },
 }
 
-/// What is known of one in Static Context.
+/// What is kept of a context in Static Context.
 #[derive(Clone, Copy, Debug)]
 pub(crate) struct StaticContext {
     /// The static part.
     pub fixed: Static,
-    /// The reference that a fall from Full Context left, if it was there.
+    /// The reference that Full Context had, if the context fell from there.
     pub reference: Option<Reference>,
-    /// The outcomes that lead to a NACK, and those that lead to No Context.
+    /// The outcomes that make a NACK due, and those that lead to No Context.
     pub windows: (Window, Window),
     ghost good: { IsGoodStatic fixed },
     ghost kept: { ForSome reference (λ r. IsKept fixed r.moving r.saved) } by { Prim.hlevel props },
 }
 
-/// What is known of one in Full Context.
+/// What is kept of a context in Full Context.
 #[derive(Clone, Copy, Debug)]
 pub(crate) struct FullContext {
     /// The static part.
     pub fixed: Static,
-    /// What packets are explained against.
+    /// The reference, against which packets are decoded.
     pub reference: Reference,
-    /// The reference before it, where the last packet left RND, NBO and stride as they were.
+    /// The previous reference, if the last packet left RND, NBO and stride as they were.
     pub previous: Option<Reference>,
     /// The outcomes that lead to Static Context, and an empty window.
     pub windows: (Window, Window),

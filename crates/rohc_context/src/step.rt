@@ -16,7 +16,7 @@ use arrayvec::ArrayVec;
 use rohc_chain::ChainRefusal;
 use rohc_frame::{Forward, HeadKind};
 
-/// A Normal packet of profile 0x0000: its octets without the identifier's (RFC 3095 5.10.2).
+/// A Normal packet of profile 0x0000: the octets of the arrival without the CID octets (RFC 3095 5.10.2).
 fn normal_packet<'a>(forward: &Forward<'a>) -> Delivered<'a>
     ensures head { result.head.items ≡ forward.now.first ∷ [] }
     ensures payload { result.payload.now ≡ forward.now.rest.now }
@@ -45,10 +45,11 @@ impl Context {
     ghost use Rattle.rohc_context.specs.Renewal.{Renews};
     ghost use Rattle.rohc_context.specs.Step.{LoneStep, Turn, counts};
 
-    /// The first arrival for an identifier without a record: an IR makes one, and nothing else does.
+    /// Takes the first arrival for a CID without a record. Returns the record that an IR makes and the answer.
     ///
-    /// The settings are good, and the header is of their size and within their `max_cid`. An `Err` is the
-    /// refusal, and no record is made.
+    /// The settings are good, and the header has their CID kind and a CID of at most `max_cid`. `moment` is the
+    /// arrival time in milliseconds. If the result is an `Err`, the arrival is refused for this reason, and no
+    /// record is made.
     #[tactic(auto, unfolding(crate::specs::Step::LoneStep, crate::specs::Record::record_of))]
     pub fn first<'a>(
         settings: &Settings,
@@ -76,10 +77,11 @@ impl Context {
         }
     }
 
-    /// An arrival for an identifier that has this record, which it changes as it answers; the answer takes the
-    /// place of what `reply` held, since a reply that is returned is copied once a function.
+    /// Takes an arrival for a CID that has this record, and updates the record. The answer overwrites what `reply`
+    /// held; it isn't returned, because each function that passes a returned reply on copies it.
     ///
-    /// The settings are good, and the header is of their size and within their `max_cid`.
+    /// The settings are good, and the header has their CID kind and a CID of at most `max_cid`. `moment` is the
+    /// arrival time in milliseconds.
     pub fn arrive<'a>(
         &mut self,
         settings: &Settings,
@@ -97,7 +99,8 @@ impl Context {
         }
     }
 
-    /// The same without a path of its own for any packet; out of line, so that `arrive` has no room for its reply.
+    /// Takes an arrival as `arrive` does, but without the short path for a UO-0. It is a function of its own so
+    /// that `arrive` keeps no stack space for a second reply.
     #[inline(never)]
     fn answer<'a>(
         &mut self,
@@ -112,7 +115,7 @@ impl Context {
         *reply = self.step(settings, moment, forward);
     }
 
-    /// An arrival of any kind, for a record.
+    /// Takes an arrival of any kind, and returns the answer.
     #[tactic(auto, unfolding(crate::specs::Step::LoneStep))]
     fn step<'a>(&mut self, settings: &Settings, moment: u64, forward: &Forward<'a>) -> Reply<'a>
         requires good { AreGood settings.now }
@@ -127,8 +130,8 @@ impl Context {
         }
     }
 
-    /// Whether the record counts: fewer than `idle_ms` milliseconds passed since its last accepted
-    /// arrival, or there is no such limit.
+    /// Whether the record counts: fewer than `idle_ms` milliseconds have passed since its last accepted arrival,
+    /// or `idle_ms` is 0.
     #[tactic(auto, unfolding(crate::specs::Record::record_of))]
     pub(crate) fn counts(&self, settings: &Settings, moment: u64) -> bool
         ensures { result ≡ counts settings.now moment (record_of self.now) }
@@ -143,7 +146,7 @@ impl Context {
         if counts { Some(self.state) } else { None }
     }
 
-    /// An IR, for a record that counts or doesn't.
+    /// Takes an IR, whether the record counts or not.
     #[tactic(auto, unfolding(crate::specs::Record::record_of))]
     fn renew<'a>(
         &mut self,
@@ -174,7 +177,7 @@ impl Context {
         }
     }
 
-    /// An IR-DYN, for a record that counts.
+    /// Takes an IR-DYN. The record counts.
     #[tactic(auto, unfolding(crate::specs::Record::record_of))]
     fn refresh<'a>(&mut self, settings: &Settings, moment: u64, forward: &Forward<'a>) -> Reply<'a>
         requires kind { IsIrDyn forward.now.kind }
@@ -210,7 +213,7 @@ impl Context {
         }
     }
 
-    /// What an IR-DYN leads to, or its refusal, for a record that counts.
+    /// Applies what an IR-DYN leads to, or its refusal. The record counts.
     #[tactic(auto, unfolding(crate::specs::Record::record_of))]
     fn settle<'a>(
         &mut self,
@@ -235,7 +238,7 @@ impl Context {
         }
     }
 
-    /// A packet of kind Other, for a record that counts.
+    /// Takes a packet of kind Other. The record counts.
     #[tactic(auto, unfolding(crate::specs::Record::record_of))]
     fn update<'a>(&mut self, settings: &Settings, moment: u64, forward: &Forward<'a>) -> Reply<'a>
         requires kind { IsOther forward.now.kind }
@@ -258,7 +261,7 @@ impl Context {
         }
     }
 
-    /// A packet of kind Other in Static Context: a UOR-2 kind is taken against the reference, if there is one.
+    /// Takes a packet of kind Other in Static Context: a UOR-2 against the reference, if there is one.
     #[tactic(auto, unfolding(crate::specs::Record::record_of))]
     fn promote<'a>(&mut self, settings: &Settings, moment: u64, forward: &Forward<'a>) -> Reply<'a>
         requires kind { IsOther forward.now.kind }
@@ -287,7 +290,7 @@ impl Context {
         }
     }
 
-    /// A packet that the state doesn't take.
+    /// Refuses a packet that the state doesn't take.
     #[tactic(auto, unfolding(crate::specs::Record::record_of))]
     fn refuse_low<'a>(
         &mut self,
@@ -304,7 +307,7 @@ impl Context {
         Reply::failed(Refusal::StateTooLow, due.feedback(settings.mode, forward))
     }
 
-    /// A fault of an arrival, for a record that counts.
+    /// Applies a fault of an arrival. The record counts.
     #[tactic(auto, unfolding(crate::specs::Record::record_of))]
     fn end<'a>(
         &mut self,

@@ -23,14 +23,15 @@ const WHOLE_IR: [u8; 42] = [
     0x01, 0x00, 0x00, 0x00, 0xa0, 0x00, 0x09, 0x80, 0xa0, 0xab,
 ];
 
-// The context that a first packet makes.
+// The context after a first packet.
 fn first(packet: &[u8]) -> Option<Context> {
     let forward = cut(CidKind::Small, 15, packet).ok()?.forward?;
     let (context, _reply) = Context::first(&SETTINGS, 0, &forward).ok()?;
     Some(context)
 }
 
-// What a packet is answered: its outcome, the sequence number of the rebuilt header, the feedback's type octet.
+// The answer to a packet: its outcome, the sequence number of the rebuilt header, and the type octet of the
+// feedback.
 fn answer(context: &mut Context, packet: &[u8]) -> Option<(Outcome, Option<u8>, Option<u8>)> {
     let forward = cut(CidKind::Small, 15, packet).ok()?.forward?;
     let mut reply = Reply::refused(Refusal::NoContext);
@@ -82,7 +83,7 @@ fn a_call_falls_and_is_taken_up_again(rt: HostRuntime) {
     }
 }
 
-// In Full Context the second window is empty; the registers are those of the reference's headers.
+// In Full Context the second window is empty. The registers are those of headers with the reference's fields.
 #[test]
 fn what_is_stored_is_lent(rt: HostRuntime) {
     let Some(mut context) = first(&WHOLE_IR) else {
@@ -97,7 +98,7 @@ fn what_is_stored_is_lent(rt: HostRuntime) {
     assert!(rt; context.saved().is_some());
 }
 
-// A plain context has neither.
+// A context of profile 0x0000 has neither.
 #[test]
 fn a_plain_context_lends_nothing(rt: HostRuntime) {
     let Some(context) = first(&[0xfc, 0x00, 0xb7, 0x45, 0xaa]) else {

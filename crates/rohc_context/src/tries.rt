@@ -1,4 +1,4 @@
-//! Which header a packet means: the tries in their order, and the one that fits.
+//! The tries of a packet in their order, and the header of the first that fits.
 
 ghost use Rattle.std.specs.Prelude.{◌≡◌, ◌≤◌, length, IfSome, IfNone};
 ghost use Rattle.rohc_checks.specs.Division.{check, poly3, poly7};
@@ -17,14 +17,14 @@ use crate::state::FullContext;
 use rohc_forms::{Form, FormKind};
 use rohc_header::{Header, Static};
 
-/// A header that was accepted, and the reference against which it was explained.
+/// A header that was accepted, and the reference against which it was decoded.
 #[derive(Clone, Copy, Debug)]
 pub(crate) struct Accepted {
     pub reference: Reference,
     pub header: Explained,
 }
 
-/// Whether packets of this kind carry a check of 3 bits: UO-0 and the UO-1 kinds.
+/// Whether packets of this format carry a 3-bit check: UO-0 and the UO-1 formats.
 fn is_short(kind: FormKind) -> bool
     ensures { result ≡ has_short_check kind }
 {
@@ -34,7 +34,8 @@ fn is_short(kind: FormKind) -> bool
     }
 }
 
-/// The check of a header for packets of this kind, from the registers of its static octets.
+/// The check of a header that packets of this format carry, from the registers of its static
+/// octets.
 fn check_from(header: &Header, saved: (u8, u8), kind: FormKind) -> u8
     requires three { saved.0 ≡ check poly3 (all_ones poly3) (static_octets header.now.octets) }
     requires seven { saved.1 ≡ check poly7 (all_ones poly7) (static_octets header.now.octets) }
@@ -84,7 +85,8 @@ impl FullContext {
     ghost use Rattle.rohc_context.specs.Tries.{Verdict, second_tries, third_tries, full_tries};
     ghost use Rattle.rohc_context.specs.Read.{verdict_of, IsSound};
 
-    /// The third try: against the previous reference.
+    /// The third try: against the previous reference, if there is one and the packet has a 3-bit
+    /// check.
     fn third_try(&self, form: &Form<'_>) -> Option<Accepted>
         requires payload { length form.now.payload.now ≤ longest_payload }
         ensures verdict { Verdict self.now.fixed (content form.now)
@@ -98,7 +100,7 @@ impl FullContext {
         }
     }
 
-    /// The second try, if enough time passed for it, and the third.
+    /// The second try, if enough time has passed for it, and then the third.
     fn later_tries(&self, settings: &Settings, passed: u64, form: &Form<'_>) -> Option<Accepted>
         requires good { AreGood settings.now }
         requires payload { length form.now.payload.now ≤ longest_payload }
@@ -118,7 +120,8 @@ impl FullContext {
         }
     }
 
-    /// The header of the first try that fits.
+    /// The header of the first try that fits. `passed` is the time since the last accepted arrival,
+    /// in milliseconds.
     pub(crate) fn accepted(
         &self,
         settings: &Settings,

@@ -1,5 +1,5 @@
-//! A UO-0 that fits by the first try, as nearly every packet of a call does: the same as for any packet of kind
-//! Other, for less.
+//! A short path for a UO-0 that fits by the first try, as nearly every packet of a call does. It leads to the same
+//! as the path for any packet of kind Other, with less work.
 
 ghost use Rattle.std.specs.Prelude.{◌≡◌, ◌<◌};
 ghost use Rattle.rohc_chain.specs.Good.{IsGoodDynamic};
@@ -18,7 +18,7 @@ use rohc_frame::{Forward, HeadKind};
 use rohc_header::{Dynamic, LONGEST_PAYLOAD, check3_after, put_header};
 use rohc_lsb::{inferred_ts, ip_id, sn_value};
 
-/// The fields that a UO-0 means against a reference (RFC 3095 5.7.1).
+/// The fields that a UO-0 means against a reference, without a shift (RFC 3095 5.7.1).
 fn meant(reference: &Reference, packet: &Uo0<'_>) -> Dynamic
     requires good { IsGoodDynamic reference.now.moving }
     ensures means { Means (reference_of reference.now) 0 (uo0_content reference.now.moving.rnd packet.now) result }
@@ -51,7 +51,8 @@ impl FullContext {
     ghost use Rattle.rohc_context.specs.Tries.{Acceptance, full_tries};
     ghost use Rattle.rohc_context.specs.Update.{said_under, Judges, updated};
 
-    /// Takes a UO-0 that fits by the first try, and says so; else nothing changes.
+    /// Takes a UO-0 that fits by the first try, and returns true. For any other packet it returns false: then the
+    /// context stays as it was, and what `reply` holds means nothing.
     fn take_uo0<'a>(&mut self, forward: &Forward<'a>, reply: &mut Reply<'a>) -> bool
         ensures taken { result ≡ true → (a : Acceptance)
             × ((s : Set) (passed : ℕ) → Judges self.old.fixed (full_tries s passed (reference_of self.old.reference) (option_map reference_of self.old.previous))
@@ -68,7 +69,7 @@ impl FullContext {
             return false;
         }
         let moving = meant(kept, &packet);
-        // The header is written where the answer wants it.
+        // The header is written into the reply in place.
         reply.packet = Some(Delivered {
             head: ArrayVec::new(),
             payload: packet.payload,
@@ -100,8 +101,8 @@ impl Context {
     ghost use Rattle.rohc_context.specs.Response.{response_of};
     ghost use Rattle.rohc_context.specs.Step.{LoneStep};
 
-    /// Takes a UO-0 that fits by the first try, for a record that counts and is in Full Context, and says so; else
-    /// nothing changes.
+    /// Takes a UO-0 that fits by the first try, if the record counts and is in Full Context, and returns true.
+    /// Otherwise it returns false: then the context stays as it was, and what `reply` holds means nothing.
     #[tactic(auto, unfolding(crate::specs::Step::LoneStep, crate::specs::Record::record_of))]
     pub(crate) fn take_uo0<'a>(
         &mut self,

@@ -1,11 +1,11 @@
-//! Windows of recent outcomes: which of the last arrivals failed.
+//! Windows of recent outcomes: which of the last arrivals were failures (RFC 3095 5.3.2.2.3).
 
 ghost use Rattle.std.specs.Prelude.{◌≤◌, ◌<◌, ◌^◌};
 
-/// The outcomes of at most 64 arrivals.
+/// The outcomes of the last arrivals, at most 64.
 #[derive(Clone, Copy, Debug, PartialEq, Eq)]
 pub struct Window {
-    /// A bit for each outcome, the newest lowest, 1 a failure.
+    /// One bit for each outcome, the newest in the lowest bit; 1 is a failure.
     pub word: u64,
     /// How many outcomes there are.
     pub length: u8,
@@ -26,7 +26,7 @@ impl Window {
         Window { word: 0, length: 0 }
     }
 
-    /// This window with one more outcome; the last 64 are kept.
+    /// This window with one more outcome. The last 64 are kept.
     #[tactic(auto, unfolding(crate::specs::Window::outcomes, crate::specs::Window::and_outcome))]
     pub(crate) fn and(self, failure: bool) -> Window
         ensures { outcomes result ≡ and_outcome failure (outcomes self) }

@@ -5,7 +5,7 @@ use Rattle.rohc_feedback.specs.Fields.{spelled}
 use Rattle.rohc_feedback.specs.Element.{crc_option}
 use Rattle.rohc_feedback.proofs.Spelled.{crc_option_is}
 
--- octets, then 11, then the check that begins from that of these and covers one octet more, 00
+-- octets, then 11, then the check, which continues from the check of these over one more octet, 00
 pub with_check : (old opened new covered : List ℕ) (register crc : ℕ) → opened ≡ old ++ 17 ∷ [] → covered ≡ opened → register ≡ check poly8 255 covered → crc ≡ check poly8 register (0 ∷ []) → new ≡ opened ++ crc ∷ [] → crc < 256
     → new ≡ old ++ spelled (crc_option (check poly8 255 (old ++ spelled (crc_option 0))))
 with_check old opened new covered register crc is_opened is_covered is_register is_crc is_new octet =
@@ -24,7 +24,7 @@ with_check old opened new covered register crc is_opened is_covered is_register 
     ∙ ap (λ xs. old ++ xs) (sym (crc_option_is crc))
     ∙ ap (λ n. old ++ spelled (crc_option n)) whole
 
--- The check covers what stands before it in one text, whatever parts that was written in.
+-- The check covers all octets before it, whatever parts they were written in.
 pub in_one : (old middle new front : List ℕ) (whole : ℕ → List ℕ) → middle ≡ old ++ front → ((crc : ℕ) → whole crc ≡ front ++ spelled (crc_option crc))
     → new ≡ middle ++ spelled (crc_option (check poly8 255 (middle ++ spelled (crc_option 0)))) → new ≡ old ++ whole (check poly8 255 (old ++ whole 0))
 in_one old middle new front whole is_middle parts is_new =

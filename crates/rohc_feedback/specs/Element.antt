@@ -9,7 +9,7 @@ use Rattle.rohc_feedback.specs.declared.meaning.Word.{Word}
 use Rattle.rohc_feedback.specs.declared.meaning.Word.TheVariants.{Ack, Nack, StaticNack, Plain}
 use Rattle.rohc_feedback.specs.declared.meaning.Reading.{Reading}
 
--- A feedback element: the type octet, whose code is the size of the data, and the data (RFC 5795 5.2.4.1).
+-- A feedback element: the type octet, whose Code is the size of the data, and the data (RFC 5795 5.2.4.1).
 --
 --   0   1   2   3   4   5   6   7
 -- +---+---+---+---+---+---+---+---+
@@ -32,17 +32,17 @@ element_octets octets = spelled (type_octet (length octets)) ++ octets
 abbrev pub add_cid : ℕ → Fields
 add_cid cid = (Fixed 0b1110, 4) ∷ (Cid cid, 4) ∷ []
 
--- The identifier's octets in front of feedback (RFC 5795 5.2.1.2): on a small link none for 0, else the
--- Add-CID octet; on a large one the shortest spelling, one octet below 128 and two from there on.
+-- The CID octets before feedback (RFC 5795 5.2.1.2). Small CIDs: none for 0, and else the Add-CID octet.
+-- Large CIDs: the shortest encoding, which is one octet below 128 and two from there on.
 abbrev pub identifier_octets : CidKind → ℕ → List ℕ
 identifier_octets Small cid = if cid == 0 then [] else spelled (add_cid cid)
 identifier_octets Large cid = if nat_lt cid 128 then cid ∷ [] else (0x80 + cid / 256) ∷ (cid % 256) ∷ []
 
--- What an element says: an identifier, a word, and a sequence number (SN) or none.
+-- The meaning of an element: a CID, a word, and a sequence number (SN) or none.
 abbrev pub meaning : ℕ → Word → Option ℕ → Reading
 meaning cid word sn = record { cid = cid; word = word; sn = sn }
 
--- Which numbers go with a word: one of 12 bits with an ACK, one or none with a NACK, none with the others.
+-- Which numbers go with a word: with an ACK one of 12 bits, with a NACK one or none, with the others none.
 abbrev pub GoesWith : Word → Option ℕ → Type 0
 GoesWith Ack (Some sn) = sn < 4096
 GoesWith Ack None = ⊥
@@ -51,13 +51,13 @@ GoesWith Nack None = Unit {0}
 GoesWith StaticNack sn = sn ≡ None
 GoesWith Plain sn = sn ≡ None
 
--- What an element of the link can say: the identifier is at most the link's greatest, and the number goes
--- with the word.
+-- The possible meanings of an element of the link: the CID is at most the greatest of its kind, and the
+-- number goes with the word.
 pub record IsMeaning (size : CidKind) (m : Reading) : Type 0 where
   pub within : m.cid ≤ greatest_cid size
   pub number : GoesWith m.word m.sn
 
--- FEEDBACK-2, of Mode O, which is 2, and the options behind it (RFC 3095 5.7.6.1).
+-- FEEDBACK-2 in bidirectional optimistic mode, which is Mode 2, with its options (RFC 3095 5.7.6.1).
 --
 --   0   1   2   3   4   5   6   7
 -- +---+---+---+---+---+---+---+---+
@@ -84,7 +84,7 @@ crc_option crc = (OptType 1, 4) ∷ (OptLength 1, 4) ∷ (Crc crc, 8) ∷ []
 abbrev pub sn_not_valid : Fields → Fields
 sn_not_valid options = (OptType 3, 4) ∷ (OptLength 0, 4) ∷ options
 
--- The CRC option stands last. Without a number SN is 0, and the option SN-NOT-VALID says so.
+-- The CRC option comes last. Without a number SN is 0, and the option SN-NOT-VALID says so.
 abbrev pub acknowledgement : ℕ → Option ℕ → ℕ → List ℕ
 acknowledgement acktype (Some sn) crc = spelled (feedback_2 acktype sn (crc_option crc))
 acknowledgement acktype None crc = spelled (feedback_2 acktype 0 (sn_not_valid (crc_option crc)))
@@ -97,20 +97,20 @@ feedback_octets Nack sn crc = acknowledgement 1 sn crc
 feedback_octets StaticNack sn crc = acknowledgement 2 sn crc
 feedback_octets Plain sn crc = 0x00 ∷ []
 
--- The 8-bit check, begun from all ones, over the identifier's octets and the feedback, in which the check
--- octet itself stands as 00 (RFC 3095 5.7.6.3, 5.9.1).
+-- The 8-bit check, starting from all ones, over the CID octets and the feedback, in which the check octet
+-- itself is 00 (RFC 3095 5.7.6.3, 5.9.1).
 abbrev pub feedback_check : List ℕ → Word → Option ℕ → ℕ
 feedback_check identifier word sn = check poly8 0xff (identifier ++ feedback_octets word sn 0)
 
--- an element's data: the identifier's octets, then the feedback with its check
+-- an element's data: the CID octets, then the feedback with its check
 abbrev pub data_octets : List ℕ → Word → Option ℕ → List ℕ
 data_octets identifier word sn = identifier ++ feedback_octets word sn (feedback_check identifier word sn)
 
--- the element of a link that says this
+-- the element of a link with this meaning
 unfoldable pub octets_of_meaning : CidKind → Reading → List ℕ
 octets_of_meaning size m = element_octets (data_octets (identifier_octets size m.cid) m.word m.sn)
 
--- The four elements. Of a number the low 12 bits are told.
+-- The four elements. They carry the low 12 bits of a sequence number.
 abbrev pub ack_octets : CidKind → ℕ → ℕ → List ℕ
 ack_octets size cid sn = octets_of_meaning size (meaning cid Ack (Some (sn % 4096)))
 
@@ -124,7 +124,7 @@ static_nack_octets size cid = octets_of_meaning size (meaning cid StaticNack Non
 abbrev pub plain_ack_octets : CidKind → ℕ → List ℕ
 plain_ack_octets size cid = octets_of_meaning size (meaning cid Plain None)
 
--- an element's octets, where there is one
+-- an element's octets, if there is an element
 abbrev pub octets_of : Option (ArrayVec ℕ) → Option (List ℕ)
 octets_of None = None
 octets_of (Some e) = Some e.items

@@ -1,10 +1,10 @@
--- Fields of feedback, and the octets that spell them.
+-- Fields of feedback, and the octets that encode them.
 use Rattle.std.specs.Prelude.{ℕ, List, [], ◌∷◌, ◌++◌, Bool}
 use Rattle.rohc_bits.specs.Bits.{bits, number}
 
--- A field's name, and the number in it: the fixed bits that tell octets apart; the code of a feedback
--- element; a small context identifier; the fields of FEEDBACK-2; the type and the length of an option, and
--- the check in the CRC option.
+-- A field's name, and the number in it: fixed bits, by which octets are told apart; the Code of a feedback
+-- element; a small CID; the fields of FEEDBACK-2; the type and the length of an option, and the check in the
+-- CRC option.
 pub data Field : Type 0 where
   Fixed : ℕ → Field
   Code : ℕ → Field
@@ -42,6 +42,6 @@ octets_in (a ∷ b ∷ c ∷ d ∷ e ∷ f ∷ g ∷ h ∷ more) =
     number (a ∷ b ∷ c ∷ d ∷ e ∷ f ∷ g ∷ h ∷ []) ∷ octets_in more
 octets_in fewer = []
 
--- the octets that spell fields
+-- the octets that encode these fields
 unfoldable pub spelled : Fields → List ℕ
 spelled fields = octets_in (bits_in fields)

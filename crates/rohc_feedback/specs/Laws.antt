@@ -4,19 +4,19 @@ use Rattle.rohc_frame.specs.Header.{greatest_cid}
 use Rattle.rohc_feedback.specs.declared.meaning.Reading.{Reading}
 use Rattle.rohc_feedback.specs.Element.{IsMeaning, octets_of_meaning, ack_octets, nack_octets, static_nack_octets, plain_ack_octets}
 
--- two meanings of one link never have the same octets
+-- two meanings on one link never have the same octets
 abbrev pub MeaningsDiffer : Type 0
 MeaningsDiffer = (size : CidKind) (a b : Reading) → IsMeaning size a → IsMeaning size b →
     octets_of_meaning size a ≡ octets_of_meaning size b → a ≡ b
 
--- the text is one that a call writes for this identifier
+-- the text is one that a function writes for this CID
 abbrev pub IsWrittenFor : CidKind → ℕ → List ℕ → Type 0
 IsWrittenFor size cid text =
     ((sn : ℕ) × (text ≡ ack_octets size cid sn)) ⊎
     ((sn : Option ℕ) × (text ≡ nack_octets size cid sn)) ⊎
     (text ≡ static_nack_octets size cid) ⊎ (text ≡ plain_ack_octets size cid)
 
--- the texts that have a meaning are those that the four calls write, for the link's identifiers
+-- the texts that have a meaning are exactly those that the four functions write for the link's CIDs
 abbrev pub MeaningsAreWritten : Type 0
 MeaningsAreWritten = (size : CidKind) (text : List ℕ) →
     ((m : Reading) × IsMeaning size m × (text ≡ octets_of_meaning size m)) ↔

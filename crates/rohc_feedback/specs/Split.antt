@@ -3,23 +3,23 @@ use Rattle.std.specs.Borrow.{Bor}
 use Rattle.rohc_feedback.specs.declared.meaning.Word.{Word}
 use Rattle.rohc_feedback.specs.declared.meaning.Word.TheVariants.{Ack, Nack, StaticNack, Plain}
 
--- feedback begins with an octet below E0, which is no Add-CID octet (RFC 5795 5.2.1.2)
+-- feedback starts with an octet below E0, so it isn't taken for an Add-CID octet (RFC 5795 5.2.1.2)
 abbrev pub BeginsFeedback : List ℕ → Type 0
 BeginsFeedback [] = ⊥
 BeginsFeedback (first ∷ rest) = first < 0xe0
 
--- an identifier and the feedback behind it, which the code lends
+-- a CID and the feedback after it, as the code returns them
 abbrev pub split_in : Option (ℕ × Bor (List ℕ)) → Option (ℕ × List ℕ)
 split_in None = None
 split_in (Some (cid, feedback)) = Some (cid, feedback.now)
 
--- FEEDBACK-2 with a number and without one, by arithmetic on its octets
+-- FEEDBACK-2 with a number and without one, with its octets given as numbers
 abbrev pub acknowledgement_numbers : ℕ → Option ℕ → ℕ → List ℕ
 acknowledgement_numbers acktype (Some sn) crc =
     (acktype * 64 + 2 * 16 + sn / 256) ∷ (sn % 256) ∷ 0x11 ∷ crc ∷ []
 acknowledgement_numbers acktype None crc = (acktype * 64 + 2 * 16) ∷ 0 ∷ 0x30 ∷ 0x11 ∷ crc ∷ []
 
--- and so the feedback for a word
+-- the feedback for a word, in the same way
 abbrev pub feedback_numbers : Word → Option ℕ → ℕ → List ℕ
 feedback_numbers Ack sn crc = acknowledgement_numbers 0 sn crc
 feedback_numbers Nack sn crc = acknowledgement_numbers 1 sn crc

@@ -1,4 +1,4 @@
-//! Whole feedback elements: a type octet and the feedback data.
+//! Writing feedback elements: a type octet and the feedback data (RFC 5795 5.2.4.1).
 
 ghost use Rattle.std.specs.Prelude.{◌≡◌, ◌+◌, ◌<◌, ◌≤◌, [], ◌∷◌, ◌++◌, length};
 ghost use Rattle.std.specs.Option.{ForSome};
@@ -17,28 +17,28 @@ use rohc_frame::CidKind;
 /// A feedback element: its type octet and at most seven octets of data.
 pub type Element = ArrayVec<u8, 8>;
 
-/// The data of an element: the identifier's octets and the feedback.
+/// The data of an element: the CID octets and the feedback.
 type Data = ArrayVec<u8, 7>;
 
-/// Mode O, in which this feedback is sent.
+/// The Mode field: bidirectional optimistic mode, in which this feedback is sent.
 const MODE: u8 = 2;
 
-/// The option that says that the number means nothing (RFC 3095 5.7.6.5).
+/// The SN-NOT-VALID option: the sequence number has no meaning (RFC 3095 5.7.6.5).
 pub(crate) const SN_NOT_VALID: u8 = 0x30;
 
-/// The first octet of the CRC option, whose second is the check (RFC 3095 5.7.6.3).
+/// The first octet of the CRC option; the second is the check (RFC 3095 5.7.6.3).
 pub(crate) const CRC_OPTION: u8 = 0x11;
 
-/// The register that the check begins from (RFC 3095 5.9.1).
+/// The register from which the 8-bit check starts (RFC 3095 5.9.1).
 const ALL_ONES: u8 = 0xff;
 
 /// FEEDBACK-1 of profile 0x0000 (RFC 3095 5.10.4).
 pub(crate) const PLAIN: u8 = 0x00;
 
-/// The element that acknowledges a packet with this sequence number, of which it tells the low 12 bits:
-/// FEEDBACK-2 of Acktype 0 (RFC 3095 5.7.6.1).
+/// Writes an ACK: FEEDBACK-2 of Acktype 0, for a packet with this sequence number, of which it carries
+/// the low 12 bits (RFC 3095 5.7.6.1).
 ///
-/// The identifier is at most 15 on a small link and 16,383 on a large one.
+/// The CID is at most 15 if CIDs are small, and at most 16,383 if they are large.
 pub fn ack(size: CidKind, cid: u16, sn: u16) -> Element
     requires { cid ≤ greatest_cid size }
     ensures { result.items ≡ ack_octets size cid sn }
@@ -53,10 +53,10 @@ pub fn ack(size: CidKind, cid: u16, sn: u16) -> Element
     )
 }
 
-/// The element that asks for a refresh of the context's dynamic part, and tells the low 12 bits of the
-/// last sequence number if there is one: FEEDBACK-2 of Acktype 1 (RFC 3095 5.7.6.1).
+/// Writes a NACK: FEEDBACK-2 of Acktype 1, which asks for a refresh of the dynamic part of the context
+/// (RFC 3095 5.7.6.1). It carries the low 12 bits of the last sequence number, if there is one.
 ///
-/// The identifier is at most 15 on a small link and 16,383 on a large one.
+/// The CID is at most 15 if CIDs are small, and at most 16,383 if they are large.
 pub fn nack(size: CidKind, cid: u16, sn: Option<u16>) -> Element
     requires { cid ≤ greatest_cid size }
     ensures { result.items ≡ nack_octets size cid sn }
@@ -71,10 +71,10 @@ pub fn nack(size: CidKind, cid: u16, sn: Option<u16>) -> Element
     )
 }
 
-/// The element that asks for a refresh of the whole context: FEEDBACK-2 of Acktype 2, without a sequence
-/// number (RFC 3095 5.7.6.1).
+/// Writes a STATIC-NACK: FEEDBACK-2 of Acktype 2, which asks for a refresh of the whole context and
+/// carries no sequence number (RFC 3095 5.7.6.1).
 ///
-/// The identifier is at most 15 on a small link and 16,383 on a large one.
+/// The CID is at most 15 if CIDs are small, and at most 16,383 if they are large.
 pub fn static_nack(size: CidKind, cid: u16) -> Element
     requires { cid ≤ greatest_cid size }
     ensures { result.items ≡ static_nack_octets size cid }
@@ -89,10 +89,9 @@ pub fn static_nack(size: CidKind, cid: u16) -> Element
     )
 }
 
-/// The element that carries FEEDBACK-1 with octet 00: a context of profile 0x0000 was made or renewed
-/// (RFC 3095 5.10.4).
+/// Writes FEEDBACK-1 with octet 00: a context of profile 0x0000 was made or renewed (RFC 3095 5.10.4).
 ///
-/// The identifier is at most 15 on a small link and 16,383 on a large one.
+/// The CID is at most 15 if CIDs are small, and at most 16,383 if they are large.
 pub fn plain_ack(size: CidKind, cid: u16) -> Element
     requires { cid ≤ greatest_cid size }
     ensures { result.items ≡ plain_ack_octets size cid }
@@ -107,7 +106,7 @@ pub fn plain_ack(size: CidKind, cid: u16) -> Element
     )
 }
 
-/// The element that says this.
+/// The element with this meaning.
 #[tactic(auto, unfolding(crate::specs::Element::octets_of_meaning))]
 pub(crate) fn write(size: CidKind, reading: Reading) -> Element
     requires { IsMeaning size reading }
@@ -125,7 +124,7 @@ pub(crate) fn write(size: CidKind, reading: Reading) -> Element
     element(&data)
 }
 
-/// Appends FEEDBACK-2 to the identifier's octets, with the check of both as its last octet.
+/// Appends FEEDBACK-2 to the CID octets, with the CRC option over both at the end.
 fn push_acknowledgement(octets: &mut Data, acktype: u8, sn: Option<u16>)
     requires room { array_vec_len octets.old ≤ 2 }
     requires acktype { acktype < 4 }
@@ -144,7 +143,7 @@ fn push_acknowledgement(octets: &mut Data, acktype: u8, sn: Option<u16>)
     push_check(octets);
 }
 
-/// Appends the Acktype, the Mode and the number.
+/// Appends the Acktype, the Mode and the sequence number.
 fn push_fields(octets: &mut Data, acktype: u8, sn: u16)
     requires room { array_vec_len octets.old ≤ 2 }
     requires acktype { acktype < 4 }
@@ -157,7 +156,8 @@ fn push_fields(octets: &mut Data, acktype: u8, sn: u16)
     octets.push(low);
 }
 
-/// Appends the CRC option: its check covers what stands before it, its first octet, and 00 for itself.
+/// Appends the CRC option. Its check covers the octets before it, its first octet, and 00 for the check
+/// itself.
 fn push_check(octets: &mut Data)
     requires { array_vec_len octets.old ≤ 5 }
     ensures items { octets.new.items ≡ octets.old.items
@@ -181,7 +181,7 @@ fn element(octets: &[u8]) -> Element
     element
 }
 
-/// The identifier's octets in front of feedback.
+/// The CID octets that precede feedback.
 #[tactic(auto, using(crate::proofs::Spelled::add_cid_of))]
 fn identifier(size: CidKind, cid: u16) -> ArrayVec<u8, 4>
     requires { cid ≤ greatest_cid size }

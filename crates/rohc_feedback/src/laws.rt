@@ -7,7 +7,7 @@ pub fn one_meaning()
     ensures { MeaningsDiffer }
 {}
 
-/// The texts that have a meaning are those that the four calls write.
+/// The texts that have a meaning are exactly those that the four functions write.
 pub fn all_written()
     ensures { MeaningsAreWritten }
 {}

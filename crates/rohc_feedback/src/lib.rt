@@ -1,6 +1,6 @@
 //! Feedback for the compressor, written and read (RFC 3095 5.7.6, RFC 5795 5.2.4.1).
 //!
-//! Nothing allocates.
+//! No function allocates memory.
 #![tactic(auto)]
 
 mod element;

@@ -1,4 +1,4 @@
-//! What a whole feedback element says.
+//! Reading feedback elements.
 
 ghost use Rattle.std.specs.Prelude.{◌≡◌, ◌+◌, ◌*◌, ◌%◌, ◌≤◌, ℕ, List, ◌++◌, Option, Some, IfSome};
 ghost use Rattle.rohc_frame.specs.Header.{greatest_cid};
@@ -12,11 +12,12 @@ use crate::meaning::{Reading, Word};
 use rohc_bits::read_value;
 use rohc_frame::CidKind;
 
-/// What a whole element says, its type octet included, or `None` for a text that `ack`, `nack`,
-/// `static_nack` and `plain_ack` never write on such a link (RFC 3095 5.7.6, RFC 5795 5.2.4.1).
+/// The meaning of a whole feedback element, its type octet included (RFC 3095 5.7.6, RFC 5795 5.2.4.1).
+/// Returns `None` for a text that `ack`, `nack`, `static_nack` and `plain_ack` never write on a link of
+/// this CID kind.
 ///
-/// The fields are read first. The size, the spelling of the identifier and the check are right where the
-/// element that says the same is this text.
+/// The fields are read first. The size, the encoding of the CID and the check are right exactly if the
+/// element with the meaning that was read is this text.
 pub fn read(size: CidKind, text: &[u8]) -> Option<Reading>
     ensures meaning { IfSome result (λ r. IsMeaning size r × (text.now ≡ octets_of_meaning size r)) }
     ensures every { (m : Reading) → IsMeaning size m → text.now ≡ octets_of_meaning size m → result ≡ Some m }
@@ -30,7 +31,7 @@ pub fn read(size: CidKind, text: &[u8]) -> Option<Reading>
     }
 }
 
-/// The fields of an element's data, whatever its check is.
+/// The fields of an element's data. The check isn't looked at.
 fn fields(size: CidKind, octets: &[u8]) -> Option<Reading>
     ensures meaning { IfSome result (IsMeaning size) }
     ensures every { (m : Reading) → IsMeaning size m →
@@ -41,7 +42,7 @@ fn fields(size: CidKind, octets: &[u8]) -> Option<Reading>
     Some(Reading { cid, word, sn })
 }
 
-/// The identifier in front of feedback, and the feedback.
+/// The CID before feedback, and the feedback.
 fn split_identifier<'a>(size: CidKind, octets: &'a [u8]) -> Option<(u16, &'a [u8])>
     ensures within { IfSome result (λ split. split.0 ≤ greatest_cid size) }
     ensures every { (cid : ℕ) (feedback : List ℕ) → cid ≤ greatest_cid size → BeginsFeedback feedback →
@@ -62,7 +63,7 @@ fn split_identifier<'a>(size: CidKind, octets: &'a [u8]) -> Option<(u16, &'a [u8
     }
 }
 
-/// The word of feedback, and the number that goes with it.
+/// The kind of feedback, and the sequence number that it carries.
 fn word_in(feedback: &[u8]) -> Option<(Word, Option<u16>)>
     ensures number { IfSome result (λ said. GoesWith said.0 said.1) }
     ensures every { (word : Word) (sn : Option ℕ) (crc : ℕ) → GoesWith word sn →
@@ -78,7 +79,7 @@ fn word_in(feedback: &[u8]) -> Option<(Word, Option<u16>)>
     }
 }
 
-/// The number of 12 bits whose high four bits are the low ones of `high`.
+/// The 12-bit number whose high four bits are the low four of `high`.
 fn number(high: u8, low: u8) -> u16
     ensures { result ≡ high % 16 * 256 + low }
 {

@@ -1,13 +1,13 @@
-//! The elements of the worked examples, each written and read, and texts that are no elements.
+//! The elements of the worked examples, each written and read, and texts that are not elements.
 
 use super::*;
 use arrayvec::ArrayVec;
 use rohc_frame::CidKind;
 use rohc_frame::CidKind::{Large, Small};
 
-/// The elements of the examples *plain call*, *plain call behind Add-CID*, *plain call on a large
-/// identifier*, *whole IR*, *fall to Static*, *fall to No Context*, *wrong repair and ends of types* and
-/// *static first*: the link, the octets and what they say.
+/// The elements of the examples *plain call*, *plain call behind Add-CID*, *plain call on a large identifier*, *whole
+/// IR*, *fall to Static*, *fall to No Context*, *wrong repair and ends of types* and *static first*: the CID kind,
+/// the octets and their meaning.
 const EXAMPLES: [(CidKind, &[u8], (u16, Word, Option<u16>)); 10] = [
     (Small, &[0xf1, 0x00], (0, Word::Plain, None)),
     (Small, &[0xf2, 0xe1, 0x00], (1, Word::Plain, None)),
@@ -102,19 +102,19 @@ fn changed_elements_are_none(rt: HostRuntime) {
 fn other_texts_are_none(rt: HostRuntime) {
     let texts: [(CidKind, &[u8]); 12] = [
         (Small, &[]),
-        // Modes 3 and 1, Acktype 3, an ACK without a number, a STATIC-NACK without its option, and a Size octet, each with
-        // a check that fits.
+        // Modes 3 and 1, Acktype 3, an ACK without a number, a STATIC-NACK without its option, and a Size octet, each
+        // with a check that matches.
         (Small, &[0xf4, 0x30, 0x01, 0x11, 0x34]),
         (Small, &[0xf4, 0x10, 0x01, 0x11, 0x2e]),
         (Small, &[0xf4, 0xe0, 0x01, 0x11, 0x65]),
         (Small, &[0xf5, 0x20, 0x00, 0x30, 0x11, 0x4a]),
         (Small, &[0xf4, 0xa0, 0x00, 0x11, 0x81]),
         (Small, &[0xf0, 0x04, 0x20, 0x01, 0x11, 0x39]),
-        // Data that is no feedback, twice, and an element of a small link on a large one.
+        // Data that isn't feedback, twice, and an element for small CIDs where CIDs are large.
         (Small, &[0xf4, 0x30, 0x00, 0xe1, 0x10]),
         (Small, &[0xf2, 0x20, 0x07]),
         (Large, &[0xf1, 0x00]),
-        // Longer spellings of identifiers 5 and 0 than needed.
+        // Longer encodings of CIDs 5 and 0 than needed.
         (Large, &[0xf3, 0x80, 0x05, 0x00]),
         (Small, &[0xf2, 0xe0, 0x00]),
     ];

@@ -1,4 +1,4 @@
--- Reading a packet goes as far as its fields, and stops at the first fault among them.
+-- Reading a packet leaves the octets that its list of fields leaves, or stops at the same first fault.
 use Rattle.std.proofs.Common.{◌≡◌, ℕ, ◌+◌, ◌*◌, Bool, true, false, List, Option, Some, None, Result, Ok, Err, refl, sym, ap, ◌∙◌}
 use Rattle.std.specs.Prelude.{◌||◌, is_some, IfErr, nat_lt, if◌then◌else◌}
 use Rattle.std.specs.Result.{result_map_both}
@@ -22,7 +22,7 @@ use Rattle.rohc_forms.specs.Packets.{base_at, extension_1_at, extension_2_at, sh
 use Rattle.rohc_forms.specs.Fields.{FormFields, last_fields, ip_fields, rtp_fields, rtp_octet_fields, later_fields, extension_3_fields, extension_fields, behind_base_fields, behind_first, form_fields, fault_in, form_fault}
 use Rattle.rohc_forms.specs.Laws.{RefusesForms}
 
--- Fields and what a reader gives: they go as far.
+-- Lemmas on a reader and its list of fields: both leave the same octets, or give the same first fault.
 octet_if_fields : (named : Bool) (more : FormFields) (text : List ℕ) → after_fields Truncated (if_named named (Octets 1) more) text ≡ (octet_if named text >>= λ x. after_fields Truncated more x.1)
 unfolding octet_if
 octet_if_fields true more text = tied (octet_at text) _ _ _ _ (octet_fields Truncated more text) (λ x. refl)

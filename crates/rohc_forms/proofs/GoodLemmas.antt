@@ -39,7 +39,7 @@ all_left xs ys all = rw take-append_seam at (All-take IsOctet (length xs) (xs ++
 all_right : (xs ys : List ℕ) → All IsOctet (xs ++ ys) → All IsOctet ys
 all_right xs ys all = rw drop-append_seam at (All-drop IsOctet (length xs) (xs ++ ys) all)
 
--- whatever a piece says of octets is so
+-- whatever a piece says of octets has P
 abbrev pub Holds : {A : Type 0} → Piece A → (A → Type 0) → Type 0
 Holds {A} R P = (x : A) (text : List ℕ) → All IsOctet text → R x text → P x
 
@@ -91,7 +91,7 @@ value_good d text all is =
       fits = rw is.1 fits;
     }
 
--- bits of so many and more are bits of fewer and more
+-- bits within narrow bounds are within wider ones
 wider : (least most low high : ℕ) (bits : LowBits) → low ≤ least → most ≤ high → IsBits least most bits → IsBits low high bits
 wider least most low high bits l m is = record { some = omega (arith, is.some); narrow = omega (arith, is.narrow); fits = is.fits }
 

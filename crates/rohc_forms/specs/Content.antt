@@ -8,15 +8,15 @@ use Rattle.rohc_bits.specs.LowBits.{LowBits}
 use Rattle.rohc_forms.specs.Table.{Said}
 use Rattle.rohc_forms.specs.Given.{ValuesSaid}
 
--- The format of a packet, by the RND in force: the first octet begins with 0, 10 or 110; the T bit of UO-1 is
--- bit 5 of the first octet, that of UOR-2 bit 7 of the second.
+-- The format of a packet, by the RND in force. The first octet starts with 0, 10 or 110. The T bit of UO-1 is
+-- bit 5 of the first octet, that of UOR-2 is bit 7 of the second.
 abbrev pub form_kind : Base → Bool → FormKind
 form_kind base rnd =
     if nat_lt base.first 0x80 then Uo0
     else if nat_lt base.first 0xc0 then (if rnd then Uo1 else if bit 5 base.first then Uo1Ts else Uo1Id)
     else (if rnd then Uor2 else if bit 15 base.number then Uor2Ts else Uor2Id)
 
--- What a packet says behind what an extension says, apart from where its payload lies in memory.
+-- The content of a packet up to the end of its extension.
 pub record Head : Type 0 where
   pub kind : FormKind
   pub rnd : Bool
@@ -25,24 +25,24 @@ pub record Head : Type 0 where
   pub marker : Bool
   pub values : Option ValuesSaid
 
--- what is said without an extension 3
+-- the content without an extension 3
 abbrev pub plain_head : FormKind → Bool → Said → Head
 plain_head kind rnd said =
     record { kind = kind; rnd = rnd; said = said; tsc = None; marker = said.marker; values = None }
 
--- What is said of the Identification: nothing, bits of its offset, or the whole.
+-- What is said of the Identification: nothing, bits of its offset, or the whole one.
 pub data IdSaid : Type 0 where
   Same : IdSaid
   Offset : LowBits → IdSaid
   Whole : ℕ → IdSaid
 
--- an Identification that stands in the packet is the whole
+-- an Identification that stands in the packet is the whole one
 abbrev pub id_said : Option ℕ → Option LowBits → IdSaid
 id_said (Some id) bits = Whole id
 id_said None (Some bits) = Offset bits
 id_said None None = Same
 
--- the bits of its offset that are said, and the whole
+-- the bits of its offset, and the whole one
 abbrev pub offset_said : IdSaid → Option LowBits
 offset_said Same = None
 offset_said (Offset bits) = Some bits
@@ -53,17 +53,17 @@ whole_said Same = None
 whole_said (Offset bits) = None
 whole_said (Whole id) = Some id
 
--- the stride that an extension 3 gives, if any
+-- the stride of an extension 3, if it gives one
 abbrev pub stride_given : Option ValuesSaid → Option ℕ
 stride_given None = None
 stride_given (Some values) = values.stride
 
--- bits, where some are said; each format has some of SN
+-- the bits, or none; each format has some bits of SN
 abbrev pub bits_said : Option LowBits → LowBits
 bits_said None = record { count = 0; value = 0 }
 bits_said (Some bits) = bits
 
--- What a packet of kind Other says; RND is the one in force.
+-- The content of a packet of kind Other; `rnd` is the RND in force.
 pub record Content : Type 0 where
   pub kind : FormKind
   pub rnd : Bool
@@ -77,7 +77,8 @@ pub record Content : Type 0 where
   pub check : ℕ
   pub payload : List ℕ
 
--- what is said behind an extension, of the Identification and the UDP checksum, and the payload
+-- the content of a packet, from what its extension ends with, the Identification, the UDP checksum and the
+-- payload
 abbrev pub whole_content : Head → Option ℕ → Option ℕ → List ℕ → Content
 whole_content head id udp_sum payload = record {
   kind = head.kind;

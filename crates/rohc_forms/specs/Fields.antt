@@ -18,7 +18,7 @@ use Rattle.rohc_forms.specs.Content.{form_kind}
 abbrev pub FormFields : Type 0
 FormFields = FieldList FormRefusal
 
--- behind an extension: the Identification, if the RND in force is 1, and the UDP checksum, if packets carry
+-- after an extension: the Identification, if the RND in force is 1, and the UDP checksum, if packets carry
 -- one
 abbrev pub last_fields : Bool → Bool → FormFields
 last_fields rnd udp_sum = if_named rnd (Octets 2) (if_named udp_sum (Octets 2) Payload)
@@ -35,13 +35,14 @@ rtp_fields rtp more =
     if_named rtp.payload_type (Octets 1) (if_named rtp.stride (Value stride_fault)
     (if_named rtp.time_stride (Value any) more))
 
--- the rtp octet and what it names; it says whether there is a stride
+-- the rtp octet and what it announces; the fields after it depend on whether it announces a stride
 abbrev pub rtp_octet_fields : Bool → (Bool → FormFields) → FormFields
 rtp_octet_fields named more =
     if named then Octet rtp_fault (λ octet. rtp_fields (rtp_flags octet) (more (rtp_flags octet).stride)) else
     more false
 
--- S, R-TS, what the ip octet names, I, rtp, and whether a stride is in force if Tsc
+-- what S and R-TS announce, what the ip octet announces, what I and rtp announce, and whether a stride is in
+-- force if Tsc is set
 abbrev pub later_fields : ℕ → Bool → (FormFields → FormFields) → FormFields → FormFields
 later_fields flags stride_known ip more =
     if_named (has S flags) (Octets 1)
@@ -51,8 +52,8 @@ later_fields flags stride_known ip more =
     (rtp_octet_fields (has RTP flags) (λ given. Judged
     (no_stride_fault (has Tsc flags) (stride_known || given)) more)))))
 
--- Behind the first octet of an extension 3: the ip octet, if ip; whether I and RND are both given; the
--- others.
+-- After the first octet of an extension 3: the ip octet, if flag ip is set; whether I and RND are both given;
+-- the other fields.
 abbrev pub extension_3_fields : FormKind → Bool → Bool → Bool → ℕ → FormFields
 extension_3_fields kind rnd udp_sum stride_known flags =
     if has IP flags
@@ -61,7 +62,7 @@ extension_3_fields kind rnd udp_sum stride_known flags =
     else Judged (twice_fault (has I flags) rnd)
     (later_fields flags stride_known (λ more. more) (last_fields rnd udp_sum))
 
--- behind the first octet of an extension
+-- after the first octet of an extension
 abbrev pub extension_fields : FormKind → Bool → Bool → Bool → ℕ → FormFields
 extension_fields kind rnd udp_sum stride_known first =
     if nat_lt first 0xc0
@@ -69,14 +70,14 @@ extension_fields kind rnd udp_sum stride_known first =
     (last_fields rnd udp_sum) else Octets 2 (last_fields rnd udp_sum))
     else extension_3_fields kind rnd udp_sum stride_known first
 
--- behind the octets before an extension; the format says whether there is one
+-- after the octets before an extension; the format decides whether there is one
 abbrev pub behind_base_fields : Bool → Bool → Bool → Base → FormFields
 behind_base_fields rnd udp_sum stride_known base =
     if (base_said (form_kind base rnd) base.number).extended
     then Octet any (extension_fields (form_kind base rnd) rnd udp_sum stride_known)
     else last_fields rnd udp_sum
 
--- behind a packet's first octet, the others before an extension: none, one or two
+-- after a packet's first octet: the other octets before an extension, which are none, one or two
 abbrev pub behind_first : ℕ → (Base → FormFields) → FormFields
 behind_first first more =
     if nat_lt first 0x80 then more (record { first = first; number = first })
@@ -91,7 +92,7 @@ behind_first first more =
           first * 65536 + (second * 256 + third);
     })))
 
--- Behind the first octet of a packet.
+-- After the first octet of a packet.
 abbrev pub form_fields : ℕ → Bool → Bool → Bool → FormFields
 form_fields first rnd udp_sum stride_known = behind_first first (behind_base_fields rnd udp_sum stride_known)
 

@@ -1,4 +1,4 @@
--- The format of a packet is the one that its octets fit.
+-- Each packet has the format that its octets fit.
 use Rattle.std.specs.Prelude.{◌≡◌, ℕ, ◌+◌, ◌*◌, ◌/◌, ◌<◌, ◌↔◌, List, [], ◌∷◌, take, Bool, true, ◌==◌, ◌&&◌, not, nat_lt, fold, if◌then◌else◌}
 use Rattle.rohc_forms.specs.declared.form.FormKind.{FormKind}
 use Rattle.rohc_forms.specs.declared.form.FormKind.TheVariants.{Uo0, Uo1, Uo1Id, Uo1Ts, Uor2, Uor2Id, Uor2Ts}
@@ -7,7 +7,7 @@ use Rattle.rohc_forms.specs.Octets.{slice}
 use Rattle.rohc_forms.specs.Table.{Field, Fixed, Sn, Ts, Id, Marker, Extended, Check, Layout, layout, layout_0, layout_1, layout_2, short_layout, width}
 use Rattle.rohc_forms.specs.Content.{form_kind}
 
--- the number that a field has in each packet of the format, where it has one, is the one that is found
+-- if a format fixes the number in a field, it is the one that is found
 abbrev pub is_found : Field → ℕ → Bool
 is_found (Fixed n) found = found == n
 is_found Sn found = true
@@ -17,12 +17,12 @@ is_found Marker found = true
 is_found Extended found = true
 is_found Check found = true
 
--- a number has the bits that each number under this format has
+-- the bits of a number that the format fixes are there
 abbrev pub fits : Layout → ℕ → Bool
 fits [] n = true
 fits ((field, bits) ∷ more) n = is_found field (slice n (width more) bits).value && fits more n
 
--- the RND under which a format stands; UO-0 stands under both
+-- the RND under which a format is used; UO-0 is used under both
 abbrev pub is_under : Bool → FormKind → Bool
 is_under rnd Uo0 = true
 is_under rnd Uo1 = rnd
@@ -36,15 +36,15 @@ is_under rnd Uor2Ts = not rnd
 abbrev pub number_of : List ℕ → ℕ
 number_of octets = fold (λ n octet. n * 256 + octet) 0 octets
 
--- octets begin with as many as a format has, which fit it
+-- the octets start with as many octets as a format has, and those fit it
 abbrev pub begin_with : Layout → List ℕ → Bool
 begin_with l octets = fits l (number_of (take (width l / 8) octets))
 
--- the first octets of a packet fit a format that stands under this RND
+-- the first octets of a packet fit a format that is used under this RND
 abbrev pub has_format : FormKind → Bool → List ℕ → Bool
 has_format kind rnd octets = is_under rnd kind && begin_with (layout kind) octets
 
--- the octets before an extension, of three
+-- the octets before an extension, from the first three octets
 abbrev pub base_of : ℕ → ℕ → ℕ → Base
 base_of a b c =
     record {
@@ -53,12 +53,12 @@ base_of a b c =
           if nat_lt a 0x80 then a else if nat_lt a 0xc0 then a * 256 + b else a * 65536 + (b * 256 + c);
     }
 
--- Of a packet whose first octet is below E0 exactly one format fits: the one that is read.
+-- Exactly one format fits a packet whose first octet is below E0: the one that is read.
 abbrev pub FitsOne : Type 0
 FitsOne = (rnd : Bool) (a b c : ℕ) → a < 0xe0 → b < 256 → c < 256 → (kind : FormKind) →
     (has_format kind rnd (a ∷ b ∷ c ∷ []) ≡ true) ↔ (kind ≡ form_kind (base_of a b c) rnd)
 
--- Of an extension whose first octet is below C0 exactly one of the formats 0, 1 and 2 fits: the one that is
+-- Exactly one of the formats 0, 1 and 2 fits an extension whose first octet is below C0: the one that is
 -- read.
 abbrev pub FitsOneExtension : Type 0
 FitsOneExtension = (kind : FormKind) (a b c : ℕ) → a < 0xc0 → b < 256 → c < 256 →

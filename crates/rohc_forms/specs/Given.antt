@@ -5,7 +5,7 @@ use Rattle.rohc_forms.specs.declared.parts.IpGiven.{IpGiven}
 use Rattle.rohc_forms.specs.declared.parts.RtpFlags.{RtpFlags}
 use Rattle.rohc_forms.specs.Table.{Said, TOS, TTL, DF, PR, NBO, RND, R-PT, M, R-X, TSS, TIS, P, PT, number_in, has}
 
--- What an extension 3 gives; what is none stays.
+-- What an extension 3 gives. A value that is `None` stays.
 pub record ValuesSaid : Type 0 where
   pub tos : Option ℕ
   pub ttl : Option ℕ
@@ -17,7 +17,7 @@ pub record ValuesSaid : Type 0 where
   pub rnd : Option Bool
   pub extension : Option Bool
 
--- What it gives of RTP, where it has an rtp octet.
+-- What it gives of RTP, if it has an rtp octet.
 pub record RtpSaid : Type 0 where
   pub marker : Bool
   pub extension : Bool
@@ -38,12 +38,12 @@ ip_flags octet =
       rnd = has RND octet;
     }
 
--- the RND in force: the one that is given, else the one that is kept
+-- the RND in force: the extension's, if it gives one, else the context's
 abbrev pub rnd_in_force : Bool → Option IpFlags → Bool
 rnd_in_force kept None = kept
 rnd_in_force kept (Some ip) = ip.rnd
 
--- an offset of 16 bits stands in place of those that are said already
+-- an offset of 16 bits replaces the bits that were said before
 abbrev pub with_offset : ℕ → Said → Said
 with_offset offset s =
     record {
@@ -72,7 +72,7 @@ rtp_flags octet =
       time_stride = has TIS octet;
     }
 
--- the octet of P and PT
+-- the padding flag and the payload type, in the octet that R-PT announces
 abbrev pub padding_in : Option ℕ → Option Bool
 padding_in None = None
 padding_in (Some octet) = Some (has P octet)
@@ -124,12 +124,12 @@ rtp_values (Some rtp) =
       extension = Some rtp.extension;
     }
 
--- the marker of the rtp octet alone, where there is one
+-- the marker: that of the rtp octet if there is one, else that of the base octets
 abbrev pub marker_in : Bool → Option RtpSaid → Bool
 marker_in base None = base
 marker_in base (Some rtp) = rtp.marker
 
--- What an extension 3 says behind its first octets.
+-- The content of an extension 3 after its first octets.
 pub record Extended3 : Type 0 where
   pub said : Said
   pub marker : Bool

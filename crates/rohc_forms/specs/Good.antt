@@ -6,21 +6,21 @@ use Rattle.rohc_forms.specs.Given.{ValuesSaid}
 use Rattle.rohc_forms.specs.Kinds.{is_uor2, check_width}
 use Rattle.rohc_forms.specs.Content.{Content, offset_said, whole_said, stride_given}
 
--- From so many bits to so many, and the number that they spell.
+-- At least this many bits and at most that many, and the number that they stand for.
 pub record IsBits (least most : ℕ) (bits : LowBits) : Type 0 where
   pub some : least ≤ bits.count
   pub narrow : bits.count ≤ most
   pub fits : bits.value < 2 ^ bits.count
 
--- What an extension 3 gives.
+-- The values of an extension 3.
 pub record IsGoodValues (values : ValuesSaid) : Type 0 where
   pub tos : IfSome values.tos (λ tos. tos < 256)
   pub ttl : IfSome values.ttl (λ ttl. ttl < 256)
   pub payload_type : IfSome values.payload_type (λ payload_type. payload_type < 128)
   pub stride : IfSome values.stride (λ stride. (1 ≤ stride) × (stride ≤ 536870911))
 
--- What a packet with this first octet says, where packets carry the UDP checksum or don't, and a stride of
--- timestamps is known or isn't.
+-- The content of a packet with this first octet. `udp_sum` says whether packets carry the UDP checksum,
+-- `stride_known` whether a stride is known.
 pub record IsGoodContent (first : ℕ) (udp_sum stride_known : Bool) (c : Content) : Type 0 where
   pub kind : (is_uor2 c.kind ≡ true) ↔ (0xc0 ≤ first)
   pub sn : IsBits 1 16 c.sn

@@ -1,4 +1,4 @@
--- Words of a packet's format and of what it says of the Identification.
+-- Properties of a packet's format, and of what it says of the Identification.
 use Rattle.std.specs.Prelude.{ℕ, if◌then◌else◌, Bool, true, false, Option, Some, None}
 use Rattle.rohc_bits.specs.declared.bits.Bits.{Bits}
 use Rattle.rohc_forms.specs.declared.form.FormKind.{FormKind}
@@ -20,7 +20,7 @@ is_uor2 Uor2Ts = true
 abbrev pub check_width : FormKind → ℕ
 check_width kind = if is_uor2 kind then 7 else 3
 
--- the Identification stands in the packet
+-- the whole Identification stands in the packet
 abbrev pub is_whole : IdBits → Bool
 is_whole Same = false
 is_whole (Offset bits) = false

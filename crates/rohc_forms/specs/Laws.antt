@@ -10,38 +10,38 @@ use Rattle.rohc_forms.specs.Formats.{base_of}
 use Rattle.rohc_forms.specs.Table.{Part, Prefix, Extension3Octet, parts, size, place, number_in}
 use Rattle.rohc_forms.specs.Good.{IsGoodContent}
 
--- a packet is refused exactly where that is the first fault among its fields
+-- a packet is refused exactly if that is the first fault among its fields
 abbrev pub RefusesForms : Type 0
 RefusesForms = (h : Header) (rnd udp_sum stride_known : Bool) (refusal : FormRefusal) →
     (form_at h rnd udp_sum stride_known ≡ Err refusal) ↔
     (form_fault h rnd udp_sum stride_known ≡ Some refusal)
 
--- a packet is read exactly where its octets say what is read
+-- a packet is read exactly if its octets say what is read
 abbrev pub ReadsForms : Type 0
 ReadsForms = (h : Header) (rnd udp_sum stride_known : Bool) (c : Content) →
     (form_at h rnd udp_sum stride_known ≡ Ok c) ↔ IsForm h rnd udp_sum stride_known c
 
--- they say one thing at most
+-- they say at most one thing
 abbrev pub SaysOne : Type 0
 SaysOne = (h : Header) (rnd udp_sum stride_known : Bool) (a b : Content) →
     IsForm h rnd udp_sum stride_known a → IsForm h rnd udp_sum stride_known b → a ≡ b
 
--- what octets say lies in its ranges
+-- what octets say is in range
 abbrev pub SaysGood : Type 0
 SaysGood = (h : Header) (rnd udp_sum stride_known : Bool) (c : Content) → All IsOctet h.rest →
     IsForm h rnd udp_sum stride_known c → IsGoodContent h.first udp_sum stride_known c
 
--- the octets before an extension, of three, are as many as the format that is read has bits for
+-- of three octets, exactly as many are read before an extension as the format that is read has
 abbrev pub CountsOctets : Type 0
 CountsOctets = (rnd : Bool) (a b c : ℕ) →
     (octets : List ℕ) × (behind : List ℕ) × (b ∷ c ∷ [] ≡ octets ++ behind)
     × IsBase a rnd (base_of a b c) octets
 
--- an octet begins an extension 3 exactly where its prefix is 11
+-- an octet starts an extension 3 exactly if its prefix is 11
 abbrev pub BeginsWith11 : Type 0
 BeginsWith11 = (first : ℕ) → first < 256 → (0xc0 ≤ first) ↔ (number_in Prefix first ≡ 3)
 
--- how many bits these parts have
+-- how many bits these parts have in all
 abbrev pub bits_of : List Part → ℕ
 bits_of [] = 0
 bits_of (part ∷ more) = size part + bits_of more
@@ -50,7 +50,7 @@ bits_of (part ∷ more) = size part + bits_of more
 abbrev pub HaveEightBits : Type 0
 HaveEightBits = (octet : Extension3Octet) → bits_of (parts octet) ≡ 8
 
--- and each part stands in one of them, before as many bits as its place says
+-- each part stands in one of these octets, followed by as many bits as its place says
 abbrev pub StandInPlace : Type 0
 StandInPlace = (part : Part) → (octet : Extension3Octet) × (before : List Part) × (behind : List Part) ×
     (parts octet ≡ before ++ part ∷ behind) × (place part ≡ bits_of behind)

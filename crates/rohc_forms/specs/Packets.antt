@@ -1,5 +1,4 @@
--- Whole packets of kind Other (RFC 3095 5.7.1 to 5.7.5), read from left to right, with the first fault that
--- is met.
+-- Whole packets of kind Other (RFC 3095 5.7.1 to 5.7.5), read from left to right up to the first fault.
 use Rattle.std.specs.Prelude.{ℕ, ◌+◌, ◌*◌, List, Bool, false, nat_lt, if◌then◌else◌, Option, Some, None, option_map, Result, Ok}
 use Rattle.rohc_bits.specs.Reading.{◌>>=◌, judged}
 use Rattle.rohc_frame.specs.Header.{Header}
@@ -25,7 +24,7 @@ use Rattle.rohc_forms.specs.Given.{RtpSaid, ValuesSaid, rnd_in_force, Extended3}
 use Rattle.rohc_forms.specs.Content.{Content, Head, IdSaid, Offset, Same, Whole, id_said, form_kind, plain_head, whole_content}
 use Rattle.rohc_forms.specs.Extension.{ip_octet_at, behind_ip_octet}
 
--- what a reader's fields say
+-- the fields of the code as plain data
 abbrev pub said_by : Fields → Said
 said_by f =
     record {
@@ -38,7 +37,7 @@ said_by f =
       check = f.check;
     }
 
--- what is given of RTP, and all that is given
+-- what is given of RTP, and all values that are given, as plain data
 abbrev pub rtp_by : RtpGiven → RtpSaid
 rtp_by g = record {
   marker = g.marker;
@@ -62,7 +61,7 @@ values_by v = record {
   extension = v.extension;
 }
 
--- the stride that is given, if any
+-- the stride that is given, if one is
 abbrev pub stride_in : Option Values → Option ℕ
 stride_in None = None
 stride_in (Some v) = v.stride
@@ -70,8 +69,8 @@ stride_in (Some v) = v.stride
 abbrev pub extended_by : parts.Extension3 → Extended3
 extended_by e = record { said = said_by e.fields; marker = e.marker; values = values_by e.values }
 
--- The octets before an extension, as one number, most significant first; the first octet tells how many they
--- are.
+-- The octets before an extension, as one number, most significant octet first. The first octet decides how
+-- many they are.
 unfoldable pub base_at : ℕ → List ℕ → Result (Base × List ℕ) FormRefusal
 base_at first text =
     if nat_lt first 0x80 then Ok (record { first = first; number = first }, text)
@@ -97,7 +96,7 @@ head_by h =
           option_map values_by h.values;
     }
 
--- extensions 1 and 2, behind their first octet
+-- extensions 1 and 2, after their first octet
 unfoldable pub extension_1_at : FormKind → ℕ → Said → List ℕ → Result (Said × List ℕ) FormRefusal
 extension_1_at kind first said text =
     octet_at text >>= λ x. Ok (under (layout_1 kind) (first * 256 + x.0) said, x.1)
@@ -106,14 +105,14 @@ unfoldable pub extension_2_at : FormKind → ℕ → Said → List ℕ → Resul
 extension_2_at kind first said text =
     word_at text >>= λ x. Ok (under (layout_2 kind) (first * 65536 + x.0) said, x.1)
 
--- an extension 0, 1 or 2, whose first octet begins with 00, 01 or 10
+-- an extension 0, 1 or 2, whose first octet starts with 00, 01 or 10
 unfoldable pub short_extension_at : FormKind → ℕ → Said → List ℕ → Result (Said × List ℕ) FormRefusal
 short_extension_at kind first said text =
     if nat_lt first 0x40 then Ok (under (layout_0 kind) first said, text)
     else if nat_lt first 0x80 then extension_1_at kind first said text
     else extension_2_at kind first said text
 
--- An extension 3, whose first octet begins with 11: the RND in force decides the format of the octets before
+-- An extension 3, whose first octet starts with 11. The RND in force decides the format of the octets before
 -- it.
 unfoldable pub extension_3_at : Base → Bool → Bool → ℕ → List ℕ → Result (Head × List ℕ) FormRefusal
 extension_3_at base kept_rnd stride_known flags text = do
@@ -135,7 +134,7 @@ extension_3_at base kept_rnd stride_known flags text = do
     text,
   )
 
--- what stands behind the first octet of an extension
+-- what follows the first octet of an extension
 unfoldable pub extension_at : Base → Bool → Bool → ℕ → List ℕ → Result (Head × List ℕ) FormRefusal
 extension_at base rnd stride_known first text =
     if nat_lt first 0xc0
@@ -143,7 +142,7 @@ extension_at base rnd stride_known first text =
     λ x. Ok (plain_head (form_kind base rnd) rnd x.0, x.1))
     else extension_3_at base rnd stride_known first text
 
--- behind the octets before an extension: the extension, if X
+-- after the octets before an extension: the extension, if X is set
 abbrev pub behind_base : Base → Bool → Bool → List ℕ → Result (Head × List ℕ) FormRefusal
 behind_base base rnd stride_known text =
     if (base_said (form_kind base rnd) base.number).extended
@@ -174,8 +173,8 @@ content f = record {
   payload = f.payload.now;
 }
 
--- What a packet says, or its first fault: behind its extension come the Identification, if the RND in force
--- is 1, the UDP checksum, if packets carry one, and the payload.
+-- The content of a packet, or its first fault. After its extension come the Identification, if the RND in
+-- force is 1, the UDP checksum, if packets carry one, and the payload.
 unfoldable pub form_at : Header → Bool → Bool → Bool → Result Content FormRefusal
 form_at h rnd udp_sum stride_known = do
   (head, text) ← head_at h.first rnd stride_known h.rest
@@ -183,7 +182,7 @@ form_at h rnd udp_sum stride_known = do
   (sum, text) ← word_if udp_sum text
   Ok (whole_content head id sum text)
 
--- what a UO-0 says under this RND
+-- the content of a UO-0 under this RND
 abbrev pub uo0_content : Bool → form_uo0.Uo0 → Content
 uo0_content rnd p = record {
   kind = kinds.Uo0;

@@ -1,5 +1,5 @@
--- What the octets of a packet say (RFC 3095 5.7.1 to 5.7.5): its pieces stand one behind the other, and of
--- the octets before an extension, and of extensions 0 to 2, each field says its bits under the format.
+-- What the octets of a packet say (RFC 3095 5.7.1 to 5.7.5). Its pieces stand one after the other. In the
+-- octets before an extension, and in extensions 0 to 2, each field says its bits under the format.
 use Rattle.std.specs.Prelude.{◌≡◌, ℕ, ◌*◌, List, ◌∷◌, length, Bool, ◌||◌, is_some, nat_lt, Option, Some, None, option_map}
 use Rattle.rohc_frame.specs.Header.{Header}
 use Rattle.rohc_forms.specs.declared.form.FormKind.{FormKind}
@@ -15,23 +15,23 @@ use Rattle.rohc_forms.specs.Given.{RtpSaid, ip_flags, rnd_in_force, with_offset_
 use Rattle.rohc_forms.specs.Content.{Head, Content, form_kind, plain_head, whole_content}
 use Rattle.rohc_forms.specs.Pieces.{IsOneOctet, IsWord, IsValue, NoMore, Then, IfNamed, Which, As, NotRefused, Unless}
 
--- The octets behind a first one say their fields under a format, behind what is said already.
+-- These octets, with the first one, say their fields under a format, after what is said already.
 abbrev pub IsUnder : Layout → ℕ → Said → Said → List ℕ → Type 0
 IsUnder l first before after text = (length (first ∷ text) * 8 ≡ width l)
     × (after ≡ under l (number_of (first ∷ text)) before)
 
--- The octets before an extension are as many as their format has bits for, and one number.
+-- The octets before an extension have as many bits as their format, and are one number.
 abbrev pub IsBase : ℕ → Bool → Base → List ℕ → Type 0
 IsBase first rnd base text =
     (length (first ∷ text) * 8 ≡ width (layout (form_kind base rnd)))
     × (base ≡ record { first = first; number = number_of (first ∷ text) })
 
--- eight more bits of SN, if S
+-- eight more bits of SN, if S is set
 abbrev pub with_sn : Said → Option ℕ → Said
 with_sn said None = said
 with_sn said (Some octet) = and_said Sn (record { count = 8; value = octet }) said
 
--- more bits of TS, if R-TS
+-- more bits of TS, if R-TS is set
 abbrev pub with_ts : Said → Option LowBits → Said
 with_ts said None = said
 with_ts said (Some value) = and_said Ts value said
@@ -39,14 +39,14 @@ with_ts said (Some value) = and_said Ts value said
 abbrev pub and_offset : Said → Option ℕ → Said
 and_offset said offset = with_offset_if offset said
 
--- the ip octet, if ip
+-- the ip octet, if flag ip is set
 abbrev pub IsIpOctet : Bool → FormKind → Option IpFlags → List ℕ → Type 0
 IsIpOctet named kind = As (option_map ip_flags) (IfNamed named (NotRefused (ip_fault kind) IsOneOctet))
 
 abbrev pub IsProtocol : Bool → Unit {0} → List ℕ → Type 0
 IsProtocol named = As (λ _. tt) (IfNamed named (NotRefused protocol_fault IsOneOctet))
 
--- what the ip octet names: TOS, TTL, protocol
+-- what the ip octet announces: TOS, TTL, protocol
 abbrev pub IsIpGiven : Option IpFlags → Option IpGiven → List ℕ → Type 0
 IsIpGiven None = NoMore None
 IsIpGiven (Some ip) =
@@ -55,7 +55,7 @@ IsIpGiven (Some ip) =
     Then (IsProtocol ip.protocol) (λ _.
     NoMore (Some (record { tos = tos; ttl = ttl; df = ip.df; nbo = ip.nbo; rnd = ip.rnd })))))
 
--- the number of a value's bits doesn't matter to a stride
+-- for a stride it doesn't matter how many bits its encoding has
 abbrev pub stride_of : Option LowBits → Option ℕ
 stride_of None = None
 stride_of (Some d) = Some d.value
@@ -63,11 +63,11 @@ stride_of (Some d) = Some d.value
 abbrev pub IsStride : Bool → Option ℕ → List ℕ → Type 0
 IsStride named = As stride_of (IfNamed named (NotRefused (λ d. stride_fault d.value) IsValue))
 
--- a stride of time says nothing
+-- TIME_STRIDE says nothing
 abbrev pub IsTimeStride : Bool → Unit {0} → List ℕ → Type 0
 IsTimeStride named = As (λ _. tt) (IfNamed named IsValue)
 
--- what the rtp octet names: P and PT, strides
+-- what the rtp octet announces: P and PT, strides
 abbrev pub IsRtpNamed : RtpFlags → RtpSaid → List ℕ → Type 0
 IsRtpNamed rtp =
     Then (IfNamed rtp.payload_type IsOneOctet) (λ octet.
@@ -82,13 +82,13 @@ IsRtpNamed rtp =
       stride = stride;
     }))))
 
--- the rtp octet, if rtp, and what it names
+-- the rtp octet, if flag rtp is set, and what it announces
 abbrev pub IsRtpGiven : Bool → Option RtpSaid → List ℕ → Type 0
 IsRtpGiven named =
     IfNamed named (Then (NotRefused rtp_fault IsOneOctet) (λ octet. IsRtpNamed (rtp_flags octet)))
 
--- Behind the ip octet: SN, TS, what the ip octet names, the offset of the Identification, the rtp octet and
--- what it names; a stride is in force, if Tsc.
+-- After the ip octet: SN, TS, what the ip octet announces, the offset of the Identification, the rtp octet
+-- and what it announces. If Tsc is set, a stride is in force.
 abbrev pub IsBehindIp : ℕ → Bool → Option IpFlags → Said → Extended3 → List ℕ → Type 0
 IsBehindIp flags stride_known ip said =
     Then (As (with_sn said) (IfNamed (has S flags) IsOneOctet)) (λ said.
@@ -104,7 +104,7 @@ IsBehindIp flags stride_known ip said =
           ip_values given (rtp_values rtp);
     })))))))
 
--- an extension 3 behind its first octet: the RND in force decides the format
+-- an extension 3 after its first octet; the RND in force decides the format
 abbrev pub IsExtension3 : Base → Bool → Bool → ℕ → Head → List ℕ → Type 0
 IsExtension3 base kept_rnd stride_known flags =
     Then (IsIpOctet (has IP flags) (form_kind base kept_rnd)) (λ ip.
@@ -122,7 +122,7 @@ IsExtension3 base kept_rnd stride_known flags =
           Some extended.values;
     }))))
 
--- an extension behind its first octet
+-- an extension after its first octet
 abbrev pub IsExtension : Base → Bool → Bool → ℕ → Head → List ℕ → Type 0
 IsExtension base rnd stride_known first =
     Which (nat_lt first 0xc0)
@@ -131,7 +131,8 @@ IsExtension base rnd stride_known first =
     (base_said (form_kind base rnd) base.number)))
     (IsExtension3 base rnd stride_known first)
 
--- The octets before an extension, behind the first; the extension, if their format says X.
+-- The octets before an extension, after the first of them; the extension, if their format has X and it is
+-- set.
 abbrev pub IsHead : ℕ → Bool → Bool → Head → List ℕ → Type 0
 IsHead first rnd stride_known =
     Then (IsBase first rnd) (λ base.
@@ -143,8 +144,8 @@ IsHead first rnd stride_known =
 abbrev pub IsPayload : Head → Option ℕ → Option ℕ → Content → List ℕ → Type 0
 IsPayload head id udp_sum c text = c ≡ whole_content head id udp_sum text
 
--- A packet of kind Other says this: behind the extension stand the Identification, if the RND in force is 1,
--- the UDP checksum, if packets carry one, and the payload.
+-- The content of a packet of kind Other. After the extension come the Identification, if the RND in force is
+-- 1, the UDP checksum, if packets carry one, and the payload.
 abbrev pub IsForm : Header → Bool → Bool → Bool → Content → Type 0
 IsForm h rnd udp_sum stride_known c =
     Then (IsHead h.first rnd stride_known) (λ head.

@@ -1,4 +1,4 @@
--- The formats of packets and of extensions 0 to 2 (RFC 3095 5.7.1 to 5.7.5), and what bits under them say.
+-- The formats of packets and of extensions 0 to 2 (RFC 3095 5.7.1 to 5.7.5), and what their bits say.
 use Rattle.std.specs.Prelude.{ℕ, ◌+◌, ◌/◌, ◌%◌, ◌^◌, List, [], ◌∷◌, Bool, false, ◌==◌, nat_lt, if◌then◌else◌, Option, Some, None}
 use Rattle.rohc_bits.specs.Reading.{bit}
 use Rattle.rohc_forms.specs.declared.form.FormKind.{FormKind}
@@ -6,7 +6,7 @@ use Rattle.rohc_forms.specs.declared.form.FormKind.TheVariants.{Uo0, Uo1, Uo1Id,
 use Rattle.rohc_bits.specs.LowBits.{LowBits}
 use Rattle.rohc_forms.specs.Octets.{slice, and_bits}
 
--- A field's name: a number that stands there in each packet of the format, SN, TS, IP-ID, M, X, CRC.
+-- A field's name: a number that is the same in each packet of the format, SN, TS, IP-ID, M, X, CRC.
 pub data Field : Type 0 where
   Fixed : ℕ → Field
   Sn : Field
@@ -46,7 +46,8 @@ layout Uor2Id =
 layout Uor2Ts =
     (Fixed 6, 3) ∷ (Ts, 5) ∷ (Fixed 1, 1) ∷ (Marker, 1) ∷ (Sn, 6) ∷ (Extended, 1) ∷ (Check, 7) ∷ []
 
--- The fields that +T and -T of an extension are, by the format before it. UO-0, UO-1 and UO-1-TS have none.
+-- The fields that +T and -T of an extension belong to, by the format of the packet. UO-0, UO-1 and UO-1-TS
+-- have no extension.
 abbrev pub plus : FormKind → Field
 plus Uo0 = Ts
 plus Uo1 = Ts
@@ -81,12 +82,12 @@ layout_1 kind = (Fixed 1, 2) ∷ (Sn, 3) ∷ (plus kind, 3) ∷ (minus kind, 8) 
 abbrev pub layout_2 : FormKind → Layout
 layout_2 kind = (Fixed 2, 2) ∷ (Sn, 3) ∷ (plus kind, 3) ∷ (plus kind, 8) ∷ (minus kind, 8) ∷ []
 
--- the one that an extension's first octet begins, which is below C0
+-- the format of the extension that starts with this octet, which is below C0
 abbrev pub short_layout : FormKind → ℕ → Layout
 short_layout kind first =
     if nat_lt first 0x40 then layout_0 kind else if nat_lt first 0x80 then layout_1 kind else layout_2 kind
 
--- The parts of the octets of an extension 3 (RFC 3095 5.7.5): flags, and numbers of more bits.
+-- The parts of the octets of an extension 3 (RFC 3095 5.7.5): flags, and numbers of more than one bit.
 pub data Part : Type 0 where
   Prefix : Part
   S : Part
@@ -113,14 +114,14 @@ pub data Part : Type 0 where
   P : Part
   PT : Part
 
--- how many bits each has
+-- how many bits each part has
 abbrev pub size : Part → ℕ
 size Prefix = 2
 size Mode = 2
 size PT = 7
 size flag = 1
 
--- An extension 3 has a first octet, one that ip names, one that rtp names, and one that R-PT names.
+-- An extension 3 has a first octet, and at most one octet each that ip, rtp and R-PT announce.
 pub data Extension3Octet : Type 0 where
   FirstOctet : Extension3Octet
   IpOctet : Extension3Octet
@@ -138,8 +139,8 @@ parts IpOctet = TOS ∷ TTL ∷ DF ∷ PR ∷ IPX ∷ NBO ∷ RND ∷ IP2 ∷ []
 parts RtpOctet = Mode ∷ R-PT ∷ M ∷ R-X ∷ CSRC ∷ TSS ∷ TIS ∷ []
 parts TypeOctet = P ∷ PT ∷ []
 
--- The place of each part in its octet: how many less significant bits stand behind it. A law says that the
--- octets are made of their parts.
+-- The place of each part in its octet: how many less significant bits follow it. A law says that the octets
+-- are made of their parts.
 abbrev pub place : Part → ℕ
 place Prefix = 6
 place S = 5
@@ -166,7 +167,7 @@ place TIS = 0
 place P = 7
 place PT = 0
 
--- the number that a part spells, and whether a flag is set
+-- the number in a part, and whether a flag is set
 abbrev pub number_in : Part → ℕ → ℕ
 number_in part octet = octet / 2 ^ place part % 2 ^ size part
 
@@ -185,7 +186,7 @@ pub record Said : Type 0 where
 abbrev pub nothing : Said
 nothing = record { sn = None; ts = None; id = None; marker = false; extended = false; check = 0 }
 
--- more that is said: bits of a number stand behind those that are said already
+-- more that is said: bits of a number are appended to those that are said already
 abbrev pub and_said : Field → LowBits → Said → Said
 and_said (Fixed n) d s = s
 and_said Sn d s =
@@ -230,17 +231,17 @@ abbrev pub width : Layout → ℕ
 width [] = 0
 width ((field, bits) ∷ more) = bits + width more
 
--- What a number says under a format, behind what is said already: each field is the bits that stand before
--- those of the fields behind it.
+-- What a number says under a format, after what is said already. The bits of each field precede those of the
+-- fields after it.
 abbrev pub under : Layout → ℕ → Said → Said
 under [] n said = said
 under ((field, bits) ∷ more) n said = under more n (and_said field (slice n (width more) bits) said)
 
--- what the octets before an extension say
+-- the fields in the octets before an extension
 abbrev pub base_said : FormKind → ℕ → Said
 base_said kind n = under (layout kind) n nothing
 
--- The same of each UOR-2, with its bits of TS or IP-ID.
+-- The same for any UOR-2, with its bits of TS or IP-ID.
 abbrev pub uor2_said : ℕ → Option LowBits → Option LowBits → Said
 uor2_said n ts id =
     record {

@@ -1,4 +1,5 @@
-//! The octets before an extension, and their formats (RFC 3095 5.7.1 to 5.7.4).
+//! The base octets of a packet, which precede its extension, and their formats (RFC 3095 5.7.1 to
+//! 5.7.4).
 
 ghost use Rattle.std.specs.Prelude.{◌≡◌, option_map};
 ghost use Rattle.rohc_bits.specs.Reading.{Reads};
@@ -16,7 +17,8 @@ use crate::refusal::FormRefusal;
 use rohc_bits::reading::is_set;
 use rohc_bits::{Bits, Cursor};
 
-/// The octets before an extension; the first tells how many they are.
+/// Reads the base octets after the first one, which decides how many they are in all: one, two or
+/// three.
 #[tactic(auto, unfolding(crate::specs::Packets::base_at))]
 pub(crate) fn base(first: u8, cursor: &mut Cursor<'_>) -> Result<Base, FormRefusal>
     ensures { Reads result cursor.new (base_at first cursor.old) }
@@ -31,7 +33,7 @@ pub(crate) fn base(first: u8, cursor: &mut Cursor<'_>) -> Result<Base, FormRefus
     Ok(Base { first, number })
 }
 
-/// The format of a packet, by the RND in force.
+/// The format of a packet, by its base octets and the RND in force.
 pub(crate) fn kind(base: Base, rnd: bool) -> FormKind
     ensures { result ≡ form_kind base rnd }
 {
@@ -52,21 +54,21 @@ pub(crate) fn kind(base: Base, rnd: bool) -> FormKind
     }
 }
 
-/// The check of the three least significant bits.
+/// The 3-bit check: the three least significant bits of the base octets.
 pub(crate) fn check_3(number: u32) -> u8
     ensures { result ≡ (slice number 0 3).value }
 {
     (number % 8) as u8
 }
 
-/// The check of the seven least significant bits.
+/// The 7-bit check: the seven least significant bits of the base octets.
 fn check_7(number: u32) -> u8
     ensures { result ≡ (slice number 0 7).value }
 {
     (number % 128) as u8
 }
 
-/// What the octets before an extension say under their format.
+/// The fields in the base octets, which are given as one number, under this format.
 pub(crate) fn base_fields(kind: FormKind, number: u32) -> Fields
     ensures { said_by result ≡ base_said kind number }
 {
@@ -109,7 +111,7 @@ pub(crate) fn base_fields(kind: FormKind, number: u32) -> Fields
     }
 }
 
-/// What each UOR-2 says, with these bits of the timestamp or of the Identification.
+/// The fields of any UOR-2, with these bits of the timestamp or of the Identification's offset.
 fn uor2_fields(number: u32, ts: Option<Bits>, id: Option<Bits>) -> Fields
     ensures { said_by result ≡ uor2_said number (option_map low_bits ts) (option_map low_bits id) }
 {

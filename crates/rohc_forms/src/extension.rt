@@ -15,7 +15,7 @@ use crate::refusal::FormRefusal;
 use rohc_bits::reading::is_set;
 use rohc_bits::{Bits, Cursor};
 
-/// The ip octet, if ip: TOS, TTL, DF, PR, IPX, NBO, RND, ip2.
+/// Reads the ip octet, if flag ip is set: TOS, TTL, DF, PR, IPX, NBO, RND, ip2.
 #[tactic(auto, unfolding(crate::specs::Extension::ip_octet_at))]
 pub(crate) fn ip_octet(
     present: bool,
@@ -48,7 +48,7 @@ pub(crate) fn ip_octet(
     }))
 }
 
-/// The RND in force: the one that is given, else the one that is kept.
+/// The RND in force: the extension's, if it gives one, else the context's.
 pub(crate) fn rnd_of(kept: bool, ip: Option<IpFlags>) -> bool
     ensures { result ≡ rnd_in_force kept ip }
 {
@@ -58,7 +58,7 @@ pub(crate) fn rnd_of(kept: bool, ip: Option<IpFlags>) -> bool
     }
 }
 
-/// Eight more bits of the sequence number, if S.
+/// Appends eight bits to the sequence number, if S is set.
 #[tactic(auto, unfolding(crate::specs::Extension::sn_at))]
 fn with_sn(present: bool, fields: Fields, cursor: &mut Cursor<'_>) -> Result<Fields, FormRefusal>
     ensures { ReadsAs said_by result cursor.new (sn_at present (said_by fields) cursor.old) }
@@ -70,7 +70,7 @@ fn with_sn(present: bool, fields: Fields, cursor: &mut Cursor<'_>) -> Result<Fie
     Ok(fields.and_sn(Bits::new(u32::from(low), 8)))
 }
 
-/// More bits of the timestamp, if R-TS.
+/// Appends bits to the timestamp, if R-TS is set.
 #[tactic(auto, unfolding(crate::specs::Extension::ts_at))]
 fn with_ts(present: bool, fields: Fields, cursor: &mut Cursor<'_>) -> Result<Fields, FormRefusal>
     ensures { ReadsAs said_by result cursor.new (ts_at present (said_by fields) cursor.old) }
@@ -82,7 +82,7 @@ fn with_ts(present: bool, fields: Fields, cursor: &mut Cursor<'_>) -> Result<Fie
     Ok(fields.and_ts(low))
 }
 
-/// The protocol is UDP, if PR.
+/// Reads the protocol, if PR is set. It must be UDP.
 #[tactic(auto, unfolding(crate::specs::Extension::behind_protocol))]
 fn skip_protocol(present: bool, cursor: &mut Cursor<'_>) -> Result<(), FormRefusal>
     ensures { Reads result cursor.new (behind_protocol present cursor.old) }
@@ -93,7 +93,7 @@ fn skip_protocol(present: bool, cursor: &mut Cursor<'_>) -> Result<(), FormRefus
     Ok(())
 }
 
-/// TOS, TTL and protocol, each if the ip octet names it.
+/// Reads TOS, TTL and protocol, each if its flag in the ip octet is set.
 #[tactic(auto, unfolding(crate::specs::Extension::ip_given_at))]
 fn ip_given(ip: Option<IpFlags>, cursor: &mut Cursor<'_>) -> Result<Option<IpGiven>, FormRefusal>
     ensures { Reads result cursor.new (ip_given_at ip cursor.old) }
@@ -113,7 +113,8 @@ fn ip_given(ip: Option<IpFlags>, cursor: &mut Cursor<'_>) -> Result<Option<IpGiv
     }))
 }
 
-/// The whole offset of the Identification in place of its bits, if I.
+/// Reads the Identification's whole offset, if I is set. It replaces the offset bits that were read
+/// before.
 #[tactic(auto, unfolding(crate::specs::Extension::offset_at))]
 fn with_offset(
     present: bool,
@@ -131,7 +132,7 @@ fn with_offset(
     }
 }
 
-/// The stride of timestamps, if TSS.
+/// Reads TS_STRIDE, if TSS is set.
 #[tactic(auto, unfolding(crate::specs::Extension::stride_at))]
 fn stride(present: bool, cursor: &mut Cursor<'_>) -> Result<Option<u32>, FormRefusal>
     ensures reads { Reads result cursor.new (stride_at present cursor.old) }
@@ -148,7 +149,7 @@ fn stride(present: bool, cursor: &mut Cursor<'_>) -> Result<Option<u32>, FormRef
     Ok(Some(stride))
 }
 
-/// A stride of time, if TIS, is dropped.
+/// Reads TIME_STRIDE, if TIS is set, and drops it.
 #[tactic(auto, unfolding(crate::specs::Extension::behind_time_stride))]
 fn skip_time_stride(present: bool, cursor: &mut Cursor<'_>) -> Result<(), FormRefusal>
     ensures { Reads result cursor.new (behind_time_stride present cursor.old) }
@@ -159,7 +160,7 @@ fn skip_time_stride(present: bool, cursor: &mut Cursor<'_>) -> Result<(), FormRe
     Ok(())
 }
 
-/// RTP's padding flag, in the octet that flag R-PT names.
+/// RTP's padding flag, in the octet that R-PT announces.
 fn padding(octet: Option<u8>) -> Option<bool>
     ensures { result ≡ padding_in octet }
 {
@@ -180,7 +181,7 @@ fn payload_type(octet: Option<u8>) -> Option<u8>
     }
 }
 
-/// What the rtp octet names: the octet of P and PT, and the strides.
+/// Reads what the rtp octet announces: the octet of P and PT, and the strides.
 #[tactic(auto, unfolding(crate::specs::Extension::behind_rtp_octet))]
 fn named_by(rtp: RtpFlags, cursor: &mut Cursor<'_>) -> Result<RtpGiven, FormRefusal>
     ensures { ReadsAs rtp_by result cursor.new (behind_rtp_octet rtp cursor.old) }
@@ -197,8 +198,8 @@ fn named_by(rtp: RtpFlags, cursor: &mut Cursor<'_>) -> Result<RtpGiven, FormRefu
     })
 }
 
-/// The rtp octet, if rtp, and what it names: Mode, R-PT, M, R-X, CSRC, TSS, TIS. Modes 0, 1 and 2 have no
-/// effect.
+/// Reads the rtp octet (Mode, R-PT, M, R-X, CSRC, TSS, TIS), if flag rtp is set, and what it announces.
+/// Modes 0, 1 and 2 have no effect.
 #[tactic(auto, unfolding(crate::specs::Extension::rtp_given_at))]
 fn rtp_given(present: bool, cursor: &mut Cursor<'_>) -> Result<Option<RtpGiven>, FormRefusal>
     ensures { ReadsAs (option_map rtp_by) result cursor.new (rtp_given_at present cursor.old) }
@@ -224,7 +225,7 @@ fn rtp_given(present: bool, cursor: &mut Cursor<'_>) -> Result<Option<RtpGiven>,
     Ok(Some(named_by(rtp, cursor)?))
 }
 
-/// The values that RTP's octets give.
+/// The values that the RTP part of the extension gives.
 fn values_of_rtp(rtp: Option<RtpGiven>) -> Values
     ensures { values_by result ≡ rtp_values (option_map rtp_by rtp) }
 {
@@ -241,7 +242,7 @@ fn values_of_rtp(rtp: Option<RtpGiven>) -> Values
     }
 }
 
-/// These values with those that IP's octets give.
+/// These values with those that the IP part of the extension gives.
 fn with_ip(ip: Option<IpGiven>, values: Values) -> Values
     ensures { values_by result ≡ ip_values ip (values_by values) }
 {
@@ -261,7 +262,7 @@ fn with_ip(ip: Option<IpGiven>, values: Values) -> Values
     }
 }
 
-/// The marker of the rtp octet alone, where there is one.
+/// The marker: that of the rtp octet if there is one, else that of the base octets.
 fn marker(base: bool, rtp: Option<RtpGiven>) -> bool
     ensures { result ≡ marker_in base (option_map rtp_by rtp) }
 {
@@ -271,7 +272,7 @@ fn marker(base: bool, rtp: Option<RtpGiven>) -> bool
     }
 }
 
-/// What stands behind the ip octet. The flags are the extension's first octet.
+/// Reads an extension 3 after its ip octet. `flags` is the first octet of the extension.
 #[tactic(auto, unfolding(crate::specs::Extension::behind_ip_octet))]
 pub(crate) fn behind_ip(
     flags: u32,

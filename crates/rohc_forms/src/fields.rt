@@ -1,4 +1,4 @@
-//! Bits that extensions put behind those of the octets before them (RFC 3095 5.7.5).
+//! Field bits of an extension, which are appended to those of the base octets (RFC 3095 5.7.5).
 
 ghost use Rattle.std.specs.Prelude.{◌≡◌, option_map};
 ghost use Rattle.rohc_bits.specs.LowBits.{low_bits};
@@ -10,7 +10,7 @@ use crate::form::FormKind;
 use crate::parts::Fields;
 use rohc_bits::Bits;
 
-/// Bits behind others, if there are any.
+/// `more` appended to the bits that were read before, if any were.
 fn behind(said: Option<Bits>, more: Bits) -> Option<Bits>
     ensures { option_map low_bits result ≡ and_bits (option_map low_bits said) (low_bits more) }
 {
@@ -21,7 +21,7 @@ fn behind(said: Option<Bits>, more: Bits) -> Option<Bits>
 }
 
 impl Fields {
-    /// These fields with more bits of the sequence number.
+    /// These fields with more bits appended to the sequence number.
     pub(crate) fn and_sn(self, more: Bits) -> Fields
         ensures { said_by result ≡ and_said Sn (low_bits more) (said_by self) }
     {
@@ -29,7 +29,7 @@ impl Fields {
         Fields { sn, ..self }
     }
 
-    /// These fields with more bits of the timestamp.
+    /// These fields with more bits appended to the timestamp.
     pub(crate) fn and_ts(self, more: Bits) -> Fields
         ensures { said_by result ≡ and_said Ts (low_bits more) (said_by self) }
     {
@@ -37,7 +37,7 @@ impl Fields {
         Fields { ts, ..self }
     }
 
-    /// These fields with more bits of the Identification's offset.
+    /// These fields with more bits appended to the Identification's offset.
     pub(crate) fn and_id(self, more: Bits) -> Fields
         ensures { said_by result ≡ and_said Id (low_bits more) (said_by self) }
     {
@@ -45,7 +45,7 @@ impl Fields {
         Fields { id, ..self }
     }
 
-    /// These fields with the bits +T of an extension.
+    /// These fields with the +T bits of an extension appended.
     pub(crate) fn and_plus(self, kind: FormKind, more: Bits) -> Fields
         ensures { said_by result ≡ and_said (plus kind) (low_bits more) (said_by self) }
     {
@@ -55,7 +55,7 @@ impl Fields {
         }
     }
 
-    /// These fields with the bits -T of an extension.
+    /// These fields with the -T bits of an extension appended.
     pub(crate) fn and_minus(self, kind: FormKind, more: Bits) -> Fields
         ensures { said_by result ≡ and_said (minus kind) (low_bits more) (said_by self) }
     {

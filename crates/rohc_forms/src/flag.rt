@@ -1,15 +1,15 @@
-//! The flags of an extension 3 (RFC 3095 5.7.5), each by its place in its octet, counted from the least
-//! significant bit, which is 0.
+//! The flags of an extension 3 (RFC 3095 5.7.5), each by its place in its octet. Place 0 is the least
+//! significant bit.
 
 // The extension's first octet: 11 S R-TS Tsc I ip rtp.
 
 /// Eight more bits of the sequence number follow.
 pub(crate) const S: u8 = 5;
-/// More bits of the timestamp follow.
+/// A self-describing value with more bits of the timestamp follows.
 pub(crate) const R_TS: u8 = 4;
-/// The timestamp's bits are scaled.
+/// Tsc: the timestamp's bits are scaled.
 pub(crate) const TSC: u8 = 3;
-/// The offset of the Identification follows.
+/// The whole offset of the Identification follows, in two octets.
 pub(crate) const I: u8 = 2;
 /// The ip octet follows.
 pub(crate) const IP: u8 = 1;
@@ -22,7 +22,7 @@ pub(crate) const RTP: u8 = 0;
 pub(crate) const TOS: u8 = 7;
 /// TTL follows.
 pub(crate) const TTL: u8 = 6;
-/// Don't fragment.
+/// The flag Don't Fragment.
 pub(crate) const DF: u8 = 5;
 /// The protocol follows.
 pub(crate) const PR: u8 = 4;
@@ -45,9 +45,9 @@ pub(crate) const M: u8 = 4;
 pub(crate) const R_X: u8 = 3;
 /// A list of contributing sources follows.
 pub(crate) const CSRC: u8 = 2;
-/// The stride of timestamps follows.
+/// TS_STRIDE follows.
 pub(crate) const TSS: u8 = 1;
-/// A stride of time follows.
+/// TIME_STRIDE follows.
 pub(crate) const TIS: u8 = 0;
 
 // The octet that R-PT names: P PT(7).

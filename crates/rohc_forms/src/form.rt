@@ -1,4 +1,4 @@
-//! What a packet of kind Other says of its header's fields.
+//! The content of a packet of kind Other: what its bits say of the header's fields.
 
 ghost use Rattle.std.specs.Prelude.{◌≡◌, ◌≤◌, ◌<◌, false};
 ghost use Rattle.std.specs.Option.{ForSome};
@@ -11,13 +11,13 @@ use rohc_bits::Bits;
 pub enum FormKind {
     /// UO-0.
     Uo0,
-    /// UO-1, where Identifications are random.
+    /// UO-1, if the Identification is random (RND 1).
     Uo1,
     /// UO-1-ID.
     Uo1Id,
     /// UO-1-TS.
     Uo1Ts,
-    /// UOR-2, where Identifications are random.
+    /// UOR-2, if the Identification is random (RND 1).
     Uor2,
     /// UOR-2-ID.
     Uor2Id,
@@ -25,35 +25,36 @@ pub enum FormKind {
     Uor2Ts,
 }
 
-/// What a packet says of the Identification.
+/// What a packet says of the Identification (IP-ID).
 #[derive(Clone, Copy, Debug, PartialEq, Eq)]
 pub enum IdBits {
-    /// Nothing: its offset from the sequence number stays.
+    /// Nothing: its offset from the sequence number stays the same.
     Same,
-    /// Bits of that offset.
+    /// Low bits of that offset.
     Offset(Bits),
-    /// The Identification, as it stands in the IP header.
+    /// The whole Identification, as it stands in the IP header.
     Whole(u16),
 }
 
-/// What an extension 3 gives (RFC 3095 5.7.5); what is `None` stays.
+/// The values that an extension 3 gives (RFC 3095 5.7.5). A value that is `None` stays as the context
+/// has it.
 #[derive(Clone, Copy, Debug, PartialEq, Eq)]
 pub struct Values {
-    /// The type of service.
+    /// The type of service (TOS).
     pub tos: Option<u8>,
-    /// The time to live.
+    /// The time to live (TTL).
     pub ttl: Option<u8>,
     /// RTP's payload type, below 128.
     pub payload_type: Option<u8>,
-    /// The stride of timestamps, from 1 to 536,870,911.
+    /// TS_STRIDE, from 1 to 536,870,911.
     pub stride: Option<u32>,
     /// RTP's padding flag.
     pub padding: Option<bool>,
-    /// Don't Fragment.
+    /// The flag Don't Fragment.
     pub df: Option<bool>,
-    /// Whether the Identification is in network byte order.
+    /// NBO: whether the Identification is in network byte order.
     pub nbo: Option<bool>,
-    /// Whether the Identification is random.
+    /// RND: whether the Identification is random.
     pub rnd: Option<bool>,
     /// RTP's extension flag.
     pub extension: Option<bool>,
@@ -62,31 +63,32 @@ pub struct Values {
     ghost stride_fits: { ForSome stride (λ n. n ≤ 536870911) },
 }
 
-/// What a packet says.
+/// The content of a packet of kind Other.
 #[derive(Clone, Copy, Debug)]
 pub struct Form<'a> {
-    /// Its format, by the RND in force.
+    /// The format, by the RND in force.
     pub kind: FormKind,
-    /// Whether the Identification is random in this packet: the RND that it gives, else its context's.
+    /// The RND in force, that is whether the Identification is random: the RND that the packet gives,
+    /// else the context's.
     pub rnd: bool,
-    /// Bits of the sequence number.
+    /// The bits of the sequence number, 1 to 16.
     pub sn: Bits,
-    /// Bits of the timestamp.
+    /// The bits of the timestamp, 2 to 32, if the packet carries any.
     pub ts: Option<Bits>,
-    /// Whether an extension 3 says that the timestamp's bits are scaled.
+    /// Tsc of an extension 3: whether the timestamp's bits are scaled.
     pub tsc: Option<bool>,
-    /// The Identification: the whole where it is random, and there alone.
+    /// The Identification. It is the whole one exactly if the Identification is random.
     pub id: IdBits,
-    /// The UDP checksum, where packets carry one.
+    /// The UDP checksum, if packets of the call carry one.
     pub udp_sum: Option<u16>,
-    /// RTP's marker: the rtp octet's where an extension 3 has one, else the format's; `false` where
-    /// nothing carries it.
+    /// RTP's marker: that of the rtp octet if there is one, else that of the format; `false` if
+    /// neither carries it.
     pub marker: bool,
-    /// What an extension 3 gives.
+    /// The values that an extension 3 gives.
     pub values: Option<Values>,
-    /// The check of 3 or 7 bits.
+    /// The check: 3 bits, or 7 in a UOR-2.
     pub check: u8,
-    /// What stands behind the header.
+    /// The octets after the header.
     pub payload: &'a [u8],
     ghost sn_some: { 1 ≤ sn.count },
     ghost sn_narrow: { sn.count ≤ 16 },
@@ -98,18 +100,18 @@ pub struct Form<'a> {
     ghost check_3: { is_uor2 kind ≡ false → check < 8 },
 }
 
-/// What a UO-0 says.
+/// The content of a UO-0.
 #[derive(Clone, Copy, Debug)]
 pub struct Uo0<'a> {
     /// The four low bits of the sequence number.
     pub sn: Bits,
-    /// The check of 3 bits.
+    /// The 3-bit check.
     pub check: u8,
-    /// The Identification, where it is random.
+    /// The whole Identification, if it is random.
     pub id: Option<u16>,
-    /// The UDP checksum, where packets carry one.
+    /// The UDP checksum, if packets of the call carry one.
     pub udp_sum: Option<u16>,
-    /// What stands behind the header.
+    /// The octets after the header.
     pub payload: &'a [u8],
     ghost four: { sn.count ≡ 4 },
 }

@@ -1,5 +1,5 @@
-//! What a packet of kind Other says: UO-0, UO-1 and UOR-2 with their extensions (RFC 3095 5.7.1 to 5.7.5).
-//! Nothing allocates, and the payload is lent.
+//! The content of packets of kind Other: UO-0, UO-1 and UOR-2 with their extensions (RFC 3095 5.7.1 to
+//! 5.7.5). No function allocates memory, and the payload is borrowed from the packet.
 #![tactic(auto)]
 
 mod base;

@@ -1,4 +1,5 @@
-//! Octets, numbers and self-describing values off the front of a packet.
+//! Readers of octets, numbers and self-describing values from the start of a packet. If the octets
+//! end too early, the refusal is `Truncated`.
 
 ghost use Rattle.std.specs.Prelude.{◌≡◌, ◌<◌, ◌≤◌, ◌+◌, ◌^◌, length, drop, All, IfOk, MatchResult};
 ghost use Rattle.rohc_bits.specs.Reading.{Reads, ReadsAs, bit};
@@ -10,7 +11,7 @@ ghost use Rattle.rohc_forms.specs.Octets.{slice, octet_at, word_at, octet_if, wo
 use crate::refusal::FormRefusal;
 use rohc_bits::{Bits, Cursor, reading};
 
-/// The bits of a number that stand before `places` others.
+/// The `width` bits of a number that precede its `places` least significant bits.
 pub(crate) fn bits(number: u32, places: u8, width: u8) -> Bits
     requires places { places < 32 }
     requires width { width < 32 }
@@ -19,21 +20,21 @@ pub(crate) fn bits(number: u32, places: u8, width: u8) -> Bits
     Bits::new((number >> places) % (1 << width), width)
 }
 
-/// The next octet.
+/// Takes the next octet.
 pub(crate) fn octet(cursor: &mut Cursor<'_>) -> Result<u8, FormRefusal>
     ensures { Reads result cursor.new (octet_at cursor.old) }
 {
     reading::octet(cursor, FormRefusal::Truncated)
 }
 
-/// The next two octets, most significant first.
+/// Takes the next two octets as a number, most significant octet first.
 pub(crate) fn word(cursor: &mut Cursor<'_>) -> Result<u16, FormRefusal>
     ensures { Reads result cursor.new (word_at cursor.old) }
 {
     reading::word(cursor, FormRefusal::Truncated)
 }
 
-/// The next self-describing value, and how many bits spell it (RFC 3095 4.5.6).
+/// Takes the next self-describing value, with as many bits as its encoding has (RFC 3095 4.5.6).
 pub(crate) fn value(cursor: &mut Cursor<'_>) -> Result<Bits, FormRefusal>
     ensures reads { ReadsAs low_bits result cursor.new (value_at cursor.old) }
     ensures fits { IfOk result (λ bits. bits.value ≤ 536870911) }
@@ -41,7 +42,7 @@ pub(crate) fn value(cursor: &mut Cursor<'_>) -> Result<Bits, FormRefusal>
     reading::value(cursor, FormRefusal::Truncated)
 }
 
-/// The next octet, if it is there.
+/// Takes the next octet, if `present`.
 #[tactic(auto, unfolding(crate::specs::Octets::octet_if))]
 pub(crate) fn optional_octet(
     present: bool,
@@ -56,7 +57,7 @@ pub(crate) fn optional_octet(
     }
 }
 
-/// The next two octets, if they are there.
+/// Takes the next two octets as a number, if `present`.
 #[tactic(auto, unfolding(crate::specs::Octets::word_if))]
 pub(crate) fn optional_word(
     present: bool,

@@ -1,4 +1,4 @@
-//! Packets through their extension (RFC 3095 5.7.1 to 5.7.5).
+//! Packets up to and including their extension (RFC 3095 5.7.1 to 5.7.5).
 
 ghost use Rattle.std.specs.Prelude.{◌≡◌};
 ghost use Rattle.rohc_bits.specs.Reading.{ReadsAs};
@@ -16,7 +16,7 @@ use crate::refusal::FormRefusal;
 use rohc_bits::reading::is_set;
 use rohc_bits::{Bits, Cursor};
 
-/// What an extension 0 says behind these fields.
+/// These fields with those of an extension 0, whose one octet is `first`, appended.
 fn extension_0(kind: FormKind, first: u8, fields: Fields) -> Fields
     ensures { said_by result ≡ under (layout_0 kind) first (said_by fields) }
 {
@@ -26,8 +26,8 @@ fn extension_0(kind: FormKind, first: u8, fields: Fields) -> Fields
         .and_plus(kind, bits(number, 0, 3))
 }
 
-/// What an extension 0, 1 or 2 says behind these fields: SN and +T in the first octet, an octet more of +T
-/// in an extension 2, and an octet of -T in both 1 and 2.
+/// These fields with those of an extension 0, 1 or 2 appended: bits of SN and of +T in its first octet,
+/// eight more bits of +T in an extension 2, and eight bits of -T in extensions 1 and 2.
 #[tactic(auto, unfolding(crate::specs::Packets::short_extension_at))]
 fn short_extension(
     kind: FormKind,
@@ -53,7 +53,7 @@ fn short_extension(
     )
 }
 
-/// The bits of an octet.
+/// An octet as eight bits.
 fn eight_bits(octet: u8) -> Bits
     ensures value { result.value ≡ octet }
     ensures count { result.count ≡ 8 }
@@ -61,7 +61,7 @@ fn eight_bits(octet: u8) -> Bits
     Bits::new(u32::from(octet), 8)
 }
 
-/// What a packet with an extension 3 says: the RND in force decides its format.
+/// Reads an extension 3 after its first octet. The RND in force then decides the format of the packet.
 #[tactic(auto, unfolding(crate::specs::Packets::extension_3_at))]
 fn extension_3(
     base: Base,
@@ -91,7 +91,7 @@ fn extension_3(
     })
 }
 
-/// What a packet says without an extension 3.
+/// The content so far of a packet without an extension 3.
 fn plain(kind: FormKind, rnd: bool, fields: Fields) -> Head
     ensures { head_by result ≡ plain_head kind rnd (said_by fields) }
 {
@@ -105,7 +105,7 @@ fn plain(kind: FormKind, rnd: bool, fields: Fields) -> Head
     }
 }
 
-/// What a packet says with its extension, behind the extension's first octet.
+/// Reads an extension after its first octet.
 #[tactic(auto, unfolding(crate::specs::Packets::extension_at))]
 fn extension(
     base: Base,
@@ -125,7 +125,7 @@ fn extension(
     Ok(plain(kind, rnd, fields))
 }
 
-/// What a packet says through its extension.
+/// Reads a packet up to the end of its extension.
 #[tactic(auto, unfolding(crate::specs::Packets::head_at))]
 pub(crate) fn head(
     first: u8,

@@ -1,4 +1,4 @@
-//! What single parts of a packet say.
+//! The content of single parts of a packet.
 
 ghost use Rattle.std.specs.Prelude.{◌≤◌, ◌<◌};
 ghost use Rattle.std.specs.Option.{ForSome};
@@ -11,11 +11,11 @@ use rohc_bits::Bits;
 pub(crate) struct Base {
     /// The first of them.
     pub first: u8,
-    /// All of them as one number, most significant first.
+    /// All of them as one number, most significant octet first.
     pub number: u32,
 }
 
-/// What is said of the fields that stand in the octets before an extension.
+/// The fields of the base octets, with the bits that an extension appends.
 #[derive(Clone, Copy, Debug)]
 pub(crate) struct Fields {
     pub sn: Bits,
@@ -28,7 +28,7 @@ pub(crate) struct Fields {
     pub check: u8,
 }
 
-/// The octet of extension 3 that flag ip names: which octets it names, and what it gives.
+/// The ip octet of an extension 3: which octets follow, and the values in it.
 #[derive(Clone, Copy, Debug)]
 pub(crate) struct IpFlags {
     pub tos: bool,
@@ -39,7 +39,7 @@ pub(crate) struct IpFlags {
     pub rnd: bool,
 }
 
-/// What extension 3 gives of IP.
+/// What an extension 3 gives of the IP header.
 #[derive(Clone, Copy, Debug)]
 pub(crate) struct IpGiven {
     pub tos: Option<u8>,
@@ -49,7 +49,7 @@ pub(crate) struct IpGiven {
     pub rnd: bool,
 }
 
-/// The octet of extension 3 that flag rtp names: which octets it names, and what it gives.
+/// The rtp octet of an extension 3: which octets follow, and the values in it.
 #[derive(Clone, Copy, Debug)]
 pub(crate) struct RtpFlags {
     pub payload_type: bool,
@@ -59,7 +59,7 @@ pub(crate) struct RtpFlags {
     pub time_stride: bool,
 }
 
-/// What extension 3 gives of RTP.
+/// What an extension 3 gives of the RTP header.
 #[derive(Clone, Copy, Debug)]
 pub(crate) struct RtpGiven {
     pub marker: bool,
@@ -72,7 +72,7 @@ pub(crate) struct RtpGiven {
     ghost stride_fits: { ForSome stride (λ n. n ≤ 536870911) },
 }
 
-/// What a packet says with its extension 3.
+/// The content of an extension 3, with the fields that precede it.
 #[derive(Clone, Copy, Debug)]
 pub(crate) struct Extension3 {
     pub fields: Fields,
@@ -80,7 +80,7 @@ pub(crate) struct Extension3 {
     pub values: Values,
 }
 
-/// What a packet says through its extension.
+/// The content of a packet up to the end of its extension.
 #[derive(Clone, Copy, Debug)]
 pub(crate) struct Head {
     pub kind: FormKind,

@@ -18,7 +18,8 @@ use rohc_bits::Bits;
 use rohc_bits::reading::cursor_over;
 use rohc_frame::Forward;
 
-/// What is said of the Identification: the whole, where it stands in the packet.
+/// What is said of the Identification: the whole one, if it stands in the packet, else bits of its offset,
+/// if any.
 fn id_bits(whole: Option<u16>, bits: Option<Bits>) -> IdBits
     ensures { id_by result ≡ id_said whole (option_map low_bits bits) }
 {
@@ -59,12 +60,12 @@ fn in_order<'a>(
     })
 }
 
-/// What a packet of kind Other says of its header's fields.
+/// Decodes a packet of kind Other: what it says of its header's fields (RFC 3095 5.7.1 to 5.7.5).
 ///
-/// `rnd`, `udp_sum` and `stride_known` are its context's: whether the Identification is random, packets
-/// carry the UDP checksum, and a stride of timestamps is in force. There is a UDP checksum exactly where
-/// packets carry one, and scaled bits only where the context or the packet has a stride. The refusals come
-/// in the order of the octets (RFC 3095 5.7.1 to 5.7.5).
+/// `rnd`, `udp_sum` and `stride_known` come from the context: whether the Identification is random,
+/// whether packets carry the UDP checksum, and whether a stride is in force. The result has a UDP checksum
+/// exactly if `udp_sum`. It has scaled bits only if the context or the packet has a stride. The error is
+/// the first fault in the order of the octets.
 pub fn read_form<'a>(
     forward: &Forward<'a>,
     rnd: bool,

@@ -1,26 +1,26 @@
-//! Why a packet of kind Other says nothing.
+//! Why a packet of kind Other is refused.
 
-/// The first fault of a packet of kind Other, from its first octet on.
+/// The first fault of a packet of kind Other, in the order of its octets.
 #[derive(Clone, Copy, Debug, PartialEq, Eq)]
 pub enum FormRefusal {
     /// The packet ends inside its header.
     Truncated,
     /// The protocol isn't UDP.
     Protocol,
-    /// There is a list of extension headers.
+    /// Flag IPX: there is a list of extension headers.
     ExtensionList,
-    /// There are contributing sources.
+    /// Flag CSRC: there are contributing sources.
     Csrc,
-    /// The stride of timestamps is 0.
+    /// TS_STRIDE is 0.
     ZeroStride,
-    /// The mode is reliable mode.
+    /// Mode 3, which is the reliable mode.
     ReliableMode,
-    /// There is an outer IP header.
+    /// Flag ip2: there is an outer IP header.
     OuterHeader,
-    /// The timestamp is scaled, and no stride is in force.
+    /// The timestamp's bits are scaled, but no stride is in force.
     NoStride,
-    /// A UO-1-ID gives RND 1.
+    /// An extension 3 of a UO-1-ID gives RND 1.
     RndInUo1,
-    /// The Identification stands in the packet twice.
+    /// The packet has both the whole Identification, by RND, and its offset, by flag I.
     IpIdTwice,
 }

@@ -2,13 +2,13 @@ use crate::{Form, FormKind, FormRefusal, IdBits, Values, read_form, read_uo0};
 use rohc_bits::Bits;
 use rohc_frame::{CidKind, HeadKind, cut};
 
-// What a context says: RND, whether packets carry the UDP checksum, whether a stride is in force.
+// A context: RND, whether packets carry the UDP checksum, whether a stride is in force.
 type Context = (bool, bool, bool);
 
 // Bits of a number: how many, and their value.
 type Number = (u8, u32);
 
-// Bits of the offset of the Identification, and the whole.
+// Bits of the Identification's offset, and the whole Identification.
 type Id = (Option<Number>, Option<u16>);
 
 // The format, SN, TS, Tsc, the Identification, the UDP checksum, M and the check.
@@ -36,7 +36,7 @@ const SAME: Id = (None, None);
 // TOS, NBO and RND of an ip octet.
 type Ip = (Option<u8>, bool, bool);
 
-// What a packet on a link of this kind says; none where it isn't of kind Other.
+// The content of a packet on a link of this CID kind; `None` if it isn't of kind Other.
 fn form_on(
     link: CidKind,
     packet: &[u8],
@@ -49,7 +49,7 @@ fn form_on(
     Some(read_form(&forward, context.0, context.1, context.2))
 }
 
-// The same on a link of small identifiers.
+// The same on a link of small CIDs.
 fn form_in(packet: &[u8], context: Context) -> Option<Result<Form<'_>, FormRefusal>> {
     form_on(CidKind::Small, packet, context)
 }
@@ -124,7 +124,7 @@ const PLAIN: [(&[u8], Context, Said); 16] = [
             5,
         ),
     ),
-    // A UO-1 behind it.
+    // A UO-1 after it.
     (
         &[0x94, 0xaf, 0x00, 0x11, 0xac],
         RANDOM,
@@ -412,7 +412,7 @@ fn packets_with_extension_3(rt: HostRuntime) {
     }
 }
 
-// More than 32 bits of TS: the low 32 count.
+// More than 32 bits of TS: the low 32 are kept.
 #[test]
 fn ts_of_more_than_32_bits(rt: HostRuntime) {
     let packet = [
@@ -435,7 +435,7 @@ fn ts_of_more_than_32_bits(rt: HostRuntime) {
     assert_eq!(rt; form.payload, [0xac].as_slice());
 }
 
-// Scaled bits count by a stride that the same packet gives.
+// Scaled bits are read by a stride that the same packet gives.
 #[test]
 fn a_given_stride_is_in_force(rt: HostRuntime) {
     let packet = [0xc0, 0x03, 0x80, 0xc9, 0x02, 0x05, 0xac];
@@ -451,7 +451,7 @@ fn a_given_stride_is_in_force(rt: HostRuntime) {
     assert_eq!(rt; form.payload, [0xac].as_slice());
 }
 
-// UOR-2-TS jump under a large identifier, which stands behind the first octet.
+// UOR-2-TS jump under a large CID, which follows the first octet.
 #[test]
 fn a_large_identifier_is_no_part_of_it(rt: HostRuntime) {
     let packet = [0xd4, 0x0c, 0xc3, 0x3e, 0xad];
@@ -465,7 +465,8 @@ fn a_large_identifier_is_no_part_of_it(rt: HostRuntime) {
     assert_eq!(rt; large.payload, small.payload);
 }
 
-// The longest packet of refused extensions: a payload that is too long for a header is read here.
+// The longest packet of refused extensions. A payload that is too long for a rebuilt packet is not
+// refused here.
 #[test]
 fn a_payload_of_any_length_is_read(rt: HostRuntime) {
     let mut packet = [0; 65_497];
@@ -478,7 +479,7 @@ fn a_payload_of_any_length_is_read(rt: HostRuntime) {
     assert_eq!(rt; form.payload.len(), 65_496);
 }
 
-// Refused extensions, example no stride and the cut-off UDP checksum.
+// Refused extensions, example no stride, and a UDP checksum that is cut off.
 const REFUSED: [(&[u8], Context, FormRefusal); 13] = [
     (&[0xc0, 0x03, 0x80, 0xc1, 0x04], IN_ORDER, FormRefusal::Csrc),
     (
@@ -511,7 +512,7 @@ const REFUSED: [(&[u8], Context, FormRefusal); 13] = [
         IN_ORDER,
         FormRefusal::IpIdTwice,
     ),
-    // The octet of S is cut off behind what is judged before it.
+    // The octet of S is cut off, after what is judged before it.
     (
         &[0xc0, 0x03, 0x80, 0xe6, 0x02],
         IN_ORDER,
@@ -534,7 +535,7 @@ fn refused_packets(rt: HostRuntime) {
     }
 }
 
-// Whether each front of octets is refused as cut off.
+// Whether each prefix of these octets is refused as cut off.
 fn is_cut_off_inside(octets: &[u8], context: Context) -> bool {
     for end in 1..octets.len() {
         let Some(Err(FormRefusal::Truncated)) = form_in(&octets[..end], context) else {
@@ -544,7 +545,7 @@ fn is_cut_off_inside(octets: &[u8], context: Context) -> bool {
     true
 }
 
-// A packet with a payload of one octet is cut off within its header, and read without the payload.
+// A packet with a payload of one octet is Truncated inside its header, and read without the payload.
 fn is_read_behind_its_header(packet: &[u8], context: Context) -> bool {
     let Some((_payload, header)) = packet.split_last() else {
         return false;
@@ -563,13 +564,13 @@ fn cut_at_each_octet(rt: HostRuntime) {
     for (packet, context, _said, _ip) in EXTENDED {
         assert!(rt; is_read_behind_its_header(packet, context));
     }
-    // What is refused is refused for its last octet or what isn't behind it.
+    // What is refused is refused for its last octet, or for what doesn't follow it.
     for (packet, context, _refusal) in REFUSED {
         assert!(rt; is_cut_off_inside(packet, context));
     }
 }
 
-// The first octets of each format: the RND, the T bit of a UOR-2, the first and the last of them.
+// The first octets of each format: the RND, the T bit of a UOR-2, and the first and the last such octet.
 const FIRST_OCTETS: [(bool, u8, u8, u8, FormKind); 10] = [
     (false, 0x00, 0x00, 0x7f, FormKind::Uo0),
     (true, 0x00, 0x00, 0x7f, FormKind::Uo0),

@@ -1,4 +1,4 @@
-//! UO-0, the shortest packet, which has no extension (RFC 3095 5.7.1).
+//! UO-0, the shortest format, which has no extension (RFC 3095 5.7.1).
 
 ghost use Rattle.std.specs.Prelude.{◌≡◌, ◌<◌, ◌≤◌, Bool, Ok, IsErr, IfSome, IsNone, ◌⊎◌};
 ghost use Rattle.rohc_frame.specs.Reading.{header_of};
@@ -11,10 +11,11 @@ use crate::place;
 use rohc_bits::reading::cursor_over;
 use rohc_frame::Forward;
 
-/// What a packet of kind Other says, if it is a UO-0 and whole: the same as `read_form`, for less.
+/// Decodes a packet if it is a whole UO-0, with the result of `read_form` and less work (RFC 3095 5.7.1).
+/// Returns `None` for any other packet.
 ///
-/// `rnd` and `udp_sum` are its context's: whether the Identification is random, and whether packets carry the
-/// UDP checksum.
+/// `rnd` and `udp_sum` come from the context: whether the Identification is random, and whether packets carry
+/// the UDP checksum.
 pub fn read_uo0<'a>(forward: &Forward<'a>, rnd: bool, udp_sum: bool) -> Option<Uo0<'a>>
     ensures first { IfSome result (λ packet. forward.now.first < 128) }
     ensures says { IfSome result (λ packet. (stride_known : Bool) → form_at (header_of forward.now) rnd udp_sum stride_known ≡ Ok (uo0_content rnd packet)) }

@@ -12,11 +12,11 @@ use Rattle.rohc_frame.specs.declared.header.HeadKind.TheVariants.{Ir, IrDyn, Oth
 use Rattle.rohc_frame.specs.Header.{is_kind, is_identifier, is_header, greatest_cid}
 use Rattle.rohc_frame.specs.Parts.{kind_of, large_cid, two_octets}
 
--- the first octet says the kind that it begins
+-- an octet that starts a header of a kind fits that kind
 pub kind_fits : (first : ℕ) (kind : HeadKind) → kind_of first ≡ Ok kind → is_kind kind first ≡ true
 kind_fits first kind e = grind (arith, nat_tests)
 
--- and begins the kind that it says
+-- conversely, an octet that fits a kind starts a header of it
 pub kind_from : (first : ℕ) (kind : HeadKind) → is_kind kind first ≡ true → kind_of first ≡ Ok kind
 kind_from first (Ir true) e = grind (arith, nat_tests)
 kind_from first (Ir false) e = grind (arith, nat_tests)
@@ -67,7 +67,7 @@ identifier_bound Large cid (a ∷ b ∷ []) all e =
     grind (arith, nat_tests)
 identifier_bound Large cid (a ∷ b ∷ c ∷ octets) all e = cc
 
--- What the code knows of a large header makes one.
+-- A large CID and a first octet, as the code reads them, make a header.
 pub large_header_fits : (octets : List ℕ) (cid count first : ℕ) (kind : HeadKind) → Ok (cid, count) ≡ large_cid octets → Ok kind ≡ kind_of first → is_header Large cid kind first (take count octets) ≡ true
 large_header_fits octets cid count first kind identifier kinds = rw (large_fits octets cid count (sym identifier), kind_fits first kind (sym kinds)) refl
 

@@ -9,9 +9,9 @@ use Rattle.std.proofs.lemmas.List.Elements.{All-nil, All-cons, All-head, All-tai
 use Rattle.rohc_frame.specs.Header.{is_within}
 use Rattle.rohc_frame.specs.Items.{Item, Padding, Coded, Sized, IsItem, spelled, sized, coded, first_item, items_up_to, longest_items, after_items, all_spelled}
 
--- One item: what is split off the front is an item's octets, and an item's octets are split off.
+-- One item: the octets that are split off at the start are those of an item, and the octets of an item are split off.
 
--- what a choice gave, where the other side is none
+-- if a choice between some and none gave something, its test holds
 chosen : (b : Bool) (x y : Item × List ℕ) → (if b then Some x else None) ≡ Some y → (b ≡ true) × (x ≡ y)
 chosen true x y e = (refl, cc)
 chosen false x y e = cc
@@ -33,7 +33,7 @@ coded_fits code octets item rest low high e =
     let behind : drop code octets ≡ rest = ap (λ (x : Item × List ℕ). x.1) split.1 in
     rw (← is, ← behind, length-take-le code octets enough, take-append-drop code octets) ((low, high), refl)
 
--- by what the first octet is
+-- by cases of the first octet
 cases_fit : (padding size code : Bool) (octet : ℕ) (octets : List ℕ) (item : Item) (rest : List ℕ) →
     (octet == 224) ≡ padding → (octet == 240) ≡ size → is_within 241 247 octet ≡ code →
     (if padding then Some (Padding, octets) else if size then sized octets else if code then coded (octet - 240) octets else None) ≡ Some (item, rest) →
@@ -89,7 +89,7 @@ first_item_shorter octets item rest e =
     let whole = (first_item_fits octets item rest e).1 in
     omega (arith, spelled_length item, length-append (spelled item) rest, ap length whole)
 
--- The longest list of items: however many are asked for, if enough.
+-- The longest list of items is the same for any sufficient number of items that is asked for.
 
 followed : ℕ → Option (Item × List ℕ) → List Item
 followed n found = option_map_or (λ (split : Item × List ℕ). split.0 ∷ items_up_to n split.1) found []
@@ -110,13 +110,13 @@ enough (suc n) (suc m) octets l r = same_followed n m (first_item octets) (λ it
     let shorter = first_item_shorter octets item rest e in
     enough n m rest (omega arith) (omega arith))
 
--- no item at the front: no items
+-- without an item at the start there are no items
 pub longest_items_none : (octets : List ℕ) → first_item octets ≡ None → longest_items octets ≡ []
 unfolding longest_items items_up_to
 longest_items_none [] e = refl
 longest_items_none (octet ∷ octets) e = rw e refl
 
--- an item at the front: it and those of the rest
+-- with an item at the start the items are that one and those of the rest
 pub longest_items_some : (octets : List ℕ) (item : Item) (rest : List ℕ) → first_item octets ≡ Some (item, rest) → longest_items octets ≡ item ∷ longest_items rest
 unfolding longest_items items_up_to first_item
 longest_items_some [] item rest e = cc

@@ -3,8 +3,8 @@ use Rattle.std.specs.List.{flat_map, filter_map}
 use Rattle.std.specs.Option.{option_map_or}
 use Rattle.rohc_frame.specs.Header.{is_within}
 
--- What may stand before a header: a padding octet, or a feedback element, whose data is as long as the
--- Code of its type octet says, or as a Size octet behind Code 0 says (RFC 5795 5.2).
+-- What may precede a header: a padding octet, or a feedback element. The Code of its type octet gives the
+-- length of its data; if Code is 0, a Size octet gives it (RFC 5795 5.2).
 pub data Item : Type 0 where
   Padding : Item
   Coded : List ℕ → Item
@@ -36,20 +36,20 @@ contents (Sized octets) = Some octets
 abbrev pub all_contents : List Item → List (List ℕ)
 all_contents items = filter_map contents items
 
--- an element with as much data as the first octet says, and the octets behind it
+-- an element with a Size octet: as much data as it gives, and the octets after it
 abbrev pub sized : List ℕ → Option (Item × List ℕ)
 sized [] = None
 sized (size ∷ octets) =
     if nat_le size (length octets) then Some (Sized (take size octets), drop size octets)
     else None
 
--- an element with as much data as this Code says, and the octets behind it
+-- an element with as much data as this Code gives, and the octets after it
 abbrev pub coded : ℕ → List ℕ → Option (Item × List ℕ)
 coded code octets =
     if nat_le code (length octets) then Some (Coded (take code octets), drop code octets)
     else None
 
--- the item at the front of the octets, where one stands there whole, and the octets behind it
+-- the item at the start of the octets, if a whole one stands there, and the octets after it
 unfoldable pub first_item : List ℕ → Option (Item × List ℕ)
 first_item [] = None
 first_item (octet ∷ octets) =
@@ -58,12 +58,12 @@ first_item (octet ∷ octets) =
     else if is_within 0xf1 0xf7 octet then coded (octet - 0xf0) octets
     else None
 
--- the items at the front of the octets, at most n
+-- the items at the start of the octets, at most n
 unfoldable pub items_up_to : ℕ → List ℕ → List Item
 items_up_to zero octets = []
 items_up_to (suc n) octets = option_map_or (λ (item, rest). item ∷ items_up_to n rest) (first_item octets) []
 
--- the longest list of items at the front of the octets: each item has an octet at least
+-- the longest list of items at the start of the octets; each item has at least one octet
 unfoldable pub longest_items : List ℕ → List Item
 longest_items octets = items_up_to (length octets) octets
 
@@ -71,6 +71,6 @@ longest_items octets = items_up_to (length octets) octets
 unfoldable pub elements_in : List ℕ → List (List ℕ)
 elements_in octets = all_contents (longest_items octets)
 
--- and the octets after it
+-- the octets after it
 unfoldable pub after_items : List ℕ → List ℕ
 after_items octets = drop (length (all_spelled (longest_items octets))) octets

@@ -9,7 +9,7 @@ use Rattle.rohc_frame.specs.Header.{Header, is_within}
 use Rattle.rohc_frame.specs.Items.{elements_in, after_items}
 use Rattle.rohc_frame.specs.Reading.{Reading}
 
--- the kind of header that an octet begins, or its refusal
+-- the kind of header that starts with an octet, or the refusal
 abbrev pub kind_of : ℕ → Result HeadKind FrameRefusal
 kind_of first =
     if nat_lt first 0xe0 then Ok Other
@@ -21,7 +21,7 @@ kind_of first =
     else if first == 0xfd then Ok (Ir true)
     else Err Segment
 
--- a header of a small link, where its first octet begins one
+-- a header on a link of small CIDs, if its first octet starts one
 abbrev pub small_header : ℕ → List ℕ → ℕ → List ℕ → Result HeadKind FrameRefusal →
     Result (Option Header) FrameRefusal
 small_header cid cid_octets first rest (Err refusal) = Err refusal
@@ -35,7 +35,7 @@ small_header cid cid_octets first rest (Ok kind) =
       rest = rest;
     }))
 
--- what stands behind an Add-CID octet
+-- what follows an Add-CID octet
 abbrev pub behind_add_cid : ℕ → List ℕ → Result (Option Header) FrameRefusal
 behind_add_cid add_cid [] = Err NoHeader
 behind_add_cid add_cid (first ∷ rest) =
@@ -43,7 +43,7 @@ behind_add_cid add_cid (first ∷ rest) =
     else if is_within 0xf0 0xf7 first then Err AfterAddCid
     else small_header (add_cid - 0xe0) (add_cid ∷ []) first rest (kind_of first)
 
--- what stands after the items on a small link
+-- what follows the items on a link of small CIDs
 abbrev pub small_parts : ℕ → List ℕ → Result (Option Header) FrameRefusal
 small_parts max_cid [] = Ok None
 small_parts max_cid (first ∷ rest) =
@@ -55,7 +55,7 @@ abbrev pub two_octets : ℕ → List ℕ → Result (ℕ × ℕ) FrameRefusal
 two_octets a [] = Err NoHeader
 two_octets a (b ∷ octets) = Ok (a % 64 * 256 + b, 2)
 
--- a large identifier, and how many octets spell it
+-- a large CID, and how many octets encode it
 abbrev pub large_cid : List ℕ → Result (ℕ × ℕ) FrameRefusal
 large_cid [] = Err NoHeader
 large_cid (a ∷ octets) =
@@ -63,7 +63,7 @@ large_cid (a ∷ octets) =
     else if nat_lt a 0xc0 then two_octets a octets
     else Err LargeCid
 
--- a header of a large link, where it may bear the identifier
+-- a header on a link of large CIDs, if the CID is within the link's greatest
 abbrev pub large_header : ℕ → HeadKind → ℕ → List ℕ → Result (ℕ × ℕ) FrameRefusal →
     Result (Option Header) FrameRefusal
 large_header max_cid kind first octets (Err refusal) = Err refusal
@@ -82,12 +82,12 @@ abbrev pub behind_kind : ℕ → ℕ → List ℕ → Result HeadKind FrameRefus
 behind_kind max_cid first octets (Err refusal) = Err refusal
 behind_kind max_cid first octets (Ok kind) = large_header max_cid kind first octets (large_cid octets)
 
--- what stands after the items on a large link
+-- what follows the items on a link of large CIDs
 abbrev pub large_parts : ℕ → List ℕ → Result (Option Header) FrameRefusal
 large_parts max_cid [] = Ok None
 large_parts max_cid (first ∷ octets) = behind_kind max_cid first octets (kind_of first)
 
--- the header after the items, if there is one, or why what stands there is none
+-- the header after the items, if there is one, or why those octets are not a header
 unfoldable pub header_parts : CidKind → ℕ → List ℕ → Result (Option Header) FrameRefusal
 header_parts Small max_cid octets = small_parts max_cid octets
 header_parts Large max_cid octets = large_parts max_cid octets

@@ -31,19 +31,20 @@ option_header (Some f) = Some (header_of f)
 abbrev pub reading_of : Framed → Reading
 reading_of f = record { elements = elements_of f.elements; header = option_header f.forward }
 
--- The octets are those of a header that this link may bear.
+-- The octets are those of a header that this link may carry.
 pub record IsHeader (size : CidKind) (max_cid : ℕ) (octets : List ℕ) (h : Header) : Type 0 where
   pub sized : h.size ≡ size
   pub within : h.cid ≤ max_cid
   pub spelled : is_header h.size h.cid h.kind h.first h.cid_octets ≡ true
   pub whole : octets ≡ header_octets h
 
--- after the items comes nothing or a header
+-- after the items comes a header or nothing
 abbrev pub Ends : CidKind → ℕ → List ℕ → Option Header → Type 0
 Ends size max_cid octets None = octets ≡ []
 Ends size max_cid octets (Some h) = IsHeader size max_cid octets h
 
--- A reading of a packet (RFC 5795 5): octets that are those of items, and then nothing or a header's.
+-- A reading of a packet (RFC 5795 5): its octets are those of items, followed by those of a header or
+-- nothing.
 pub record IsReading (size : CidKind) (max_cid : ℕ) (octets : List ℕ) (reading : Reading) : Type 0 where
   pub items : List Item
   pub after : List ℕ

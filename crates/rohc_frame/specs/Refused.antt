@@ -6,28 +6,28 @@ use Rattle.rohc_frame.specs.declared.refusal.FrameRefusal.TheVariants.{Empty, Fe
 use Rattle.rohc_frame.specs.Header.{is_within}
 use Rattle.rohc_frame.specs.Items.{Item, IsItem, spelled, all_spelled}
 
--- the first octet is from low to high
+-- the first octet lies from low to high, both included
 abbrev pub begins : ℕ → ℕ → List ℕ → Bool
 begins low high [] = false
 begins low high (octet ∷ octets) = is_within low high octet
 
--- the first octet is this or above
+-- the first octet is this one or above
 abbrev pub begins_from : ℕ → List ℕ → Bool
 begins_from low [] = false
 begins_from low (octet ∷ octets) = nat_le low octet
 
--- the identifier that an Add-CID octet says
+-- the CID in an Add-CID octet
 abbrev pub add_cid : List ℕ → ℕ
 add_cid [] = 0
 add_cid (octet ∷ octets) = octet - 0xe0
 
--- the identifier that one or two octets say, the first below C0
+-- the CID in one or two octets, the first below C0
 abbrev pub spelled_cid : List ℕ → ℕ
 spelled_cid [] = 0
 spelled_cid (a ∷ []) = a
 spelled_cid (a ∷ b ∷ octets) = if nat_lt a 0x80 then a else a % 64 * 256 + b
 
--- Why the octets after the longest list of items are no header's, in the order in which it is judged: the
+-- Why the octets after the longest list of items are not a header, in the order in which they are judged: the
 -- first row whose test holds gives the refusal (RFC 5795 5.2).
 abbrev pub rows : CidKind → ℕ → List ℕ → List (Bool × FrameRefusal)
 rows Small max_cid r =
@@ -57,8 +57,8 @@ abbrev pub first_of_rows : List (Bool × FrameRefusal) → Option FrameRefusal
 first_of_rows [] = None
 first_of_rows ((holds, refusal) ∷ more) = if holds then Some refusal else first_of_rows more
 
--- The octets are those of items and others after them, at whose front no item stands whole, and which this
--- refuses.
+-- The octets are those of items, followed by others. No whole item stands at the start of those, and they are
+-- refused for this reason.
 pub record StopsBy (size : CidKind) (max_cid : ℕ) (octets : List ℕ) (refusal : FrameRefusal) : Type 0 where
   pub items : List Item
   pub after : List ℕ

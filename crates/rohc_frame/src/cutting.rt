@@ -1,4 +1,4 @@
-//! The one reading of a packet, or the one refusal.
+//! Splits a packet into its one reading, or finds its one refusal.
 
 ghost use Rattle.std.specs.Prelude.{◌≡◌, ℕ, IsOk, IfOk, IfErr, IfSome, MatchResult, Ok, Err, ◌<◌, ◌≤◌};
 ghost use Rattle.rohc_frame.specs.Reading.{Reading, option_header, reading_of, IsReading};
@@ -11,8 +11,8 @@ use crate::items::after_items;
 use crate::refusal::FrameRefusal;
 use rohc_bits::read_value;
 
-/// The kind of header that an octet begins, or its refusal where it begins none. E1 to EF are asked
-/// for on a large link alone, and E0 never, since it is padding.
+/// The kind of header that starts with this octet, or the refusal if none does. E1 to EF reach this
+/// function only on a link of large CIDs; E0 never does, since it is padding.
 fn head_kind(first: u8) -> Result<HeadKind, FrameRefusal>
     ensures { result ≡ kind_of first }
 {
@@ -28,7 +28,7 @@ fn head_kind(first: u8) -> Result<HeadKind, FrameRefusal>
     }
 }
 
-/// Whether the link may bear this identifier.
+/// Whether the CID is within the link's greatest; the error is `CidRange`.
 fn in_range(cid: u16, max_cid: u16) -> Result<(), FrameRefusal>
     ensures { MatchResult result (λ _. cid ≤ max_cid) (λ e. (e ≡ FrameRefusal.CidRange) × (max_cid < cid)) }
 {
@@ -38,7 +38,8 @@ fn in_range(cid: u16, max_cid: u16) -> Result<(), FrameRefusal>
     Ok(())
 }
 
-/// The header of a small link: an Add-CID octet or none for identifier 0, then its own octets.
+/// The header on a link of small CIDs: an Add-CID octet, or none for CID 0, then the header's own
+/// octets.
 fn small_header<'a>(max_cid: u16, octets: &'a [u8]) -> Result<Option<Forward<'a>>, FrameRefusal>
     ensures { MatchResult result (λ forward. small_parts max_cid octets.entry.now ≡ Ok (option_header forward))
         (λ e. small_parts max_cid octets.entry.now ≡ Err e) }
@@ -74,11 +75,12 @@ fn small_header<'a>(max_cid: u16, octets: &'a [u8]) -> Result<Option<Forward<'a>
     }))
 }
 
-/// The first octets from this on have first bits 11, and begin values of three or four octets.
+/// A CID whose first octet is this or above starts with the bits 11, so it would take three or four
+/// octets.
 const FIRST_BITS_11: u8 = 0xc0;
 
-/// The identifier of a large link at the front of the octets, and how many of them spell it: one or
-/// two, since first bits 11 are refused.
+/// The large CID at the start of the octets, and how many octets it takes: one or two. First bits
+/// 11 are refused (RFC 5795 5.1.3).
 fn large_identifier(octets: &[u8]) -> Result<(u16, usize), FrameRefusal>
     ensures { result ≡ large_cid octets.now }
 {
@@ -94,7 +96,7 @@ fn large_identifier(octets: &[u8]) -> Result<(u16, usize), FrameRefusal>
     Ok((value as u16, count))
 }
 
-/// The header of a large link: its first octet, the identifier, and the rest.
+/// The header on a link of large CIDs: its first octet, the CID, and the rest.
 fn large_header<'a>(max_cid: u16, octets: &'a [u8]) -> Result<Option<Forward<'a>>, FrameRefusal>
     ensures { MatchResult result (λ forward. large_parts max_cid octets.entry.now ≡ Ok (option_header forward))
         (λ e. large_parts max_cid octets.entry.now ≡ Err e) }
@@ -116,7 +118,7 @@ fn large_header<'a>(max_cid: u16, octets: &'a [u8]) -> Result<Option<Forward<'a>
     }))
 }
 
-/// The header that stands after padding and feedback elements, if there is one.
+/// The header after padding and feedback elements, if there is one.
 #[tactic(auto, unfolding(crate::specs::Parts::header_parts))]
 fn header<'a>(
     size: CidKind,
@@ -132,10 +134,10 @@ fn header<'a>(
     }
 }
 
-/// Cuts a packet of a link into its parts (RFC 5795 5.2).
+/// Splits a packet of a link into feedback elements and a header (RFC 5795 5.2).
 ///
-/// `max_cid` is the greatest identifier of the link. A packet has at most one reading; where it has
-/// none, the refusal is that of the octets after its padding and feedback elements.
+/// `max_cid` is the link's greatest CID. A packet has at most one reading. If it has none, the
+/// error says why the octets after its padding and feedback elements are not a header.
 #[tactic(auto, unfolding(crate::specs::Parts::parts_of))]
 pub fn cut<'a>(size: CidKind, max_cid: u16, octets: &'a [u8]) -> Result<Framed<'a>, FrameRefusal>
     ensures reading { IfOk result (λ framed. IsReading size max_cid octets.entry.now (reading_of framed)) }

@@ -1,11 +1,11 @@
-//! A packet cut into its parts: feedback elements, and a header or none.
+//! The parts of a packet: feedback elements, and a header or none.
 
 ghost use Rattle.std.specs.Iterator.{YieldsFirstRef, item_count};
 
 use crate::header::Forward;
 use crate::items::split_element;
 
-/// The data of a packet's feedback elements, in order, lent from the packet's octets.
+/// The data of a packet's feedback elements, in order, borrowed from the packet.
 #[derive(Clone, Copy, Debug)]
 pub struct Elements<'a> {
     octets: &'a [u8],
@@ -16,7 +16,7 @@ impl<'a> Elements<'a> {
     ghost use Rattle.rohc_frame.specs.Items.{elements_in};
     ghost use Rattle.rohc_frame.specs.Reading.{elements_of};
 
-    /// The elements among the items at the front of these octets.
+    /// The feedback elements among the padding and elements at the start of these octets.
     pub(crate) fn at_front_of(octets: &'a [u8]) -> Self
         ensures { elements_of result ≡ elements_in octets.entry.now }
     {
@@ -40,10 +40,10 @@ impl<'a> Iterator for Elements<'a> {
     }
 }
 
-/// A packet in its parts.
+/// A packet split into its parts.
 #[derive(Clone, Copy, Debug)]
 pub struct Framed<'a> {
-    /// The header; none where padding and feedback are all.
+    /// The header. It is `None` if the packet has only padding and feedback.
     pub forward: Option<Forward<'a>>,
     pub(crate) elements: Elements<'a>,
 }

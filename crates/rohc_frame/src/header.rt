@@ -1,14 +1,14 @@
-//! The header of a packet, as it stands in its frame.
+//! The header of a packet, as framing shows it.
 
 ghost use Rattle.std.specs.Prelude.{◌≡◌, ◌≤◌, true};
 ghost use Rattle.rohc_frame.specs.Header.{greatest_cid, is_header};
 
-/// How a link spells its context identifiers (RFC 5795 5.1.3).
+/// How a link encodes its CIDs (RFC 5795 5.1.3).
 #[derive(Clone, Copy, Debug, PartialEq, Eq)]
 pub enum CidKind {
-    /// 0 to 15, by an Add-CID octet before the header.
+    /// Small CIDs: 0 by no octet, and 1 to 15 by an Add-CID octet before the header.
     Small,
-    /// 0 to 16,383, by one or two octets after the header's first octet.
+    /// Large CIDs: 0 to 16,383, by one or two octets after the first octet of the header.
     Large,
 }
 
@@ -16,7 +16,7 @@ impl CidKind {
     ghost use Rattle.std.specs.Prelude.{◌≡◌};
     ghost use Rattle.rohc_frame.specs.Header.{greatest_cid};
 
-    /// The greatest identifier that a link of this kind can spell.
+    /// The greatest CID that this kind can encode: 15 or 16,383.
     pub fn greatest_cid(self) -> u16
         ensures { result ≡ greatest_cid self }
     {
@@ -27,32 +27,32 @@ impl CidKind {
     }
 }
 
-/// What the first octet of a header says.
+/// The kind of a packet, by the first octet of its header.
 #[derive(Clone, Copy, Debug, PartialEq, Eq)]
 pub enum HeadKind {
-    /// FC or FD: an IR packet, without a dynamic chain or with one.
+    /// FC or FD: an IR, without a dynamic chain or with one.
     Ir { dynamic: bool },
-    /// F8: an IR-DYN packet.
+    /// F8: an IR-DYN.
     IrDyn,
-    /// Below E0: what its profile makes of it.
+    /// Below E0: its profile says what it is.
     Other,
 }
 
-/// The header of a packet, lent from the packet's octets.
+/// The header of a packet, borrowed from the packet's octets.
 #[derive(Clone, Copy, Debug)]
 pub struct Forward<'a> {
-    /// The context identifier.
+    /// The CID, or context identifier.
     pub cid: u16,
-    /// How the link spells identifiers.
+    /// How the link encodes CIDs.
     pub size: CidKind,
-    /// What `first` says.
+    /// The kind of packet, by `first`.
     pub kind: HeadKind,
     /// The first octet of the header.
     pub first: u8,
-    /// The identifier's octets as they stood: the Add-CID octet or none on a small link, one or two
-    /// octets on a large one.
+    /// The CID octets as they arrived: on a link of small CIDs the Add-CID octet or none, on a link
+    /// of large CIDs one or two octets.
     pub cid_octets: &'a [u8],
-    /// What follows the first octet and a large identifier.
+    /// The octets after the first octet and a large CID.
     pub rest: &'a [u8],
     ghost is_header: { is_header size cid kind first cid_octets.now ≡ true },
     ghost in_range: { cid ≤ greatest_cid size },

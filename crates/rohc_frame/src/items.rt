@@ -1,4 +1,4 @@
-//! What may stand before a header: padding and feedback elements.
+//! What may precede a header: padding and feedback elements (RFC 5795 5.2).
 
 ghost use Rattle.std.specs.Prelude.{◌≡◌, [], ◌∷◌, MatchOption};
 ghost use Rattle.rohc_frame.specs.Items.{first_item, after_items, elements_in, sized, coded};
@@ -11,7 +11,7 @@ pub(crate) enum Item<'a> {
     Element(&'a [u8]),
 }
 
-/// The item at the front, where one stands there whole, and the octets behind it.
+/// The item at the start of the octets, if a whole one stands there, and the octets after it.
 #[tactic(auto, unfolding(crate::specs::Items::first_item))]
 pub(crate) fn split_item<'a>(octets: &'a [u8]) -> Option<(Item<'a>, &'a [u8])>
     ensures { split_in result ≡ split_of (first_item octets.entry.now) }
@@ -28,7 +28,8 @@ pub(crate) fn split_item<'a>(octets: &'a [u8]) -> Option<(Item<'a>, &'a [u8])>
     }
 }
 
-/// A feedback element with `size` octets of data at the front, and the octets behind it.
+/// A feedback element whose `size` octets of data stand at the start of these octets, and the
+/// octets after it.
 fn element<'a>(size: u8, octets: &'a [u8]) -> Option<(Item<'a>, &'a [u8])>
     ensures { split_in result ≡ split_of (coded size octets.entry.now) }
 {
@@ -36,7 +37,7 @@ fn element<'a>(size: u8, octets: &'a [u8]) -> Option<(Item<'a>, &'a [u8])>
     Some((Item::Element(data), behind))
 }
 
-/// The data of the first feedback element, over padding, and the octets behind it.
+/// The data of the first feedback element, padding skipped, and the octets after it.
 pub(crate) fn split_element<'a>(octets: &'a [u8]) -> Option<(&'a [u8], &'a [u8])>
     ensures { MatchOption result (elements_in octets.entry.now ≡ [])
         (λ split. elements_in octets.entry.now ≡ split.0.now ∷ elements_in split.1.now) }
@@ -51,7 +52,7 @@ pub(crate) fn split_element<'a>(octets: &'a [u8]) -> Option<(&'a [u8], &'a [u8])
     None
 }
 
-/// The octets after the longest list of items.
+/// The octets after the longest list of whole items.
 pub(crate) fn after_items(octets: &[u8]) -> &[u8]
     ensures { result.now ≡ after_items octets.now }
 {

@@ -1,4 +1,4 @@
-//! Framing: what a link's packet is made of (RFC 3095 5.2, RFC 5795 5).
+//! Framing: padding, feedback elements, CIDs and the header of a packet (RFC 3095 5.2, RFC 5795 5).
 #![tactic(auto)]
 
 mod cutting;

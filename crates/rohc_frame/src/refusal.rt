@@ -1,4 +1,4 @@
-//! Why a packet has no reading.
+//! Why a packet is refused by framing.
 
 /// The refusals of framing (RFC 5795 5.2).
 #[derive(Clone, Copy, Debug, PartialEq, Eq)]
@@ -7,18 +7,18 @@ pub enum FrameRefusal {
     Empty,
     /// A feedback element's Size octet or data is cut off.
     FeedbackShort,
-    /// A feedback type octet straight after an Add-CID octet.
+    /// A feedback type octet follows an Add-CID octet.
     AfterAddCid,
-    /// Type octet FE or FF.
+    /// Type octet FE or FF: segmentation.
     Segment,
     /// Type octet F9, FA or FB, or an octet E0 to EF after an Add-CID octet.
     ReservedType,
-    /// An Add-CID octet on a link of large identifiers.
+    /// An Add-CID octet on a link of large CIDs.
     AddCidOnLarge,
-    /// The first octet of a large identifier begins with bits 11.
+    /// The first octet of a large CID starts with the bits 11.
     LargeCid,
-    /// The identifier is above the link's greatest.
+    /// The CID is above the link's greatest.
     CidRange,
-    /// The packet ends after an Add-CID octet, or before a large identifier is complete.
+    /// The packet ends after an Add-CID octet, or before a large CID is complete.
     NoHeader,
 }

@@ -1,4 +1,4 @@
-//! Each kind's greatest identifier.
+//! The greatest CID of each kind.
 
 use crate::CidKind;
 

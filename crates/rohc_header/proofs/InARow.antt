@@ -1,8 +1,8 @@
--- Lists written one behind the other.
+-- Lists that are written one after the other.
 use Rattle.std.proofs.Common.{◌≡◌, ℕ, List, [], ◌++◌, append_assoc, ap, ◌∙◌}
 use Rattle.rohc_checks.specs.Sum.{header_sum, words}
 
--- the sum of what is written on both sides of it
+-- the header sum of octets that are written before the checksum and after it
 pub sum_written : (before behind none one both : List ℕ) (sum : ℕ) → none ≡ [] → one ≡ none ++ before → both ≡ one ++ behind
     → sum ≡ header_sum (words both) → sum ≡ header_sum (words (before ++ behind))
 sum_written before behind none one both sum e f g h =

@@ -9,7 +9,7 @@ use Rattle.rohc_checks.specs.Division.{bits, number, poly3, degree, add_front, d
 use Rattle.rohc_checks.proofs.Division.{check-table}
 use Rattle.rohc_header.proofs.SevenOctets.{HasPeriod, AreSmall, all_small, first_apart, period3, exchanged, table3}
 
--- a number added to itself a shift down
+-- a number plus itself shifted down by k bits, without carry
 unfoldable pub down : ℕ → ℕ → ℕ
 down k n = bit_xor n (n / 2 ^ k)
 
@@ -17,7 +17,7 @@ down-xor : (k a b : ℕ) → down k (bit_xor a b) ≡ bit_xor (down k a) (down k
 unfolding down
 down-xor k a b = ap (bit_xor (bit_xor a b)) (xor_shr a b k) ∙ exchanged a b (a / 2 ^ k) (b / 2 ^ k)
 
--- 56 bits, added in sevens
+-- the eight groups of seven bits in 56 bits, added without carry
 unfoldable pub sevens : ℕ → ℕ
 sevens n = down 7 (down 14 (down 28 n)) % 128
 
@@ -29,7 +29,7 @@ sevens-xor a b =
     ∙ ap (λ n. n % 128) (down-xor 7 (down 14 (down 28 a)) (down 14 (down 28 b)))
     ∙ xor_mod (down 7 (down 14 (down 28 a))) (down 7 (down 14 (down 28 b))) 7
 
--- what the table has for a seven
+-- the entry of the table for seven bits
 look : ℕ → ℕ
 look m = get_or CRC3 (m * 2) 0
 

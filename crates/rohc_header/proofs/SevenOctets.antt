@@ -1,5 +1,5 @@
--- Over seven octets a 3-bit or a 7-bit register stays as it is, but for the check of the octets alone: both
--- polynomials divide x^56 + 1. So octets may be added in sevens.
+-- Both polynomials divide x^56 + 1. So over seven octets a 3-bit or a 7-bit register changes only by adding the
+-- check of the octets alone, and octets may be added in groups of seven.
 use Rattle.std.proofs.Common.{◌≡◌, ℕ, zero, suc, ◌+◌, ◌*◌, ◌/◌, ◌%◌, ◌^◌, ◌<◌, ◌≤◌, Bool, true, nat_eq, List, [], ◌∷◌, ◌++◌, length, get_or, replicate, bit_xor, All, ap, sym, ◌∙◌, refl, arith}
 use Rattle.std.proofs.Math.Bool.{xor}
 use Rattle.std.proofs.Math.Pow.{pow_mono}
@@ -14,11 +14,11 @@ use Rattle.rohc_checks.proofs.Division.{check-append, check-lt, check-nil, check
 
 -- ---- For any polynomial whose table keeps sums, and whose registers stay over seven zero octets
 
--- the table keeps the sum of these octets
+-- the entry for the sum of two octets is the sum of their entries
 pub keeps_sum : (table : List ℕ) (a b : ℕ) → Bool
 keeps_sum table a b = nat_eq (get_or table (bit_xor a b) 0) (bit_xor (get_or table a 0) (get_or table b 0))
 
--- over seven zero octets this register stays
+-- this register stays the same over seven zero octets
 pub stays : (poly : List Bool) (reg : ℕ) → Bool
 stays poly reg = nat_eq (check poly reg (replicate 7 0)) reg
 
@@ -40,7 +40,7 @@ exchanged a b x y =
     ∙ ap (bit_xor a) (sym (xor_assoc b x y) ∙ ap (λ z. bit_xor z y) (xor_comm b x) ∙ xor_assoc x b y)
     ∙ sym (xor_assoc a x (bit_xor b y))
 
--- sums of registers and of octets are checked apart: one octet, and octets
+-- the check of a sum of registers and octets is the sum of the checks: for one octet, and for several
 one_added : (poly : List Bool) (a b x y : ℕ) → HasPeriod poly → a < 2 ^ degree poly → b < 2 ^ degree poly → x < 256 → y < 256
     → check poly (bit_xor a b) (bit_xor x y ∷ []) ≡ bit_xor (check poly a (x ∷ [])) (check poly b (y ∷ []))
 unfolding keeps_sum

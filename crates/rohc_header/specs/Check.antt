@@ -4,10 +4,10 @@ use Rattle.rohc_checks.specs.Division.{check, degree}
 
 -- ---- The split of a header's octets for its checks
 --
--- RFC 3095 5.9.2 takes the static octets first and then the dynamic ones. Which octets of a header are static
--- is this project's own choice, and not the RFC's.
+-- By RFC 3095 5.9.2 a check covers the static octets first and then the dynamic ones. Which octets count as
+-- static is this project's own table, and not the RFC's.
 
--- the places of a part from a first to a last one, where the part's first octet is at 1
+-- a range of octets of a part, from a first to a last one, where the part's first octet is 1
 pub record Places : Type 0 where
   pub first : ℕ
   pub last : ℕ
@@ -15,8 +15,8 @@ pub record Places : Type 0 where
 abbrev pub places : ℕ → ℕ → Places
 places first last = record { first = first; last = last }
 
--- a part of a header: how many octets of the header stand before it, and the places of its octets that
--- are static and of those that are dynamic
+-- a part of a header: how many octets of the header precede it, and which of its octets are static and which
+-- dynamic
 pub record Part : Type 0 where
   pub before : ℕ
   pub static : List Places
@@ -55,11 +55,11 @@ octets_at octets before all =
 unfoldable pub static_octets : List ℕ → List ℕ
 static_octets octets = flat_map (λ part. octets_at octets part.before part.static) parts
 
--- and its dynamic ones
+-- the dynamic octets of a header, in order
 unfoldable pub dynamic_octets : List ℕ → List ℕ
 dynamic_octets octets = flat_map (λ part. octets_at octets part.before part.dynamic) parts
 
--- ---- The header's check: from all ones over its static octets, and then its dynamic ones
+-- ---- The check of a header: from all ones, over its static octets and then its dynamic ones
 
 abbrev pub all_ones : (poly : List Bool) → ℕ
 all_ones poly = 2 ^ degree poly - 1

@@ -3,7 +3,7 @@ use Rattle.rohc_checks.specs.Sum.{header_sum, words}
 use Rattle.rohc_header.specs.declared.fields.Static.{Static}
 use Rattle.rohc_header.specs.declared.fields.Dynamic.{Dynamic}
 
--- ---- Fields as they stand in a header, the high octet first
+-- ---- Fields as they stand in a header, most significant octet first
 
 -- of 8, of 16 and of 32 bits
 abbrev pub octet : ℕ → List ℕ
@@ -33,7 +33,7 @@ ip_front moving payload_len =
     ++ octet moving.ttl
     ++ octet 17  -- the protocol: UDP
 
--- behind its checksum
+-- after its checksum
 abbrev pub addresses : Static → List ℕ
 addresses fixed = fixed.source ++ fixed.destination
 
@@ -41,7 +41,7 @@ addresses fixed = fixed.source ++ fixed.destination
 abbrev pub ip_part : (fixed : Static) (moving : Dynamic) (payload_len checksum : ℕ) → List ℕ
 ip_part fixed moving payload_len checksum = ip_front moving payload_len ++ word checksum ++ addresses fixed
 
--- the header sum of its other nine words
+-- the header sum of the nine other words
 abbrev pub ip_sum : (fixed : Static) (moving : Dynamic) (payload_len : ℕ) → ℕ
 ip_sum fixed moving payload_len = header_sum (words (ip_front moving payload_len ++ addresses fixed))
 
@@ -90,13 +90,13 @@ rtp_part fixed moving =
 -- |                             SSRC                              |
 -- +---------------------------------------------------------------+
 
--- the longest payload behind it: a packet has at most 65,535 octets
+-- the longest payload, in octets: a packet has at most 65,535
 abbrev pub longest_payload : ℕ
 longest_payload = 65495
 
--- Forty octets are the original header of these fields and of a payload of this length, which is no longer
--- than fits a packet of 65,535 octets: the three parts in a row, where the checksum of the IPv4 part is
--- the header sum of its other nine words.
+-- Forty octets are the original header of these fields and of a payload of this length, if the payload is no
+-- longer than `longest_payload` and the octets are the three parts one after the other. The checksum of the
+-- IPv4 part is the header sum of its other nine words.
 pub record IsOriginal (fixed : Static) (moving : Dynamic) (payload_len : ℕ) (octets : List ℕ) : Type 0 where
   pub checksum : ℕ
   pub fits : payload_len ≤ longest_payload

@@ -1,4 +1,4 @@
-//! Where the fields stand in a header, neighbours that are checked together as one.
+//! The static octets of a header, as ranges of their indexes. Adjacent fields are one range.
 
 use std::ops::Range;
 
@@ -11,8 +11,8 @@ pub(crate) const FRAGMENT_TO_PROTOCOL: Range<usize> = 6..10;
 /// Both addresses and both ports.
 pub(crate) const ADDRESSES_AND_PORTS: Range<usize> = 12..24;
 
-/// RTP's version, P, X and the count of CSRC identifiers.
+/// RTP's version, P, X and CC, the number of CSRCs.
 pub(crate) const RTP_FLAGS: Range<usize> = 28..29;
 
-/// The synchronization source.
+/// The SSRC.
 pub(crate) const SSRC: Range<usize> = 36..40;

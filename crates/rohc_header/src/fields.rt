@@ -1,6 +1,7 @@
-//! The fields from which a header is made: those that stay while a call lasts, and those that move.
+//! The fields from which a header is rebuilt: those that stay the same during a call, and those
+//! that change.
 
-/// The fields of a call's headers that stay as they are.
+/// The static fields of a call's headers.
 #[derive(Clone, Copy, Debug)]
 pub struct Static {
     /// The source address.
@@ -11,24 +12,24 @@ pub struct Static {
     pub source_port: u16,
     /// The destination port.
     pub destination_port: u16,
-    /// The synchronization source.
+    /// The SSRC.
     pub ssrc: u32,
 }
 
-/// The fields of a header that move, with what a context keeps of how they move.
+/// The dynamic fields of a header, and what a context keeps about them: RND, NBO and the stride.
 #[derive(Clone, Copy, Debug)]
 pub struct Dynamic {
-    /// The type of service.
+    /// The type of service (TOS).
     pub tos: u8,
-    /// The time to live.
+    /// The time to live (TTL).
     pub ttl: u8,
-    /// The Identification, as it stands in the IP header.
+    /// The Identification (IP-ID), as it stands in the IP header.
     pub id: u16,
-    /// Don't Fragment.
+    /// The flag Don't Fragment.
     pub df: bool,
-    /// Whether the Identification is random, and so stands in each packet.
+    /// RND: whether the Identification is random, and so carried in each packet.
     pub rnd: bool,
-    /// Whether the Identification is in network byte order.
+    /// NBO: whether the Identification is in network byte order.
     pub nbo: bool,
     /// The UDP checksum.
     pub udp_sum: u16,
@@ -44,6 +45,6 @@ pub struct Dynamic {
     pub sn: u16,
     /// RTP's timestamp.
     pub ts: u32,
-    /// The stride of timestamps, from 1 to 536,870,911, where there is one.
+    /// TS_STRIDE, from 1 to 536,870,911, if one is known.
     pub stride: Option<u32>,
 }

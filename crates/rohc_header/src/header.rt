@@ -1,4 +1,4 @@
-//! Whole headers.
+//! Rebuilt headers and their checks.
 
 ghost use Rattle.std.specs.Prelude.{◌≡◌, ◌<◌, ◌≤◌, ◌↔◌, length, IfSome, IsNone};
 ghost use Rattle.rohc_checks.specs.Division.{check, poly3, poly7};
@@ -12,10 +12,10 @@ use crate::{Dynamic, Static, field};
 use arrayvec::ArrayVec;
 use rohc_checks::{crc3, crc7};
 
-/// The longest payload of a packet: 65,535 octets hold it behind its header.
+/// The longest payload of a packet, in octets: with its header of 40 octets the packet has 65,535.
 pub const LONGEST_PAYLOAD: usize = 65_495;
 
-/// A whole RTP/UDP/IPv4 header.
+/// A rebuilt RTP/UDP/IPv4 header.
 #[derive(Clone, Copy, Debug)]
 pub struct Header {
     /// Its octets: 20 of IPv4, 8 of UDP, 12 of RTP.
@@ -23,8 +23,8 @@ pub struct Header {
 }
 
 impl Header {
-    /// The header of a packet with these fields and as many octets of payload, or `None` where the
-    /// packet would be over 65,535 octets. The payload type is below 128.
+    /// Rebuilds the header of a packet with these fields and `payload_len` octets of payload. Returns `None` if the
+    /// packet would be longer than 65,535 octets. The payload type is below 128.
     pub fn build(fixed: &Static, moving: &Dynamic, payload_len: usize) -> Option<Header>
         requires { moving.now.payload_type < 128 }
         ensures header { IfSome result (λ header. IsOriginal fixed.now moving.now payload_len header.octets) }
@@ -39,21 +39,21 @@ impl Header {
         Some(Header { octets })
     }
 
-    /// The 3-bit check of the header (RFC 3095 5.9.2).
+    /// The 3-bit check of the header: over its static octets, then its dynamic ones (RFC 3095 5.9.2).
     pub fn check3(&self) -> u8
         ensures { result ≡ header_check poly3 self.now.octets }
     {
         self.check3_from(self.static_register(Three))
     }
 
-    /// The 7-bit check of the header (RFC 3095 5.9.2).
+    /// The 7-bit check of the header: over its static octets, then its dynamic ones (RFC 3095 5.9.2).
     pub fn check7(&self) -> u8
         ensures { result ≡ header_check poly7 self.now.octets }
     {
         self.check7_from(self.static_register(Seven))
     }
 
-    /// The registers that the static octets leave, of the 3-bit and of the 7-bit check.
+    /// The registers of the 3-bit and the 7-bit check after the header's static octets.
     pub fn registers(&self) -> (u8, u8)
         ensures three { result.0 ≡ check poly3 (all_ones poly3) (static_octets self.now.octets) }
         ensures seven { result.1 ≡ check poly7 (all_ones poly7) (static_octets self.now.octets) }
@@ -61,23 +61,23 @@ impl Header {
         (self.static_register(Three), self.static_register(Seven))
     }
 
-    /// The 3-bit check from the register that the static octets left: `check3` from the first of
-    /// `registers`.
+    /// The 3-bit check, from the register `reg` after the static octets. With the first of `registers` it is
+    /// `check3`.
     pub fn check3_from(&self, reg: u8) -> u8
         ensures { result ≡ check poly3 reg (dynamic_octets self.now.octets) }
     {
         self.check_from(Three, reg)
     }
 
-    /// The 7-bit check from the register that the static octets left: `check7` from the second of
-    /// `registers`.
+    /// The 7-bit check, from the register `reg` after the static octets. With the second of `registers` it is
+    /// `check7`.
     pub fn check7_from(&self, reg: u8) -> u8
         ensures { result ≡ check poly7 reg (dynamic_octets self.now.octets) }
     {
         self.check_from(Seven, reg)
     }
 
-    /// The register after the static octets, begun from all ones.
+    /// The register after the static octets, starting from all ones.
     fn static_register(&self, polynomial: Polynomial) -> u8
         ensures { result ≡ check (coefficients polynomial) (all_ones (coefficients polynomial)) (static_octets self.now.octets) }
     {
@@ -88,7 +88,7 @@ impl Header {
         crc(polynomial, reg, &self.octets[field::SSRC])
     }
 
-    /// The check from the register that the static octets left.
+    /// The check, from the register after the static octets.
     fn check_from(&self, polynomial: Polynomial, reg: u8) -> u8
         ensures { result ≡ check (coefficients polynomial) reg (dynamic_octets self.now.octets) }
     {
@@ -96,8 +96,8 @@ impl Header {
     }
 }
 
-/// Writes the header of a packet with these fields and as many octets of payload, at most 65,495, in place of what
-/// `octets` hold. The payload type is below 128.
+/// Writes the header of a packet with these fields and `payload_len` octets of payload, in place of what `octets`
+/// holds. `payload_len` is at most 65,495, and the payload type is below 128.
 #[inline(always)]
 pub fn put_header(octets: &mut ArrayVec<u8, 40>, fixed: &Static, moving: &Dynamic, payload_len: u16)
     requires fits { payload_len ≤ longest_payload }
@@ -110,7 +110,7 @@ pub fn put_header(octets: &mut ArrayVec<u8, 40>, fixed: &Static, moving: &Dynami
     put_rtp(octets, fixed, moving);
 }
 
-/// The 3-bit check of a header's forty octets from the register that the static ones left (RFC 3095 5.9.2).
+/// The 3-bit check of a header's 40 octets, from the register `reg` after its static octets (RFC 3095 5.9.2).
 pub fn check3_after(octets: &[u8], reg: u8) -> u8
     requires { length octets.now ≡ 40 }
     ensures { result ≡ check poly3 reg (dynamic_octets octets.now) }
@@ -118,8 +118,12 @@ pub fn check3_after(octets: &[u8], reg: u8) -> u8
     dynamic_check(Three, octets, reg)
 }
 
-/// The check of a header's forty octets from the register that the static ones left: that of the dynamic octets in
-/// sevens from their end, added without carry, with the register under the first. Both polynomials divide x^56 + 1.
+/// The check of a header's 40 octets, from the register after its static octets. The dynamic octets are at indexes
+/// 2 to 5 (IPv4 Total Length and Identification), 10 and 11 (IPv4 checksum), 24 to 27 (UDP Length and checksum) and
+/// 29 to 35 (RTP M and PT, SN and TS).
+///
+/// These 17 octets are added without carry in groups of seven, counted from their end, and the register is added to
+/// the first of them. That is allowed because both polynomials divide x^56 + 1.
 fn dynamic_check(polynomial: Polynomial, octets: &[u8], reg: u8) -> u8
     requires { length octets.now ≡ 40 }
     ensures { result ≡ check (coefficients polynomial) reg (dynamic_octets octets.now) }
@@ -137,7 +141,7 @@ fn dynamic_check(polynomial: Polynomial, octets: &[u8], reg: u8) -> u8
     check_of_seven(polynomial, &folded)
 }
 
-/// The check of seven octets from a register of 0.
+/// The check of seven octets, from register 0.
 fn check_of_seven(polynomial: Polynomial, octets: &[u8; 7]) -> u8
     ensures { result ≡ check (coefficients polynomial) 0 octets.now }
 {
@@ -147,8 +151,8 @@ fn check_of_seven(polynomial: Polynomial, octets: &[u8; 7]) -> u8
     }
 }
 
-/// The 3-bit check of seven octets from a register of 0, by one look-up: 1 + x + x^3 divides x^7 + 1, so their bits
-/// may be added in sevens.
+/// The 3-bit check of seven octets, from register 0, by one look-up. Since 1 + x + x^3 divides x^7 + 1, their bits
+/// may be added in groups of seven.
 fn check3_of_seven(octets: &[u8; 7]) -> u8
     ensures { result ≡ check poly3 0 octets.now }
 {
@@ -165,7 +169,7 @@ fn check3_of_seven(octets: &[u8; 7]) -> u8
     crc3(0x00, &[(one % 128) as u8 * 2])
 }
 
-/// A register of as many ones as the polynomial's check has bits.
+/// A register of all ones, of as many bits as the polynomial's check.
 #[tactic(auto, using(crate::proofs::Checks::ones3, crate::proofs::Checks::ones7))]
 fn ones(polynomial: Polynomial) -> u8
     ensures { result ≡ all_ones (coefficients polynomial) }
@@ -176,7 +180,7 @@ fn ones(polynomial: Polynomial) -> u8
     }
 }
 
-/// The polynomial's check of the octets, from this register.
+/// The check of the octets by this polynomial, from the register `reg`.
 fn crc(polynomial: Polynomial, reg: u8, octets: &[u8]) -> u8
     ensures { result ≡ check (coefficients polynomial) reg octets.now }
 {

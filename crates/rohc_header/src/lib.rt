@@ -1,4 +1,5 @@
-//! Whole RTP/UDP/IPv4 headers and their checks (RFC 3095 5.9; RFC 791, 768, 3550). Nothing allocates.
+//! Rebuilt RTP/UDP/IPv4 headers and their checks (RFC 3095 5.9; RFC 791, 768, 3550). No function
+//! allocates memory.
 #![tactic(auto)]
 
 mod field;

@@ -1,4 +1,4 @@
-//! The parts of a header, each written behind the octets that are there.
+//! The parts of a header. Each function appends one to the octets that are there.
 
 ghost use Rattle.std.specs.Prelude.{◌≡◌, ◌+◌, ◌<◌, ◌≤◌, ◌++◌, length, sum};
 ghost use Rattle.rohc_checks.specs.Sum.{words};
@@ -8,10 +8,10 @@ use crate::{Dynamic, Static};
 use arrayvec::ArrayVec;
 use rohc_checks::sum_of_total;
 
-/// The octets of a header, as far as they are written.
+/// The octets of a header, as far as they have been written.
 pub(crate) type Octets = ArrayVec<u8, 40>;
 
-/// The IPv4 part (RFC 791 3.1).
+/// Appends the IPv4 header (RFC 791 3.1).
 #[inline(always)]
 pub(crate) fn put_ip(octets: &mut Octets, fixed: &Static, moving: &Dynamic, payload_len: u16)
     requires room { length octets.old.items + 20 ≤ 40 }
@@ -23,7 +23,8 @@ pub(crate) fn put_ip(octets: &mut Octets, fixed: &Static, moving: &Dynamic, payl
     put_addresses(octets, fixed);
 }
 
-/// The checksum of the IPv4 part, from its nine other words as numbers: no octet is read back.
+/// The IPv4 checksum, computed from the header's nine other words as numbers; no octet is read
+/// back.
 fn checksum(fixed: &Static, moving: &Dynamic, payload_len: u16) -> u16
     requires { payload_len ≤ longest_payload }
     ensures { result ≡ ip_sum fixed.now moving.now payload_len }
@@ -38,7 +39,7 @@ fn checksum(fixed: &Static, moving: &Dynamic, payload_len: u16) -> u16
     sum_of_total(total)
 }
 
-/// The total of an address's two words.
+/// The sum of the two 16-bit words of an address.
 fn two_words(address: &[u8; 4]) -> u32
     ensures total { result ≡ sum (words address.now) }
     ensures few { result ≤ 131070 }
@@ -47,7 +48,7 @@ fn two_words(address: &[u8; 4]) -> u32
         + u32::from_be_bytes([0, 0, address[2], address[3]])
 }
 
-/// The IPv4 part up to its checksum.
+/// Appends the IPv4 header up to its checksum.
 fn put_ip_front(octets: &mut Octets, moving: &Dynamic, payload_len: u16)
     requires room { length octets.old.items + 10 ≤ 40 }
     requires fits { payload_len ≤ longest_payload }
@@ -59,7 +60,7 @@ fn put_ip_front(octets: &mut Octets, moving: &Dynamic, payload_len: u16)
     put(octets, &[flag(moving.df, 0x40), 0x00, moving.ttl, 17]);
 }
 
-/// The addresses behind the checksum of the IPv4 part.
+/// Appends the two addresses, which follow the IPv4 checksum.
 fn put_addresses(octets: &mut Octets, fixed: &Static)
     requires { length octets.old.items + 8 ≤ 40 }
     ensures { octets.new.items ≡ octets.old.items ++ addresses fixed.now }
@@ -68,7 +69,7 @@ fn put_addresses(octets: &mut Octets, fixed: &Static)
     put(octets, &fixed.destination);
 }
 
-/// The UDP part (RFC 768).
+/// Appends the UDP header (RFC 768).
 pub(crate) fn put_udp(octets: &mut Octets, fixed: &Static, moving: &Dynamic, payload_len: u16)
     requires room { length octets.old.items + 8 ≤ 40 }
     requires fits { payload_len ≤ longest_payload }
@@ -80,7 +81,7 @@ pub(crate) fn put_udp(octets: &mut Octets, fixed: &Static, moving: &Dynamic, pay
     put_word(octets, moving.udp_sum);
 }
 
-/// The RTP part (RFC 3550 5.1).
+/// Appends the RTP header (RFC 3550 5.1).
 pub(crate) fn put_rtp(octets: &mut Octets, fixed: &Static, moving: &Dynamic)
     requires room { length octets.old.items + 12 ≤ 40 }
     requires narrow { moving.now.payload_type < 128 }
@@ -94,7 +95,7 @@ pub(crate) fn put_rtp(octets: &mut Octets, fixed: &Static, moving: &Dynamic)
     put_quad(octets, fixed.ssrc);
 }
 
-/// A flag as the bit of this value.
+/// `value` if the flag is set, else 0.
 fn flag(set: bool, value: u8) -> u8
     ensures { result ≡ flag_octet set value }
 {

@@ -3,8 +3,8 @@
 /// The polynomial of a header's check (RFC 3095 5.9.2).
 #[derive(Clone, Copy, Debug)]
 pub(crate) enum Polynomial {
-    /// That of 3 bits.
+    /// The polynomial of the 3-bit check.
     Three,
-    /// That of 7 bits.
+    /// The polynomial of the 7-bit check.
     Seven,
 }

@@ -3,7 +3,7 @@
 use crate::{Dynamic, Header, Static, check3_after, put_header};
 use arrayvec::ArrayVec;
 
-/// What the examples' calls keep.
+/// The static fields of the examples' calls.
 const FIXED: Static = Static {
     source: [10, 0, 0, 1],
     destination: [10, 0, 0, 2],
@@ -37,8 +37,8 @@ const WHOLE_IR: [u8; 40] = [
     0x00, 0x00, 0x00, 0xa0, 0x00, 0x00, 0x00, 0x01,
 ];
 
-/// The check that a packet carries: none of an IR, 3 bits of a UO-0 or a UO-1 kind, 7 bits of a
-/// UOR-2 kind.
+/// The check that a packet carries: an IR none of a header, a UO-0 or UO-1 one of 3 bits, a UOR-2 one of 7
+/// bits.
 #[derive(Clone, Copy)]
 enum Carried {
     Nothing,
@@ -48,9 +48,9 @@ enum Carried {
 
 use Carried::{Nothing, Seven, Three};
 
-/// A header as the examples print it, by the fields that aren't always those of *whole IR*: TOS,
-/// Identification, header sum, UDP checksum, M and PT, SN, TS; and the check of a packet that
-/// delivers it.
+/// A header as the examples print it: by the fields that differ from those of *whole IR* (TOS,
+/// Identification, header sum, UDP checksum, M and PT, SN, TS), and by the check of a packet that delivers
+/// it.
 type Row = (u8, u16, u16, u16, u8, u16, u32, Carried);
 
 const ROWS: [Row; 20] = [
@@ -134,7 +134,7 @@ fn examples(rt: HostRuntime) {
 }
 
 /// Headers that another program made, with each flag set in one and clear in another: their fields, the
-/// payload's length, their octets, and their checks of 3 and of 7 bits. RND and NBO leave no trace in them.
+/// payload's length, their octets, and their 3-bit and 7-bit checks. RND and NBO don't show in the octets.
 const EACH_FLAG: [(Static, Dynamic, usize, [u8; 40], u8, u8); 3] = [
     (
         Static {
@@ -248,7 +248,7 @@ fn each_flag(rt: HostRuntime) {
     }
 }
 
-// A packet is of 65,535 octets at most.
+// A packet has at most 65,535 octets.
 #[test]
 fn longest_payload(rt: HostRuntime) {
     for (payload_len, fits) in [

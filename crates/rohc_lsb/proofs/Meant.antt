@@ -6,7 +6,7 @@ use Rattle.rohc_bits.specs.LowBits.{LowBits}
 use Rattle.rohc_lsb.specs.Interval.{LiesInInterval, modulo, OneValue, WindowAgrees}
 use Rattle.rohc_lsb.proofs.Residues.{modulo_is, raised, remainder_once}
 
--- the number that is above the least, a, by what b is above it modulo m, is b modulo m
+-- the number that lies as far above a as b does modulo m is b modulo m
 reached_from : (a : ℤ) (b m q r l n : ℕ) → b < m →
     a +ℤ pos (q * m) ≡ pos l →
     (pos b -ℤ a) +ℤ pos (r * m) ≡ pos n →
@@ -30,14 +30,14 @@ modulo_below v m some =
     let (q, n, e) = raised v m some in
     rw (modulo_is v m n q some e) (mod_below n m some)
 
--- The value that the bits mean lies as far above the interval's least number as they do modulo 2^k.
+-- The value that the bits mean lies as far above the least number of the interval as the bits do modulo 2^k.
 pub meant_there : (reference : ℤ) (bits : LowBits) (p : ℕ) → bits.value < 2 ^ bits.count →
     LiesInInterval reference bits p ((reference -ℤ pos p) +ℤ pos (modulo (pos bits.value -ℤ (reference -ℤ pos p)) (2 ^ bits.count)))
 meant_there reference bits p fits =
     let over = modulo_below (pos bits.value -ℤ (reference -ℤ pos p)) (2 ^ bits.count) (pow_pos bits.count) in
     record { least = omega (arith, ints); greatest = omega (arith, ints); low = reached (reference -ℤ pos p) bits.value (2 ^ bits.count) fits }
 
--- the same value in other words
+-- the same for an equal value
 pub meant_as : (reference : ℤ) (bits : LowBits) (p : ℕ) (v w : ℤ) → LiesInInterval reference bits p v → v ≡ w → LiesInInterval reference bits p w
 meant_as reference bits p v w lies e = let P : ℤ → Type 0 = λ x. LiesInInterval reference bits p x in subst P e lies
 

@@ -5,12 +5,12 @@ use Rattle.std.proofs.Math.Nat.{mod-add-mod, add-mod_right, mod-eq_of_lt}
 use Rattle.rohc_lsb.specs.Fields.{in_network_order, offset_of}
 use Rattle.rohc_lsb.proofs.Residues.{modulo_is}
 
--- octets turned round twice stand as before
+-- octets that are swapped twice are as before
 turned_twice : (nbo : Bool) (x : ℕ) → x < 2 ^ 16 → in_network_order nbo (in_network_order nbo x) ≡ x
 turned_twice true x range = refl
 turned_twice false x range = omega arith
 
--- Offset by a sum in 16 bits
+-- the offset as a sum, for an SN of 16 bits
 pub offset_is : (nbo : Bool) (sn id : ℕ) → sn < 2 ^ 16 → offset_of nbo sn id ≡ (in_network_order nbo id + (2 ^ 16 - sn)) % 2 ^ 16
 offset_is nbo sn id range = modulo_is (pos (in_network_order nbo id) -ℤ pos sn) (2 ^ 16) (in_network_order nbo id + (2 ^ 16 - sn)) 1 (omega arith) (omega (arith, ints))
 
@@ -27,7 +27,7 @@ offset_back nbo sn offset sn_range range =
     ∙ add-mod_right offset (2 ^ 16)
     ∙ mod-eq_of_lt range
 
--- Offset by a sum, whatever the sequence number
+-- the offset as a sum, for any SN
 offset_sum : (nbo : Bool) (sn id : ℕ) → offset_of nbo sn id ≡ (in_network_order nbo id + sn * 65535) % 2 ^ 16
 offset_sum nbo sn id = modulo_is (pos (in_network_order nbo id) -ℤ pos sn) (2 ^ 16) (in_network_order nbo id + sn * 65535) sn (omega arith) (omega (arith, ints))
 

@@ -4,34 +4,34 @@ use Rattle.rohc_lsb.specs.Interval.{ExactlyOne, LiesInInterval, modulo, p_of_sn,
 
 -- ---- The sequence number sn of a header (RFC 3095 4.5.1)
 
--- The bits mean the number that is so many steps after the reference's. They mean it against the reference's
--- number moved on by the shift. SN is its low 16 bits.
+-- The bits mean a number that is this many steps after the reference's number. They mean it against the
+-- reference's number moved on by the shift. SN is its low 16 bits.
 abbrev pub AgreesInSn : (reference shift : ℕ) (bits : LowBits) (sn : ℕ) (steps : ℤ) → Type 0
 AgreesInSn reference shift bits sn steps =
     LiesInInterval (pos (reference + shift)) bits (p_of_sn bits.count) (pos reference +ℤ steps) ×
     (sn ≡ modulo (pos reference +ℤ steps) (2 ^ 16))
 
--- Bits mean exactly one SN, exactly so many steps after the reference's.
+-- Bits mean exactly one SN, at exactly one number of steps after the reference's.
 abbrev pub OneSn : Type 0
 OneSn = (reference shift : ℕ) (bits : LowBits) → bits.value < 2 ^ bits.count →
     ExactlyOne (λ (number : ℕ × ℤ). AgreesInSn reference shift bits number.0 number.1)
 
 -- ---- The timestamp ts of a header (RFC 3095 4.5.3)
 
--- Without bits it is as many strides after the reference's as there are steps of the sequence number.
+-- Without bits, the timestamp is the reference's plus one stride for each step of the sequence number.
 abbrev pub AgreesWithoutBits : (reference : ℕ) (stride : Option ℕ) (steps : ℤ) (ts : ℕ) → Type 0
 AgreesWithoutBits reference None steps ts = ts ≡ reference
 AgreesWithoutBits reference (Some stride) steps ts =
     ts ≡ modulo (pos reference +ℤ steps *ℤ pos stride) (2 ^ 32)
 
--- Scaled bits mean a value v for TS_SCALED, and TS is TS_SCALED * TS_STRIDE + TS_OFFSET. The reference's
--- TS_SCALED and TS_OFFSET are its quotient and its remainder by the stride.
+-- Scaled bits mean a value v of TS_SCALED, and TS is TS_SCALED * TS_STRIDE + TS_OFFSET. The reference's
+-- TS_SCALED and TS_OFFSET are the quotient and the remainder of its timestamp by the stride.
 abbrev pub AgreesByScaledBits : (reference stride : ℕ) (bits : LowBits) (ts : ℕ) → Type 0
 AgreesByScaledBits reference stride bits ts =
     (v : ℤ) × LiesInInterval (pos (reference / stride)) bits (p_of_ts bits.count) v ×
     (ts ≡ modulo (v *ℤ pos stride +ℤ pos (reference % stride)) (2 ^ 32))
 
--- Unscaled bits mean a value v for TS itself.
+-- Unscaled bits mean a value v of TS itself.
 abbrev pub AgreesByUnscaledBits : (reference : ℕ) (bits : LowBits) (ts : ℕ) → Type 0
 AgreesByUnscaledBits reference bits ts =
     (v : ℤ) × LiesInInterval (pos reference) bits (p_of_ts bits.count) v × (ts ≡ modulo v (2 ^ 32))
@@ -47,7 +47,7 @@ pub record OneTimestamp : Type 0 where
 
 -- ---- The Identification of a header (RFC 3095 4.5.5)
 
--- its two octets in network byte order: turned round where NBO is 0
+-- an Identification in network byte order; its two octets are swapped if NBO is 0
 abbrev pub in_network_order : (nbo : Bool) (id : ℕ) → ℕ
 in_network_order true id = id
 in_network_order false id = id % 256 * 256 + id / 256
@@ -56,7 +56,8 @@ in_network_order false id = id % 256 * 256 + id / 256
 abbrev pub offset_of : (nbo : Bool) (sn id : ℕ) → ℕ
 offset_of nbo sn id = modulo (pos (in_network_order nbo id) -ℤ pos sn) (2 ^ 16)
 
--- Without bits the offset is the reference's. With bits it is the value that they mean against it; p is 0.
+-- Without bits, the offset is the reference's. With bits, it is the value that they mean against the
+-- reference's offset, with p = 0.
 abbrev pub AgreesInOffset : (reference : ℕ) (bits : Option LowBits) (offset : ℕ) → Type 0
 AgreesInOffset reference None offset = offset ≡ reference
 AgreesInOffset reference (Some bits) offset =

@@ -1,4 +1,4 @@
-//! The Identification of an IP header from its offset to the sequence number (RFC 3095 4.5.5).
+//! The IP Identification (IP-ID), from its offset to the sequence number (RFC 3095 4.5.5).
 
 ghost use Rattle.std.specs.Prelude.{◌≡◌, ◌≤◌};
 ghost use Rattle.std.specs.Option.{ForSome, option_map};
@@ -10,9 +10,9 @@ use rohc_bits::Bits;
 
 /// The Identification of a header with this sequence number, as it stands in the header (RFC 3095 4.5.5).
 ///
-/// Its offset to the number is the one that the bits mean against the reference's offset, or without bits
-/// that offset itself. It stands in network byte order with `nbo`, else with its octets turned round.
-/// Where there are bits, there are 1 to 16.
+/// The offset is the Identification less the sequence number. With `bits`, it is the value that they mean
+/// against the reference's offset; without, it is the reference's offset. If `nbo` is false, the two
+/// octets of an Identification are swapped in the header. If there are bits, there are 1 to 16.
 pub fn ip_id(sn: u16, reference_sn: u16, reference_id: u16, nbo: bool, bits: Option<Bits>) -> u16
     requires some { ForSome bits (λ b. 1 ≤ b.count) }
     requires narrow { ForSome bits (λ b. b.count ≤ 16) }
@@ -23,7 +23,7 @@ pub fn ip_id(sn: u16, reference_sn: u16, reference_id: u16, nbo: bool, bits: Opt
     network_order(sn.wrapping_add(offset_meant(reference, bits)), nbo)
 }
 
-/// The offset that the bits mean against the reference's, or the reference's.
+/// The offset that the bits mean against the reference's offset; without bits, the reference's offset.
 fn offset_meant(reference: u16, bits: Option<Bits>) -> u16
     ensures { AgreesInOffset reference (option_map low_bits bits) result }
 {
@@ -33,7 +33,8 @@ fn offset_meant(reference: u16, bits: Option<Bits>) -> u16
     }
 }
 
-/// An Identification of a header in network byte order, and one in that order as it stands in a header.
+/// Converts an Identification between its form in a header and network byte order. Either way it is the
+/// same function.
 fn network_order(id: u16, nbo: bool) -> u16
     ensures { result ≡ in_network_order nbo id }
 {

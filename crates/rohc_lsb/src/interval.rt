@@ -1,4 +1,4 @@
-//! Low bits and the interval that they are read in (RFC 3095 4.5.1).
+//! W-LSB decoding: the value that low bits mean in their interpretation interval (RFC 3095 4.5.1).
 
 ghost use Rattle.std.specs.Prelude.{◌≡◌, ℤ, ◌^◌, ◌<◌, ◌≤◌, pos};
 ghost use Rattle.rohc_bits.specs.LowBits.{low_bits};
@@ -8,9 +8,9 @@ use rohc_bits::Bits;
 
 /// The value that the bits mean against a reference, modulo 2^`width` (RFC 3095 4.5.1).
 ///
-/// Before that it is the one whole number from `reference - p` to `reference + 2^k - 1 - p` that has
-/// these k low bits; it can lie below zero and past the field's end. There are 1 to `width` bits, the
-/// width is at most 32, and p is below 2^k.
+/// With k bits, it is the one whole number from `reference - p` to `reference + 2^k - 1 - p` that has
+/// these low bits. It can lie below zero or beyond the field, so it is reduced modulo 2^`width`.
+/// There are 1 to `width` bits, `width` is at most 32, and `p` is below 2^k.
 pub fn interval_value(reference: u32, bits: Bits, p: u32, width: u8) -> u32
     requires some { 1 ≤ bits.count }
     requires narrow { bits.count ≤ width }
@@ -22,7 +22,7 @@ pub fn interval_value(reference: u32, bits: Bits, p: u32, width: u8) -> u32
     remainder(value_meant(reference, bits, p), width)
 }
 
-/// The whole number that the bits mean against a reference.
+/// The whole number that the bits mean against a reference. It may be negative.
 pub(crate) fn value_meant(reference: u32, bits: Bits, p: u32) -> i64
     ensures { LiesInInterval (pos reference) (low_bits bits) p result }
 {
@@ -31,7 +31,7 @@ pub(crate) fn value_meant(reference: u32, bits: Bits, p: u32) -> i64
     least + i64::from(above_least)
 }
 
-/// A whole number modulo 2^`width`.
+/// A whole number modulo 2^`width`, from 0 to 2^`width` - 1.
 pub(crate) fn remainder(value: i64, width: u8) -> u32
     requires { width ≤ 32 }
     ensures { result ≡ modulo value (2 ^ width) }

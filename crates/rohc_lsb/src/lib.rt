@@ -1,5 +1,5 @@
-//! Fields of a header from their low bits: intervals, sequence numbers, timestamps and the
-//! Identification (RFC 3095 4.5).
+//! Decoding of header fields from their low bits: interpretation intervals, sequence numbers,
+//! timestamps and the IP Identification (RFC 3095 4.5).
 #![tactic(auto)]
 
 mod identification;

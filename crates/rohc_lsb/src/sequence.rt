@@ -8,8 +8,8 @@ ghost use Rattle.rohc_lsb.specs.Fields.{AgreesInSn};
 use crate::interval::{remainder, value_meant};
 use rohc_bits::Bits;
 
-/// p for `k` bits of a sequence number, from 1 to 16 of them: how far their interval reaches below the
-/// reference (RFC 3095 4.5.1, 5.7).
+/// The offset p of the interpretation interval for `k` bits of a sequence number: how far the interval
+/// reaches below the reference (RFC 3095 4.5.1, 5.7). `k` is 1 to 16.
 pub fn sn_shift(k: u8) -> u32
     requires least { 1 ≤ k }
     requires greatest { k ≤ 16 }
@@ -18,11 +18,11 @@ pub fn sn_shift(k: u8) -> u32
     if k <= 4 { 1 } else { (1 << (k - 5)) - 1 }
 }
 
-/// The sequence number that the bits mean against `reference + shift`, and its steps from `reference`
-/// itself, below zero for a late packet (RFC 3095 4.5.1, 5.7).
+/// Decodes a sequence number from its low bits (RFC 3095 4.5.1, 5.7). Returns the number, and how many
+/// steps it is after `reference`; a late packet has a negative number of steps.
 ///
-/// The shift is 0 but where a reference that fell behind is tried once more, moved on. It is at most
-/// 65,536, and there are 1 to 16 bits.
+/// The bits are read against `reference + shift`. The shift is 0, except in the second try of a
+/// packet, which moves the reference on. It is at most 65,536. There are 1 to 16 bits.
 pub fn sn_value(reference: u16, shift: u32, bits: Bits) -> (u16, i32)
     requires some { 1 ≤ bits.count }
     requires narrow { bits.count ≤ 16 }

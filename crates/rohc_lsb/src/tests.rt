@@ -1,10 +1,11 @@
-//! Values from outside: worked examples of packets, and lines of a table that another program made.
+//! Expected values from outside: worked examples of packets, and lines of a table that another
+//! program made.
 
 use super::*;
 use rohc_bits::Bits;
 use std::process::Abort;
 
-/// The bits as the tables spell them: how many, and their number.
+/// Bits as the tables give them: how many, and their number.
 fn read((count, value): (u8, u32), rt: &impl Abort) -> Bits {
     assert!(rt; count <= 32 && u64::from(value) < 1 << count);
     Bits::new(value, count)
@@ -62,7 +63,7 @@ fn p_of_each_field(rt: HostRuntime) {
 fn sequence_numbers(rt: HostRuntime) {
     // reference, shift, (k, bits), number and steps
     let table = [
-        // The next packet, one after the last number of the field, a late one, and a second try.
+        // The next packet; a number that wraps to 0; a late packet; a second try.
         (1, 0, (4, 2), (2, 1)),
         (65_535, 0, (4, 0), (0, 1)),
         (2, 0, (4, 1), (1, -1)),
@@ -85,7 +86,7 @@ fn sequence_numbers(rt: HostRuntime) {
 fn timestamps_from_scaled_bits(rt: HostRuntime) {
     // reference, stride, (k, bits), timestamp
     let table = [
-        // Twenty strides of 160, and the first number past the field's end.
+        // Twenty strides of 160; and a timestamp that wraps to 0.
         (320, 160, (5, 20), 3_200),
         (0xffff_ff60, 160, (5, 25), 0),
         (0, 2, (20, 1_048_575), 4_294_967_294),
@@ -143,7 +144,7 @@ fn timestamps_without_bits(rt: HostRuntime) {
 fn identifications(rt: HostRuntime) {
     // number, the reference's number and Identification, NBO, (k, bits), Identification
     let table = [
-        // One after the reference with its octets turned round, and an offset of three.
+        // One step after the reference with the octets swapped; and an offset of three.
         (2, 1, 0x0100, false, None, 0x0200),
         (100, 2, 2, true, Some((8, 3)), 0x0067),
         (3, 2, 2, true, Some((5, 4)), 7),

@@ -1,4 +1,4 @@
-//! Timestamps, from low bits or from the steps of the sequence number (RFC 3095 4.5.3, 5.7).
+//! RTP timestamps, from low bits or from the steps of the sequence number (RFC 3095 4.5.3, 5.7).
 
 ghost use Rattle.std.specs.Prelude.{◌≡◌, ◌^◌, ◌<◌, ◌≤◌, pos, ◌+ℤ◌, ◌*ℤ◌};
 ghost use Rattle.rohc_bits.specs.LowBits.{low_bits};
@@ -8,8 +8,8 @@ ghost use Rattle.rohc_lsb.specs.Fields.{AgreesWithoutBits, AgreesByScaledBits, A
 use crate::interval::{remainder, value_meant};
 use rohc_bits::Bits;
 
-/// p for `k` bits of a timestamp, from 2 to 32 of them: how far their interval reaches below the
-/// reference (RFC 3095 4.5.1, 5.7).
+/// The offset p of the interpretation interval for `k` bits of a timestamp: how far the interval reaches
+/// below the reference (RFC 3095 4.5.1, 5.7). `k` is 2 to 32.
 pub fn ts_shift(k: u8) -> u32
     requires least { 2 ≤ k }
     requires greatest { k ≤ 32 }
@@ -18,9 +18,10 @@ pub fn ts_shift(k: u8) -> u32
     (1 << (k - 2)) - 1
 }
 
-/// The timestamp whose TS_SCALED the bits mean against the reference's (RFC 3095 4.5.3).
+/// The timestamp from bits of TS_SCALED, against the reference's TS_SCALED and with the reference's
+/// TS_OFFSET (RFC 3095 4.5.3).
 ///
-/// There are at least 2 bits, and the stride is from 1 to 536,870,911 (29 bits).
+/// There are at least 2 bits. The stride is 1 to 536,870,911 (29 bits).
 pub fn scaled(reference: u32, stride: u32, bits: Bits) -> u32
     requires least_stride { 1 ≤ stride }
     requires greatest_stride { stride ≤ 536870911 }
@@ -31,7 +32,8 @@ pub fn scaled(reference: u32, stride: u32, bits: Bits) -> u32
     strides_after(reference % stride, stride, value)
 }
 
-/// The timestamp that the bits mean against the reference's (RFC 3095 4.5.1). There are at least 2 bits.
+/// The timestamp from unscaled bits, against the reference's timestamp (RFC 3095 4.5.1). There are at
+/// least 2 bits.
 pub fn unscaled(reference: u32, bits: Bits) -> u32
     requires { 2 ≤ bits.count }
     ensures { AgreesByUnscaledBits reference (low_bits bits) result }
@@ -39,8 +41,9 @@ pub fn unscaled(reference: u32, bits: Bits) -> u32
     remainder(value_meant(reference, bits, ts_shift(bits.count)), 32)
 }
 
-/// The timestamp of a header without bits of it: the reference's and one stride for each step of the
-/// sequence number, or the reference's alone where no stride is known (RFC 3095 5.7).
+/// The timestamp of a header whose packet carries no bits of it: the reference's timestamp, plus one
+/// stride for each step of the sequence number (RFC 3095 5.7). Without a stride it is the reference's
+/// timestamp.
 pub fn inferred_ts(reference: u32, stride: Option<u32>, steps: i32) -> u32
     ensures { AgreesWithoutBits reference stride steps result }
 {
@@ -50,7 +53,7 @@ pub fn inferred_ts(reference: u32, stride: Option<u32>, steps: i32) -> u32
     }
 }
 
-/// The timestamp `count` strides after `start`, or before it where `count` is below zero.
+/// The timestamp `count` strides after `start`, modulo 2^32. A negative `count` goes back.
 fn strides_after(start: u32, stride: u32, count: i64) -> u32
     ensures { result ≡ modulo (pos start +ℤ count *ℤ pos stride) (2 ^ 32) }
 {

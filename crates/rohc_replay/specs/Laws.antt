@@ -1,4 +1,4 @@
--- Promises over two runs, and over a text's one script. Words: IsFront; then each law.
+-- Laws of two runs, and of a text's one script. Words: IsFront; then each law.
 use Rattle.std.specs.Prelude.{◌≡◌, ℕ, ◌<◌, ◌^◌, List, [], ◌∷◌, ◌++◌, Option, Some}
 use Rattle.std.specs.List.{flat_map}
 use Rattle.rohc_concentrator.specs.declared.concentrator.Concentrator.{Concentrator}
@@ -13,23 +13,23 @@ use Rattle.rohc_replay.specs.AnswerLines.{response_lines, text_of}
 use Rattle.rohc_replay.specs.Isolation.{Replay, IsPair, IsIsolated, own, own_lines}
 use Rattle.rohc_replay.specs.Run.{Runs, marked_of, Change, ReadFails, WriteFails, FlushFails}
 
--- the one list begins with the other
+-- the second list starts with the first
 abbrev pub IsFront : {X : Type 0} → List X → List X → Type 0
 IsFront {X} front whole = (rest : List X) × (whole ≡ front ++ rest)
 
--- a text is one script
+-- a text is at most one script
 abbrev pub HasOneScript : Type 0
 HasOneScript = (text : List ℕ) (a b : List Line) → IsScript text a → IsScript text b → a ≡ b
 
--- Two replays of scripts that agree there, in their own events, their settings and their records, tell an
--- identifier of a link the same lines and leave it equal records, whatever else the scripts hold.
+-- Let two replays agree on a CID of a link: in its own events, its settings and its record before. Then they
+-- write the same lines for it and leave it equal records, whatever else the scripts hold.
 abbrev pub SameLines : Type 0
 SameLines =
     (a b : Replay) (p : IsIsolated a) (q : IsIsolated b) (l c : ℕ) (agree : Agree a.before b.before l c) →
     l < 2 ^ 16 → c < 2 ^ 16 → own agree.here l c p.marked ≡ own agree.there l c q.marked →
     (own_lines l c a.written ≡ own_lines l c b.written) × (record_at a.after l c ≡ record_at b.after l c)
 
--- A whole run of a script begins with what a run of its first lines answers, where the same events want
+-- A run of a whole script answers first what a run of its first lines answers, if the same events find no
 -- memory.
 abbrev pub BeginsAlike : Type 0
 BeginsAlike = (a b after_a after_b : Concentrator) (text : List ℕ) (lines more : List Line)
@@ -39,8 +39,8 @@ BeginsAlike = (a b after_a after_b : Concentrator) (text : List ℕ) (lines more
     IsFront (marked_of a lines answers after_a run) (marked_of b (lines ++ more) others after_b whole) →
     IsFront answers others
 
--- What a failed read leaves written begins what a whole run of the text writes, where the same events want
--- memory.
+-- What a failed read leaves written is a prefix of what a whole run of the text writes, if the same events
+-- find no memory.
 abbrev pub ReadLeavesFront : Type 0
 ReadLeavesFront = (c : Change) (whole_after : Concentrator) (text : List ℕ) (left : Option (List ℕ))
     (written : ℕ) (f : ReadFails c (Some text) left written)
@@ -50,7 +50,7 @@ ReadLeavesFront = (c : Change) (whole_after : Concentrator) (text : List ℕ) (l
     (marked_of c.before lines answers whole_after whole) →
     IsFront (flat_map text_of f.answers) (flat_map text_of answers)
 
--- And so does what a failed write leaves.
+-- So is what a failed write leaves.
 abbrev pub WriteLeavesFront : Type 0
 WriteLeavesFront = (c : Change) (whole_after : Concentrator) (text : List ℕ) (written : ℕ)
     (f : WriteFails c text written)
@@ -61,7 +61,7 @@ WriteLeavesFront = (c : Change) (whole_after : Concentrator) (text : List ℕ) (
     (marked_of c.before lines answers whole_after whole) →
     IsFront (flat_map text_of f.stops.answers ++ f.stops.part) (flat_map text_of answers)
 
--- And what a failed flush leaves is all of it.
+-- What a failed flush leaves is all of it.
 abbrev pub FlushLeavesAll : Type 0
 FlushLeavesAll = (c : Change) (whole_after : Concentrator) (text : List ℕ) (written : ℕ)
     (f : FlushFails c text written)
@@ -71,7 +71,7 @@ FlushLeavesAll = (c : Change) (whole_after : Concentrator) (text : List ℕ) (wr
     (marked_of c.before lines answers whole_after whole) →
     flat_map text_of f.answers ≡ flat_map text_of answers
 
--- What is delivered was sent, in lines: where a pair's own events are what arrives of an honest sender's
+-- What is delivered was sent, in lines. If a pair's own events are what arrives of an honest sender's
 -- packets, at a record in Full Context, its lines are those of the headers and payloads that were sent.
 abbrev pub LinesOfWhatWasSent : Type 0
 LinesOfWhatWasSent = (r : Replay) (isolated : IsIsolated r) (p : Pair) (sender : Sender)

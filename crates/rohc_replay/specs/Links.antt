@@ -1,4 +1,4 @@
--- What a links file says. Words: Lists; read_from a table, read_text; fault_name.
+-- The content of a links file. Words: Lists; read_from a table, read_text; fault_name.
 use Rattle.std.specs.Prelude.{ℕ, ◌+◌, ◌==◌, List, [], ◌∷◌, codes, pos, Option, Some, None, if◌then◌else◌, Result, Ok, Err}
 use Rattle.std.specs.Option.{ok_or, option_map_or}
 use Rattle.rohc_concentrator.specs.declared.setting.LinkSetting.{LinkSetting}
@@ -15,12 +15,12 @@ use Rattle.rohc_replay.specs.LinksFields.{found, has_only}
 use Rattle.rohc_replay.specs.LinksRanges.{each}
 use Rattle.rohc_replay.specs.LinksEntry.{◌>>=◌, numbered}
 
--- a setting and its ports per entry, in order
+-- a setting and its ports for each entry, in order
 pub record Lists : Type 0 where
   pub settings : List LinkSetting
   pub ports : List Ports
 
--- what an entry sets, before what others set
+-- the setting and the ports of an entry, before those of the other entries
 abbrev pub with_first : LinkSetting × Ports → Lists → Lists
 with_first first others = record { settings = first.0 ∷ others.settings; ports = first.1 ∷ others.ports }
 
@@ -29,16 +29,16 @@ abbrev pub version : Data → Option Version
 version (integer (pos n)) = if n == 1 then Some One else if n == 2 then Some Two else None
 version _ = None
 
--- the tables of an array that holds nothing else
+-- the tables of an array, if it holds nothing else
 abbrev pub tables : Data → Option (List Members)
 tables (array ds) = each as_table ds
 tables _ = None
 
--- the tables under `link`, of which a file without this key has none
+-- the tables under `link`; a file without this key has none
 abbrev pub entries : Members → Option (List Members)
 entries ms = option_map_or tables (get_member (name_of key.Link) ms) (Some [])
 
--- what the entries from this number on set, else the first fault
+-- the settings and ports of the entries, numbered from n, else the first fault
 abbrev pub read_from : ℕ → Version → List Members → Result Lists LinksFault
 read_from n version [] = Ok (record { settings = []; ports = [] })
 read_from n version (ms ∷ rest) = do
@@ -46,7 +46,7 @@ read_from n version (ms ∷ rest) = do
   others ← read_from (n + 1) version rest
   Ok (with_first first others)
 
--- what the table of a file says, else its first fault
+-- the content of a file's table, else its first fault
 unfoldable pub read_table : Members → Result Lists LinksFault
 read_table ms = do
   version ← ok_or (found version (codes "version") ms) BadVersion
@@ -54,7 +54,7 @@ read_table ms = do
   tables ← ok_or (entries known) (BadKey 0 key.Link)
   read_from 1 version tables
 
--- what the text of a file says, else its first fault
+-- the content of a file's text, else its first fault
 abbrev pub read_text : List ℕ → Result Lists LinksFault
 read_text text = ok_or (parse_document text) NotToml >>= read_table
 

@@ -1,4 +1,5 @@
--- What one entry of a links file sets. Words: has_known_keys; entry_in; numbered, with the entry in a fault.
+-- The content of one entry of a links file. Words: has_known_keys; entry_in; numbered, with the entry in a
+-- fault.
 use Rattle.std.specs.Prelude.{ℕ, List, [], ◌∷◌, ◌++◌, map, Bool, if◌then◌else◌, Result, Ok, Err, unwrap_or}
 use Rattle.std.specs.Result.{result_map_both}
 use Rattle.arrayvec.specs.ArrayVec.{ArrayVec}
@@ -18,7 +19,7 @@ use Rattle.rohc_replay.specs.LinksFields.{whole, size, mode, wanted, allowed, ha
 use Rattle.rohc_replay.specs.LinksRanges.{ranges}
 
 infixl 10 ◌>>=◌
--- what follows a part that was read
+-- the next step, from what the step before it gave
 abbrev pub ◌>>=◌ : {A B E : Type 0} → Result A E → (A → Result B E) → Result B E
 (Ok x) >>= f = f x
 (Err e) >>= f = Err e
@@ -47,19 +48,19 @@ ports_in ms = do
   let ports : Ports = record { deliver = deliver; feedback = feedback; relay = relay }
   Ok ports
 
--- after how long a record counts as none: never, which is 0, in version 1
+-- after how long a record counts as none; in version 1 it is 0, which means never
 abbrev pub idle_in : Version → Members → Result ℕ Key
 idle_in One ms = Ok 0
 idle_in Two ms = wanted (whole 0 4294967295) key.IdleMs ms
 
--- the ranges: none in version 1, and where the key is missing
+-- the ranges: none in version 1, and none if the key is missing
 abbrev pub ranges_in : Version → Members → Result (ArrayVec CidRange) Key
 ranges_in One ms = Ok (record { items = [] })
 ranges_in Two ms = do
   given ← allowed ranges key.Range ms
   Ok (unwrap_or given (record { items = [] }))
 
--- what an entry sets, else its first key that is missing or wrong
+-- the setting and the ports of an entry, else its first key that is missing or wrong
 unfoldable pub entry_in : Version → Members → Result (LinkSetting × Ports) Key
 entry_in version ms = do
   link ← wanted (whole 0 65535) key.Number ms
@@ -90,7 +91,7 @@ entry_in version ms = do
   let setting : LinkSetting = record { link = link; settings = settings; ranges = ranges }
   Ok (setting, ports)
 
--- what the entry of a number sets, else its first fault
+-- the setting and the ports of the entry with this number, else its first fault
 abbrev pub numbered : Version → ℕ → Members → Result (LinkSetting × Ports) LinksFault
 numbered version n ms =
     if has_known_keys version ms then result_map_both (λ set. set) (BadKey n) (entry_in version ms)

@@ -1,4 +1,4 @@
--- What the tables of a links file hold at their keys. Words: whole, size, mode; wanted or allowed at a key.
+-- The values in the tables of a links file. Words: whole, size, mode; wanted or allowed at a key.
 use Rattle.std.specs.Prelude.{ℕ, List, Bool, true, ◌&&◌, codes, nat_le, Option, Some, None, option_and_then, pos, if◌then◌else◌, Result, Ok}
 use Rattle.std.specs.List.{list_any}
 use Rattle.std.specs.Option.{ok_or, option_map, option_map_or}
@@ -16,7 +16,7 @@ abbrev pub whole : ℕ → ℕ → Data → Option ℕ
 whole least greatest (integer (pos n)) = if nat_le least n && nat_le n greatest then Some n else None
 whole least greatest _ = None
 
--- a text that stands for a kind of identifiers
+-- a text that names a CID kind
 abbrev pub size : Data → Option CidKind
 size (string s) =
     if bytes_eq s (codes "small") then Some Small
@@ -24,20 +24,20 @@ size (string s) =
     else None
 size _ = None
 
--- a text that stands for a mode
+-- a text that names a mode
 abbrev pub mode : Data → Option Mode
 mode (string s) = if bytes_eq s (codes "U") then Some U else if bytes_eq s (codes "O") then Some O else None
 mode _ = None
 
--- what the members have under a name, if it can be read
+-- the member of this name, if it is there and can be read
 abbrev pub found : {A : Type 0} → (Data → Option A) → List ℕ → Members → Option A
 found read name ms = option_and_then read (get_member name ms)
 
--- what they have at a key, else that this key is missing or wrong
+-- the member at this key, else the key, which is missing or wrong
 abbrev pub wanted : {A : Type 0} → (Data → Option A) → Key → Members → Result A Key
 wanted read key ms = ok_or (found read (name_of key) ms) key
 
--- what they have at a key that may be missing, else that this key is wrong
+-- the member at a key that may be missing, else the key, which is wrong
 abbrev pub allowed : {A : Type 0} → (Data → Option A) → Key → Members → Result (Option A) Key
 allowed {A} read key ms =
     option_map_or (λ d. ok_or (option_map Some (read d)) key) (get_member (name_of key) ms) (Ok None)

@@ -3,7 +3,7 @@ use Rattle.std.specs.Prelude.{ℕ, List, codes}
 use Rattle.rohc_replay.specs.declared.links.fault.Key.{Key}
 use Rattle.rohc_replay.specs.declared.links.fault.Key.TheVariants as key
 
--- how a key is spelled
+-- a key as it stands in the file
 abbrev pub name_of : Key → List ℕ
 name_of key.Link = codes "link"
 name_of key.Number = codes "number"

@@ -1,4 +1,4 @@
--- The ranges of identifiers that have a mode of their own. Words: range, ranges.
+-- The ranges of CIDs that have a mode of their own. Words: range, ranges.
 use Rattle.std.specs.Prelude.{ℕ, List, [], ◌∷◌, length, codes, nat_le, Option, Some, None, option_and_then, if◌then◌else◌}
 use Rattle.arrayvec.specs.ArrayVec.{ArrayVec}
 use Rattle.rohc_concentrator.specs.declared.setting.CidRange.{CidRange}
@@ -26,11 +26,11 @@ range (table ms) = if has_only (codes "first" ∷ codes "last" ∷ codes "mode" 
   Some (record { first = first; last = last; mode = mode })) else None
 range _ = None
 
--- ranges, unless there are more of them than so many
+-- these ranges, if there are at most n
 abbrev pub at_most : ℕ → List CidRange → Option (ArrayVec CidRange)
 at_most n all = if nat_le (length all) n then Some (record { items = all }) else None
 
--- an array of at most 8 of them
+-- an array of at most 8 ranges
 abbrev pub ranges : Data → Option (ArrayVec CidRange)
 ranges (array ds) = each range ds >>= at_most 8
 ranges _ = None

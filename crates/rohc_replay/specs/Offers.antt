@@ -1,4 +1,4 @@
--- What a writer took of a text. Words: counted; TakesAll, TakesPart; Offers.
+-- How much of a text a writer took. Words: counted; TakesAll, TakesPart; Offers.
 use Rattle.std.specs.Prelude.{◌≡◌, ℕ, ◌+◌, ◌-◌, ◌^◌, ◌<◌, List, ◌++◌, length, min, Option, Result, Ok, Err}
 use Rattle.std.specs.Io.KnownBytes.{Appends}
 use Rattle.rohc_replay.specs.declared.output.Stopped.{Stopped}
@@ -11,7 +11,7 @@ counted before more = min (before + more) (2 ^ 64 - 1)
 abbrev pub TakesAll : Option (List ℕ) → Option (List ℕ) → ℕ → ℕ → List ℕ → Type 0
 TakesAll held holding before after text = Appends held holding text × (after ≡ counted before (length text))
 
--- a part of the text was taken, and not all of it
+-- a part of the text was taken, but not all of it
 pub record TakesPart (held holding : Option (List ℕ)) (before after : ℕ) (text : List ℕ) : Type 0 where
   pub part : List ℕ
   pub rest : List ℕ

@@ -29,7 +29,7 @@ Runs old (line ∷ lines) (answers ∷ more) new =
 Runs old [] (answers ∷ more) new = ⊥
 Runs old (line ∷ lines) [] new = ⊥
 
--- the lines of a run, each with its mark: true where its event was answered `NoMemory`
+-- the lines of a run, each with its mark: true if its event was answered `NoMemory`
 abbrev pub marked_of : (old : Concentrator) (lines : List Line) (answers : List (List (List ℕ)))
     (new : Concentrator) → Runs old lines answers new → List (Line × Bool)
 marked_of old [] answers new run = []
@@ -45,25 +45,25 @@ is_good_line (Good e) = true
 is_good_line Bad = false
 is_good_line Long = false
 
--- the good lines and the others are counted, up to the greatest `u64`
+-- the numbers of good lines and of others, up to the greatest `u64`
 pub record IsTally (lines : List Line) (t : Tally) : Type 0 where
   pub events : t.events ≡ min (count_by is_good_line lines) (2 ^ 64 - 1)
   pub bad : t.bad ≡ min (count_by (λ line. not (is_good_line line)) lines) (2 ^ 64 - 1)
 
--- what a replay changes: the concentrator, and the octets that the writer holds, before and after
+-- what a replay changes: the concentrator, and the octets that the writer holds, both before and after
 pub record Change : Type 0 where
   pub before : Concentrator
   pub after : Concentrator
   pub held : Option (List ℕ)
   pub holding : Option (List ℕ)
 
--- from a concentrator and what the writer held to a concentrator and what it holds
+-- the change from one concentrator and one content of the writer to another
 abbrev pub change : Concentrator → Option (List ℕ) → Concentrator → Option (List ℕ) → Change
 change before held after holding =
     record { before = before; after = after; held = held; holding = holding }
 
 -- A whole replay: the script of the text, its answer lines, which are all that was written, the tally, and
--- where the concentrator stands after all events.
+-- the concentrator after all events.
 pub record Replays (c : Change) (text : List ℕ) (t : Tally) : Type 0 where
   pub lines : List Line
   pub answers : List (List (List ℕ))
@@ -72,8 +72,8 @@ pub record Replays (c : Change) (text : List ℕ) (t : Tally) : Type 0 where
   pub written : Appends c.held c.holding (flat_map text_of answers)
   pub tally : IsTally lines t
 
--- A read failed: of the octets that were read before it, the finished lines were run and answered, and the
--- writer took all of that.
+-- A read failed. Of the octets that were read before, the finished lines were run and answered, and the
+-- writer took all their answers.
 pub record ReadFails (c : Change) (unread left : Option (List ℕ)) (written : ℕ) : Type 0 where
   pub seen : List ℕ
   pub consumed : Consumes unread left seen
@@ -86,8 +86,8 @@ pub record ReadFails (c : Change) (unread left : Option (List ℕ)) (written : �
   pub run : Runs c.before lines answers c.after
   pub taken : TakesAll c.held c.holding 0 written (flat_map text_of answers)
 
--- Lines were run one after the other. Of the answers of the last one a part was taken and not all; of those
--- before it, all.
+-- Lines were run one after the other. The writer took all answers of the lines before the last, and a part of
+-- the last line's answers but not all.
 pub record Stops (c : Change) (texts : List (List ℕ)) (written : ℕ) : Type 0 where
   pub earlier : List Line
   pub last : Line
@@ -122,12 +122,12 @@ pub record Work (R W : Type 0) : Type 0 where
   pub reader : R
   pub writer : W
 
--- what a replay changes of it, where the writer tells its octets
+-- the change by a replay, if the octets that the writer holds are known
 abbrev pub change_of : {R W : Type 0} → (W → Option (List ℕ)) → Work R W → Work R W → Change
 change_of contents old new =
     change old.concentrator (contents old.writer) new.concentrator (contents new.writer)
 
--- What each fault leaves of it, where the reader tells its octets too: without memory nothing is changed.
+-- What each fault leaves, if the reader's octets are known too. Without memory nothing is changed.
 abbrev pub Fails : {R W : Type 0} → (R → Option (List ℕ)) → (W → Option (List ℕ))
     → Work R W → RunFault → Work R W → Type 0
 Fails remaining contents old NoMemory new = new ≡ old

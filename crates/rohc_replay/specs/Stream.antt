@@ -8,13 +8,13 @@ use Rattle.rohc_replay.specs.AnswerLines.{text_of}
 use Rattle.rohc_replay.specs.Offers.{TakesAll}
 use Rattle.rohc_replay.specs.Run.{Runs, IsTally, Change, Stops}
 
--- what is kept of an unfinished line: all of it, or that it is long already
+-- what is kept of an unfinished line: all of it, or only that it is already long
 abbrev pub IsKept : Bool → List ℕ → List ℕ → Type 0
 IsKept false kept rest = kept ≡ rest
 IsKept true kept rest = longest_line < length rest
 
--- A replay has seen these octets: their finished lines were run and answered, which made this change and is
--- counted so, and this is kept of the rest.
+-- A replay has seen these octets. The finished lines were run and answered, with this change and these
+-- counts, and this is kept of the rest.
 pub record Stands (c : Change) (seen kept : List ℕ) (long : Bool) (counts : Counts) : Type 0 where
   pub finished : List (List ℕ)
   pub rest : List ℕ
@@ -27,7 +27,7 @@ pub record Stands (c : Change) (seen kept : List ℕ) (long : Bool) (counts : Co
   pub taken : TakesAll c.held c.holding 0 counts.answers.taken (flat_map text_of answers)
   pub tally : IsTally lines counts.tally
 
--- and where it has seen the whole text, all its lines were run and answered
+-- if it has seen the whole text, all its lines were run and answered
 pub record Ends (c : Change) (seen : List ℕ) (counts : Counts) : Type 0 where
   pub lines : List Line
   pub are_lines : AreLines (lines_of seen) lines
@@ -36,11 +36,11 @@ pub record Ends (c : Change) (seen : List ℕ) (counts : Counts) : Type 0 where
   pub taken : TakesAll c.held c.holding 0 counts.answers.taken (flat_map text_of answers)
   pub tally : IsTally lines counts.tally
 
--- a front of the text was run and answered, and at its last line the writer stopped
+-- a prefix of the text was run and answered, and the writer stopped at its last line
 abbrev pub StopsAt : Change → List ℕ → Counts → Type 0
 StopsAt c front counts = (texts : List (List ℕ)) × Splits front texts [] × Stops c texts counts.answers.taken
 
--- a front of what was seen was
+-- the same for a prefix of what was seen
 abbrev pub StopsWithin : Change → List ℕ → Counts → Type 0
 StopsWithin c seen counts =
     (front : List ℕ) × (back : List ℕ) × (seen ≡ front ++ back) × StopsAt c front counts

@@ -8,13 +8,13 @@ use Rattle.rohc_replay.specs.AnswerLines.{text_of, long_line}
 use Rattle.rohc_replay.specs.Offers.{Offers, counted}
 use Rattle.rohc_replay.specs.Run.{RunsLine, Change}
 
--- the tally with one line more
+-- the tally with one more line
 abbrev pub with_line : Tally → Line → Tally
 with_line t (Good e) = record t { events = counted t.events 1 }
 with_line t Bad = record t { bad = counted t.bad 1 }
 with_line t Long = record t { bad = counted t.bad 1 }
 
--- a line is run, and its answers are offered: all are taken, or a part of them
+-- a line is run, and its answers are offered: the writer takes all of them, or a part
 pub record TakesTurn (c : Change) (before after : Counts) (octets : List ℕ)
     (result : Result Unit Stopped) : Type 0 where
   pub line : Line

@@ -1,4 +1,5 @@
-//! Octets as lower case pairs of digits, by the calls of `hex`, which reads upper case digits too.
+//! Octets as pairs of lower case hexadecimal digits, by the functions of `hex`, which also reads upper case
+//! digits.
 
 ghost use Rattle.std.specs.Prelude.{◌≡◌, ℕ, List, ◌*◌, length, All, IsTrue};
 ghost use Rattle.std.specs.Char.{is_ascii_uppercase};
@@ -8,7 +9,7 @@ ghost use Rattle.rohc_frame.specs.Laws.{IsOctet};
 
 use hex::{decode_to_slice, encode_to_slice};
 
-/// Writes octets as pairs of digits.
+/// Writes octets as pairs of lower case digits.
 pub(crate) fn encode(octets: &[u8], text: &mut [u8])
     requires { length text.old ≡ 2 * length octets.now }
     ensures { text.new ≡ encode_lower octets.now }
@@ -16,8 +17,8 @@ pub(crate) fn encode(octets: &[u8], text: &mut [u8])
     let _ = encode_to_slice(octets, text);
 }
 
-/// Whether an upper case letter stands in a text. The loop has no way out, so that many octets can be judged
-/// at once.
+/// Whether a text has an upper case letter. The loop doesn't end early, so that many octets can be judged at
+/// once.
 fn has_upper_case(text: &[u8]) -> bool
     ensures { result ≡ list_any is_ascii_uppercase text.now }
 {
@@ -28,8 +29,8 @@ fn has_upper_case(text: &[u8]) -> bool
     found
 }
 
-/// Reads pairs of digits, and answers whether the text has nothing else in it. Where it has, the octets are
-/// left at any values.
+/// Reads pairs of lower case digits into `octets`. Returns false if the text has anything else in it; then
+/// the octets may have any values.
 pub(crate) fn decode(text: &[u8], octets: &mut [u8]) -> bool
     requires { length text.now ≡ 2 * length octets.old }
     ensures spelled { IsTrue result → text.now ≡ encode_lower octets.new }

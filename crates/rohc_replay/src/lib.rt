@@ -1,4 +1,4 @@
-//! Scripts: lines in, answer lines out; and the links file.
+//! Scripts, which are read line by line and answered in lines; and the links file.
 #![tactic(auto)]
 
 mod counts;

@@ -1,27 +1,28 @@
-//! Numbers as a script spells them.
+//! Decimal numbers in a script.
 
 ghost use Rattle.std.specs.Prelude.{◌≡◌, ℕ, List, ◌+◌, ◌*◌, ◌<◌, ◌^◌, IfSome, IfNone};
 ghost use Rattle.std.specs.Option.{SomeIff};
 ghost use Rattle.rohc_replay.specs.Numeral.{IsNumberAt, is_plain};
 
-/// A number with one more digit of this value, if it is a `u64`.
+/// The number with one more digit of this value appended, if it fits a `u64`.
 fn with_digit(number: u64, digit: u8) -> Option<u64>
     ensures { SomeIff result (number * 10 + digit < 2 ^ 64) (number * 10 + digit) }
 {
     number.checked_mul(10)?.checked_add(u64::from(digit))
 }
 
-/// Whether digits are those of a number: at least one, and no `0` in front of others.
+/// Whether the digits are how a number is written: at least one digit, and no leading `0` before
+/// others.
 fn is_plain(digits: &[u8]) -> bool
     ensures { result ≡ is_plain digits.now }
 {
     matches!(digits, [_] | [b'1'..=b'9', ..])
 }
 
-/// Reads a number in front of a text, and lends what stands behind it.
+/// Reads the decimal number at the start of a text, and returns it with the text after it.
 ///
-/// Digits are taken as far as they go. It is `None` where there is none, where `0` stands in front of
-/// others, and where the number is no `u64`.
+/// All digits at the start are taken. Returns `None` if there is none, if there is a leading `0`
+/// before others, or if the number doesn't fit a `u64`.
 pub(crate) fn read_number(text: &[u8]) -> Option<(u64, &[u8])>
     ensures read { IfSome result (λ r. IsNumberAt text.entry.now r.0 r.1.now) }
     ensures none { IfNone result ((number : ℕ) (rest : List ℕ) →

@@ -1,4 +1,4 @@
-//! A script, run line by line as it comes.
+//! Running a script line by line, as it is read.
 
 ghost use Rattle.std.specs.Prelude.{◌≡◌, ◌≢◌, ◌+◌, ◌-◌, ◌<◌, ◌≤◌, length, take, IfOk, IfErr, IfSome, OnErr};
 ghost use Rattle.std.specs.List.{slice_range};
@@ -16,18 +16,21 @@ use std::alloc::{AllocError, Global};
 use std::io;
 use std::io::{Read, Write};
 
-/// The greatest packet of a script, in octets.
+/// The longest packet in a script, in octets.
 pub const LONGEST_PACKET: usize = 65_535;
 
-/// The read call that is a fault whatever it gives.
+/// The read call that counts as a fault, whatever it returns.
 const LAST_READ: u64 = 1 << 40;
 
-/// Runs a script from the reader, and writes its answers to the writer.
+/// Runs a script from the reader on the concentrator, and writes its answers to the writer. Returns the number
+/// of good lines and of others.
 ///
-/// The lines are run as they end, and the answers of each are offered to the writer before the next. The two
-/// buffers, one for a line and one for a packet, are asked for before the first read; after that only an
-/// accepted first IR asks for memory. One flush follows the last line. Any error of a read or a write, a write
-/// that takes no octets, and the 2^40th read call are faults.
+/// Each line is run when it ends, and its answers are offered to the writer before the next line is run. One
+/// flush follows the last line.
+///
+/// Two buffers, one for a line and one for a packet, are allocated before the first read. After that only an
+/// accepted first IR asks for memory. Each error of a read, a write or the flush is a fault. So are a write
+/// that takes no octets and the 2^40th read call.
 pub fn replay<R: Read, W: Write>(
     alloc: Global,
     concentrator: &mut Concentrator,
@@ -62,14 +65,14 @@ pub fn replay<R: Read, W: Write>(
     )
 }
 
-/// A buffer of so many octets.
+/// A buffer of `len` octets.
 fn zeros(alloc: Global, len: usize) -> Result<Vec<u8>, AllocError>
     ensures { IfOk result (λ v. length v.items ≡ len) }
 {
     vec![in alloc; 0u8; len]
 }
 
-/// Runs a script in these two buffers.
+/// Runs a script with these two buffers.
 fn run_script<R: Read, W: Write>(
     concentrator: &mut Concentrator,
     reader: &mut R,
@@ -113,7 +116,7 @@ fn run_script<R: Read, W: Write>(
     Err(counts.read_fault())
 }
 
-/// Reads behind the octets that are kept, and answers where what was read ends.
+/// Reads into `line` after its first `filled` octets, and returns where the octets that were read end.
 fn read_behind<R: Read>(reader: &mut R, line: &mut [u8], filled: usize) -> io::Result<usize>
     requires { filled < length line.old }
     ensures behind { IfOk result (λ end. (filled ≤ end) × (end ≤ length line.new)) }
@@ -126,7 +129,7 @@ fn read_behind<R: Read>(reader: &mut R, line: &mut [u8], filled: usize) -> io::R
     Ok(filled + given)
 }
 
-/// Moves the `len` octets before `end` to the front.
+/// Moves the `len` octets before `end` to the start of `line`.
 fn keep_behind(line: &mut [u8], end: usize, len: usize)
     requires ordered { len ≤ end }
     requires within { end ≤ length line.old }

@@ -59,7 +59,7 @@ feedback_port = 6008
 relay_port = 6009
 ";
 
-/// Two calls and noise, with an unfinished last line.
+/// Example *two calls and noise*, with an unfinished last line.
 const SCRIPT: &str =
     "arrive 1 0 fd012b40110a0000010a0000021388138a00000001004000012000000090000001000000a0000980a0ab
 arrive 1 999999999999 e110ac
@@ -82,13 +82,13 @@ const ANSWERS: [&str; 7] = [
     "1 0 ip 4500002900030000401166bf0a0000010a0000021388138a001500008080000300000c8000000001ad\n",
 ];
 
-/// The concentrator of these links, with no record.
+/// The concentrator with these links, without a record.
 fn concentrator(alloc: Global, links: &str) -> Result<Concentrator, Fail> {
     let links = read_links(alloc, links)?;
     Ok(Concentrator::new(alloc, links.settings())?)
 }
 
-/// The first so many lines' answers of the script.
+/// The answers of the script's first lines, as many as `count`.
 fn first_answers(alloc: Global, lines: usize) -> Result<String, Fail> {
     let mut text = String::new(alloc);
     for answer in ANSWERS.iter().take(lines) {
@@ -97,7 +97,7 @@ fn first_answers(alloc: Global, lines: usize) -> Result<String, Fail> {
     Ok(text)
 }
 
-/// A reader that gives pieces of this size, and fails at one call.
+/// A reader that gives pieces of this size and fails at one call.
 #[derive(Drop)]
 struct Pieces<'a> {
     rest: &'a [u8],
@@ -123,7 +123,7 @@ impl Read for Pieces<'_> {
     }
 }
 
-/// What a writer does once its calls are used up.
+/// What a writer does when its calls are used up.
 #[derive(Clone, Copy, Debug, PartialEq, Eq)]
 enum Tired {
     Fails,
@@ -172,7 +172,7 @@ impl Write for Taker {
     }
 }
 
-/// What a replay of the text through this reader and writer answers, and the text that was written.
+/// The result of a replay of the text through this reader and writer, and the text that was written.
 fn replayed(
     alloc: Global,
     reader: &mut Pieces<'_>,
@@ -182,7 +182,7 @@ fn replayed(
     Ok(replay(alloc, &mut concentrator, reader, writer))
 }
 
-/// A writer that never tires.
+/// A writer that never fails.
 fn willing(alloc: Global) -> Taker {
     Taker {
         text: Vec::new(alloc),
@@ -201,7 +201,8 @@ fn steady(text: &[u8], size: usize) -> Pieces<'_> {
     }
 }
 
-/// A worked example: its name, a script of its packets, the answers, and how many lines are good and how many bad.
+/// A worked example: its name, a script of its packets, the answers, and how many of its lines are good and how
+/// many bad.
 type Example = (&'static str, &'static str, &'static str, u64, u64);
 
 const EXAMPLES: [Example; 9] = [

@@ -16,7 +16,7 @@ const BAD_LINE: &[u8] = b"- - refused BadLine\n";
 
 const LONG_LINE: &[u8] = b"- - refused LongLine\n";
 
-/// Runs a line that isn't long.
+/// Runs a line that isn't long, and offers its answers to the writer.
 pub(crate) fn take_turn<W: Write>(
     concentrator: &mut Concentrator,
     packet: &mut [u8],
@@ -48,7 +48,7 @@ pub(crate) fn take_turn<W: Write>(
     }
 }
 
-/// Answers a long line, which is never read.
+/// Answers a long line, whose event isn't read.
 pub(crate) fn take_long_turn<W: Write>(writer: &mut W, counts: &mut Counts) -> Result<(), Stopped>
     ensures { TakesLongTurn (W.contents writer.old) (W.contents writer.new) counts.old counts.new result }
 {

@@ -1,4 +1,4 @@
--- What a front was asked and answered. Words: Attempt; Act; received; Adds.
+-- What a front was asked, and what it answered. Words: Attempt; Act; received; Adds.
 use Rattle.std.specs.Prelude.{◌≡◌, ℕ, List, ◌++◌, Bool, Option, Some, None, take, ⊤}
 
 -- a datagram that was offered for a port, and whether it went out
@@ -7,17 +7,17 @@ pub record Attempt : Type 0 where
   pub octets : List ℕ
   pub gone : Bool
 
--- A receive, with the moment and the datagram that it gave, if it did, or a send.
+-- A receive, with the arrival time and the datagram that it gave, if it gave one; or a send.
 pub data Act : Type 0 where
   Received : Option (ℕ × List ℕ) → Act
   Sent : Attempt → Act
 
--- a receive by the length and the moment that it gave, and the buffer after it
+-- a receive, from the length and the arrival time that it gave, and the buffer after it
 abbrev pub received : Option (ℕ × ℕ) → List ℕ → Act
 received None buffer = Received None
 received (Some (size, moment)) buffer = Received (Some (moment, take size buffer))
 
--- Known acts grow by these, as long as they are known; what isn't known stays so.
+-- Acts that are known grow by these, as long as they stay known. Acts that aren't known stay unknown.
 abbrev pub Adds : Option (List Act) → Option (List Act) → List Act → Type 0
 Adds None None more = ⊤
 Adds None (Some after) more = ⊥

@@ -17,25 +17,25 @@ pub record AreSettingsOf (k : Concentrator) (settings : List LinkSetting) : Type
   pub in_order : settings_in_order k ≡ settings
   pub each : (link : ℕ) → setting_at k link ≡ entry_of link settings
 
--- the link that a datagram names in its first two octets, most significant first, if it has two
+-- the link in a datagram's first two octets, most significant octet first, if it has two
 abbrev pub link_of : List ℕ → Option ℕ
 link_of octets =
     if nat_lt (length octets) 2 then None else Some (slice_index octets 0 * 256 + slice_index octets 1)
 
--- and the packet behind them
+-- the packet after them
 abbrev pub datagram_packet : List ℕ → List ℕ
 datagram_packet octets = drop 2 octets
 
--- the place of a link's first entry, if it has one
+-- the index of a link's first entry, if it has one
 abbrev pub place_of : ℕ → List LinkSetting → Option ℕ
 place_of link settings = position (λ (s : LinkSetting). s.link == link) settings
 
--- and the ports at this place
+-- the ports at this index
 abbrev pub ports_of : ℕ → Lists → Option Ports
 ports_of link lists = option_and_then (slice_get lists.ports) (place_of link lists.settings)
 
--- A packet arrives on the link that its datagram names, and what is sent is its answer; a datagram that names
--- none is refused.
+-- The packet arrives on the link that its datagram names, and what is sent is the answer. A datagram that
+-- names no link is refused.
 abbrev pub AnswersOn : Lists → Concentrator → ℕ → Option ℕ → List ℕ
     → Outgoing → Concentrator → Type 0
 AnswersOn links old moment None packet outgoing new = (new ≡ old) × (outgoing ≡ refused_for None)
@@ -43,7 +43,7 @@ AnswersOn links old moment (Some link) packet outgoing new =
     (report : Report) × Arrives old link moment packet report new
     × (outgoing ≡ sends_of (ports_of link links) report)
 
--- what is sent for a datagram of this moment, and where it leads
+-- what is to be sent for a datagram that arrived at this time, and the concentrator after it
 abbrev pub Answers : Lists → Concentrator → ℕ → List ℕ → Outgoing → Concentrator → Type 0
 Answers links old moment octets outgoing new =
     AnswersOn links old moment (link_of octets) (datagram_packet octets) outgoing new

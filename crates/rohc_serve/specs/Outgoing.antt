@@ -15,7 +15,7 @@ pub record Outgoing : Type 0 where
   pub feedback : Option (List ℕ)
   pub refused : Bool
 
--- the sends of the code as such a value
+-- the sends of the code as plain data
 abbrev pub outgoing_of : Sends → Outgoing
 outgoing_of s = record {
   ports = s.ports;
@@ -25,11 +25,12 @@ outgoing_of s = record {
   refused = s.refused;
 }
 
--- nothing is sent, since the datagram was refused
+-- nothing is to be sent, since the datagram was refused
 abbrev pub refused_for : Option Ports → Outgoing
 refused_for ports = record { ports = ports; relayed = []; packet = None; feedback = None; refused = true }
 
--- what is sent for a report, by the ports of its link: exactly its relayed data, its packet and its feedback
+-- what is to be sent for a report, to the ports of its link: exactly its relayed data, its packet and its
+-- feedback
 abbrev pub sends_of : Option Ports → Report → Outgoing
 sends_of ports (Arrived cid response relayed) = record {
   ports = ports;

@@ -19,11 +19,11 @@ send port octets = record { port = port; octets = octets }
 abbrev pub delivered_packet : Delivered → Packet
 delivered_packet d = record { head = d.head.items; payload = d.payload.now }
 
--- a packet is its head, and the payload behind it
+-- the octets of a packet: its head, followed by its payload
 abbrev pub packet_octets : Packet → List ℕ
 packet_octets p = p.head ++ p.payload
 
--- a packet is sent where it is one of at most 65,535 octets
+-- a packet is sent if it has at most 65,535 octets
 abbrev pub packet_sends : ℕ → Option Packet → List Send
 packet_sends port None = []
 packet_sends port (Some p) =
@@ -33,8 +33,8 @@ abbrev pub feedback_sends : ℕ → Option (List ℕ) → List Send
 feedback_sends port None = []
 feedback_sends port (Some element) = send port element ∷ []
 
--- the relayed data to the relay port, each for itself, then the packet to the deliver port, then the element
--- to the feedback port; and nothing where there are no ports
+-- the data of each relayed element to the relay port, then the packet to the deliver port, then the feedback
+-- element to the feedback port; nothing if there are no ports
 abbrev pub sends_by : Option Ports → Outgoing → List Send
 sends_by None outgoing = []
 sends_by (Some ports) outgoing =
@@ -44,7 +44,7 @@ sends_by (Some ports) outgoing =
 abbrev pub sends_in : Outgoing → List Send
 sends_in outgoing = sends_by outgoing.ports outgoing
 
--- a packet that is longer is not offered, and counts as a failed send
+-- a longer packet isn't offered, and counts as a failed send
 abbrev pub too_long : Option Packet → ℕ
 too_long None = 0
 too_long (Some p) = if nat_le (length (packet_octets p)) longest_packet then 0 else 1
@@ -60,11 +60,12 @@ unsent outgoing = unsent_by outgoing.ports outgoing
 abbrev pub offered : Attempt → Send
 offered a = send a.port a.octets
 
--- how many went not out
+-- how many attempts failed
 abbrev pub failures : List Attempt → ℕ
 failures attempts = count_by (λ (a : Attempt). not a.gone) attempts
 
--- these are offered in this order, and so many fail, with what is lost beside them
+-- these are offered in this order; `failed` counts those that failed, and those that were lost before they
+-- were offered
 pub record Offers (sends : List Send) (lost : ℕ) (before after : Option (List Act)) (failed : ℕ) : Type 0
   where
     pub attempts : List Attempt

@@ -7,7 +7,7 @@ use Rattle.rohc_serve.specs.Outgoing.{Outgoing}
 abbrev pub one_if : Bool → ℕ
 one_if holds = if holds then 1 else 0
 
--- one datagram, by what was to be sent for it, with its failed sends
+-- the counts of one datagram: by what was to be sent for it, and by its failed sends
 abbrev pub counts_of : Outgoing → ℕ → ServeTally
 counts_of outgoing failed = record {
   datagrams = 1;
@@ -18,7 +18,7 @@ counts_of outgoing failed = record {
   failed = failed;
 }
 
--- a tally with more counts, each up to the greatest u64
+-- a tally plus more counts, each up to the greatest u64
 abbrev pub added : ServeTally → ServeTally → ServeTally
 added t more = record {
   datagrams = counted t.datagrams more.datagrams;

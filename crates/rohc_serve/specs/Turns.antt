@@ -12,12 +12,13 @@ use Rattle.rohc_serve.specs.Tally.{counts_of, added}
 use Rattle.rohc_serve.specs.Acts.{Attempt, Act, Received, Sent, Adds}
 use Rattle.rohc_serve.specs.Sending.{sends_in, unsent, offered, failures}
 
--- A receive that failed, or a datagram: its moment and octets, what was to be sent for it, and the attempts.
+-- A failed receive, or a datagram: its arrival time and octets, what was to be sent for it, and the attempts
+-- to send it.
 pub data Turn : Type 0 where
   Missed : Turn
   Answered : ℕ → List ℕ → Outgoing → List Attempt → Turn
 
--- what a front was asked in a turn
+-- what the front was asked in a turn
 abbrev pub acts_in : Turn → List Act
 acts_in Missed = Received None ∷ []
 acts_in (Answered moment octets outgoing attempts) = Received (Some (moment, octets)) ∷ map Sent attempts
@@ -35,8 +36,8 @@ counts_in Missed = record {
 counts_in (Answered moment octets outgoing attempts) =
     counts_of outgoing (unsent outgoing + failures attempts)
 
--- One turn: after a failed receive the concentrator is the same; a datagram is answered, and what goes out
--- is offered in its order.
+-- One turn. After a failed receive the concentrator is the same. A datagram is answered, and what is to be
+-- sent is offered in its order.
 abbrev pub ServesTurn : Lists → Concentrator → Turn → Concentrator → Type 0
 ServesTurn links old Missed new = new ≡ old
 ServesTurn links old (Answered moment octets outgoing attempts) new =
@@ -48,7 +49,7 @@ ServesTurns links old [] new = new ≡ old
 ServesTurns links old (turn ∷ turns) new =
     (mid : Concentrator) × ServesTurn links old turn mid × ServesTurns links mid turns new
 
--- each count is the sum of its turns', up to the greatest u64
+-- each count is the sum over the turns, up to the greatest u64
 pub record IsTally (turns : List Turn) (t : ServeTally) : Type 0 where
   pub datagrams : t.datagrams ≡ counted 0 (sum_by (λ turn. (counts_in turn).datagrams) turns)
   pub delivered : t.delivered ≡ counted 0 (sum_by (λ turn. (counts_in turn).delivered) turns)
@@ -67,8 +68,8 @@ pub record Service : Type 0 where
 abbrev pub service : (old new : Concentrator) (before after : Option (List Act)) → Service
 service old new before after = record { old = old; new = new; before = before; after = after }
 
--- So many turns lead from a concentrator to another. Where the front's acts are known, those of the turns
--- are behind the ones before.
+-- These turns lead from one concentrator to the other. If the front's acts are known, those of the turns
+-- follow the ones before.
 pub record Serves (links : Lists) (s : Service) (count : ℕ) (t : ServeTally) : Type 0 where
   pub turns : List Turn
   pub taken : ServesTurns links s.old turns s.new
@@ -76,13 +77,13 @@ pub record Serves (links : Lists) (s : Service) (count : ℕ) (t : ServeTally) :
   pub so_many : length turns ≡ count
   pub tally : IsTally turns t
 
--- a tally with a turn more
+-- a tally with one more turn
 abbrev pub with_turn : ServeTally → Turn → ServeTally
 with_turn t Missed = record t { failed = counted t.failed 1 }
 with_turn t (Answered moment octets outgoing attempts) =
     added t (counts_of outgoing (unsent outgoing + failures attempts))
 
--- one turn more
+-- one more turn
 pub record TakesOne (links : Lists) (s : Service) (t next : ServeTally) : Type 0 where
   pub turn : Turn
   pub taken : ServesTurn links s.old turn s.new

@@ -1,4 +1,4 @@
-//! One datagram: a link's number in two octets, most significant first, and a packet of that link.
+//! Datagrams: a link's number in two octets, most significant octet first, and a packet of that link.
 
 ghost use Rattle.std.specs.Prelude.{◌≡◌, ◌<◌, length, Some, None, IfSome, IfNone};
 ghost use Rattle.rohc_concentrator.specs.Setup.{entry_of};
@@ -9,7 +9,7 @@ use crate::sends::Sends;
 use rohc_concentrator::{Concentrator, LinkSetting};
 use rohc_replay::{Links, Ports};
 
-/// The place of a link's first entry, if it has one.
+/// The index of the link's first entry, if it has one.
 fn place_of(settings: &[LinkSetting], link: u16) -> Option<usize>
     ensures place { result ≡ place_of link settings.now }
     ensures within { IfSome result (λ place. place < length settings.now) }
@@ -28,7 +28,8 @@ fn ports_of(links: &Links, link: u16) -> Option<Ports>
     Some(links.ports()[place])
 }
 
-/// The link that a datagram names, and the packet behind its number; none below two octets.
+/// The link that a datagram names, and the packet after its number; `None` if the datagram has fewer than two
+/// octets.
 fn named_link(octets: &[u8]) -> Option<(u16, &[u8])>
     ensures named { IfSome result (λ named. (link_of octets.now ≡ Some named.0) × (datagram_packet octets.now ≡ named.1.now)) }
     ensures short { IfNone result (link_of octets.now ≡ None) }
@@ -37,10 +38,10 @@ fn named_link(octets: &[u8]) -> Option<(u16, &[u8])>
     Some((u16::from_be_bytes(*link), packet))
 }
 
-/// Answers a datagram that came at this moment, in milliseconds.
+/// Takes a datagram that arrived at this time, in milliseconds, and returns what is to be sent for it.
 ///
-/// What is to be sent borrows its payload and relayed feedback from `octets`. A datagram below two octets, or
-/// of a link that isn't there, is refused and changes nothing.
+/// The payload and the relayed feedback in the result are borrowed from `octets`. A datagram of fewer than
+/// two octets, or of a link that isn't there, is refused and changes nothing.
 pub fn answer_datagram<'a>(
     concentrator: &mut Concentrator,
     links: &Links,

@@ -1,6 +1,6 @@
-//! The concentrator behind a socket: a datagram in, and what is to be sent for it.
+//! The concentrator as a server: a datagram comes in, and what is to be sent for it goes out.
 //!
-//! The socket is a `Front`; the program brings one on UDP, and tests bring one in memory.
+//! The server works on a `Front`. The program provides one on UDP; tests provide one in memory.
 #![tactic(auto)]
 
 pub mod datagram;

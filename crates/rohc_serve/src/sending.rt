@@ -13,7 +13,7 @@ use rohc_context::Delivered;
 use rohc_frame::Elements;
 use rohc_replay::LONGEST_PACKET;
 
-/// Puts octets behind the first `at` of the buffer.
+/// Writes octets into the buffer after its first `at` octets.
 fn put_behind(buffer: &mut [u8], at: usize, octets: &[u8])
     requires room { at + length octets.now ≤ length buffer.old }
     ensures put { take (at + length octets.now) buffer.new ≡ take at buffer.old ++ octets.now }
@@ -21,7 +21,7 @@ fn put_behind(buffer: &mut [u8], at: usize, octets: &[u8])
     buffer[at..at + octets.len()].copy_from_slice(octets);
 }
 
-/// Puts a packet into the buffer, and answers its length, where it is one that is sent.
+/// Writes a packet into the buffer and returns its length, or `None` if it is too long to be sent.
 fn put_packet(buffer: &mut [u8], packet: &Delivered<'_>) -> Option<usize>
     requires room { length buffer.old ≡ longest_packet }
     ensures put { IfSome result (λ size. (size ≤ longest_packet) × (take size buffer.new ≡ packet_octets (delivered_packet packet.now))) }
@@ -37,7 +37,7 @@ fn put_packet(buffer: &mut [u8], packet: &Delivered<'_>) -> Option<usize>
     Some(size)
 }
 
-/// Sends octets to a port, and answers how many sends failed: one or none.
+/// Sends octets to a port, and returns how many sends failed: 0 or 1.
 fn send_octets<F: Front>(front: &mut F, port: u16, octets: &[u8]) -> u64
     ensures { Offers (send port octets.now ∷ []) 0 (F.acts front.old) (F.acts front.new) result }
 {
@@ -45,7 +45,8 @@ fn send_octets<F: Front>(front: &mut F, port: u16, octets: &[u8]) -> u64
     counted_if(0, !gone)
 }
 
-/// Sends the relayed data, each for itself, and answers how many sends failed.
+/// Sends the data of each relayed element in a datagram of its own, and returns how many sends
+/// failed.
 fn send_relayed<F: Front>(front: &mut F, port: u16, relayed: Elements<'_>) -> u64
     ensures { Offers (map (send port) (elements_of relayed.entry)) 0 (F.acts front.old) (F.acts front.new) result }
 {
@@ -57,7 +58,7 @@ fn send_relayed<F: Front>(front: &mut F, port: u16, relayed: Elements<'_>) -> u6
     failed
 }
 
-/// Sends the packet, where there is one, and answers how many sends failed.
+/// Sends the packet, if there is one, and returns how many sends failed.
 fn send_packet<F: Front>(front: &mut F, port: u16, buffer: &mut [u8], sends: &Sends<'_>) -> u64
     requires room { length buffer.old ≡ longest_packet }
     ensures { Offers (packet_sends port (outgoing_of sends.now).packet) (too_long (outgoing_of sends.now).packet)
@@ -72,7 +73,7 @@ fn send_packet<F: Front>(front: &mut F, port: u16, buffer: &mut [u8], sends: &Se
     send_octets(front, port, &buffer[..size])
 }
 
-/// Sends the element for the peer, where there is one, and answers how many sends failed.
+/// Sends the feedback element for the peer, if there is one, and returns how many sends failed.
 fn send_feedback<F: Front>(front: &mut F, port: u16, sends: &Sends<'_>) -> u64
     ensures { Offers (feedback_sends port (outgoing_of sends.now).feedback) 0 (F.acts front.old) (F.acts front.new) result }
 {
@@ -82,9 +83,9 @@ fn send_feedback<F: Front>(front: &mut F, port: u16, sends: &Sends<'_>) -> u64
     send_octets(front, port, element.as_slice())
 }
 
-/// Sends what is to be sent for a datagram, in its order, and answers how many sends failed.
+/// Sends what is to be sent for a datagram, in its order, and returns how many sends failed.
 ///
-/// A packet above 65,535 octets isn't offered and counts as failed.
+/// A packet longer than 65,535 octets isn't offered to the front and counts as a failed send.
 pub(crate) fn send_all<F: Front>(front: &mut F, buffer: &mut [u8], sends: &Sends<'_>) -> u64
     requires room { length buffer.old ≡ longest_packet }
     ensures { Offers (sends_in (outgoing_of sends.now)) (unsent (outgoing_of sends.now)) (F.acts front.old) (F.acts front.new) result }

@@ -6,16 +6,17 @@ use rohc_feedback::Element;
 use rohc_frame::{CidKind, Elements, cut};
 use rohc_replay::Ports;
 
-/// What is to be sent for a datagram: first the relayed data, then the packet, then the feedback.
+/// What is to be sent for a datagram: first the relayed feedback, then the packet, then the
+/// feedback for the peer.
 #[derive(Debug, Drop)]
 pub struct Sends<'a> {
-    /// The ports of the datagram's link; none where it names no link that is there.
+    /// The ports of the datagram's link; `None` if it names no link that is there.
     pub ports: Option<Ports>,
     /// The data of the feedback that came from the peer, for the relay port.
     pub relayed: Elements<'a>,
-    /// The packet that was rebuilt, for the deliver port.
+    /// The rebuilt packet, for the deliver port.
     pub packet: Option<Delivered<'a>>,
-    /// The element to be sent to the peer, for the feedback port.
+    /// The feedback element to be sent to the peer, for the feedback port.
     pub feedback: Option<Element>,
     /// Whether the datagram or its packet was refused.
     pub refused: bool,
@@ -24,7 +25,7 @@ pub struct Sends<'a> {
 ghost use Rattle.std.specs.Prelude.{◌≡◌, []};
 ghost use Rattle.rohc_frame.specs.Reading.{elements_of};
 
-/// No feedback elements: those of a packet of one octet of padding.
+/// No feedback elements: those of a packet that is one padding octet.
 fn no_elements<'a>() -> Elements<'a>
     ensures { elements_of result ≡ [] }
 {
@@ -51,7 +52,7 @@ impl<'a> Sends<'a> {
     ghost use Rattle.rohc_concentrator.specs.Report.{report_of};
     ghost use Rattle.rohc_serve.specs.Outgoing.{outgoing_of, refused_for, sends_of};
 
-    /// Nothing, since the datagram was refused.
+    /// What is to be sent for a refused datagram: nothing.
     pub(crate) fn refused(ports: Option<Ports>) -> Self
         ensures { outgoing_of result ≡ refused_for ports }
     {
@@ -64,7 +65,7 @@ impl<'a> Sends<'a> {
         }
     }
 
-    /// What is to be sent for an answer, by the ports of its link.
+    /// What is to be sent for an answer, to the ports of its link.
     pub(crate) fn answering(ports: Ports, answer: Answer<'a>) -> Self
         ensures { outgoing_of result ≡ sends_of (Some ports) (report_of answer.entry) }
     {

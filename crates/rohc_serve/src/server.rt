@@ -1,4 +1,4 @@
-//! A concentrator that serves a front.
+//! The loop of a server: a concentrator behind a front.
 
 ghost use Rattle.std.specs.Prelude.{◌≡◌, length, IfOk, OnErr};
 ghost use Rattle.rohc_serve.specs.Datagram.{AreSettingsOf};
@@ -13,14 +13,15 @@ use rohc_concentrator::Concentrator;
 use rohc_replay::{LONGEST_PACKET, Links};
 use std::alloc::{AllocError, Global};
 
-/// The greatest datagram: a link's number, and a packet.
+/// The longest datagram, in octets: a link's number and a packet.
 const LONGEST_DATAGRAM: usize = 65_537;
 
-/// Takes so many turns, each one receive, and counts them.
+/// Serves `count` turns, each of which is one receive, and returns what they add up to.
 ///
-/// The two buffers, one for a datagram and one for a packet to be sent, are asked for before the first
-/// receive; after that only an accepted first IR asks for memory. A failed receive is a turn. Neither a failed
-/// receive nor a failed send ends the run.
+/// Two buffers, one for a datagram and one for a packet to be sent, are allocated before the first receive.
+/// After that only an accepted first IR asks for memory. The error is lack of memory; then nothing was
+/// received and nothing has changed. A failed receive counts as a turn. Neither a failed receive nor a failed
+/// send ends the run.
 pub fn serve<F: Front>(
     alloc: Global,
     concentrator: &mut Concentrator,
@@ -46,14 +47,14 @@ pub fn serve<F: Front>(
     ))
 }
 
-/// A buffer of so many octets.
+/// A buffer of `len` octets.
 fn zeros(alloc: Global, len: usize) -> Result<Vec<u8>, AllocError>
     ensures { IfOk result (λ v. length v.items ≡ len) }
 {
     vec![in alloc; 0u8; len]
 }
 
-/// Takes so many turns with these two buffers, and counts them.
+/// Serves `count` turns with these two buffers, and counts them.
 fn take_turns<F: Front>(
     concentrator: &mut Concentrator,
     links: &Links,
@@ -74,7 +75,7 @@ fn take_turns<F: Front>(
     tally
 }
 
-/// Receives a datagram, answers it, and sends what is to be sent for it.
+/// Serves one turn: receives a datagram, answers it, and sends what is to be sent for it.
 fn take_turn<F: Front>(
     concentrator: &mut Concentrator,
     links: &Links,

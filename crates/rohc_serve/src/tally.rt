@@ -1,4 +1,4 @@
-//! What was served.
+//! The counts of a server.
 
 ghost use Rattle.rohc_serve.specs.Outgoing.{outgoing_of};
 ghost use Rattle.rohc_serve.specs.Tally.{added, counts_of, one_if};
@@ -7,16 +7,16 @@ use crate::sends::Sends;
 use rohc_frame::Elements;
 use std::fmt;
 
-/// What was served. Each count stays at the greatest `u64`.
+/// The counts of a server. Each of them stops at the greatest `u64`.
 #[derive(Clone, Copy, Debug, Default, PartialEq, Eq)]
 pub struct ServeTally {
-    /// The datagrams that came.
+    /// The datagrams that were received.
     pub datagrams: u64,
-    /// Those for which there was a packet.
+    /// The datagrams for which a packet was to be sent.
     pub delivered: u64,
-    /// Those for which there was an element for the peer.
+    /// The datagrams for which a feedback element for the peer was to be sent.
     pub feedback: u64,
-    /// The elements that came from peers.
+    /// The feedback elements that came from peers.
     pub relayed: u64,
     /// The datagrams that were refused.
     pub refused: u64,
@@ -28,7 +28,7 @@ impl ServeTally {
     ghost use Rattle.std.specs.Prelude.{◌≡◌};
     ghost use Rattle.rohc_replay.specs.Offers.{counted};
 
-    /// Counts a datagram by what was to be sent for it, and its failed sends.
+    /// Counts a datagram, by what was to be sent for it and how many of its sends failed.
     pub fn add(&mut self, sends: &Sends<'_>, failed: u64)
         ensures { self.new ≡ added self.old (counts_of (outgoing_of sends.now) failed) }
     {
@@ -42,7 +42,7 @@ impl ServeTally {
         };
     }
 
-    /// Counts a receive that failed.
+    /// Counts a failed receive.
     pub(crate) fn add_failed_receive(&mut self)
         ensures { self.new ≡ record self.old { failed = counted self.old.failed 1 } }
     {
@@ -57,14 +57,14 @@ ghost use Rattle.std.specs.Prelude.{◌≡◌, length};
 ghost use Rattle.rohc_frame.specs.Reading.{elements_of};
 ghost use Rattle.rohc_replay.specs.Offers.{counted};
 
-/// A count, counted on by one where the condition holds.
+/// The count plus one if `holds`, up to the greatest `u64`.
 pub(crate) fn counted_if(count: u64, holds: bool) -> u64
     ensures { result ≡ counted count (one_if holds) }
 {
     count.saturating_add(u64::from(holds))
 }
 
-/// A count, counted on by the elements.
+/// The count plus the number of elements, up to the greatest `u64`.
 fn counted_on(count: u64, elements: Elements<'_>) -> u64
     ensures { result ≡ counted count (length (elements_of elements.entry)) }
 {

@@ -53,8 +53,8 @@ const PORTS_1: Ports = Ports {
     relay: 6003,
 };
 
-/// A front that gives these datagrams, one a millisecond, and fails where there is none. Sends to one port
-/// fail.
+/// A front that gives these datagrams, one each millisecond; a receive without a datagram fails. Sends to
+/// one port fail.
 #[derive(Drop)]
 struct Memory<'a> {
     datagrams: &'a [Option<&'a [u8]>],
@@ -91,7 +91,7 @@ fn made(alloc: Global) -> Result<(Links, Concentrator), Fail>
     Ok((links, concentrator))
 }
 
-/// Serves these datagrams, with sends that fail at one port, and answers the tally and what was sent.
+/// Serves these datagrams, with sends that fail at one port. Returns the tally and what was sent.
 fn served(
     alloc: Global,
     datagrams: &[Option<&[u8]>],
@@ -118,7 +118,7 @@ fn were_sent(rt: &impl Abort, sent: &[(u16, Vec<u8>)], wanted: &[(u16, &[u8])]) 
     }
 }
 
-/// Answers a datagram that is refused, by a link of these ports or by none.
+/// Answers a datagram that is refused, with the ports of its link or without ports.
 fn for_nobody(
     rt: &impl Abort,
     links: &Links,
@@ -167,7 +167,7 @@ fn a_datagram_is_answered(rt: HostRuntime) -> Result<(), Fail> {
     Ok(())
 }
 
-// No contract can say that memory is there: a `serve` that always wants it fails here.
+// No contract can say that there is memory: a `serve` that always reports lack of memory fails here.
 #[test]
 fn a_turn_fails_and_the_run_goes_on(rt: HostRuntime) -> Result<(), Fail> {
     let datagrams: [Option<&[u8]>; 3] = [
@@ -226,7 +226,7 @@ fn what_names_no_link_is_refused(rt: HostRuntime) -> Result<(), Fail> {
     Ok(())
 }
 
-/// The greatest datagram of UDP over IPv4, in octets.
+/// The longest datagram of UDP over IPv4, in octets.
 const GREATEST: usize = 65_507;
 
 #[test]
@@ -262,21 +262,21 @@ fn counts_stay_at_the_greatest(rt: HostRuntime) -> Result<(), Fail> {
     Ok(())
 }
 
-/// Whole IR, first UO-0 and UOR-2-TS jump, under identifier 0 of link 1.
+/// Whole IR, first UO-0 and UOR-2-TS jump, under CID 0 of link 1.
 const CALL: [&[u8]; 3] = [
     b"\x00\x01\xfd\x01\x2b\x40\x11\x0a\x00\x00\x01\x0a\x00\x00\x02\x13\x88\x13\x8a\x00\x00\x00\x01\x00\x40\x00\x01\x20\x00\x00\x00\x90\x00\x00\x01\x00\x00\x00\xa0\x00\x09\x80\xa0\xab",
     b"\x00\x01\x10\xac",
     b"\x00\x01\xd4\xc3\x3e\xad",
 ];
 
-/// The packets that these deliver.
+/// The packets that these datagrams deliver.
 const PACKETS: [&[u8]; 3] = [
     b"\x45\x00\x00\x29\x00\x01\x00\x00\x40\x11\x66\xc1\x0a\x00\x00\x01\x0a\x00\x00\x02\x13\x88\x13\x8a\x00\x15\x00\x00\x80\x00\x00\x01\x00\x00\x00\xa0\x00\x00\x00\x01\xab",
     b"\x45\x00\x00\x29\x00\x02\x00\x00\x40\x11\x66\xc0\x0a\x00\x00\x01\x0a\x00\x00\x02\x13\x88\x13\x8a\x00\x15\x00\x00\x80\x00\x00\x02\x00\x00\x01\x40\x00\x00\x00\x01\xac",
     b"\x45\x00\x00\x29\x00\x03\x00\x00\x40\x11\x66\xbf\x0a\x00\x00\x01\x0a\x00\x00\x02\x13\x88\x13\x8a\x00\x15\x00\x00\x80\x80\x00\x03\x00\x00\x0c\x80\x00\x00\x00\x01\xad",
 ];
 
-/// Datagrams under other identifiers and links, or under none.
+/// Datagrams under other CIDs and links, or under none.
 const HOSTILE: [&[u8]; 24] = [
     b"",
     b"\x00",
@@ -304,11 +304,11 @@ const HOSTILE: [&[u8]; 24] = [
     b"\x01\x00\x10\xac",
 ];
 
-/// How many hostile datagrams come before each of the call.
+/// How many hostile datagrams come before each datagram of the call.
 const BETWEEN: u32 = 33_334;
 
-/// A front that gives a call's datagrams, each behind so many hostile ones, and keeps the whole packets that
-/// are sent to the call's link.
+/// A front that gives a call's datagrams, each after this many hostile ones, and keeps the whole packets
+/// that are sent to the call's link.
 #[derive(Drop)]
 struct Flood {
     taken: u32,

@@ -5,17 +5,17 @@ use clap::error::ErrorKind;
 use clap::{Arg, ArgAction, ArgMatches, Command};
 use std::alloc::{AllocError, Global};
 
-/// The greatest number of receives.
+/// The greatest `--count`: how many receives `serve` may be asked for.
 const GREATEST_COUNT: i64 = 1_000_000;
 
-/// What the words ask for.
+/// What the command line asks for.
 #[derive(Clone, Copy, Debug)]
 pub(crate) enum Request<'a> {
-    /// A script from standard input to standard output, with the links of this file.
+    /// Run a script from standard input to standard output, with the links of this file.
     Replay {
         links: &'a str,
     },
-    /// Datagrams at this port of 127.0.0.1, so many receives, with the links of this file.
+    /// Serve this many receives at this port of 127.0.0.1, with the links of this file.
     Serve {
         links: &'a str,
         port: u16,
@@ -31,7 +31,7 @@ fn option<'a>(alloc: Global, name: &'static str) -> Arg<'a> {
         .action(ArgAction::Set)
 }
 
-/// The command that words are read by.
+/// The parser of the command line.
 fn command<'a>(alloc: Global) -> Result<Command<'a>, AllocError> {
     let ports = clap::value_parser!(u16).range(1..);
     let counts = clap::value_parser!(u32).range(1..=GREATEST_COUNT);
@@ -47,7 +47,7 @@ fn command<'a>(alloc: Global) -> Result<Command<'a>, AllocError> {
         .subcommand(serve)
 }
 
-/// The request of the words that were matched.
+/// The request in the words that were matched.
 fn asked_for<'a>(matches: &ArgMatches<'a>) -> Option<Request<'a>> {
     match matches.subcommand()? {
         ("replay", options) => Some(Request::Replay {
@@ -62,7 +62,7 @@ fn asked_for<'a>(matches: &ArgMatches<'a>) -> Option<Request<'a>> {
     }
 }
 
-/// What the words ask for, or `CommandLine`, or `Memory`.
+/// Reads the request from the words of the command line. The error is `CommandLine` or `Memory`.
 pub(crate) fn read_request<'a>(alloc: Global, words: &'a [String]) -> Result<Request<'a>, End> {
     let Ok(command) = command(alloc) else {
         return Err(End::Memory);

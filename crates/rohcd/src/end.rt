@@ -7,17 +7,17 @@ use std::fmt;
 pub enum End {
     /// All was done.
     Done,
-    /// The words are no command, or ask for help.
+    /// The words are not a command, or they ask for help.
     CommandLine,
-    /// The links file can't be read, or has the fault of this name.
+    /// The links file can't be read, or it has the fault of this name.
     LinksFile(&'static str),
     /// A read failed.
     Read,
     /// A write failed.
     Write,
-    /// No socket could be bound, or no clock read.
+    /// No socket could be bound, or the clock couldn't be read.
     Socket,
-    /// There was no memory.
+    /// There is no memory.
     Memory,
 }
 
@@ -25,7 +25,7 @@ impl End {
     ghost use Rattle.std.specs.Prelude.{◌≡◌};
     ghost use Rattle.rohcd.specs.End.{status_of};
 
-    /// The status that the program ends with.
+    /// The exit status of the program.
     pub fn status(&self) -> u8
         ensures { result ≡ status_of self.now }
     {

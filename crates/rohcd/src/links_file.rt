@@ -10,10 +10,10 @@ use std::io::Read;
 use std::rt::Files;
 use std::{fs, io};
 
-/// The greatest links file, in octets.
+/// The longest links file, in octets.
 const LONGEST_FILE: u64 = 1_048_576;
 
-/// The text of the file, which is read to its limit and no further.
+/// Reads the text of the file, up to the limit and no further.
 fn links_text<R: Files + AllocGlobal>(rt: &R, path: &str) -> Result<String, End> {
     let file = fs::open(rt, path).map_err(|e| unreadable(&e))?;
     let mut octets = Vec::new(rt.alloc());
@@ -27,7 +27,7 @@ fn links_text<R: Files + AllocGlobal>(rt: &R, path: &str) -> Result<String, End>
     String::from_utf8(octets).map_err(|_| End::LinksFile("Unreadable"))
 }
 
-/// Why a file can't be read.
+/// The end of the program if a file can't be read.
 fn unreadable(e: &io::Error) -> End {
     if e.kind() == io::ErrorKind::OutOfMemory {
         End::Memory
@@ -36,7 +36,7 @@ fn unreadable(e: &io::Error) -> End {
     }
 }
 
-/// The links in the file, and their concentrator without a record.
+/// The links in the file, and a concentrator with them and without a record.
 pub(crate) fn links_of<R: Files + AllocGlobal>(
     rt: &R,
     path: &str,
@@ -51,7 +51,7 @@ pub(crate) fn links_of<R: Files + AllocGlobal>(
     Ok((links, concentrator))
 }
 
-/// The end that a fault of the links file leads to.
+/// The end of the program for a fault of the links file.
 fn links_end(fault: &LinksFault) -> End {
     match fault {
         LinksFault::NoMemory => End::Memory,
@@ -59,7 +59,7 @@ fn links_end(fault: &LinksFault) -> End {
     }
 }
 
-/// The end that a fault of the settings leads to.
+/// The end of the program for a fault of the settings.
 fn setup_end(fault: &SetupFault) -> End {
     match fault {
         SetupFault::NoMemory => End::Memory,

@@ -1,4 +1,4 @@
-//! rohcd: a ROHC decompressor at the end of many links.
+//! rohcd: a ROHC decompressor for many links.
 #![tactic(auto)]
 
 mod command;
@@ -16,7 +16,7 @@ use std::process::ExitCode;
 use std::rt::Env;
 use std::{env, io};
 
-/// The words behind the program's name.
+/// The words of the command line after the program's name.
 fn words<R: Env + AllocGlobal>(rt: &R) -> io::Result<Vec<String>> {
     let mut words = Vec::new(rt.alloc());
     for word in env::args(rt)?.skip(1) {

@@ -1,4 +1,4 @@
-//! The program, from the words after its name to its end.
+//! The program, from the words after its name to how it ends.
 
 use crate::command::{Request, read_request};
 use crate::end::End;
@@ -38,8 +38,8 @@ where
 
 /// Runs the script on standard input, and writes its answers to standard output.
 ///
-/// The answers are out before more input is waited for. After a failed read what is buffered is flushed, and the end is
-/// still `Read`.
+/// Answers are written out before the program waits for more input. After a failed read the buffered answers are
+/// flushed, and the end is still `Read`.
 fn run_replay<R: Files + Input + Print + AllocGlobal>(rt: &R, links: &str) -> Result<(), End> {
     let (_, mut concentrator) = links_of(rt, links)?;
     let Ok(buffered) = BufWriter::new(rt.alloc(), io::writer(rt)) else {
@@ -62,7 +62,7 @@ fn run_replay<R: Files + Input + Print + AllocGlobal>(rt: &R, links: &str) -> Re
     }
 }
 
-/// Serves so many receives at the port, and prints what was served on standard output.
+/// Serves `count` receives at the port, and prints the tally on standard output.
 fn run_serve<R>(rt: &R, links: &str, port: u16, count: u32) -> Result<(), End>
 where
     R: Files + Print + Net + Clock + AllocGlobal,

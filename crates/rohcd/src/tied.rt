@@ -1,12 +1,13 @@
-//! Input and output tied together, as terminals tie them: before a program waits for input, its answers go out.
+//! Input and output tied together, as terminals tie them: before the program waits for input, its output is
+//! flushed.
 
 use std::cell::RefCell;
 use std::io;
 use std::io::{Error, ErrorKind, Read, Write};
 
-/// An input whose every read first gives out what the output has buffered.
+/// An input that flushes the output before each read.
 ///
-/// Where that fails, the read goes on: the output keeps what it has, and its next write or flush fails.
+/// If the flush fails, the read goes on. The output keeps what it has, and its next write or flush fails.
 #[derive(Drop)]
 pub(crate) struct TiedInput<'a, R, W> {
     pub input: R,

@@ -1,11 +1,11 @@
-//! A UDP socket on 127.0.0.1, with a clock since its start.
+//! A front on UDP: a socket on 127.0.0.1, with a clock.
 
 use rohc_serve::Front;
 use std::io;
 use std::net::{Ipv4Addr, Net, UdpSocket};
 use std::time::{Clock, Instant};
 
-/// A socket on 127.0.0.1. Its moments are the milliseconds since it was opened.
+/// A socket on 127.0.0.1. Arrival times are the milliseconds since it was opened.
 #[derive(Drop)]
 pub(crate) struct UdpFront<'a, R> {
     clock: &'a R,
@@ -14,7 +14,7 @@ pub(crate) struct UdpFront<'a, R> {
 }
 
 impl<'a, R: Net + Clock> UdpFront<'a, R> {
-    /// Binds the port, and reads the clock.
+    /// Binds a socket to the port, and starts the clock.
     pub(crate) fn open(rt: &'a R, port: u16) -> io::Result<Self> {
         let socket = UdpSocket::bind(rt, (Ipv4Addr::LOCALHOST, port))?;
         let start = Instant::now(rt)?;
@@ -53,7 +53,7 @@ mod tests {
     use std::test::Fail;
     use std::time::Duration;
 
-    /// A socket on a free port, which waits for five seconds at most, and its port.
+    /// A socket on a free port, which waits for at most five seconds, and its port.
     fn bound<R: Net>(rt: &R) -> io::Result<(UdpSocket, u16)> {
         let socket = UdpSocket::bind(rt, (Ipv4Addr::LOCALHOST, 0))?;
         socket.set_read_timeout(Some(Duration::from_secs(5)))?;

@@ -1,8 +1,8 @@
-//! Times the 8-bit check, and the building of headers with their 3-bit check. The script `bench/run`
-//! sets the times beside those of the same in Rust.
+//! Times the 8-bit check, and the rebuilding of headers with their 3-bit check. The script
+//! `bench/parts` compares the times with those of the same work in plain Rust.
 //!
-//! The results stand on standard output, the nanoseconds on standard error. A word on the command
-//! line is the number of turns.
+//! The results are written to standard output, the nanoseconds to standard error. A word on the
+//! command line is the number of turns.
 #![tactic(auto)]
 
 ghost use Rattle.std.specs.Prelude.{◌<◌};
@@ -13,7 +13,7 @@ use std::rt::{Clock, Env};
 use std::time::Instant;
 use std::{env, io};
 
-/// The turns where the command line gives no number.
+/// How many turns there are if the command line gives no number.
 const TURNS: u32 = 1000;
 
 /// The text that each turn checks.
@@ -27,7 +27,7 @@ fn turns<R: Env + AllocGlobal>(rt: &R) -> io::Result<u32> {
     }
 }
 
-/// The 8-bit check of a text, as often as there are turns.
+/// The 8-bit check of a text, computed once each turn.
 #[inline(never)]
 fn check_texts(turns: u32, text: &[u8]) -> u8 {
     let mut register = 0xff;
@@ -37,7 +37,7 @@ fn check_texts(turns: u32, text: &[u8]) -> u8 {
     register
 }
 
-/// A header built from its fields, and its 3-bit check from this register.
+/// The 3-bit check of a header that is built from its fields, from this register.
 #[inline(never)]
 fn build_and_check(fixed: &Static, moving: &Dynamic, payload_len: usize, register: u8) -> u8
     requires { moving.now.payload_type < 128 }
@@ -48,7 +48,7 @@ fn build_and_check(fixed: &Static, moving: &Dynamic, payload_len: usize, registe
     }
 }
 
-/// The 3-bit checks of the headers of a call, each begun from the one before.
+/// The 3-bit checks of the headers of a call. Each starts from the result of the one before.
 fn check_headers(turns: u32) -> u8 {
     let fixed = Static {
         source: [10, 0, 0, 1],

@@ -1,4 +1,4 @@
-//! What IR and IR-DYN packets say, or why they are refused.
+//! The table of IR and IR-DYN packets: their content, or why they are refused.
 
 use crate::framing::cid_kind;
 use crate::text::{NoAnswer, read_octets, spell};
@@ -7,7 +7,7 @@ use rohc_frame::{CidKind, Forward, HeadKind, cut};
 use rohc_header::{Dynamic, Static};
 use std::alloc::{AllocError, Global};
 
-/// The columns are how the link spells identifiers, a packet of one header, and a call.
+/// Answers a question. The columns are the CID kind, a packet of one header, and a call.
 pub(crate) fn answer(alloc: Global, columns: &[&str]) -> Result<String, NoAnswer> {
     let [kind, packet, call] = *columns else {
         return Err(NoAnswer::Unreadable);
@@ -39,7 +39,7 @@ fn ir(alloc: Global, forward: &Forward<'_>) -> Result<String, NoAnswer> {
     }
 }
 
-/// The words are the call, and its arguments each behind its name.
+/// The answer of `ir_dyn`. The words are the call, and its arguments, each after its name.
 fn ir_dyn(alloc: Global, forward: &Forward<'_>, words: &[&str]) -> Result<String, NoAnswer> {
     let [
         _call,
@@ -104,7 +104,7 @@ fn ir_dyn_text(alloc: Global, said: IrDyn<'_>) -> Result<String, AllocError> {
     format!(in alloc; "dyn {moving}/{payload}")
 }
 
-/// The addresses in hexadecimal digits, the ports and the synchronization source.
+/// The addresses in hexadecimal digits, the ports and the SSRC.
 fn static_text(alloc: Global, fixed: Static) -> Result<String, AllocError> {
     let source = spell(alloc, &fixed.source)?;
     let destination = spell(alloc, &fixed.destination)?;
@@ -143,7 +143,7 @@ fn rtp_text(alloc: Global, moving: Dynamic) -> Result<String, AllocError> {
     format!(in alloc; "{padding} {extension} {marker} {payload_type} {sn} {ts} {stride}")
 }
 
-/// The stride, or `-` where there is none.
+/// The stride, or `-` if there is none.
 fn stride_text(alloc: Global, stride: Option<u32>) -> Result<String, AllocError> {
     match stride {
         Some(stride) => format!(in alloc; "{stride}"),

@@ -1,11 +1,11 @@
-//! Checks from any register, and the sum of Internet headers.
+//! The table of checks, from any register, and of the Internet checksum.
 
 use crate::text::{NoAnswer, read_octet, read_octets};
 use rohc_checks::{crc3, crc7, crc8, internet_sum};
 use std::alloc::Global;
 
-/// The check of some octets: the columns are its width, the register that it begins from, and the
-/// octets. The sum of Internet headers has `sum` for its width, and no register.
+/// Answers a question. The columns are the check's width, the register from which it starts, and
+/// the octets. The Internet checksum has `sum` in place of a width, and no register.
 pub(crate) fn answer(alloc: Global, columns: &[&str]) -> Result<String, NoAnswer> {
     let [width, register, octets] = *columns else {
         return Err(NoAnswer::Unreadable);

@@ -1,4 +1,4 @@
-//! Feedback elements, written and read.
+//! The table of feedback elements, written and read.
 
 ghost use Rattle.std.specs.Prelude.{◌≡◌};
 ghost use Rattle.rohc_frame.specs.Header as frame;
@@ -10,7 +10,7 @@ use rohc_frame::CidKind;
 use std::alloc::{AllocError, Global};
 use std::str::SplitWhitespace;
 
-/// The columns are how the link spells identifiers, and a call with its arguments: an identifier and
+/// Answers a question. The columns are the CID kind, and a call with its arguments: a CID and
 /// perhaps a sequence number, or for `read` an element.
 pub(crate) fn answer(alloc: Global, columns: &[&str]) -> Result<String, NoAnswer> {
     let [kind, call] = *columns else {
@@ -27,12 +27,12 @@ pub(crate) fn answer(alloc: Global, columns: &[&str]) -> Result<String, NoAnswer
     Ok(spell(alloc, &element)?)
 }
 
-/// The next word of a call, which has to be there.
+/// The next word of a call. It is an error if there is none.
 fn next<'a>(words: &mut SplitWhitespace<'a>) -> Result<&'a str, NoAnswer> {
     words.next().ok_or(NoAnswer::Unreadable)
 }
 
-/// The element that a call of this name writes.
+/// The element that the function of this name writes.
 fn element(
     size: CidKind,
     name: &str,
@@ -59,7 +59,7 @@ fn number(text: &str) -> Result<Option<u16>, NoAnswer> {
     }
 }
 
-/// The identifier, the word and the number of what was read, or `none`.
+/// The CID, the kind of feedback and the number that were read, or `none`.
 fn meaning(alloc: Global, reading: Option<Reading>) -> Result<String, AllocError> {
     let Some(Reading { cid, word, sn }) = reading else {
         return String::from_str(alloc, "none");
@@ -71,7 +71,7 @@ fn meaning(alloc: Global, reading: Option<Reading>) -> Result<String, AllocError
     }
 }
 
-/// The name of a word.
+/// The name of a kind of feedback.
 fn word_name(word: Word) -> &'static str {
     match word {
         Word::Ack => "Ack",

@@ -1,5 +1,5 @@
-//! Fields of a header from their low bits: intervals, sequence numbers, timestamps and the
-//! Identification.
+//! The table of header fields, decoded from their low bits: intervals, sequence numbers, timestamps
+//! and the IP Identification.
 
 use crate::text::NoAnswer;
 use rohc_bits::Bits;
@@ -9,7 +9,7 @@ use rohc_lsb::{
 use std::alloc::Global;
 use std::str::SplitWhitespace;
 
-/// The columns are a call and its arguments, each behind its name.
+/// Answers a question. The columns are a call and its arguments, each after its name.
 pub(crate) fn answer(alloc: Global, columns: &[&str]) -> Result<String, NoAnswer> {
     let [call, arguments] = *columns else {
         return Err(NoAnswer::Unreadable);
@@ -25,7 +25,7 @@ pub(crate) fn answer(alloc: Global, columns: &[&str]) -> Result<String, NoAnswer
     Ok(format!(in alloc; "{value}")?)
 }
 
-/// What a call gives whose result is one number.
+/// The result of a call that gives one number.
 fn value(call: &str, arguments: &mut Arguments<'_>) -> Result<u32, NoAnswer> {
     match call {
         "interval_value" => in_interval(arguments),
@@ -46,7 +46,7 @@ struct Arguments<'a> {
 }
 
 impl<'a> Arguments<'a> {
-    /// The text of the next argument, which has to have this name.
+    /// The text of the next argument. It is an error if it has another name.
     fn text(&mut self, name: &str) -> Result<&'a str, NoAnswer> {
         match self.words.next() {
             Some(word) if word == name => self.words.next().ok_or(NoAnswer::Unreadable),
@@ -78,7 +78,7 @@ impl<'a> Arguments<'a> {
         }
     }
 
-    /// How many bits there are, and the number that they spell; dashes where there are none.
+    /// How many bits there are, and the number that they stand for; dashes if there are none.
     fn optional_bits(&mut self) -> Result<Option<Bits>, NoAnswer> {
         let (count, value) = (self.text("count")?, self.text("bits")?);
         if count == "-" && value == "-" {
@@ -92,7 +92,7 @@ impl<'a> Arguments<'a> {
         }
     }
 
-    /// Bits that have to be there.
+    /// The same, with an error if there are none.
     fn bits(&mut self) -> Result<Bits, NoAnswer> {
         self.optional_bits()?.ok_or(NoAnswer::Unreadable)
     }

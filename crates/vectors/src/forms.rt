@@ -1,4 +1,4 @@
-//! What packets of kind Other say.
+//! The table of packets of kind Other: their content, or why they are refused.
 
 use crate::text::{NoAnswer, read_octets, spell_or};
 use rohc_bits::Bits;
@@ -6,9 +6,9 @@ use rohc_forms::{Form, IdBits, Values, read_form};
 use rohc_frame::{CidKind, HeadKind, cut};
 use std::alloc::{AllocError, Global};
 
-/// The columns are a packet of identifier 0 on a small link, and whether the Identification is random,
-/// packets carry the UDP checksum and a stride is in force. The answer is what the packet says, or the
-/// name of its refusal.
+/// Answers a question. The columns are a packet of CID 0 on a link of small CIDs, and whether the
+/// Identification is random, packets carry the UDP checksum and a stride is in force. The answer is
+/// the packet's content, or the name of its refusal.
 pub(crate) fn answer(alloc: Global, columns: &[&str]) -> Result<String, NoAnswer> {
     let [packet, context] = *columns else {
         return Err(NoAnswer::Unreadable);
@@ -33,7 +33,7 @@ pub(crate) fn answer(alloc: Global, columns: &[&str]) -> Result<String, NoAnswer
     }
 }
 
-/// The flag that `0` or `1` spells.
+/// A flag, which is `0` or `1`.
 fn read_flag(word: Option<&str>) -> Result<bool, NoAnswer> {
     match word {
         Some("0") => Ok(false),
@@ -42,7 +42,7 @@ fn read_flag(word: Option<&str>) -> Result<bool, NoAnswer> {
     }
 }
 
-/// What a packet says, with a bar between its parts.
+/// The content of a packet, with a bar between its parts.
 fn said(alloc: Global, form: Form<'_>) -> Result<String, AllocError> {
     let kind = form.kind;
     let sn = bits(alloc, Some(form.sn))?;
@@ -57,7 +57,7 @@ fn said(alloc: Global, form: Form<'_>) -> Result<String, AllocError> {
     format!(in alloc; "{kind:?}|{sn}|{ts}|{tsc}|{id}|{udp_sum}|{marker}|{values}|{check}|{payload}")
 }
 
-/// Bits by their number and their value, or a dash.
+/// Bits as their number and their value, or a dash.
 fn bits(alloc: Global, bits: Option<Bits>) -> Result<String, AllocError> {
     match bits {
         Some(bits) => {
@@ -77,7 +77,7 @@ fn number(alloc: Global, number: Option<u32>) -> Result<String, AllocError> {
     }
 }
 
-/// A flag by 0 or 1, or a dash.
+/// A flag as 0 or 1, or a dash.
 fn flag(flag: Option<bool>) -> &'static str {
     match flag {
         Some(true) => "1",
@@ -86,7 +86,7 @@ fn flag(flag: Option<bool>) -> &'static str {
     }
 }
 
-/// What is said of the Identification.
+/// What a packet says of the Identification.
 fn id(alloc: Global, id: IdBits) -> Result<String, AllocError> {
     match id {
         IdBits::Same => String::from_str(alloc, "same"),
@@ -98,7 +98,7 @@ fn id(alloc: Global, id: IdBits) -> Result<String, AllocError> {
     }
 }
 
-/// The values that an extension 3 gives, or a dash where there is none.
+/// The values of an extension 3, or a dash if there is none.
 fn values(alloc: Global, values: Option<Values>) -> Result<String, AllocError> {
     let Some(values) = values else {
         return String::from_str(alloc, "-");

@@ -1,11 +1,11 @@
-//! The one reading of a packet, or the one refusal.
+//! The table of framing: the one reading of a packet, or the one refusal.
 
 use crate::text::{NoAnswer, read_octets, spell, spell_or};
 use rohc_frame::{CidKind, Elements, Forward, Framed, HeadKind, cut};
 use std::alloc::{AllocError, Global};
 
-/// The columns are how the link spells identifiers, its greatest one, and a packet. The answer is the
-/// packet's parts, or the name of its refusal.
+/// Answers a question. The columns are the CID kind, the link's greatest CID, and a packet. The
+/// answer is the packet's parts, or the name of its refusal.
 pub(crate) fn answer(alloc: Global, columns: &[&str]) -> Result<String, NoAnswer> {
     let [kind, max_cid, packet] = *columns else {
         return Err(NoAnswer::Unreadable);
@@ -17,7 +17,7 @@ pub(crate) fn answer(alloc: Global, columns: &[&str]) -> Result<String, NoAnswer
     }
 }
 
-/// How a link spells identifiers.
+/// The CID kind of this name.
 pub(crate) fn cid_kind(name: &str) -> Result<CidKind, NoAnswer> {
     match name {
         "small" => Ok(CidKind::Small),
@@ -53,7 +53,7 @@ fn elements(alloc: Global, elements: Elements<'_>) -> Result<String, AllocError>
     Ok(text)
 }
 
-/// The identifier, the kind, the first octet, the identifier's octets and the rest.
+/// The CID, the kind, the first octet, the CID octets and the rest.
 fn header(alloc: Global, forward: Forward<'_>) -> Result<String, AllocError> {
     let cid = forward.cid;
     let kind = kind_name(forward.kind);
@@ -63,7 +63,7 @@ fn header(alloc: Global, forward: Forward<'_>) -> Result<String, AllocError> {
     format!(in alloc; "{cid}|{kind}|{first:02x}|{cid_octets}|{rest}")
 }
 
-/// The name of a kind of header, whether an IR packet has a dynamic chain or not.
+/// The name of a kind of header; an IR has one name with a dynamic chain and one without.
 fn kind_name(kind: HeadKind) -> &'static str {
     match kind {
         HeadKind::Ir { .. } => "Ir",

@@ -1,12 +1,12 @@
-//! Whole headers, their checks, and the registers over their static octets.
+//! The table of rebuilt headers, their checks, and the registers after their static octets.
 
 use crate::text::{NoAnswer, read_octets, spell};
 use rohc_header::{Dynamic, Header, Static};
 use std::alloc::Global;
 use std::str::SplitWhitespace;
 
-/// The columns are the fields that stay while a call lasts, those that move, and the payload's
-/// length. The answer is the header, its 3-bit and 7-bit check, and the registers of both.
+/// Answers a question. The columns are the static fields, the dynamic fields, and the payload's
+/// length. The answer is the header, its 3-bit and its 7-bit check, and the registers of both.
 pub(crate) fn answer(alloc: Global, columns: &[&str]) -> Result<String, NoAnswer> {
     let [fixed, moving, payload_len] = *columns else {
         return Err(NoAnswer::Unreadable);
@@ -61,7 +61,7 @@ fn read_dynamic(column: &str) -> Result<Dynamic, NoAnswer> {
     })
 }
 
-/// The values of a column that are left, with a space between.
+/// The values of a column that are left to be read, with a space between them.
 #[derive(Drop)]
 struct Values<'a> {
     words: SplitWhitespace<'a>,

@@ -1,7 +1,9 @@
-//! Runs tables of test data: questions on standard input, our answers on standard output.
+//! Runs tables of test data: reads questions from standard input, and writes our answers to standard
+//! output.
 //!
-//! A line with a table's name begins it, and is repeated. Each line behind it is a question, and its
-//! answer is one line: `-` where a call's conditions aren't met, `?` where a question can't be read.
+//! A line with a table's name begins that table, and is repeated in the output. Each line after it
+//! is a question. Its answer is one line: `-` if the conditions of a call aren't met, and `?` if a
+//! question can't be read.
 #![tactic(auto)]
 
 mod chains;
@@ -34,7 +36,7 @@ enum Table {
 }
 
 impl Table {
-    /// The table that a line begins, or `None` where it is a question.
+    /// The table that a line begins, or `None` if the line is a question.
     fn begun_by(line: &str) -> Option<Table> {
         match line {
             "# checks" => Some(Table::Checks),
@@ -65,7 +67,8 @@ impl Table {
     }
 }
 
-/// Writes the answer to a question of the table on a line, or the mark of a question without one.
+/// Writes the answer to a question of the table on a line, or the mark for a question without an
+/// answer.
 fn write_answer<W: Write>(
     alloc: Global,
     writer: &mut W,

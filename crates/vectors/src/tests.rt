@@ -1,4 +1,5 @@
-//! What a packet says meets the conditions of the calls that take it, with nothing proved by hand.
+//! What a packet says meets the conditions of the functions that take it, with nothing proved by
+//! hand.
 
 ghost use Rattle.std.specs.Prelude.{◌≤◌, ◌<◌};
 ghost use Rattle.std.specs.Option.{ForSome};
@@ -9,7 +10,7 @@ use rohc_frame::{CidKind, Forward, HeadKind, cut};
 use rohc_header::{Dynamic, Header, Static};
 use rohc_lsb::{inferred_ts, ip_id, scaled, sn_value, unscaled};
 
-/// The header that a packet means behind the last one, and whether its check is the packet's.
+/// The header that a packet means after the last one, and whether its check is the packet's.
 fn header_behind(forward: &Forward<'_>, fixed: &Static, last: &Dynamic) -> Option<(Header, bool)>
     requires kind { IsOther forward.now.kind }
     requires payload_type { last.now.payload_type < 128 }

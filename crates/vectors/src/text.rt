@@ -1,4 +1,4 @@
-//! Octets and numbers as the tables spell them.
+//! Octets and numbers as the tables write them.
 
 use hex::FromHexError;
 use std::alloc::{AllocError, Global};
@@ -9,7 +9,7 @@ use std::num::ParseIntError;
 pub(crate) enum NoAnswer {
     /// It can't be read.
     Unreadable,
-    /// The call that it names may not be made with its arguments.
+    /// The call that it names may not be made with these arguments.
     OutsideConditions,
     NoMemory(AllocError),
 }
@@ -35,10 +35,10 @@ impl From<FromHexError> for NoAnswer {
     }
 }
 
-/// How the tables spell no octets.
+/// How the tables write that there are no octets.
 const NO_OCTETS: &str = "-";
 
-/// The octets that a text spells in hexadecimal digits, or `-` for none.
+/// The octets that are written in hexadecimal digits, or `-` for none.
 pub(crate) fn read_octets(alloc: Global, text: &str) -> Result<Vec<u8>, NoAnswer> {
     if text == NO_OCTETS {
         return Ok(Vec::new(alloc));
@@ -46,7 +46,7 @@ pub(crate) fn read_octets(alloc: Global, text: &str) -> Result<Vec<u8>, NoAnswer
     Ok(hex::decode(alloc, text)?)
 }
 
-/// The octet that two hexadecimal digits spell.
+/// The octet that is written as two hexadecimal digits.
 pub(crate) fn read_octet(alloc: Global, text: &str) -> Result<u8, NoAnswer> {
     match *hex::decode(alloc, text)? {
         [octet] => Ok(octet),
@@ -54,7 +54,7 @@ pub(crate) fn read_octet(alloc: Global, text: &str) -> Result<u8, NoAnswer> {
     }
 }
 
-/// The octets in hexadecimal digits, or `none` where there aren't any.
+/// The octets in hexadecimal digits, or `none` if there aren't any.
 pub(crate) fn spell_or(alloc: Global, octets: &[u8], none: &str) -> Result<String, AllocError> {
     if octets.is_empty() {
         return String::from_str(alloc, none);

@@ -1,10 +1,10 @@
-//! Self-describing values, read and written.
+//! The table of self-describing values, read and written.
 
 use crate::text::{NoAnswer, read_octets, spell};
 use rohc_bits::{read_value, write_value};
 use std::alloc::Global;
 
-/// The column is octets to be read from, or `write` and a value.
+/// Answers a question. The column is octets to be read, or `write` and a value.
 pub(crate) fn answer(alloc: Global, columns: &[&str]) -> Result<String, NoAnswer> {
     let [question] = *columns else {
         return Err(NoAnswer::Unreadable);
@@ -15,7 +15,7 @@ pub(crate) fn answer(alloc: Global, columns: &[&str]) -> Result<String, NoAnswer
     }
 }
 
-/// The value at the front of the octets, and how many spell it; a dash in place of each for none.
+/// The value at the start of the octets, and how many encode it; two dashes if there is none.
 fn read(alloc: Global, octets: &[u8]) -> Result<String, NoAnswer> {
     match read_value(octets) {
         Some((value, taken)) => Ok(format!(in alloc; "{value}\t{taken}")?),
@@ -23,7 +23,7 @@ fn read(alloc: Global, octets: &[u8]) -> Result<String, NoAnswer> {
     }
 }
 
-/// The shortest spelling of a value, or `none`.
+/// The shortest encoding of a value, or `none`.
 fn written(alloc: Global, value: u32) -> Result<String, NoAnswer> {
     match write_value(value) {
         Some(text) => Ok(spell(alloc, &text)?),

@@ -10,11 +10,11 @@ use std::test::Fail;
 /// How much the timestamp grows from packet to packet.
 const STRIDE: u32 = 160;
 
-/// The IR that a call begins with: SN 1, timestamp 160, and the stride.
+/// The IR with which a call begins: SN 1, timestamp 160, and the stride.
 const IR: &[u8] =
     b"\xfd\x01\x2b\x40\x11\x0a\x00\x00\x01\x0a\x00\x00\x02\x13\x88\x13\x8a\x00\x00\x00\x01\x00\x40\x00\x01\x20\x00\x00\x00\x90\x00\x00\x01\x00\x00\x00\xa0\x00\x09\x80\xa0\xab";
 
-/// What comes between: on the call's own link under other identifiers, and without an identifier.
+/// Hostile packets: on the call's own link, under other CIDs and without a CID.
 const HOSTILE: [&[u8]; 8] = [
     b"\xe1\xfc\x00\x30\x45\xaa",
     b"\xe1\x10\xac",
@@ -32,12 +32,12 @@ struct Sent {
     sn: u16,
     ts: u32,
     marker: bool,
-    /// The timestamp left the stride at this packet or at one of the thirteen before it.
+    /// Whether the timestamp left the stride at this packet or at one of the thirteen before it.
     jumped: bool,
 }
 
 impl Sent {
-    /// The packet after this one: every fortieth begins a talk spurt eleven strides on.
+    /// The packet after this one. Every fortieth begins a talk spurt, eleven strides on.
     fn next(self) -> Sent {
         let sn = self.sn.wrapping_add(1);
         let marker = sn % 40 == 0;
@@ -50,7 +50,7 @@ impl Sent {
         }
     }
 
-    /// Its header: IPv4, UDP and RTP. The Identification is the SN, so that the header sum falls as the SN grows.
+    /// Its header: IPv4, UDP and RTP. The Identification is the SN, so the header sum falls as the SN grows.
     fn header(self) -> ArrayVec<u8, 40> {
         let mut head = ArrayVec::new();
         put(&mut head, b"\x45\x00\x00\x29");
@@ -68,7 +68,7 @@ impl Sent {
         head
     }
 
-    /// Its packet with the payload `ac`: a UOR-2-TS where the timestamp left the stride lately, else a UO-0.
+    /// Its packet, with the payload `ac`: a UOR-2-TS if the timestamp left the stride lately, else a UO-0.
     fn packet(self) -> ArrayVec<u8, 4> {
         let header = self.header();
         let mut packet = ArrayVec::new();
@@ -89,15 +89,15 @@ impl Sent {
     }
 }
 
-/// Puts these octets behind, as far as there is room.
+/// Appends these octets, as far as there is room.
 fn put<const N: usize>(octets: &mut ArrayVec<u8, N>, more: &[u8]) {
     for octet in more {
         let _ = octets.try_push(*octet);
     }
 }
 
-/// A check bit by bit, by a register that begins with all ones and a polynomial without its highest power, least
-/// power in the highest place: over the static octets of a header, and then over its dynamic ones.
+/// A check, bit by bit: over the static octets of a header, and then over its dynamic ones. The register starts
+/// from all ones. The polynomial is given without its highest power, with the lowest power in the highest bit.
 fn check(header: &[u8], ones: u8, poly: u8) -> u8 {
     let parts = [
         0..2,
@@ -135,7 +135,8 @@ fn shifted(register: u8, octet: u8, poly: u8) -> u8 {
     register
 }
 
-/// Sends the hostile packets at this moment, and then the packet; answers whether it was delivered as written.
+/// Sends the hostile packets at this time, and then the packet. Returns whether the packet was delivered as
+/// written.
 fn is_delivered(concentrator: &mut Concentrator, moment: u64, sent: Sent) -> bool {
     for packet in HOSTILE {
         let _ = concentrator.arrive(1, moment, packet);

@@ -2,7 +2,7 @@ use crate::cutting::cut;
 use crate::header::{CidKind, HeadKind};
 use crate::refusal::FrameRefusal;
 
-// A link: how it spells identifiers, and its greatest.
+// A link: its CID kind, and its greatest CID.
 #[derive(Clone, Copy)]
 struct Link {
     size: CidKind,
@@ -34,16 +34,16 @@ type Given = [Option<&'static [u8]>; 3];
 
 const NONE: Given = [None, None, None];
 
-// A header by its identifier, kind, first octet, identifier octets and rest.
+// A header: its CID, kind, first octet, CID octets and rest.
 type Parts = (u16, HeadKind, u8, &'static [u8], &'static [u8]);
 
 const PLAIN_IR: HeadKind = HeadKind::Ir { dynamic: false };
 
 const WHOLE_IR: HeadKind = HeadKind::Ir { dynamic: true };
 
-// Packets with a reading: the data of their elements, and their header.
+// Packets with a reading: the data of their feedback elements, and their header.
 const READINGS: [(Link, &[u8], Given, Option<Parts>); 12] = [
-    // A plain call, and behind Add-CID.
+    // A plain call, also after Add-CID.
     (
         SMALL,
         &[0xfc, 0x00, 0xb7, 0x45, 0xaa],
@@ -56,7 +56,7 @@ const READINGS: [(Link, &[u8], Given, Option<Parts>); 12] = [
         NONE,
         Some((1, PLAIN_IR, 0xfc, &[0xe1], &[0x00, 0x30, 0x45, 0xaa])),
     ),
-    // A plain call on a large identifier, and the packet after it.
+    // A plain call on a large CID, and the packet after it.
     (
         LARGE,
         &[0xfc, 0x81, 0x2c, 0x00, 0xe6, 0x45, 0x01, 0x02],
@@ -105,7 +105,7 @@ const READINGS: [(Link, &[u8], Given, Option<Parts>); 12] = [
         NONE,
         Some((0, HeadKind::IrDyn, 0xf8, &[], &[0x01, 0x0e])),
     ),
-    // A header that ends right after its identifier, and a longer spelling than needed.
+    // A header that ends right after its CID, and a CID with a longer encoding than needed.
     (
         LARGE,
         &[0x45, 0x05],
@@ -171,13 +171,13 @@ fn refusals(rt: HostRuntime) {
     }
 }
 
-// Two elements among padding, and a header with a large identifier.
+// Two elements among padding, and a header with a large CID.
 const PACKET: [u8; 14] = [
     0xe0, 0xf2, 0x20, 0x07, 0xe0, 0xf0, 0x01, 0x09, 0xfc, 0x81, 0x2c, 0x00, 0xe6, 0x45,
 ];
 
-// Each beginning of it, from none of its octets on: its refusal, or how many octets its header has
-// behind the identifier.
+// Each prefix of this packet, from the empty one on: its refusal, or how many octets its header has
+// after the CID.
 const BEGINNINGS: [Result<Option<usize>, FrameRefusal>; 15] = [
     Err(FrameRefusal::Empty),
     Ok(None),

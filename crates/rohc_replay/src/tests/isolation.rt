@@ -1,14 +1,14 @@
-//! Each identifier of each link is told what its own lines alone would tell it.
+//! Each CID of each link gets the answers that its own lines alone would get.
 
 use super::{concentrator, steady, willing};
 use crate::run::replay;
 use std::alloc::{AllocError, Global};
 use std::test::Fail;
 
-/// Whose a line is.
+/// To which CIDs a line belongs.
 #[derive(Clone, Copy, Debug, PartialEq, Eq)]
 enum Whose {
-    /// An arrival on this link that bears this identifier.
+    /// An arrival on this link that has this CID.
     Call(u16, u16),
     /// A reset of this link.
     Link(u16),
@@ -16,8 +16,8 @@ enum Whose {
     Nobody,
 }
 
-/// Two links, of small and of large identifiers, whose records count as none from 5,000 milliseconds after their
-/// last accepted arrival on.
+/// Two links, of small and of large CIDs. Their records count as none from 5,000 milliseconds after their last
+/// accepted arrival on.
 const LINKS: &str = "version = 2
 [[link]]
 number = 1
@@ -51,10 +51,10 @@ relay_port = 6006
 idle_ms = 5000
 ";
 
-/// A line that stands for one of 131,201 octets.
+/// A placeholder for a line of 131,201 octets.
 const LONG: &str = "long";
 
-/// The identifiers of the script.
+/// The CIDs of the script.
 const PAIRS: [(u16, u16); 9] = [
     (1, 0),
     (1, 1),
@@ -67,8 +67,8 @@ const PAIRS: [(u16, u16); 9] = [
     (2, 300),
 ];
 
-/// Honest and damaged packets of these identifiers, resets, bad lines and a long one. Identifier 0 of link 1 has an
-/// arrival 5,000 milliseconds after its last accepted one, and then one 4,999 after it.
+/// Honest and damaged packets of these CIDs, resets, bad lines and a long one. CID 0 of link 1 has an arrival 5,000
+/// milliseconds after its last accepted one, and then one 4,999 milliseconds after that same accepted one.
 const LINES: [(Whose, &str); 34] = [
     (Whose::Call(1, 0), "arrive 1 0 fc00b745aa"),
     (Whose::Call(1, 1), "arrive 1 999999999999 e110ac"),
@@ -106,7 +106,7 @@ const LINES: [(Whose, &str); 34] = [
     (Whose::Nobody, "arrive 2 54 fcc0"),
 ];
 
-/// What identifier 0 of link 1 is told. Its record was last accepted at 20.
+/// The answers for CID 0 of link 1. Its record was last accepted at 20.
 const FIRST_TOLD: &str = "1 0 ip 45aa
 1 0 feedback f100
 1 0 ip 45ab
@@ -118,8 +118,8 @@ const FIRST_TOLD: &str = "1 0 ip 45aa
 1 0 feedback f100
 ";
 
-/// Lines that no identifier of the script bears, and no reset. Two records come of them on each link, at the latest
-/// moment and at the earliest.
+/// Hostile lines: none has a CID of the script, and none is a reset. They make two records on each link, at the
+/// latest time and at the earliest.
 const HOSTILE: [&str; 18] = [
     "arrive 1 18446744073709551615 e9fc00758f",
     "arrive 1 0 e945",
@@ -141,13 +141,13 @@ const HOSTILE: [&str; 18] = [
     "arrive 1 0 FC",
 ];
 
-/// What they are told, among other things.
+/// Some of the answers to these lines.
 const HOSTILE_TOLD: [&str; 4] = ["1 9 ip 8f", "1 9 ip 45", "2 301 stored", "2 301 ip 4501"];
 
-/// How many of them stand between two lines, so that they are 10,000 in all.
+/// How many hostile lines stand between two lines, so that they are 10,000 in all.
 const BETWEEN: usize = 10_000 / LINES.len() + 1;
 
-/// Whether the line is one of the pair's own script.
+/// Whether the line belongs to the pair's own script.
 fn is_own(whose: Whose, link: u16, cid: u16) -> bool {
     whose == Whose::Call(link, cid) || whose == Whose::Link(link)
 }
@@ -175,7 +175,7 @@ fn own_script(alloc: Global, link: u16, cid: u16) -> Result<String, AllocError> 
     Ok(text)
 }
 
-/// The whole script, with so many hostile lines behind each line.
+/// The whole script, with this many hostile lines after each line.
 fn whole_script(alloc: Global, hostile: usize) -> Result<String, AllocError> {
     let mut text = String::new(alloc);
     for (_, line) in LINES {
@@ -199,7 +199,7 @@ fn answers(alloc: Global, script: &str) -> Result<String, Fail> {
     Ok(String::from_utf8(writer.text)?)
 }
 
-/// The lines of a text that begin with the link and the identifier.
+/// The lines of a text that start with the link and the CID.
 fn lines_of_pair(alloc: Global, text: &str, link: u16, cid: u16) -> Result<String, AllocError> {
     let begin = format!(in alloc; "{link} {cid} ")?;
     let mut lines = String::new(alloc);
