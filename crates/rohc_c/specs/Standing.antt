@@ -22,18 +22,19 @@ state_number states.NoContext = 0
 state_number states.StaticContext = 1
 state_number states.FullContext = 2
 
--- the number of the link at a place, in the order of the settings, if there is a concentrator with so many links
+-- the number of the link at a place, in the order of the settings, if there is a concentrator with so many
+-- links
 abbrev pub link_at : Option Concentrator → ℕ → Option ℕ
 link_at None place = None
 link_at (Some k) place = option_map (λ s. s.link) (slice_get (settings_in_order k) place)
 
--- the identifier at a place among those of a link that have a record, in the order of their first IR, if there is
--- a concentrator whose link has so many
+-- the CID at a place among those of a link that have a record, in the order of their first IR, if there is a
+-- concentrator whose link has so many
 abbrev pub identifier_at : Option Concentrator → (link place : ℕ) → Option ℕ
 identifier_at None link place = None
 identifier_at (Some k) link place = slice_get (identifiers_at k link) place
 
--- there is a concentrator, and this is the context of the identifier at a place
+-- there is a concentrator, and this is the context of the CID at a place
 pub record IsContextAt (g : Option Concentrator) (link place : ℕ) (c : RohcContextInfo) : Type 0 where
   pub concentrator : Concentrator
   pub its_record : Record
