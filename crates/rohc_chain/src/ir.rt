@@ -26,7 +26,11 @@ const UNCOMPRESSED: u8 = 0x00;
 const RTP: u8 = 0x01;
 
 /// Reads an IR of profile 0x0000 after its check octet.
-fn plain<'a>(forward: &Forward<'a>, check: u8, packet: &'a [u8]) -> Result<Ir<'a>, ChainRefusal>
+fn read_plain<'a>(
+    forward: &Forward<'a>,
+    check: u8,
+    packet: &'a [u8],
+) -> Result<Ir<'a>, ChainRefusal>
     ensures { result_map_both ir_content (λ e. e) result ≡ plain_at (header_of forward.now) check packet.entry.now }
 {
     if !fits_plain(forward, check) {
@@ -37,7 +41,7 @@ fn plain<'a>(forward: &Forward<'a>, check: u8, packet: &'a [u8]) -> Result<Ir<'a
 
 /// Reads an IR without a dynamic chain after its check octet.
 #[tactic(auto, unfolding(crate::specs::Packets::static_only_at))]
-fn static_only<'a>(
+fn read_static_only<'a>(
     forward: &Forward<'a>,
     check: u8,
     chains: &'a [u8],
@@ -57,7 +61,11 @@ fn static_only<'a>(
 
 /// Reads an IR with both chains after its check octet.
 #[tactic(auto, unfolding(crate::specs::Packets::whole_at))]
-fn whole<'a>(forward: &Forward<'a>, check: u8, octets: &'a [u8]) -> Result<Ir<'a>, ChainRefusal>
+fn read_whole<'a>(
+    forward: &Forward<'a>,
+    check: u8,
+    octets: &'a [u8],
+) -> Result<Ir<'a>, ChainRefusal>
     ensures { result_map_both ir_content (λ e. e) result ≡ whole_at (header_of forward.now) check octets.entry.now }
 {
     let mut cursor = Cursor::new(octets);
@@ -80,21 +88,17 @@ fn whole<'a>(forward: &Forward<'a>, check: u8, octets: &'a [u8]) -> Result<Ir<'a
 
 /// Reads an IR, by its Profile octet.
 #[tactic(auto, unfolding(crate::specs::Packets::ir_at))]
-fn by_profile<'a>(forward: &Forward<'a>) -> Result<Ir<'a>, ChainRefusal>
+fn read_by_profile<'a>(forward: &Forward<'a>) -> Result<Ir<'a>, ChainRefusal>
     ensures reads { result_map_both ir_content (λ e. e) result ≡ ir_at (header_of forward.now) }
     ensures octets { All IsOctet forward.now.rest.now }
 {
     let dynamic = matches!(forward.kind, HeadKind::Ir { dynamic: true });
     let mut cursor = cursor_over(forward.rest);
-    let profile = octet(&mut cursor)?;
-    if profile != RTP && (profile != UNCOMPRESSED || dynamic) {
-        return Err(ChainRefusal::Profile);
-    }
-    let check = octet(&mut cursor)?;
-    match (profile, dynamic) {
-        (UNCOMPRESSED, _) => plain(forward, check, cursor.rest()),
-        (_, false) => static_only(forward, check, cursor.rest()),
-        (_, true) => whole(forward, check, cursor.rest()),
+    match (octet(&mut cursor)?, dynamic) {
+        (UNCOMPRESSED, false) => read_plain(forward, octet(&mut cursor)?, cursor.rest()),
+        (RTP, false) => read_static_only(forward, octet(&mut cursor)?, cursor.rest()),
+        (RTP, true) => read_whole(forward, octet(&mut cursor)?, cursor.rest()),
+        _ => Err(ChainRefusal::Profile),
     }
 }
 
@@ -111,5 +115,5 @@ pub fn read_ir<'a>(forward: &Forward<'a>) -> Result<Ir<'a>, ChainRefusal>
     ensures fault { IfErr result (λ e. ir_fault (header_of forward.now) ≡ Some e) }
     ensures reads { result_map_both ir_content (λ e. e) result ≡ ir_at (header_of forward.now) }
 {
-    by_profile(forward)
+    read_by_profile(forward)
 }

@@ -1,7 +1,7 @@
 //! Full Context, as it begins after an IR or an IR-DYN (RFC 3095 5.7.7).
 
 use crate::due::Due;
-use crate::next::first;
+use crate::next::first_reference;
 use crate::reply::Reply;
 use crate::settings::Settings;
 use crate::state::{FullContext, State};
@@ -41,7 +41,7 @@ impl FullContext {
         let header = Header::build(&fixed, &moving, payload.len()).unwrap();
         let context = FullContext {
             fixed,
-            reference: first(&moving, header.registers()),
+            reference: first_reference(&moving, header.registers()),
             previous: None,
             windows: (window, Window::empty()),
         };

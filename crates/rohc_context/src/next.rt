@@ -17,7 +17,7 @@ use rohc_header::Dynamic;
 
 /// The reference after an IR or IR-DYN with these fields. Their UDP checksum says whether later packets carry
 /// one.
-pub(crate) fn first(moving: &Dynamic, saved: (u8, u8)) -> Reference
+pub(crate) fn first_reference(moving: &Dynamic, saved: (u8, u8)) -> Reference
     ensures reference { reference_of result ≡ first_reference moving.now }
     ensures kept { (fixed : Static) → IsGoodDynamic moving.now → AreRegisters fixed moving.now saved → IsKept fixed result.moving result.saved }
 {
@@ -39,7 +39,7 @@ fn is_for_one_packet(form: &Form<'_>) -> bool
 }
 
 /// The reference after an accepted packet of kind Other.
-pub(crate) fn next(form: &Form<'_>, accepted: &Accepted) -> Reference
+pub(crate) fn next_reference(form: &Form<'_>, accepted: &Accepted) -> Reference
     ensures reference { reference_of result ≡ next_reference (acceptance_of (content form.now) accepted.now) }
     ensures kept { (fixed : Static) → IsSound fixed accepted.now → IsKept fixed result.moving result.saved }
 {
@@ -73,6 +73,7 @@ fn is_same_numbering(a: &Dynamic, b: &Dynamic) -> bool
     a.rnd == b.rnd && a.nbo == b.nbo && is_same_stride(a.stride, b.stride)
 }
 
+/// Whether two strides are equal, or both are absent.
 fn is_same_stride(a: Option<u32>, b: Option<u32>) -> bool
     ensures { result ≡ same_stride a b }
 {
@@ -85,7 +86,11 @@ fn is_same_stride(a: Option<u32>, b: Option<u32>) -> bool
 
 /// The previous reference after an accepted packet: the one against which the packet was decoded, if RND, NBO
 /// and stride stay as the held reference has them.
-pub(crate) fn previous(held: &Reference, next: &Reference, accepted: &Accepted) -> Option<Reference>
+pub(crate) fn kept_previous(
+    held: &Reference,
+    next: &Reference,
+    accepted: &Accepted,
+) -> Option<Reference>
     ensures is { ForSome result (λ r. r ≡ accepted.now.reference) }
     ensures reference { option_map reference_of result ≡ kept_previous (reference_of held.now) next.now.moving (reference_of accepted.now.reference) }
 {

@@ -11,7 +11,7 @@ ghost use Rattle.rohc_context.specs.Tries.{Try};
 ghost use Rattle.rohc_context.specs.Update.{said_under, Judges};
 
 use crate::fault::Fault;
-use crate::next::{next, previous};
+use crate::next::{kept_previous, next_reference};
 use crate::reference::Reference;
 use crate::refusal::Refusal;
 use crate::reply::Delivered;
@@ -91,8 +91,8 @@ impl FullContext {
         let Some(accepted) = self.accepted(settings, passed, &form) else {
             return Err(Fault::Unfit);
         };
-        let next = next(&form, &accepted);
-        self.previous = previous(&self.reference, &next, &accepted);
+        let next = next_reference(&form, &accepted);
+        self.previous = kept_previous(&self.reference, &next, &accepted);
         self.reference = next;
         self.windows.0 = self.windows.0.and(false);
         Ok(packet(&accepted, &form))
@@ -134,7 +134,7 @@ impl StaticContext {
         };
         let context = FullContext {
             fixed: self.fixed,
-            reference: next(&form, &accepted),
+            reference: next_reference(&form, &accepted),
             previous: None,
             windows: (Window::empty(), Window::empty()),
         };

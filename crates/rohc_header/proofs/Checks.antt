@@ -1,9 +1,7 @@
 -- The checks of a header's ranges in turn are those of its static and of its dynamic octets.
 use Rattle.std.proofs.Common.{◌≡◌, ℕ, zero, suc, ◌+◌, ◌-◌, ◌^◌, ◌<◌, ◌≤◌, Bool, List, [], ◌∷◌, ◌++◌, length, get_or, take, drop, bit_and, bit_xor, refl, ap, sym, ◌∙◌, arith}
-use Rattle.std.proofs.lemmas.List.{length-take-le, length-drop}
-use Rattle.std.proofs.lemmas.List.Elements.{All-take, All-drop, All-from_get_or}
 use Rattle.rohc_checks.specs.Division.{check, degree, poly3, poly7}
-use Rattle.rohc_checks.proofs.Division.{check-append, check-lt}
+use Rattle.rohc_checks.proofs.Division.{check-append}
 use Rattle.rohc_header.specs.Check.{all_ones, static_octets, dynamic_octets}
 use Rattle.rohc_header.proofs.Split.{static_ranges, dynamic_ranges}
 use Rattle.rohc_header.proofs.SevenOctets.{HasPeriod, xored, AreSmall, all_small, folded}

@@ -7,7 +7,7 @@ use Rattle.std.proofs.lemmas.Bool.{agree_below, agree_below_at, eqb-true}
 use Rattle.rohc_checks.specs.declared.tables.TheConstants.{CRC3}
 use Rattle.rohc_checks.specs.Division.{bits, number, poly3, degree, add_front, divided, remainder, check, table_of}
 use Rattle.rohc_checks.proofs.Division.{check-table}
-use Rattle.rohc_header.proofs.SevenOctets.{HasPeriod, AreSmall, all_small, first_apart, period3, exchanged, table3}
+use Rattle.rohc_header.proofs.SevenOctets.{AreSmall, all_small, first_apart, period3, exchanged, table3}
 
 -- a number plus itself shifted down by k bits, without carry
 unfoldable pub down : ℕ → ℕ → ℕ

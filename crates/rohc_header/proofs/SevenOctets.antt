@@ -1,6 +1,6 @@
 -- Both polynomials divide x^56 + 1. So over seven octets a 3-bit or a 7-bit register changes only by adding the
 -- check of the octets alone, and octets may be added in groups of seven.
-use Rattle.std.proofs.Common.{◌≡◌, ℕ, zero, suc, ◌+◌, ◌*◌, ◌/◌, ◌%◌, ◌^◌, ◌<◌, ◌≤◌, Bool, true, nat_eq, List, [], ◌∷◌, ◌++◌, length, get_or, replicate, bit_xor, All, ap, sym, ◌∙◌, refl, arith}
+use Rattle.std.proofs.Common.{◌≡◌, ℕ, suc, ◌+◌, ◌*◌, ◌/◌, ◌%◌, ◌^◌, ◌<◌, ◌≤◌, Bool, true, nat_eq, List, [], ◌∷◌, ◌++◌, length, get_or, replicate, bit_xor, All, ap, sym, ◌∙◌, refl, arith}
 use Rattle.std.proofs.Math.Bool.{xor}
 use Rattle.std.proofs.Math.Pow.{pow_mono}
 use Rattle.std.specs.Int.Bits.{xor_assoc, xor_zero_l, xor_zero_r}

@@ -1,4 +1,4 @@
-use Rattle.std.proofs.Common.{length, ◌≡◌, ◌+◌, ◌++◌, rules, arith, sym, ◌∙◌}
+use Rattle.std.proofs.Common.{length, ◌≡◌, ◌+◌, ◌++◌, rules, arith, sym}
 use Rattle.rohc_header.specs.Original.{flag, ip_front, addresses}
 use Rattle.rohc_checks.specs.Sum.{words}
 use Rattle.rohc_header.proofs.HeaderSum.{both, front}

@@ -1,4 +1,4 @@
-use Rattle.std.proofs.Common.{length, ◌≡◌, rules, arith, sym, ◌∙◌}
+use Rattle.std.proofs.Common.{length, ◌≡◌, rules, arith}
 use Rattle.rohc_header.proofs.HeaderSum.{two}
 use Rattle.rohc_header.proofs.parts.two_words.Goals as goal
 

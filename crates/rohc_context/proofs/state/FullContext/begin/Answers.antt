@@ -5,7 +5,7 @@ use Rattle.rohc_context.proofs.state.FullContext.begin.Goals as goal
 
 pub invariant_of-context-clause-kept : goal.invariant_of-context-clause-kept
 invariant_of-context-clause-kept c =
-    c.first.ensures.kept c.args.fixed c.requires.moving
+    c.first_reference.ensures.kept c.args.fixed c.requires.moving
     (registers_of c.args.fixed c.args.moving (length c.args.payload.now) c.unwrap-header.result.octets c.registers.result c.requires.fixed
     (some_holds c.build.result c.unwrap-header.result _ c.unwrap-header.ensures c.build.ensures.header)
     c.registers.ensures.three c.registers.ensures.seven)

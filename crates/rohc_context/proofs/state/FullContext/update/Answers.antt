@@ -22,6 +22,6 @@ returns-clause-taken c =
           c.in-Some.is c.accepted.ensures.verdict),
       c.packet.ensures.head,
       c.packet.ensures.payload,
-      updated_is self.fixed (reference_of self.reference) (reference_of c.next-next.result) (outcomes self.windows.0) (outcomes c.and-self.result)
-          (option_map reference_of c.previous-self.result) a c.next-next.ensures.reference c.previous-self.ensures.reference c.and-self.ensures,
+      updated_is self.fixed (reference_of self.reference) (reference_of c.next_reference-next.result) (outcomes self.windows.0) (outcomes c.and-self.result)
+          (option_map reference_of c.kept_previous-self.result) a c.next_reference-next.ensures.reference c.kept_previous-self.ensures.reference c.and-self.ensures,
     )

@@ -1,5 +1,5 @@
 use Rattle.rohc_context.proofs.Registers.{kept_first, kept_next}
-use Rattle.rohc_context.proofs.next.next.Goals as goal
+use Rattle.rohc_context.proofs.next.next_reference.Goals as goal
 
 pub returns-then-is_for_one_packet-clause-kept : goal.returns-then-is_for_one_packet-clause-kept
 returns-then-is_for_one_packet-clause-kept c = λ fixed sound.

@@ -1,5 +1,5 @@
 use Rattle.rohc_context.proofs.Registers.{kept_first}
-use Rattle.rohc_context.proofs.next.first.Goals as goal
+use Rattle.rohc_context.proofs.next.first_reference.Goals as goal
 
 pub returns-clause-kept : goal.returns-clause-kept
 returns-clause-kept c = λ fixed good are. kept_first fixed c.args.moving.now c.args.saved good are
