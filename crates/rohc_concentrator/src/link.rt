@@ -9,7 +9,8 @@ ghost use Rattle.rohc_concentrator.specs.Tables.{record_in, KeepsPlace};
 ghost use Rattle.rohc_concentrator.specs.Report.{OwnStep};
 
 use crate::records::LinkRecords;
-use rohc_context::{Context, Refusal, Reply, Settings};
+use crate::setting::mode_in;
+use rohc_context::{Context, Refusal, Reply};
 use rohc_frame::Forward;
 
 /// An arrival of an identifier: its record takes one step, or a first IR makes it. The answer takes the place of
@@ -28,37 +29,45 @@ pub(crate) fn arrive_at<'a>(
     ensures setting { records.new.setting ≡ records.old.setting }
     ensures order { KeepsPlace (keys records.old.contexts) (keys records.new.contexts) forward.now.cid (record_in records.old forward.now.cid) }
 {
-    let settings = records.setting.settings_of(forward.cid);
-    match records.contexts.get_mut(&forward.cid) {
-        Some(context) => context.arrive(&settings, moment, forward, reply),
-        None => *reply = first_at(records, &settings, moment, forward),
+    let Some(context) = records.contexts.get_mut(&forward.cid) else {
+        return first_at(records, moment, forward, reply);
+    };
+    // The settings are copied whole, and never by their fields.
+    let mut settings = records.setting.settings;
+    if let Some(mode) = mode_in(records.setting.ranges.as_slice(), forward.cid) {
+        settings.mode = mode;
     }
+    context.arrive(&settings, moment, forward, reply);
 }
 
-/// An arrival of an identifier without a record, which a first IR makes.
+/// An arrival of an identifier without a record, which a first IR makes. The answer takes the place of what `reply`
+/// held.
 #[inline(never)]
 fn first_at<'a>(
     records: &mut LinkRecords,
-    settings: &Settings,
     moment: u64,
     forward: &Forward<'a>,
-) -> Reply<'a>
-    requires settings { settings.now ≡ settings_of records.old.setting forward.now.cid }
+    reply: &mut Reply<'a>,
+)
     requires none { record_in records.old forward.now.cid ≡ None }
     requires sized { forward.now.size ≡ records.old.setting.settings.size }
     requires within { forward.now.cid ≤ records.old.setting.settings.max_cid }
     ensures own { OwnStep (settings_of records.old.setting forward.now.cid) moment (header_of forward.now)
-        None (response_of result) (record_in records.new forward.now.cid) }
+        None (response_of reply.new) (record_in records.new forward.now.cid) }
     ensures others { (cid : ℕ) → cid ≢ forward.now.cid → record_in records.new cid ≡ record_in records.old cid }
     ensures setting { records.new.setting ≡ records.old.setting }
     ensures order { KeepsPlace (keys records.old.contexts) (keys records.new.contexts) forward.now.cid None }
 {
-    let (context, reply) = match Context::first(settings, moment, forward) {
+    let settings = records.setting.settings_of(forward.cid);
+    let (context, made) = match Context::first(&settings, moment, forward) {
         Ok(made) => made,
-        Err(refusal) => return Reply::refused(refusal),
+        Err(refusal) => {
+            *reply = Reply::refused(refusal);
+            return;
+        }
     };
     match records.contexts.insert(forward.cid, context) {
-        Ok(_) => reply,
-        Err(_) => Reply::refused(Refusal::NoMemory),
+        Ok(_) => *reply = made,
+        Err(_) => *reply = Reply::refused(Refusal::NoMemory),
     }
 }
