@@ -1,11 +1,11 @@
 //! One arrival on one link.
 
-ghost use Rattle.std.specs.Prelude.{◌≡◌, ◌≢◌, ◌≤◌, ℕ, None};
+ghost use Rattle.std.specs.Prelude.{◌≡◌, ◌≢◌, ◌≤◌, ℕ, None, true, IfSome};
 ghost use Rattle.indexmap.specs.IndexMap.{keys};
 ghost use Rattle.rohc_frame.specs.Reading.{header_of};
 ghost use Rattle.rohc_context.specs.Response.{response_of};
 ghost use Rattle.rohc_concentrator.specs.Setting.{settings_of};
-ghost use Rattle.rohc_concentrator.specs.Tables.{record_in, KeepsPlace};
+ghost use Rattle.rohc_concentrator.specs.Tables.{record_in, KeepsPlace, Stands};
 ghost use Rattle.rohc_concentrator.specs.Report.{OwnStep};
 
 use crate::records::LinkRecords;
@@ -29,7 +29,7 @@ pub(crate) fn arrive_at<'a>(
     ensures setting { records.new.setting ≡ records.old.setting }
     ensures order { KeepsPlace (keys records.old.contexts) (keys records.new.contexts) forward.now.cid (record_in records.old forward.now.cid) }
 {
-    let Some(context) = records.contexts.get_mut(&forward.cid) else {
+    let Some(place) = place_of(records, forward.cid) else {
         return first_at(records, moment, forward, reply);
     };
     // The settings are copied whole, and never by their fields.
@@ -37,7 +37,33 @@ pub(crate) fn arrive_at<'a>(
     if let Some(mode) = mode_in(records.setting.ranges.as_slice(), forward.cid) {
         settings.mode = mode;
     }
+    let (_, context) = records.contexts.pair_mut(place);
     context.arrive(&settings, moment, forward, reply);
+}
+
+/// Whether the record at this place is the identifier's.
+fn stands_at(records: &LinkRecords, place: usize, cid: u16) -> bool
+    ensures { result ≡ true → Stands records.now.contexts place cid }
+{
+    let Some((key, _)) = records.contexts.get_index(place) else {
+        return false;
+    };
+    *key == cid
+}
+
+/// The place of the identifier's record among those of the link, if it has one.
+///
+/// A sender that gives each new call its least free identifier makes records whose places are their identifiers,
+/// so that place is looked at before the key is looked up.
+fn place_of(records: &LinkRecords, cid: u16) -> Option<usize>
+    ensures there { IfSome result (λ place. Stands records.now.contexts place cid) }
+    ensures absent { result ≡ None → record_in records.now cid ≡ None }
+{
+    let place = usize::from(cid);
+    if stands_at(records, place, cid) {
+        return Some(place);
+    }
+    records.contexts.get_index_of(&cid)
 }
 
 /// An arrival of an identifier without a record, which a first IR makes. The answer takes the place of what `reply`
