@@ -3,8 +3,8 @@ pub mod GoodLemmas
 pub mod HonestLemmas
 pub mod MarkedLemmas
 pub mod OrderLemmas
+pub mod PlaceLemmas
 pub mod SameLemmas
 pub mod SetupLaws
 pub mod SetupLemmas
-pub mod StandingLemmas
 pub mod WorldLemmas

@@ -1,10 +1,11 @@
--- What a concentrator keeps. Words: setting_at k l, record_at k l i, identifiers_at k l; AreTables; Keeps,
--- for what stays.
-use Rattle.std.specs.Prelude.{◌≡◌, ◌≢◌, ℕ, List, [], ◌∷◌, ◌++◌, ◌⊎◌, Option, Some, None, nat_eq, map, unwrap_or}
+-- What a concentrator keeps. Words: setting_at k l, record_at k l i, identifiers_at k l; AreTables; Stands;
+-- Keeps, for what stays.
+use Rattle.std.specs.Prelude.{◌≡◌, ◌≢◌, ℕ, List, [], ◌∷◌, ◌++◌, ◌⊎◌, Option, Some, None, nat_eq, map, unwrap_or, ◌<◌, slice_get}
 use Rattle.std.specs.HashMap.{HashMap}
 use Rattle.std.specs.Option.{option_map, option_and_then}
-use Rattle.indexmap.specs.IndexMap.{get, keys}
+use Rattle.indexmap.specs.IndexMap.{get, keys, index_map_len}
 use Rattle.rohc_context.specs.Record.{Record, record_of}
+use Rattle.rohc_context.specs.declared.record.Context.{Context}
 use Rattle.rohc_concentrator.specs.declared.setting.LinkSetting.{LinkSetting}
 use Rattle.rohc_concentrator.specs.declared.records.LinkRecords.{LinkRecords}
 use Rattle.rohc_concentrator.specs.declared.concentrator.Concentrator.{Concentrator}
@@ -16,6 +17,13 @@ setting_at k link = option_map (λ (r : LinkRecords). r.setting) (get nat_eq k.l
 -- the record of a CID in a link's records, if there is one
 abbrev pub record_in : LinkRecords → ℕ → Option Record
 record_in r cid = option_map record_of (get nat_eq r.contexts cid)
+
+-- the record at this place among those of a link is this CID's
+pub record Stands {S : Type 0} (contexts : HashMap ℕ Context S) (place cid : ℕ) : Type 0 where
+  pub context : Context
+  pub entry : slice_get contexts.entries place ≡ Some (cid, context)
+  pub found : get nat_eq contexts cid ≡ Some context
+  pub inside : place < index_map_len contexts
 
 -- the record of a CID of a link, if the link is there and has one
 abbrev pub record_at : Concentrator → ℕ → ℕ → Option Record

@@ -60,7 +60,7 @@ fn holds(range: &CidRange, cid: u16) -> bool
 }
 
 /// The mode of the range that holds the CID, if one does.
-fn mode_in(ranges: &[CidRange], cid: u16) -> Option<Mode>
+pub(crate) fn mode_in(ranges: &[CidRange], cid: u16) -> Option<Mode>
     ensures { result ≡ mode_in cid ranges.now }
 {
     for range in ranges {

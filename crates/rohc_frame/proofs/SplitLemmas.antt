@@ -1,4 +1,7 @@
-use Rattle.std.proofs.Common.{◌≡◌, ℕ, ◌<◌, List, [], length, Option, Some, None, refl, sym, ◌∙◌, ap}
+use Rattle.std.proofs.Common.{◌≡◌, ◌≢◌, ℕ, ◌<◌, false, List, [], ◌∷◌, length, Option, Some, None, refl, sym, ◌∙◌, ap, arith}
+use Rattle.std.specs.Prelude.{◌==◌}
+use Rattle.std.proofs.lemmas.Bool.Decides.{nat_tests}
+use Rattle.rohc_frame.specs.Header.{is_within}
 use Rattle.rohc_frame.specs.Items.{Item, contents, first_item, longest_items, elements_in, after_items, all_contents}
 use Rattle.std.specs.List.{cons_option}
 use Rattle.rohc_frame.specs.Read.{split_of}
@@ -39,3 +42,12 @@ unfolding elements_in
 split_end octets e =
     let none = found_none (first_item octets) (sym e) in
     (after_items_none octets none, ap all_contents (longest_items_none octets none))
+
+-- an octet below F0 that isn't padding begins no item
+pub items_end_at : (octets : List ℕ) (first : ℕ) (behind : List ℕ) → octets ≡ first ∷ behind → first < 240 → first ≢ 224 → after_items octets ≡ octets
+unfolding first_item
+items_end_at octets first behind is low other =
+    let padding : (first == 224) ≡ false = grind (arith, nat_tests) in
+    let size : (first == 240) ≡ false = grind (arith, nat_tests) in
+    let code : is_within 241 247 first ≡ false = grind (arith, nat_tests) in
+    rw is (after_items_none (first ∷ behind) (rw (padding, size, code) refl))

@@ -1,0 +1,24 @@
+use Rattle.std.proofs.Common.{rules, ap}
+use Rattle.std.specs.Option.{option_map}
+use Rattle.indexmap.proofs.CallerLemmas.{keys-with_value_at}
+use Rattle.rohc_context.specs.Record.{record_of}
+use Rattle.rohc_concentrator.proofs.PlaceLemmas.{same_value, own_written, others_kept}
+use Rattle.rohc_concentrator.proofs.link.arrive_at.Goals as goal
+
+pub returns-clause-own : goal.returns-clause-own
+returns-clause-own c =
+    let s = c.in-Some.ensures.there in
+    let lent = c.pair_mut-context.ensures in
+    let written = own_written c.args.records.now.contexts c.in-Some.place c.args.forward.now.cid s.context c.arrive.new.self lent.unique s.entry in
+    let same = same_value _ _ _ _ _ s.entry lent.value in
+    rw (s.found, written, same) (search rules)
+
+pub returns-clause-others : goal.returns-clause-others
+returns-clause-others c = λ other is.
+    let s = c.in-Some.ensures.there in
+    ap (option_map record_of) (others_kept c.args.records.now.contexts c.in-Some.place c.args.forward.now.cid s.context c.arrive.new.self c.pair_mut-context.ensures.unique s.entry other is)
+
+pub returns-clause-order : goal.returns-clause-order
+returns-clause-order c =
+    let s = c.in-Some.ensures.there in
+    rw s.found (keys-with_value_at c.args.records.now.contexts c.in-Some.place c.arrive.new.self)
