@@ -2,18 +2,18 @@
  * @file rohc.h
  * @brief A ROHC decompressor for many links: packets in, IP packets and feedback out.
  *
- * Profiles 0x0000 and 0x0001 of RFC 3095 in U and O mode, with the framing and feedback of RFC 5795. The library is proved:
- * docs/LIBRARY.md says what of. The proof rests on what the caller owes:
+ * Profiles 0x0000 and 0x0001 of RFC 3095 in U and O mode, with the framing and feedback of RFC 5795. docs/LIBRARY.md says
+ * what is proved of the library. The proof holds only if the caller guarantees the following:
  *
  * - A gateway is all zeros before its first call. It is never copied, and neither of its fields is read or written.
- * - No pointer is null or dangling, also where a length is 0, and each is aligned for its type.
+ * - No pointer is null or dangling, even if its length is 0, and each is aligned for its type.
  * - No buffer of a call overlaps another, or a struct of the same call; @p octets and @p links may only be read meanwhile.
  * - Each buffer has as many octets as its length says, and each `bool` is 0 or 1.
  * - A gateway serves one call at a time. Between calls it may go to another thread, ordered by a lock or a join.
  * - No call is made from a signal handler, or in the forked child of a process with threads.
  * - malloc, realloc and free are of one allocator, and align blocks as C asks.
  *
- * A gateway that holds anything else, or another program's, can't be told from a good one.
+ * A gateway with other octets, or one that was freed by other means, can't be told from a good one.
  */
 #ifndef ROHC_H
 #define ROHC_H
@@ -26,53 +26,53 @@
 extern "C" {
 #endif
 
-/** What a rebuilt packet may have more than the packet that arrived. */
+/** How many octets longer a rebuilt packet may be than the packet that arrived. */
 #define ROHC_HEAD_ROOM 40
-/** The longest feedback for a compressor. */
+/** The length of the longest feedback for a compressor. */
 #define ROHC_FEEDBACK_ROOM 8
-/** Room for the name of each refusal. */
+/** A length of a buffer that is enough for the name of each refusal. */
 #define ROHC_NAME_ROOM 16
 /** The greatest number of links. */
 #define ROHC_LINKS 256
 /** The greatest number of ranges of a link. */
 #define ROHC_RANGES 8
 
-/** What rohc_new() answers. */
+/** What rohc_new() returns. */
 enum rohc_made {
     ROHC_MADE = 0,            /**< There is a concentrator. */
     ROHC_NO_LINKS = 1,        /**< There are no links. */
     ROHC_TOO_MANY_LINKS = 2,  /**< There are more than #ROHC_LINKS. */
     ROHC_TOO_MANY_RANGES = 3, /**< A link counts more than #ROHC_RANGES ranges. */
     ROHC_BAD_SETTING = 4,     /**< A link's settings or ranges are outside their limits. */
-    ROHC_DUPLICATE_LINK = 5,  /**< A link has the number of one before it. */
+    ROHC_DUPLICATE_LINK = 5,  /**< A link has the number of an earlier link. */
     ROHC_NO_MEMORY = 6        /**< There is no memory. */
 };
 
-/** What rohc_arrive() answers. */
+/** What rohc_arrive() returns. */
 enum rohc_arrived {
     ROHC_ARRIVED = 0,      /**< The packet was taken, and the answer stands in the buffers. */
     ROHC_ARRIVED_NONE = 1, /**< There is no concentrator. */
     ROHC_NO_ROOM = 2       /**< A buffer is below its bound. Nothing was changed. */
 };
 
-/** What rohc_reset() answers. */
+/** What rohc_reset() returns. */
 enum rohc_forgot {
     ROHC_FORGOT = 0,      /**< The link's contexts are forgotten. */
     ROHC_FORGOT_NONE = 1, /**< There is no concentrator. */
     ROHC_FORGOT_LINK = 2  /**< There is no such link. */
 };
 
-/** Of what kind an answer is. */
+/** The kind of an answer. */
 enum rohc_kind {
-    ROHC_CONTEXT = 0,  /**< The packet bore an identifier, and its context answers. */
-    ROHC_FEEDBACK = 1, /**< Padding and feedback were all. */
-    ROHC_REFUSED = 2   /**< The packet was refused, and bears no identifier. */
+    ROHC_CONTEXT = 0,  /**< The packet has a CID, and its context answers. */
+    ROHC_FEEDBACK = 1, /**< The packet has only padding and feedback. */
+    ROHC_REFUSED = 2   /**< The packet was refused, and has no CID. */
 };
 
-/** What became of a packet; the numbers between are those of refusals, see rohc_refusal_name(). */
+/** What became of a packet. The numbers between these are those of refusals; see rohc_refusal_name(). */
 enum rohc_outcome {
     ROHC_DELIVERED = 0, /**< A packet was rebuilt. */
-    ROHC_STORED = 31    /**< The context was made or renewed without one. */
+    ROHC_STORED = 31    /**< The context was made or renewed without a packet. */
 };
 
 /** The state of a decompressor for one context (RFC 3095 4.3.2). */
@@ -88,61 +88,62 @@ struct rohc_gateway {
     void *at;  /**< The library's own. */
 };
 
-/** Identifiers of a link that have a mode of their own. */
+/** A range of CIDs with a mode of its own. */
 struct rohc_range {
-    uint16_t first;  /**< The least identifier. */
-    uint16_t last;   /**< The greatest one, which belongs to the range. */
+    uint16_t first;  /**< The least CID of the range. */
+    uint16_t last;   /**< The greatest CID of the range, inclusive. */
     bool optimistic; /**< O mode, else U mode. */
 };
 
-/** What is set for a link. */
+/** The settings of a link. */
 struct rohc_link {
     uint16_t link;            /**< Its number. */
-    uint16_t max_cid;         /**< The greatest identifier: at most 15, or 16,383 for large ones. */
-    bool large;               /**< Large identifiers, else small ones. */
+    uint16_t max_cid;         /**< The greatest CID: at most 15, or 16,383 for large CIDs. */
+    bool large;               /**< Large CIDs, else small ones. */
     bool optimistic;          /**< O mode, else U mode, in which no feedback is sent. */
     uint8_t k1;               /**< Failures among the last n1 outcomes that lead to Static Context: 1 to n1. */
     uint8_t n1;               /**< At most 64. */
     uint8_t k2;               /**< Failures among the last n2 outcomes that lead to No Context: 1 to n2. */
     uint8_t n2;               /**< At most 64. */
-    uint8_t range_count;      /**< How many of the ranges count. */
+    uint8_t range_count;      /**< How many of the ranges are used. */
     uint32_t packet_ms;       /**< Milliseconds between two packets of a sender: 1 to 60,000. */
     uint32_t static_nack_ms;  /**< Least milliseconds between STATIC-NACKs in No Context: at most 3,600,000. */
-    uint32_t idle_ms;         /**< A context counts as none after so many milliseconds: at most 86,400,000; 0 is never. */
-    struct rohc_range ranges[ROHC_RANGES]; /**< In ascending order, apart, and within max_cid. */
+    uint32_t idle_ms;         /**< Idle milliseconds after which a context counts as none: at most 86,400,000; 0 is never. */
+    struct rohc_range ranges[ROHC_RANGES]; /**< In ascending order, without overlap, within max_cid. */
 };
 
-/** The answer to a packet; its octets stand in the caller's buffers. What isn't there is false or 0. */
+/** The answer to a packet. Its octets stand in the caller's buffers. Parts that it doesn't have are false or 0. */
 struct rohc_arrival {
     uint8_t kind;           /**< One of enum rohc_kind. */
     uint8_t outcome;        /**< One of enum rohc_outcome, or a refusal's number, 1 to 30; 0 for ROHC_FEEDBACK. */
-    uint16_t cid;           /**< The identifier. */
+    uint16_t cid;           /**< The CID, or 0 if the packet has none. */
     bool has_packet;        /**< A packet was rebuilt. */
     bool has_feedback;      /**< There is feedback for the compressor. */
-    size_t packet_length;   /**< The packet's octets. */
-    size_t feedback_length; /**< The feedback's octets. */
-    size_t relayed_length;  /**< The octets of what is relayed. */
-    size_t relayed_count;   /**< The elements that are relayed: each one octet that counts its data, and the data. */
+    size_t packet_length;   /**< The length of the rebuilt packet. */
+    size_t feedback_length; /**< The length of the feedback. */
+    size_t relayed_length;  /**< The length of the relayed feedback. */
+    size_t relayed_count;   /**< How many elements are relayed. Each is one octet, which counts its data, and the data. */
 };
 
-/** A context that stands. */
+/** What is shown of a context. */
 struct rohc_context_info {
-    uint16_t cid;      /**< Its identifier. */
+    uint16_t cid;      /**< Its CID. */
     uint16_t profile;  /**< Its profile: 0x0000 or 0x0001. */
     uint8_t state;     /**< One of enum rohc_state. */
-    uint64_t accepted; /**< The moment of its last accepted packet, in milliseconds. */
+    uint64_t accepted; /**< The time of its last accepted arrival, in milliseconds. */
 };
 
 /**
- * Makes a concentrator of links, in this order and without contexts, in the place of what the gateway had.
+ * Makes a concentrator with these links, in this order and without contexts, in place of what the gateway had.
  *
- * Faults come in the order of their numbers, and those of single links link by link; want of memory may come before any
- * of ROHC_NO_LINKS, ROHC_BAD_SETTING and ROHC_DUPLICATE_LINK. At a fault the gateway stays as it was.
+ * The first fault is returned: the order is that of their numbers, but ROHC_BAD_SETTING and ROHC_DUPLICATE_LINK are judged
+ * link by link. ROHC_NO_MEMORY may come before any of ROHC_NO_LINKS, ROHC_BAD_SETTING and ROHC_DUPLICATE_LINK. After a
+ * fault the gateway stays as it was.
  *
  * @param gateway the gateway
  * @param links the links
- * @param count how many they are
- * @param place is set to the place of the link at fault, counted from 1, and to 0 where there is none
+ * @param count how many links there are
+ * @param place is set to the place of the link at fault, counted from 1, or to 0 if the fault is of no single link
  * @return one of enum rohc_made
  */
 uint8_t rohc_new(struct rohc_gateway *gateway, const struct rohc_link *links, size_t count, size_t *place);
@@ -151,37 +152,40 @@ uint8_t rohc_new(struct rohc_gateway *gateway, const struct rohc_link *links, si
 void rohc_free(struct rohc_gateway *gateway);
 
 /**
- * Takes one packet of a link, and puts the whole answer into the buffers.
+ * Takes one packet of a link, and writes the whole answer into the struct and the buffers.
  *
- * The buffers are bounded before the packet is taken, so no answer is lost. What is behind an answer in a buffer means
- * nothing. At ROHC_ARRIVED_NONE and ROHC_NO_ROOM nothing is changed, the buffers and the arrival included.
+ * The lengths of the buffers are checked before the packet is taken, so no answer is lost. Octets after an answer in its
+ * buffer mean nothing. At ROHC_ARRIVED_NONE and ROHC_NO_ROOM nothing is changed, not even the buffers and the struct.
  *
  * @param gateway the gateway
  * @param link the link's number
- * @param moment when the packet arrived, in milliseconds
+ * @param moment the arrival time, in milliseconds
  * @param octets the packet
  * @param count its length
  * @param packet gets the rebuilt packet
  * @param packet_room at least @p count + #ROHC_HEAD_ROOM
  * @param feedback gets the feedback for the compressor
  * @param feedback_room at least #ROHC_FEEDBACK_ROOM
- * @param relayed gets the feedback that the packet carried for this side
+ * @param relayed gets the feedback that the packet carried for this side's compressor
  * @param relayed_room at least @p count
- * @param arrival gets the rest
+ * @param arrival gets the rest of the answer
  * @return one of enum rohc_arrived
  */
 uint8_t rohc_arrive(struct rohc_gateway *gateway, uint16_t link, uint64_t moment, const uint8_t *octets, size_t count,
                     uint8_t *packet, size_t packet_room, uint8_t *feedback, size_t feedback_room, uint8_t *relayed,
                     size_t relayed_room, struct rohc_arrival *arrival);
 
-/** Forgets every context of a link, and no other. @return one of enum rohc_forgot */
+/** Forgets every context of a link, and no other context. @return one of enum rohc_forgot */
 uint8_t rohc_reset(struct rohc_gateway *gateway, uint16_t link);
 
-/** Whether there is a context for an identifier of a link, one that counts as none included. The gateway stays as it was. */
+/**
+ * Whether there is a context for a CID of a link, even one that counts as none because it was idle too long. The gateway
+ * stays as it was.
+ */
 bool rohc_has_context(struct rohc_gateway *gateway, uint16_t link, uint16_t cid);
 
 /**
- * Tells the number of the link at a place. The gateway stays as it was.
+ * Gives the number of the link at a place. The gateway stays as it was.
  *
  * @param gateway the gateway
  * @param place the place, counted from 0 in the order of rohc_new()'s links
@@ -191,10 +195,10 @@ bool rohc_has_context(struct rohc_gateway *gateway, uint16_t link, uint16_t cid)
 bool rohc_link_at(struct rohc_gateway *gateway, size_t place, uint16_t *link);
 
 /**
- * Tells the context at a place among those of a link. The gateway stays as it was.
+ * Gives the context at a place among those of a link. The gateway stays as it was.
  *
- * Contexts stand in the order of their first IR, those that count as none for their age included. A renewed context
- * keeps its place; rohc_reset() takes all of a link's.
+ * Contexts are in the order of their first IR. A context has its place even if it counts as none because it was idle too
+ * long. A renewed context keeps its place. rohc_reset() forgets all contexts of a link.
  *
  * @param gateway the gateway
  * @param link the link's number
@@ -205,12 +209,12 @@ bool rohc_link_at(struct rohc_gateway *gateway, size_t place, uint16_t *link);
 bool rohc_context_at(struct rohc_gateway *gateway, uint16_t link, size_t place, struct rohc_context_info *context);
 
 /**
- * Puts the name of a refusal and an octet 0 into a buffer.
+ * Writes the name of a refusal, followed by an octet 0, into a buffer.
  *
  * @param number the refusal's number, 1 to 30
  * @param name gets the name
  * @param room the buffer's length; #ROHC_NAME_ROOM is enough for each name
- * @return the name's length without the octet 0; 0 where there is no such refusal, or no room
+ * @return the name's length without the octet 0; 0 if there is no such refusal, or no room
  */
 size_t rohc_refusal_name(uint8_t number, uint8_t *name, size_t room);
 

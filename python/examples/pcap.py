@@ -1,9 +1,9 @@
 #!/usr/bin/env python3
 """Decompresses a capture: python/examples/pcap.py IN.pcap OUT.pcap
 
-IN has Ethernet frames, of which those with the EtherType of ROHC, 22F1, are taken. Each source address is a link of its own
-with small identifiers in O mode. OUT gets the rebuilt IP packets with the moments of their frames. A line on standard
-output counts the packets, those delivered, those stored and those refused.
+IN has Ethernet frames. Those with the EtherType of ROHC, 22F1, are taken. Each source address is a link of its own, with
+small CIDs in O mode. OUT gets the rebuilt IP packets with the times of their frames. A line on standard output counts the
+packets, those delivered, those stored and those refused.
 """
 
 from __future__ import annotations

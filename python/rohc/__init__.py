@@ -1,8 +1,8 @@
 """A ROHC decompressor for many links: packets in, IP packets and feedback out.
 
-A thin layer over the library for C, librohc.so, which `bin/lib` builds. It is looked for in the folder or file that the
-environment variable ROHC_LIBRARY names, in the folder out/ of this repository, and among the system's libraries. The library
-is proved; this layer isn't.
+A thin layer over the library for C, librohc.so, which `bin/lib` builds. It is taken from the folder or file that the
+environment variable ROHC_LIBRARY names, else from the folder out/ of this repository, else from the system's libraries. The
+library is proved; this layer isn't.
 
     from rohc import Concentrator, Link
 
@@ -46,14 +46,14 @@ class State(IntEnum):
 
 @dataclass(frozen=True)
 class Context:
-    """A context that stands."""
+    """What is shown of a context."""
 
     cid: int
     profile: int
     """0x0000 or 0x0001."""
     state: State
     accepted: int
-    """The moment of its last accepted packet, in milliseconds."""
+    """The time of its last accepted arrival, in milliseconds."""
 
 
 @dataclass(frozen=True)
@@ -165,7 +165,7 @@ class Concentrator:
         return list(_standing(lambda place: _library.link_at(self._gateway, place)))
 
     def contexts(self, link: int) -> list[Context]:
-        """The contexts of a link, in the order of their first IR; none where there is no such link."""
+        """The contexts of a link, in the order of their first IR; none if there is no such link."""
         number = _within(link, 16)
         found = _standing(lambda place: _library.context_at(self._gateway, number, place))
         return [Context(it.cid, it.profile, State(it.state), it.accepted) for it in found]
@@ -186,7 +186,7 @@ class Concentrator:
 
 
 def _standing(at: Callable[[int], T | None]) -> Iterator[T]:
-    """What stands at the places from 0 on, up to the first where nothing does."""
+    """What is found at the places from 0 on, up to the first at which nothing is."""
     place = 0
     while (found := at(place)) is not None:
         yield found

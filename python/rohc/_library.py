@@ -152,13 +152,13 @@ def has_context(gateway: Gateway, link: int, cid: int) -> bool:
 
 
 def link_at(gateway: Gateway, place: int) -> int | None:
-    """The number of the link at a place."""
+    """The number of the link at a place, or None if there is none."""
     link = c_uint16()
     return link.value if _functions().rohc_link_at(byref(gateway), place, byref(link)) else None
 
 
 def context_at(gateway: Gateway, link: int, place: int) -> ContextInfo | None:
-    """The context at a place among those of a link."""
+    """The context at a place among those of a link, or None if there is none."""
     context = ContextInfo()
     return context if _functions().rohc_context_at(byref(gateway), link, place, byref(context)) else None
 
