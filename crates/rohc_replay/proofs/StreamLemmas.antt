@@ -269,19 +269,6 @@ Replays-end first held seen now holding flushed counts e kept = record {
   tally = e.tally;
 }
 
--- a read that gave nothing consumed nothing
-pub Consumes-nothing : (a b c : Option (List ℕ)) (seen read : List ℕ) → Consumes a b seen → Consumes b c read → read ≡ [] → Consumes a c seen
-Consumes-nothing a b c seen read before last nothing = subst (Consumes a c) (ap (λ t. seen ++ t) nothing ∙ append-nil seen) (Consumes-trans a b c seen read before last)
-
--- the last read gave nothing, so the whole text was seen
-pub Replays-whole : (first : Concentrator) (held : Option (List ℕ)) (a b c : Option (List ℕ)) (seen read : List ℕ) (now : Concentrator) (holding flushed : Option (List ℕ)) (counts : Counts) →
-    Consumes a b seen → Consumes b c read → read ≡ [] → IsAtEnd c → Ends (change first held now holding) seen counts → Keeps holding flushed →
-    IfSome a (λ input. Replays (change first held now flushed) input counts.tally)
-Replays-whole first held a b c seen read now holding flushed counts before last nothing end e kept =
-    Consumes-whole a c seen (λ input. Replays (change first held now flushed) input counts.tally)
-    (Consumes-nothing a b c seen read before last nothing) end
-    (Replays-end first held seen now holding flushed counts e kept)
-
 -- Where the writer stops.
 
 -- the kept line is the last of these lines, and its answers are taken in part

@@ -23,7 +23,7 @@ pub struct Ports {
 }
 
 /// The version of a links file.
-#[derive(Clone, Copy, Debug, PartialEq, Eq)]
+#[derive(Clone, Copy)]
 pub(crate) enum Version {
     /// Thirteen keys in each entry.
     One,

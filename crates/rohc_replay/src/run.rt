@@ -1,14 +1,17 @@
 //! A script, run line by line as it comes.
 
-ghost use Rattle.std.specs.Prelude.{◌≡◌, ◌≢◌, ◌+◌, ◌-◌, ◌<◌, ◌≤◌, length, take, IfOk, IfErr, IfSome, OnErr};
+ghost use Rattle.std.specs.Prelude.{◌≡◌, ◌≢◌, ℕ, List, Option, ◌+◌, ◌-◌, ◌<◌, ◌≤◌, length, take, IfOk, IfErr, IfSome, OnErr};
 ghost use Rattle.std.specs.List.{slice_range};
 ghost use Rattle.std.specs.Io.KnownBytes.{Consumes, IsAtEnd, Keeps};
+ghost use Rattle.rohc_concentrator.specs.declared.concentrator.Concentrator.{Concentrator as State};
 ghost use Rattle.rohc_replay.specs.Script.{longest_line, longest_packet};
 ghost use Rattle.rohc_replay.specs.Isolation.{Isolates};
-ghost use Rattle.rohc_replay.specs.Run.{change, Replays, Fails};
+ghost use Rattle.rohc_replay.specs.Run.{change, Replays, WriteFault, Fails};
+ghost use Rattle.rohc_replay.specs.Stream.{Stands};
 
 use crate::counts::Counts;
 use crate::fault::RunFault;
+use crate::output::Stopped;
 use crate::stream::{LONGEST_LINE, LineFront, end_script, run_lines};
 use crate::tally::Tally;
 use rohc_concentrator::Concentrator;
@@ -93,12 +96,8 @@ fn run_script<R: Read, W: Write>(
             return Err(counts.read_fault());
         };
         if end == front.len {
-            let last = &line[..front.len];
-            let Ok(()) = end_script(concentrator, packet, writer, &mut counts, front.long, last)
-            else {
-                return Err(counts.write_fault());
-            };
-            let Ok(()) = writer.flush() else {
+            let last = &line[..end];
+            let Ok(()) = finish(concentrator, packet, writer, &mut counts, front.long, last) else {
                 return Err(counts.write_fault());
             };
             return Ok(counts.tally);
@@ -111,6 +110,33 @@ fn run_script<R: Read, W: Write>(
         front = next;
     }
     Err(counts.read_fault())
+}
+
+/// Runs the last line of a script, where it ends without a newline, and flushes the writer.
+fn finish<W: Write>(
+    concentrator: &mut Concentrator,
+    packet: &mut [u8],
+    writer: &mut W,
+    counts: &mut Counts,
+    long: bool,
+    line: &[u8],
+) -> Result<(), Stopped>
+    requires room { length packet.old ≡ longest_packet }
+    requires short { length line.now ≤ longest_line }
+    ensures whole { IfOk result (λ _. (first : State) (held : Option (List ℕ)) (seen : List ℕ) →
+        Stands (change first held concentrator.old (W.contents writer.old)) seen line.now long counts.old →
+        Replays (change first held concentrator.new (W.contents writer.new)) seen counts.new.tally) }
+    ensures fault { IfErr result (λ _. (first : State) (held : Option (List ℕ)) (seen : List ℕ) →
+        Stands (change first held concentrator.old (W.contents writer.old)) seen line.now long counts.old →
+        WriteFault (change first held concentrator.new (W.contents writer.new)) seen counts.new.answers.taken) }
+{
+    let Ok(()) = end_script(concentrator, packet, writer, counts, long, line) else {
+        return Err(Stopped);
+    };
+    match writer.flush() {
+        Ok(()) => Ok(()),
+        Err(_) => Err(Stopped),
+    }
 }
 
 /// Reads behind the octets that are kept, and answers where what was read ends.

@@ -18,7 +18,7 @@ use std::io::Write;
 pub(crate) const LONGEST_LINE: usize = 131_200;
 
 /// The front of a line that isn't finished.
-#[derive(Clone, Copy, Debug)]
+#[derive(Clone, Copy)]
 pub(crate) struct LineFront {
     /// How many of its octets are kept: none, where it is long already.
     pub(crate) len: usize,
