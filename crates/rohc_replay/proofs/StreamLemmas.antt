@@ -202,11 +202,11 @@ Stands-along first held seen octets searched start from to long now holding coun
     (Stands-more first held (seen ++ slice_range octets searched from) (slice_range octets start from) (slice_range octets from to) long now holding counts s none))
 
 -- a newline at a place was seen, and a new line begins behind it
-pub Stands-behind : (first : Concentrator) (held : Option (List ℕ)) (seen octets : List ℕ) (searched stop : ℕ) (now : Concentrator) (holding : Option (List ℕ)) (counts : Counts) →
+pub Stands-after : (first : Concentrator) (held : Option (List ℕ)) (seen octets : List ℕ) (searched stop : ℕ) (now : Concentrator) (holding : Option (List ℕ)) (counts : Counts) →
     searched ≤ stop → stop < length octets → get_or octets stop 0 ≡ 10 →
     Stands (change first held now holding) ((seen ++ slice_range octets searched stop) ++ 10 ∷ []) [] false counts →
     Stands (change first held now holding) (seen ++ slice_range octets searched (stop + 1)) (slice_range octets (stop + 1) (stop + 1)) false counts
-Stands-behind first held seen octets searched stop now holding counts later within newline s =
+Stands-after first held seen octets searched stop now holding counts later within newline s =
     let one : slice_range octets stop (stop + 1) ≡ 10 ∷ [] = range-one octets stop within ∙ ap (λ o. o ∷ []) newline in
     let all : (seen ++ slice_range octets searched stop) ++ 10 ∷ [] ≡ seen ++ slice_range octets searched (stop + 1) =
     append_assoc seen (slice_range octets searched stop) (10 ∷ []) ∙ ap (λ t. seen ++ t) (ap (λ t. slice_range octets searched stop ++ t) (sym one) ∙ range-append octets searched stop (stop + 1) later (omega arith)) in

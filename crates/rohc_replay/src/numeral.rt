@@ -2,7 +2,7 @@
 
 ghost use Rattle.std.specs.Prelude.{◌≡◌, ℕ, List, ◌+◌, ◌*◌, ◌<◌, ◌^◌, IfSome, IfNone};
 ghost use Rattle.std.specs.Option.{SomeIff};
-ghost use Rattle.rohc_replay.specs.Numeral.{IsNumberAt, is_plain};
+ghost use Rattle.rohc_replay.specs.Numeral.{IsNumberAt, is_canonical};
 
 /// A number with one more digit of this value, if it is a `u64`.
 fn with_digit(number: u64, digit: u8) -> Option<u64>
@@ -12,8 +12,8 @@ fn with_digit(number: u64, digit: u8) -> Option<u64>
 }
 
 /// Whether digits are those of a number: at least one, and no `0` in front of others.
-fn is_plain(digits: &[u8]) -> bool
-    ensures { result ≡ is_plain digits.now }
+fn is_canonical(digits: &[u8]) -> bool
+    ensures { result ≡ is_canonical digits.now }
 {
     matches!(digits, [_] | [b'1'..=b'9', ..])
 }
@@ -34,7 +34,7 @@ pub(crate) fn read_number(text: &[u8]) -> Option<(u64, &[u8])>
         size += 1;
     }
     let (digits, rest) = text.split_at(size);
-    if is_plain(digits) {
+    if is_canonical(digits) {
         Some((number, rest))
     } else {
         None

@@ -92,7 +92,7 @@ fn run_script<R: Read, W: Write>(
     let mut counts = Counts::new();
     let mut front = LineFront::new();
     for _ in 1..LAST_READ {
-        let Ok(end) = read_behind(reader, line, front.len) else {
+        let Ok(end) = read_more(reader, line, front.len) else {
             return Err(counts.read_fault());
         };
         if end == front.len {
@@ -106,7 +106,7 @@ fn run_script<R: Read, W: Write>(
         let Ok(next) = run_lines(concentrator, packet, writer, &mut counts, seen, front) else {
             return Err(counts.write_fault());
         };
-        keep_behind(line, end, next.len);
+        move_to_front(line, end, next.len);
         front = next;
     }
     Err(counts.read_fault())
@@ -140,9 +140,9 @@ fn finish<W: Write>(
 }
 
 /// Reads behind the octets that are kept, and answers where what was read ends.
-fn read_behind<R: Read>(reader: &mut R, line: &mut [u8], filled: usize) -> io::Result<usize>
+fn read_more<R: Read>(reader: &mut R, line: &mut [u8], filled: usize) -> io::Result<usize>
     requires { filled < length line.old }
-    ensures behind { IfOk result (λ end. (filled ≤ end) × (end ≤ length line.new)) }
+    ensures within { IfOk result (λ end. (filled ≤ end) × (end ≤ length line.new)) }
     ensures kept { take filled line.new ≡ take filled line.old }
     ensures read { IfOk result (λ end. Consumes (R.remaining reader.old) (R.remaining reader.new) (slice_range line.new filled end)) }
     ensures at_end { IfOk result (λ end. end ≡ filled → IsAtEnd (R.remaining reader.new)) }
@@ -153,7 +153,7 @@ fn read_behind<R: Read>(reader: &mut R, line: &mut [u8], filled: usize) -> io::R
 }
 
 /// Moves the `len` octets before `end` to the front.
-fn keep_behind(line: &mut [u8], end: usize, len: usize)
+fn move_to_front(line: &mut [u8], end: usize, len: usize)
     requires ordered { len ≤ end }
     requires within { end ≤ length line.old }
     ensures { take len line.new ≡ slice_range line.old (end - len) end }

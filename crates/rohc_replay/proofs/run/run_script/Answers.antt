@@ -26,13 +26,13 @@ loop-preserved g c =
     let got = c.in-Ok.ensures in
     let ran = c.in-Ok-run_lines.ensures in
     let stands = ran.stands c.args.concentrator.now (g.W.Write.contents c.args.writer.now) before.0
-    (Stands-before _ _ before.0 _ _ _ _ _ _ _ _ got.behind.0 got.kept before.2) in
+    (Stands-before _ _ before.0 _ _ _ _ _ _ _ _ got.within.0 got.kept before.2) in
     record {
       kept = ran.kept;
       read = (
-        before.0 ++ slice_range c.read_behind.new.line c.loop.front.len c.in-Ok.end,
+        before.0 ++ slice_range c.read_more.new.line c.loop.front.len c.in-Ok.end,
         Consumes-trans _ _ _ _ _ before.1 got.read,
-        Stands-moved _ _ before.0 c.read_behind.new.line c.keep_behind.new.line _ _ _ _ _ _ _ got.behind.0 ran.used got.behind.1 c.keep_behind.ensures stands,
+        Stands-moved _ _ before.0 c.read_more.new.line c.move_to_front.new.line _ _ _ _ _ _ _ got.within.0 ran.used got.within.1 c.move_to_front.ensures stands,
       );
     }
 
@@ -49,6 +49,6 @@ returns-in_default-run_lines-clause-fault g c =
     let before = c.loop.invariant.read in
     let got = c.in-Ok.ensures in
     let stops = c.in_default-run_lines.ensures.stops c.args.concentrator.now (g.W.Write.contents c.args.writer.now) before.0
-    (Stands-before _ _ before.0 _ _ _ _ _ _ _ _ got.behind.0 got.kept before.2) in
+    (Stands-before _ _ before.0 _ _ _ _ _ _ _ _ got.within.0 got.kept before.2) in
     rw c.write_fault-in_default-run_lines.ensures (fails_writing _ _ _ _ _ _ _ c.run_lines.new.counts (Consumes-trans _ _ _ before.0 _ before.1 got.read)
-    (StopsWithin-piece _ _ before.0 c.read_behind.new.line _ _ _ _ c.run_lines.new.counts got.behind.0 stops))
+    (StopsWithin-piece _ _ before.0 c.read_more.new.line _ _ _ _ c.run_lines.new.counts got.within.0 stops))
