@@ -1,13 +1,13 @@
 -- Lemmas on what a fault leaves.
-use Rattle.std.proofs.Common.{ℕ, List, [], ◌++◌, Option, None, Some, IfSome, Bool, ◌⊎◌, inl, inr, append_assoc, append-nil, sym, ◌∙◌, ap}
+use Rattle.std.proofs.Common.{ℕ, List, [], ◌++◌, Option, None, Some, IfSome, Bool, inl, inr, append_assoc, append-nil, sym, ◌∙◌, ap}
 use Rattle.std.specs.List.{flat_map}
-use Rattle.std.specs.Io.KnownBytes.{Consumes, Keeps, IsAtEnd}
-use Rattle.std.proofs.KnownBytes.{Appends-kept, Consumes-whole}
+use Rattle.std.specs.Io.KnownBytes.{Consumes, Keeps}
+use Rattle.std.proofs.KnownBytes.{Appends-kept}
 use Rattle.rohc_concentrator.specs.declared.concentrator.Concentrator.{Concentrator}
 use Rattle.rohc_replay.specs.declared.counts.Counts.{Counts}
 use Rattle.rohc_replay.specs.Script.{lines_of}
 use Rattle.rohc_replay.specs.AnswerLines.{text_of}
-use Rattle.rohc_replay.specs.Run.{change, ReadFails, WriteFails, FlushFails, Stops}
+use Rattle.rohc_replay.specs.Run.{Change, change, ReadFails, WriteFault, Stops}
 use Rattle.rohc_replay.specs.Stream.{Stands, Ends, StopsWithin}
 use Rattle.rohc_replay.proofs.SplitLemmas.{lines_of-front}
 
@@ -30,7 +30,7 @@ fails_reading first held a b seen kept long now holding counts consumed s = reco
 -- a write fails at a line that ended
 pub fails_writing : (first : Concentrator) (held a b : Option (List ℕ)) (seen : List ℕ) (now : Concentrator) (holding : Option (List ℕ)) (counts : Counts) →
     Consumes a b seen → StopsWithin (change first held now holding) seen counts →
-    IfSome a (λ text. WriteFails (change first held now holding) text counts.answers.taken ⊎ FlushFails (change first held now holding) text counts.answers.taken)
+    IfSome a (λ text. WriteFault (change first held now holding) text counts.answers.taken)
 fails_writing first held None b seen now holding counts consumed stops = tt
 fails_writing first held (Some text) None seen now holding counts consumed stops = absurd consumed
 fails_writing first held (Some text) (Some left) seen now holding counts consumed stops = inl (record {
@@ -41,17 +41,11 @@ fails_writing first held (Some text) (Some left) seen now holding counts consume
 })
 
 -- a write fails at the last line
-pub fails_at_end : (first : Concentrator) (held a b : Option (List ℕ)) (seen : List ℕ) (now : Concentrator) (holding : Option (List ℕ)) (counts : Counts) →
-    Consumes a b seen → IsAtEnd b → Stops (change first held now holding) (lines_of seen) counts.answers.taken →
-    IfSome a (λ text. WriteFails (change first held now holding) text counts.answers.taken ⊎ FlushFails (change first held now holding) text counts.answers.taken)
-fails_at_end first held a b seen now holding counts consumed end stops =
-    Consumes-whole a b seen (λ text. WriteFails (change first held now holding) text counts.answers.taken ⊎ FlushFails (change first held now holding) text counts.answers.taken) consumed end
-    (inl (record { texts = lines_of seen; others = []; first_lines = sym (append-nil (lines_of seen)); stops = stops }))
+pub last_line_fails : (c : Change) (seen : List ℕ) (written : ℕ) → Stops c (lines_of seen) written → WriteFault c seen written
+last_line_fails c seen written stops = inl (record { texts = lines_of seen; others = []; first_lines = sym (append-nil (lines_of seen)); stops = stops })
 
 -- the flush fails
-pub fails_flushing : (first : Concentrator) (held a b : Option (List ℕ)) (seen : List ℕ) (now : Concentrator) (holding flushed : Option (List ℕ)) (counts : Counts) →
-    Consumes a b seen → IsAtEnd b → Ends (change first held now holding) seen counts → Keeps holding flushed →
-    IfSome a (λ text. WriteFails (change first held now flushed) text counts.answers.taken ⊎ FlushFails (change first held now flushed) text counts.answers.taken)
-fails_flushing first held a b seen now holding flushed counts consumed end e kept =
-    Consumes-whole a b seen (λ text. WriteFails (change first held now flushed) text counts.answers.taken ⊎ FlushFails (change first held now flushed) text counts.answers.taken) consumed end
-    (inr (record { lines = e.lines; script = e.are_lines; answers = e.answers; run = e.run; taken = (Appends-kept held holding flushed (flat_map text_of e.answers) e.taken.0 kept, e.taken.1) }))
+pub flush_fails : (first : Concentrator) (held : Option (List ℕ)) (seen : List ℕ) (now : Concentrator) (holding flushed : Option (List ℕ)) (counts : Counts) →
+    Ends (change first held now holding) seen counts → Keeps holding flushed → WriteFault (change first held now flushed) seen counts.answers.taken
+flush_fails first held seen now holding flushed counts e kept =
+    inr (record { lines = e.lines; script = e.are_lines; answers = e.answers; run = e.run; taken = (Appends-kept held holding flushed (flat_map text_of e.answers) e.taken.0 kept, e.taken.1) })

@@ -13,6 +13,7 @@ pub mod NumeralLemmas
 pub mod OfferLemmas
 pub mod OwnLines
 pub mod PairLemmas
+pub mod PieceLemmas
 pub mod RangeLemmas
 pub mod ReplayIsolates
 pub mod SpellingLemmas

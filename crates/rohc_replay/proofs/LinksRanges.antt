@@ -6,7 +6,7 @@ use Rattle.rohc_concentrator.specs.declared.setting.CidRange.{CidRange}
 use Rattle.toml.specs.Data.{Data, array}
 use Rattle.toml.specs.View.{view, items_view}
 use Rattle.toml.specs.declared.value.Value.{Value}
-use Rattle.rohc_replay.specs.LinksRanges.{each, range, at_most, ranges}
+use Rattle.rohc_replay.specs.LinksRanges.{read_each, range, at_most, ranges}
 
 -- all of them are read, or none is
 abbrev CountIs : {A : Type 0} → ℕ → Option (List A) → Type 0
@@ -18,9 +18,9 @@ cons_count n None others counted = tt
 cons_count n (Some x) None counted = tt
 cons_count n (Some x) (Some xs) counted = ap suc counted
 
-each_count : {A : Type 0} (read : Data → Option A) (vs : List Value) → CountIs (length vs) (each read (items_view vs))
+each_count : {A : Type 0} (read : Data → Option A) (vs : List Value) → CountIs (length vs) (read_each read (items_view vs))
 each_count read [] = refl
-each_count read (v ∷ vs) = cons_count (length vs) (read (view v)) (each read (items_view vs)) (each_count read vs)
+each_count read (v ∷ vs) = cons_count (length vs) (read (view v)) (read_each read (items_view vs)) (each_count read vs)
 
 limited : (o : Option (List CidRange)) (n : ℕ) → 8 < n → CountIs n o → option_and_then (at_most 8) o ≡ None
 limited None n many counted = refl
@@ -28,4 +28,4 @@ limited (Some all) n many counted = grind (arith, nat_tests)
 
 -- more than eight are no ranges
 pub ranges_too_many : (vs : List Value) → 8 < length vs → ranges (array (items_view vs)) ≡ None
-ranges_too_many vs many = limited (each range (items_view vs)) (length vs) many (each_count range vs)
+ranges_too_many vs many = limited (read_each range (items_view vs)) (length vs) many (each_count range vs)

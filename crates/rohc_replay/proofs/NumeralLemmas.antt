@@ -8,7 +8,7 @@ use Rattle.std.proofs.lemmas.Int.Digits.{digits_more, digits_value_more}
 use Rattle.std.specs.Char.{digit_value, is_ascii_digit}
 use Rattle.std.specs.Fmt.{decimal}
 use Rattle.std.specs.Str.Parse.{AllDigits, digits_value}
-use Rattle.rohc_replay.specs.Numeral.{IsNumberAt, begins_with_digit, is_plain}
+use Rattle.rohc_replay.specs.Numeral.{IsNumberAt, begins_with_digit, is_canonical}
 
 own : IsNumeralModel (AllDigits 10) (digits_value 10)
 own = numerals_by_value (AllDigits 10) tells_digits
@@ -41,55 +41,55 @@ run_within (e ∷ es) rest (suc k) digits within ends =
     let ih = run_within es rest k digits.1 (omega (arith, within)) ends in omega (arith, ih)
 
 -- digits that don't begin with `0` are plain
-plain_from : (ds : List ℕ) → AllDigits 10 ds → 48 < get_or ds 0 0 → is_plain ds ≡ true
-plain_from [] digits first = absurd (omega (arith, first))
-plain_from (d ∷ []) digits first = refl
-plain_from (d ∷ e ∷ ds) digits first = let r = digit_from_value d digits.0 in grind arith
+canonical_from : (ds : List ℕ) → AllDigits 10 ds → 48 < get_or ds 0 0 → is_canonical ds ≡ true
+canonical_from [] digits first = absurd (omega (arith, first))
+canonical_from (d ∷ []) digits first = refl
+canonical_from (d ∷ e ∷ ds) digits first = let r = digit_from_value d digits.0 in grind arith
 
 -- a number's digits
 number_digits : (n : ℕ) → n < 2 ^ 64 → AllDigits 10 (decimal n)
 number_digits n small = digits_decimal own n small
 
 -- a number's digits are plain
-pub decimal_plain : (n : ℕ) → n < 2 ^ 64 → is_plain (decimal n) ≡ true
-decimal_plain n small = elim (cases_lt n 10) [
+pub decimal_canonical : (n : ℕ) → n < 2 ^ 64 → is_canonical (decimal n) ≡ true
+decimal_canonical n small = elim (cases_lt n 10) [
   | inl below ↦ rw (decimal_digit n below) refl
-  | inr above ↦ plain_from (decimal n) (number_digits n small) (first_decimal n (omega arith) small)
+  | inr above ↦ canonical_from (decimal n) (number_digits n small) (first_decimal n (omega arith) small)
 ]
 
 -- plain digits are some
-plain_some : (ds : List ℕ) → is_plain ds ≡ true → 0 < length ds
-plain_some [] plain = cc plain
-plain_some (d ∷ ds) plain = omega arith
+canonical_some : (ds : List ℕ) → is_canonical ds ≡ true → 0 < length ds
+canonical_some [] canonical = cc canonical
+canonical_some (d ∷ ds) canonical = omega arith
 
 -- plain digits begin with `0` only where that is all
-plain_zero : (ds : List ℕ) → is_plain ds ≡ true → get_or ds 0 0 ≡ 48 → length ds ≡ 1
-plain_zero [] plain first = cc plain
-plain_zero (d ∷ []) plain first = refl
-plain_zero (d ∷ e ∷ ds) plain first = grind arith
+canonical_zero : (ds : List ℕ) → is_canonical ds ≡ true → get_or ds 0 0 ≡ 48 → length ds ≡ 1
+canonical_zero [] canonical first = cc canonical
+canonical_zero (d ∷ []) canonical first = refl
+canonical_zero (d ∷ e ∷ ds) canonical first = grind arith
 
 -- and plain digits are a number's
-pub plain_decimal : (ds : List ℕ) → AllDigits 10 ds → is_plain ds ≡ true → digits_value 10 ds < 2 ^ 64 → decimal (digits_value 10 ds) ≡ ds
-plain_decimal ds digits plain small = decimal-digits_value own ds digits (plain_some ds plain) (plain_zero ds plain) small
+pub canonical_decimal : (ds : List ℕ) → AllDigits 10 ds → is_canonical ds ≡ true → digits_value 10 ds < 2 ^ 64 → decimal (digits_value 10 ds) ≡ ds
+canonical_decimal ds digits canonical small = decimal-digits_value own ds digits (canonical_some ds canonical) (canonical_zero ds canonical) small
 
 -- the run of digits is read
 pub number_read : (text : List ℕ) (size number : ℕ) → AllDigits 10 (take size text) → digits_value 10 (take size text) ≡ number → number < 2 ^ 64
-    → begins_with_digit (drop size text) ≡ false → is_plain (take size text) ≡ true → IsNumberAt text number (drop size text)
-number_read text size number digits value small ends plain = record {
+    → begins_with_digit (drop size text) ≡ false → is_canonical (take size text) ≡ true → IsNumberAt text number (drop size text)
+number_read text size number digits value small ends canonical = record {
   fits = small;
   spelled =
-      let spelled = plain_decimal (take size text) digits plain (rw value small) in
+      let spelled = canonical_decimal (take size text) digits canonical (rw value small) in
       sym (take-append-drop size text) ∙ ap (λ (ds : List ℕ). ds ++ drop size text) (sym spelled ∙ ap decimal value);
   ends = ends;
 }
 
 -- a run of digits that isn't plain is no number's
-pub no_number : (text : List ℕ) (size : ℕ) → AllDigits 10 (take size text) → begins_with_digit (drop size text) ≡ false → is_plain (take size text) ≡ false
+pub no_number : (text : List ℕ) (size : ℕ) → AllDigits 10 (take size text) → begins_with_digit (drop size text) ≡ false → is_canonical (take size text) ≡ false
     → (number : ℕ) (rest : List ℕ) → ¬ (IsNumberAt text number rest)
-no_number text size digits ends not_plain number rest h =
+no_number text size digits ends not_canonical number rest h =
     let same = runs_same (take size text) (decimal number) (drop size text) rest digits (number_digits number h.fits) ends h.ends
     (take-append-drop size text ∙ h.spelled) in
-    cc (sym not_plain ∙ ap is_plain same.0 ∙ decimal_plain number h.fits)
+    cc (sym not_canonical ∙ ap is_canonical same.0 ∙ decimal_canonical number h.fits)
 
 -- digits of a number that is too great are in front of no number's text
 pub too_great : (text : List ℕ) (size : ℕ) → size ≤ length text → AllDigits 10 (take size text) → ¬ (digits_value 10 (take size text) < 2 ^ 64)

@@ -25,16 +25,16 @@ begins_parts (o ∷ os) (p ∷ ps) e =
     (r.0, ap (λ x. x ∷ ps) (sym (eqb-true o p h.0)) ∙ ap (λ t. o ∷ t) r.1)
 
 -- behind a common front
-pub begins_behind : (front a b : List ℕ) → begins_with (front ++ a) (front ++ b) ≡ begins_with a b
-begins_behind [] a b = refl
-begins_behind (o ∷ os) a b = let same : (o == o) ≡ true = eq-eqb o o refl in rw same (begins_behind os a b)
+pub begins_after : (front a b : List ℕ) → begins_with (front ++ a) (front ++ b) ≡ begins_with a b
+begins_after [] a b = refl
+begins_after (o ∷ os) a b = let same : (o == o) ≡ true = eq-eqb o o refl in rw same (begins_after os a b)
 
 pub begins_whole : (front rest : List ℕ) → begins_with front (front ++ rest) ≡ true
-begins_whole front rest = ap (λ f. begins_with f (front ++ rest)) (sym (append-nil front)) ∙ begins_behind front [] rest
+begins_whole front rest = ap (λ f. begins_with f (front ++ rest)) (sym (append-nil front)) ∙ begins_after front [] rest
 
-pub same_behind : (front a b : List ℕ) → bytes_eq (front ++ a) (front ++ b) ≡ bytes_eq a b
-same_behind [] a b = refl
-same_behind (o ∷ os) a b = let same : (o == o) ≡ true = eq-eqb o o refl in rw same (same_behind os a b)
+pub same_after : (front a b : List ℕ) → bytes_eq (front ++ a) (front ++ b) ≡ bytes_eq a b
+same_after [] a b = refl
+same_after (o ∷ os) a b = let same : (o == o) ≡ true = eq-eqb o o refl in rw same (same_after os a b)
 
 -- the link, a space, the identifier, a space, and what follows
 pub pair_spelled : (l c : ℕ) (rest : List ℕ) → pair_text l c ++ rest ≡ decimal l ++ 32 ∷ (decimal c ++ 32 ∷ rest)
@@ -105,10 +105,10 @@ no_link l c rest lf = not_begun l c (45 ∷ rest) (λ e.
 
 -- a line of the pair is its own, but for want of memory
 pub own_pair : (l c : ℕ) (rest : List ℕ) → bytes_eq (codes "refused NoMemory") rest ≡ false → is_own_line l c (pair_text l c ++ rest) ≡ true
-own_pair l c rest rich = rw (begins_whole (pair_text l c) rest, same_behind (pair_text l c) (codes "refused NoMemory") rest, rich) refl
+own_pair l c rest rich = rw (begins_whole (pair_text l c) rest, same_after (pair_text l c) (codes "refused NoMemory") rest, rich) refl
 
 pub poor_pair : (l c : ℕ) (rest : List ℕ) → bytes_eq (codes "refused NoMemory") rest ≡ true → is_own_line l c (pair_text l c ++ rest) ≡ false
-poor_pair l c rest poor = rw (begins_whole (pair_text l c) rest, same_behind (pair_text l c) (codes "refused NoMemory") rest, poor) refl
+poor_pair l c rest poor = rw (begins_whole (pair_text l c) rest, same_after (pair_text l c) (codes "refused NoMemory") rest, poor) refl
 
 -- a line of another link isn't this pair's
 pub other_link : (l c k d : ℕ) (rest : List ℕ) → l < 2 ^ 16 → k < 2 ^ 16 → (l ≡ k → ⊥) → is_pair_line l c (pair_text k d ++ rest) ≡ false

@@ -15,7 +15,7 @@ use Rattle.rohc_concentrator.proofs.SameLemmas.{unmarked_with}
 use Rattle.rohc_replay.specs.declared.tally.Tally.{Tally}
 use Rattle.rohc_replay.specs.declared.fault.RunFault.{RunFault}
 use Rattle.rohc_replay.specs.AnswerLines.{response_lines, text_of}
-use Rattle.rohc_replay.specs.Isolation.{IsPair, Replay, is_pair_line, is_own_line, pair_lines, own, own_line, own_marked, lines_left, left_of, IsToldAll, IsTold, IsToldAlike, Isolates}
+use Rattle.rohc_replay.specs.Isolation.{IsPair, Replay, is_pair_line, is_own_line, pair_lines, own_unmarked, own_line, own_marked, lines_left, left_of, IsToldAll, IsTold, IsToldAlike, Isolates}
 use Rattle.rohc_replay.specs.Lines.{has_newline}
 use Rattle.rohc_replay.specs.Run.{Replays, marked_of}
 use Rattle.rohc_replay.specs.Script.{Line, IsLine, AreLines, IsScript, lines_of}
@@ -80,7 +80,7 @@ module _ (s : LinkSetting) (l c : ℕ) where
   line_own line (event ∷ events) false more same = ap (λ es. es ++ flat_map (own_line s l c) more) (sym same)
 
   -- the pair's own events without the marked ones are those of the lines that are left
-  pub own_left : (marked : List (Line × Bool)) → own s l c marked ≡ flat_map (own_line s l c) (left_lines marked)
+  pub own_left : (marked : List (Line × Bool)) → own_unmarked s l c marked ≡ flat_map (own_line s l c) (left_lines marked)
   own_left [] = refl
   own_left ((line, mark) ∷ marked) =
       unmarked_with mark (own_line s l c line) (own_marked s l c marked)
@@ -88,7 +88,7 @@ module _ (s : LinkSetting) (l c : ℕ) where
       ∙ line_own line (own_line s l c line) mark (left_lines marked) refl
 
 module _ (r : Replay) (p : Pair) where
-  pub told_alike : (marked : List (Line × Bool)) → IsScript r.text (map (λ (m : Line × Bool). m.0) marked) → IsTold r (own p.setting p.link p.cid marked) p → IsToldAlike r marked p
+  pub told_alike : (marked : List (Line × Bool)) → IsScript r.text (map (λ (m : Line × Bool). m.0) marked) → IsTold r (own_unmarked p.setting p.link p.cid marked) p → IsToldAlike r marked p
   told_alike marked script told = record {
     lines = left_lines p.setting p.link p.cid marked;
     script = script_left p.setting p.link p.cid r.text marked script;
@@ -105,7 +105,7 @@ module _ (r : Replay) (p : Pair) (turns : List (Event × Option Report)) (marked
     told = told;
   }
 
-  told_alone : IsTold r (own p.setting p.link p.cid marked) p
+  told_alone : IsTold r (own_unmarked p.setting p.link p.cid marked) p
   told_alone = record {
     replies = filter is_rich (own_replies p.link p.cid turns);
     run = subst (λ es. LoneRun (settings_of p.setting p.cid) (record_at r.before p.link p.cid) (unmarked es) (filter is_rich (own_replies p.link p.cid turns)) (record_at r.after p.link p.cid)) own_lines one.alone;
@@ -126,7 +126,7 @@ replay_isolates old text held holding t new r =
     let isolated = isolated_events (record { before = old; after = new; turns = turns }) (turns_run old r.lines r.answers new r.run) in
     let told : (l c : ℕ) → l < 2 ^ 16 → c < 2 ^ 16 → pair_lines l c written ≡ flat_map (response_lines l c) (own_replies l c turns) =
     λ l c lf cf. ap (filter (is_pair_line l c)) lines ∙ run_told l c lf cf old r.lines r.answers new r.run fit in
-    let alone : (p : Pair) → IsPair old p → IsTold replay (own p.setting p.link p.cid marked) p =
+    let alone : (p : Pair) → IsPair old p → IsTold replay (own_unmarked p.setting p.link p.cid marked) p =
     λ p is. told_alone replay p turns marked (isolated.pairs p is.set) (own_turns p.setting p.link p.cid old r.lines r.answers new r.run) (told p.link p.cid is.link_fits is.cid_fits) in (
       written,
       r.written,

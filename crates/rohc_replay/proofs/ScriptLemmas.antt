@@ -9,7 +9,7 @@ use Rattle.rohc_concentrator.specs.Events.{Event, Arrive, Reset}
 use Rattle.rohc_replay.specs.Script.{IsEvent, Line, Good, Bad, Long, IsLine, AreLines, lines_of, hex_text, spelling}
 use Rattle.rohc_replay.proofs.DigitLemmas.{octets_are_bytes}
 use Rattle.rohc_replay.proofs.NumeralLemmas.{number_unique}
-use Rattle.rohc_replay.proofs.SpellingLemmas.{behind_arrive, number_alone}
+use Rattle.rohc_replay.proofs.SpellingLemmas.{after_arrive, number_alone}
 
 -- octets have one spelling each
 hex_one : (xs ys : List ℕ) → All IsOctet xs → All IsOctet ys → hex_text xs ≡ hex_text ys → xs ≡ ys
@@ -22,7 +22,7 @@ hex_one (x ∷ xs) (y ∷ ys) p q e = let same = sym (decode_of-encode_lower (x 
 spelling_one : (e f : Event) → IsEvent e → IsEvent f → spelling e ≡ spelling f → e ≡ f
 spelling_one (Arrive l m xs) (Arrive k n ys) p q same =
     let behind : decimal l ++ 32 ∷ (decimal m ++ 32 ∷ hex_text xs) ≡ decimal k ++ 32 ∷ (decimal n ++ 32 ∷ hex_text ys) =
-    sym (behind_arrive _ l m xs refl) ∙ behind_arrive _ k n ys same in
+    sym (after_arrive _ l m xs refl) ∙ after_arrive _ k n ys same in
     let links = number_unique (decimal l ++ 32 ∷ (decimal m ++ 32 ∷ hex_text xs)) l k (32 ∷ (decimal m ++ 32 ∷ hex_text xs)) (32 ∷ (decimal n ++ 32 ∷ hex_text ys))
     (record { fits = omega (arith, p.0); spelled = refl; ends = refl }) (record { fits = omega (arith, q.0); spelled = behind; ends = refl }) in
     let moments_text : decimal m ++ 32 ∷ hex_text xs ≡ decimal n ++ 32 ∷ hex_text ys = let h = links.1 in cc in

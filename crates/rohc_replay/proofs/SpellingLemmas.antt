@@ -11,9 +11,9 @@ use Rattle.rohc_concentrator.specs.Events.{Event, Arrive, Reset}
 use Rattle.rohc_replay.specs.Script.{IsEvent, spelling, hex_text}
 
 -- what stands behind `arrive `
-pub behind_arrive : (text : List ℕ) (link moment : ℕ) (octets : List ℕ) → codes "arrive " ++ text ≡ spelling (Arrive link moment octets)
+pub after_arrive : (text : List ℕ) (link moment : ℕ) (octets : List ℕ) → codes "arrive " ++ text ≡ spelling (Arrive link moment octets)
     → text ≡ decimal link ++ 32 ∷ (decimal moment ++ 32 ∷ hex_text octets)
-behind_arrive text link moment octets same =
+after_arrive text link moment octets same =
     let tails : text ≡ decimal link ++ (32 ∷ []) ++ decimal moment ++ (32 ∷ []) ++ hex_text octets = cc same in
     tails ∙ simp append_assoc
 
@@ -24,7 +24,7 @@ pub no_event : (text : List ℕ)
     → (e : Event) → IsEvent e → codes "arrive " ++ text ≢ spelling e
 no_event text none (Arrive link moment octets) good same =
     none link moment octets good
-    (record { fits = omega (arith, good.0); spelled = behind_arrive text link moment octets same; ends = refl })
+    (record { fits = omega (arith, good.0); spelled = after_arrive text link moment octets same; ends = refl })
     (record { fits = good.1; spelled = refl; ends = refl })
 no_event text none (Reset link) good same =
     let heads : ◌≡◌ {A = ℕ} 97 114 = ap (λ (l : List ℕ). get_or l 0 0) same in

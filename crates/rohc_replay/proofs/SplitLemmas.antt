@@ -3,7 +3,7 @@ use Rattle.std.proofs.Common.{◌≡◌, ℕ, List, [], ◌∷◌, ◌++◌, Boo
 use Rattle.std.specs.List.{AllByRecursion}
 use Rattle.std.proofs.lemmas.List.Folds.{list_any-append}
 use Rattle.std.proofs.lemmas.Grind.{flat_map-append}
-use Rattle.rohc_replay.specs.Script.{Line, IsLine, AreLines, lines_of, onto_first}
+use Rattle.rohc_replay.specs.Script.{Line, IsLine, AreLines, lines_of, put_in_first}
 use Rattle.rohc_replay.specs.AnswerLines.{text_of}
 use Rattle.rohc_replay.specs.Lines.{has_newline, Splits}
 
@@ -23,7 +23,7 @@ abbrev pub last_line : List ℕ → List (List ℕ)
 last_line [] = []
 last_line (octet ∷ octets) = (octet ∷ octets) ∷ []
 
-onto_last : (octet : ℕ) (octets : List ℕ) → onto_first octet (last_line octets) ≡ (octet ∷ octets) ∷ []
+onto_last : (octet : ℕ) (octets : List ℕ) → put_in_first octet (last_line octets) ≡ (octet ∷ octets) ∷ []
 onto_last octet [] = refl
 onto_last octet (o ∷ os) = refl
 
@@ -32,14 +32,14 @@ pub lines_of-rest : (rest : List ℕ) → has_newline rest ≡ false → lines_o
 lines_of-rest [] none = refl
 lines_of-rest (octet ∷ octets) none =
     let parts = neither (octet == 10) (has_newline octets) none in
-    rw parts.0 (ap (onto_first octet) (lines_of-rest octets parts.1) ∙ onto_last octet octets)
+    rw parts.0 (ap (put_in_first octet) (lines_of-rest octets parts.1) ∙ onto_last octet octets)
 
 -- a finished line is the first line
 pub lines_of-line : (line more : List ℕ) → has_newline line ≡ false → lines_of ((line ++ 10 ∷ []) ++ more) ≡ line ∷ lines_of more
 lines_of-line [] more none = refl
 lines_of-line (octet ∷ octets) more none =
     let parts = neither (octet == 10) (has_newline octets) none in
-    rw parts.0 (ap (onto_first octet) (lines_of-line octets more parts.1))
+    rw parts.0 (ap (put_in_first octet) (lines_of-line octets more parts.1))
 
 lines_of-finished : (finished : List (List ℕ)) (rest : List ℕ) → AllByRecursion (λ (line : List ℕ). has_newline line ≡ false) finished → has_newline rest ≡ false → lines_of (text_of finished ++ rest) ≡ finished ++ last_line rest
 lines_of-finished [] rest each none = lines_of-rest rest none
@@ -51,14 +51,14 @@ lines_of-finished (line ∷ lines) rest each none =
 pub lines_of-splits : (text : List ℕ) (finished : List (List ℕ)) (rest : List ℕ) → Splits text finished rest → lines_of text ≡ finished ++ last_line rest
 lines_of-splits text finished rest s = ap lines_of s.whole ∙ lines_of-finished finished rest s.each s.unfinished
 
-onto_each : (octet : ℕ) (lines : List (List ℕ)) → (octet == 10) ≡ false → AllByRecursion (λ (line : List ℕ). has_newline line ≡ false) lines → AllByRecursion (λ (line : List ℕ). has_newline line ≡ false) (onto_first octet lines)
+onto_each : (octet : ℕ) (lines : List (List ℕ)) → (octet == 10) ≡ false → AllByRecursion (λ (line : List ℕ). has_newline line ≡ false) lines → AllByRecursion (λ (line : List ℕ). has_newline line ≡ false) (put_in_first octet lines)
 onto_each octet [] other each = (both_false _ _ other refl, tt)
 onto_each octet (line ∷ lines) other each = (both_false _ _ other each.0, each.1)
 
 -- no line of a text has a newline within
 pub lines_of-each : (text : List ℕ) → AllByRecursion (λ (line : List ℕ). has_newline line ≡ false) (lines_of text)
 lines_of-each [] = tt
-lines_of-each (octet ∷ octets) = elim (octet == 10) as (λ b. (octet == 10) ≡ b → AllByRecursion (λ (line : List ℕ). has_newline line ≡ false) (if b then [] ∷ lines_of octets else onto_first octet (lines_of octets))) [
+lines_of-each (octet ∷ octets) = elim (octet == 10) as (λ b. (octet == 10) ≡ b → AllByRecursion (λ (line : List ℕ). has_newline line ≡ false) (if b then [] ∷ lines_of octets else put_in_first octet (lines_of octets))) [
   | true ↦ λ e. (refl, lines_of-each octets)
   | false ↦ λ e. onto_each octet (lines_of octets) e (lines_of-each octets)
 ] refl

@@ -1,8 +1,8 @@
 -- Lemmas on where a replay stands.
-use Rattle.std.proofs.Common.{◌≡◌, ℕ, ◌+◌, ◌-◌, ◌<◌, ◌≤◌, List, [], ◌∷◌, ◌++◌, length, length-append, Bool, true, false, cond, not, slice_range, get_or, drop, ◌⊎◌, inl, inr, Option, Result, Ok, Err, IfOk, IfErr, IfSome, count_by, append_assoc, append-nil, arith, refl, sym, ◌∙◌, ap, subst}
+use Rattle.std.proofs.Common.{◌≡◌, ℕ, ◌+◌, ◌-◌, ◌<◌, ◌≤◌, List, [], ◌∷◌, ◌++◌, length, length-append, Bool, true, false, cond, not, slice_range, get_or, drop, ◌⊎◌, inl, inr, Option, Result, Ok, Err, IfOk, IfErr, count_by, append_assoc, append-nil, arith, refl, sym, ◌∙◌, ap, subst}
 use Rattle.std.specs.List.{flat_map}
-use Rattle.std.specs.Io.KnownBytes.{Keeps, Consumes, IsAtEnd}
-use Rattle.std.proofs.KnownBytes.{Appends-nil, Appends-trans, Appends-kept, Consumes-trans, Consumes-whole}
+use Rattle.std.specs.Io.KnownBytes.{Keeps}
+use Rattle.std.proofs.KnownBytes.{Appends-nil, Appends-trans, Appends-kept}
 use Rattle.std.proofs.lemmas.Grind.{flat_map-append}
 use Rattle.std.proofs.lemmas.List.Sums.{sum_by-append}
 use Rattle.rohc_concentrator.specs.declared.concentrator.Concentrator.{Concentrator}
@@ -202,11 +202,11 @@ Stands-along first held seen octets searched start from to long now holding coun
     (Stands-more first held (seen ++ slice_range octets searched from) (slice_range octets start from) (slice_range octets from to) long now holding counts s none))
 
 -- a newline at a place was seen, and a new line begins behind it
-pub Stands-behind : (first : Concentrator) (held : Option (List ℕ)) (seen octets : List ℕ) (searched stop : ℕ) (now : Concentrator) (holding : Option (List ℕ)) (counts : Counts) →
+pub Stands-after : (first : Concentrator) (held : Option (List ℕ)) (seen octets : List ℕ) (searched stop : ℕ) (now : Concentrator) (holding : Option (List ℕ)) (counts : Counts) →
     searched ≤ stop → stop < length octets → get_or octets stop 0 ≡ 10 →
     Stands (change first held now holding) ((seen ++ slice_range octets searched stop) ++ 10 ∷ []) [] false counts →
     Stands (change first held now holding) (seen ++ slice_range octets searched (stop + 1)) (slice_range octets (stop + 1) (stop + 1)) false counts
-Stands-behind first held seen octets searched stop now holding counts later within newline s =
+Stands-after first held seen octets searched stop now holding counts later within newline s =
     let one : slice_range octets stop (stop + 1) ≡ 10 ∷ [] = range-one octets stop within ∙ ap (λ o. o ∷ []) newline in
     let all : (seen ++ slice_range octets searched stop) ++ 10 ∷ [] ≡ seen ++ slice_range octets searched (stop + 1) =
     append_assoc seen (slice_range octets searched stop) (10 ∷ []) ∙ ap (λ t. seen ++ t) (ap (λ t. slice_range octets searched stop ++ t) (sym one) ∙ range-append octets searched stop (stop + 1) later (omega arith)) in
@@ -268,19 +268,6 @@ Replays-end first held seen now holding flushed counts e kept = record {
   written = Appends-kept held holding flushed (flat_map text_of e.answers) e.taken.0 kept;
   tally = e.tally;
 }
-
--- a read that gave nothing consumed nothing
-pub Consumes-nothing : (a b c : Option (List ℕ)) (seen read : List ℕ) → Consumes a b seen → Consumes b c read → read ≡ [] → Consumes a c seen
-Consumes-nothing a b c seen read before last nothing = subst (Consumes a c) (ap (λ t. seen ++ t) nothing ∙ append-nil seen) (Consumes-trans a b c seen read before last)
-
--- the last read gave nothing, so the whole text was seen
-pub Replays-whole : (first : Concentrator) (held : Option (List ℕ)) (a b c : Option (List ℕ)) (seen read : List ℕ) (now : Concentrator) (holding flushed : Option (List ℕ)) (counts : Counts) →
-    Consumes a b seen → Consumes b c read → read ≡ [] → IsAtEnd c → Ends (change first held now holding) seen counts → Keeps holding flushed →
-    IfSome a (λ input. Replays (change first held now flushed) input counts.tally)
-Replays-whole first held a b c seen read now holding flushed counts before last nothing end e kept =
-    Consumes-whole a c seen (λ input. Replays (change first held now flushed) input counts.tally)
-    (Consumes-nothing a b c seen read before last nothing) end
-    (Replays-end first held seen now holding flushed counts e kept)
 
 -- Where the writer stops.
 

@@ -19,9 +19,9 @@ pub hex_text_parts : (head rest : List ℕ) → 0 < length head + length rest �
 hex_text_parts head rest some = hex_text_some (head ++ rest) (omega (arith, length-append head rest)) ∙ encode-append head rest
 
 -- the same behind what was put before
-pub hex_text_behind : (line head rest : List ℕ) → 0 < length head + length rest
+pub hex_text_after : (line head rest : List ℕ) → 0 < length head + length rest
     → line ++ hex_text (head ++ rest) ++ 10 ∷ [] ≡ line ++ encode_lower head ++ encode_lower rest ++ 10 ∷ []
-hex_text_behind line head rest some =
+hex_text_after line head rest some =
     ap (λ (l : List ℕ). line ++ l ++ 10 ∷ []) (hex_text_parts head rest some)
     ∙ ap (λ (l : List ℕ). l ++ 10 ∷ []) (sym (append_assoc line (encode_lower head) (encode_lower rest)))
 

@@ -1,5 +1,5 @@
 -- Isolation: the answer lines for one CID of one link, whatever comes under the others. Words: IsPair,
--- Replay; own, a pair's own events; pair_lines, own_lines; IsToldAll, IsTold, IsToldAlike; Isolates.
+-- Replay; own_unmarked, a pair's own events; pair_lines, own_lines; IsToldAll, IsTold, IsToldAlike; Isolates.
 use Rattle.std.specs.Prelude.{◌≡◌, ℕ, ◌^◌, ◌<◌, List, [], ◌∷◌, ◌++◌, map, filter, Bool, true, false, not, ◌==◌, ◌&&◌, Option, Some, None, codes}
 use Rattle.std.specs.List.{flat_map}
 use Rattle.std.specs.Str.{bytes_eq}
@@ -40,8 +40,8 @@ own_marked s l c ((line, mark) ∷ marked) =
     map (λ event. (event, mark)) (own_line s l c line) ++ own_marked s l c marked
 
 -- the pair's own events without the marked ones
-abbrev pub own : LinkSetting → ℕ → ℕ → List (Line × Bool) → List LoneEvent
-own s l c marked = unmarked (own_marked s l c marked)
+abbrev pub own_unmarked : LinkSetting → ℕ → ℕ → List (Line × Bool) → List LoneEvent
+own_unmarked s l c marked = unmarked (own_marked s l c marked)
 
 -- the text starts with these octets
 abbrev pub begins_with : List ℕ → List ℕ → Bool
@@ -108,7 +108,7 @@ pub record IsIsolated (r : Replay) : Type 0 where
   pub marked : List (Line × Bool)
   pub script : IsScript r.text (map (λ (m : Line × Bool). m.0) marked)
   pub answered : (p : Pair) → IsPair r.before p → IsToldAll r marked p
-  pub alone : (p : Pair) → IsPair r.before p → IsTold r (own p.setting p.link p.cid marked) p
+  pub alone : (p : Pair) → IsPair r.before p → IsTold r (own_unmarked p.setting p.link p.cid marked) p
   pub taken_out : (p : Pair) → IsPair r.before p → IsToldAlike r marked p
   pub settings : (l : ℕ) → setting_at r.after l ≡ setting_at r.before l
   pub absent : (l c : ℕ) → l < 2 ^ 16 → c < 2 ^ 16 → setting_at r.before l ≡ None →

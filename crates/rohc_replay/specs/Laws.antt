@@ -10,7 +10,7 @@ use Rattle.rohc_concentrator.specs.Honest.{Arrived, Sender, IsHonestCall, events
 use Rattle.rohc_concentrator.specs.Tables.{record_at}
 use Rattle.rohc_replay.specs.Script.{Line, IsScript}
 use Rattle.rohc_replay.specs.AnswerLines.{response_lines, text_of}
-use Rattle.rohc_replay.specs.Isolation.{Replay, IsPair, IsIsolated, own, own_lines}
+use Rattle.rohc_replay.specs.Isolation.{Replay, IsPair, IsIsolated, own_unmarked, own_lines}
 use Rattle.rohc_replay.specs.Run.{Runs, marked_of, Change, ReadFails, WriteFails, FlushFails}
 
 -- the second list starts with the first
@@ -26,7 +26,7 @@ HasOneScript = (text : List ℕ) (a b : List Line) → IsScript text a → IsScr
 abbrev pub SameLines : Type 0
 SameLines =
     (a b : Replay) (p : IsIsolated a) (q : IsIsolated b) (l c : ℕ) (agree : Agree a.before b.before l c) →
-    l < 2 ^ 16 → c < 2 ^ 16 → own agree.here l c p.marked ≡ own agree.there l c q.marked →
+    l < 2 ^ 16 → c < 2 ^ 16 → own_unmarked agree.here l c p.marked ≡ own_unmarked agree.there l c q.marked →
     (own_lines l c a.written ≡ own_lines l c b.written) × (record_at a.after l c ≡ record_at b.after l c)
 
 -- A run of a whole script answers first what a run of its first lines answers, if the same events find no
@@ -77,6 +77,6 @@ abbrev pub LinesOfWhatWasSent : Type 0
 LinesOfWhatWasSent = (r : Replay) (isolated : IsIsolated r) (p : Pair) (sender : Sender)
     (before : Record) (arrivals : List Arrived) →
     IsPair r.before p → record_at r.before p.link p.cid ≡ Some before →
-    own p.setting p.link p.cid isolated.marked ≡ events_of arrivals →
+    own_unmarked p.setting p.link p.cid isolated.marked ≡ events_of arrivals →
     IsHonestCall sender (settings_of p.setting p.cid) before arrivals →
     own_lines p.link p.cid r.written ≡ flat_map (response_lines p.link p.cid) (deliveries arrivals)

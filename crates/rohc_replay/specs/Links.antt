@@ -11,9 +11,9 @@ use Rattle.rohc_replay.specs.declared.links.fault.Key.TheVariants as key
 use Rattle.rohc_replay.specs.declared.links.fault.LinksFault.{LinksFault}
 use Rattle.rohc_replay.specs.declared.links.fault.LinksFault.TheVariants.{NotToml, BadVersion, UnknownKey, BadKey, NoMemory}
 use Rattle.rohc_replay.specs.LinksKeys.{name_of}
-use Rattle.rohc_replay.specs.LinksFields.{found, has_only}
-use Rattle.rohc_replay.specs.LinksRanges.{each}
-use Rattle.rohc_replay.specs.LinksEntry.{◌>>=◌, numbered}
+use Rattle.rohc_replay.specs.LinksFields.{field_at, has_only}
+use Rattle.rohc_replay.specs.LinksRanges.{read_each}
+use Rattle.rohc_replay.specs.LinksEntry.{◌>>=◌, numbered_entry}
 
 -- a setting and its ports for each entry, in order
 pub record Lists : Type 0 where
@@ -31,7 +31,7 @@ version _ = None
 
 -- the tables of an array, if it holds nothing else
 abbrev pub tables : Data → Option (List Members)
-tables (array ds) = each as_table ds
+tables (array ds) = read_each as_table ds
 tables _ = None
 
 -- the tables under `link`; a file without this key has none
@@ -42,14 +42,14 @@ entries ms = option_map_or tables (get_member (name_of key.Link) ms) (Some [])
 abbrev pub read_from : ℕ → Version → List Members → Result Lists LinksFault
 read_from n version [] = Ok (record { settings = []; ports = [] })
 read_from n version (ms ∷ rest) = do
-  first ← numbered version n ms
+  first ← numbered_entry version n ms
   others ← read_from (n + 1) version rest
   Ok (with_first first others)
 
 -- the content of a file's table, else its first fault
 unfoldable pub read_table : Members → Result Lists LinksFault
 read_table ms = do
-  version ← ok_or (found version (codes "version") ms) BadVersion
+  version ← ok_or (field_at version (codes "version") ms) BadVersion
   known ← if has_only (codes "version" ∷ codes "link" ∷ []) ms then Ok ms else Err (UnknownKey 0)
   tables ← ok_or (entries known) (BadKey 0 key.Link)
   read_from 1 version tables

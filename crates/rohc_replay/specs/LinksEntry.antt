@@ -1,5 +1,5 @@
--- The content of one entry of a links file. Words: has_known_keys; entry_in; numbered, with the entry in a
--- fault.
+-- The content of one entry of a links file. Words: has_known_keys; entry_in; numbered_entry, with the entry
+-- in a fault.
 use Rattle.std.specs.Prelude.{ℕ, List, [], ◌∷◌, ◌++◌, map, Bool, if◌then◌else◌, Result, Ok, Err, unwrap_or}
 use Rattle.std.specs.Result.{result_map_both}
 use Rattle.arrayvec.specs.ArrayVec.{ArrayVec}
@@ -15,7 +15,7 @@ use Rattle.rohc_replay.specs.declared.links.fault.Key.TheVariants as key
 use Rattle.rohc_replay.specs.declared.links.fault.LinksFault.{LinksFault}
 use Rattle.rohc_replay.specs.declared.links.fault.LinksFault.TheVariants.{UnknownKey, BadKey}
 use Rattle.rohc_replay.specs.LinksKeys.{name_of}
-use Rattle.rohc_replay.specs.LinksFields.{whole, size, mode, wanted, allowed, has_only}
+use Rattle.rohc_replay.specs.LinksFields.{whole_number, size, mode, required_field, optional_field, has_only}
 use Rattle.rohc_replay.specs.LinksRanges.{ranges}
 
 infixl 10 ◌>>=◌
@@ -42,37 +42,37 @@ has_known_keys version ms = has_only (map name_of (keys version)) ms
 -- the ports
 unfoldable pub ports_in : Members → Result Ports Key
 ports_in ms = do
-  deliver ← wanted (whole 1 65535) key.DeliverPort ms
-  feedback ← wanted (whole 1 65535) key.FeedbackPort ms
-  relay ← wanted (whole 1 65535) key.RelayPort ms
+  deliver ← required_field (whole_number 1 65535) key.DeliverPort ms
+  feedback ← required_field (whole_number 1 65535) key.FeedbackPort ms
+  relay ← required_field (whole_number 1 65535) key.RelayPort ms
   let ports : Ports = record { deliver = deliver; feedback = feedback; relay = relay }
   Ok ports
 
 -- after how long a record counts as none; in version 1 it is 0, which means never
 abbrev pub idle_in : Version → Members → Result ℕ Key
 idle_in One ms = Ok 0
-idle_in Two ms = wanted (whole 0 4294967295) key.IdleMs ms
+idle_in Two ms = required_field (whole_number 0 4294967295) key.IdleMs ms
 
 -- the ranges: none in version 1, and none if the key is missing
 abbrev pub ranges_in : Version → Members → Result (ArrayVec CidRange) Key
 ranges_in One ms = Ok (record { items = [] })
 ranges_in Two ms = do
-  given ← allowed ranges key.Range ms
+  given ← optional_field ranges key.Range ms
   Ok (unwrap_or given (record { items = [] }))
 
 -- the setting and the ports of an entry, else its first key that is missing or wrong
 unfoldable pub entry_in : Version → Members → Result (LinkSetting × Ports) Key
 entry_in version ms = do
-  link ← wanted (whole 0 65535) key.Number ms
-  size ← wanted size key.Cid ms
-  max_cid ← wanted (whole 0 65535) key.MaxCid ms
-  mode ← wanted mode key.Mode ms
-  k1 ← wanted (whole 0 255) key.K1 ms
-  n1 ← wanted (whole 0 255) key.N1 ms
-  k2 ← wanted (whole 0 255) key.K2 ms
-  n2 ← wanted (whole 0 255) key.N2 ms
-  packet_ms ← wanted (whole 0 4294967295) key.PacketMs ms
-  static_nack_ms ← wanted (whole 0 4294967295) key.StaticNackMs ms
+  link ← required_field (whole_number 0 65535) key.Number ms
+  size ← required_field size key.Cid ms
+  max_cid ← required_field (whole_number 0 65535) key.MaxCid ms
+  mode ← required_field mode key.Mode ms
+  k1 ← required_field (whole_number 0 255) key.K1 ms
+  n1 ← required_field (whole_number 0 255) key.N1 ms
+  k2 ← required_field (whole_number 0 255) key.K2 ms
+  n2 ← required_field (whole_number 0 255) key.N2 ms
+  packet_ms ← required_field (whole_number 0 4294967295) key.PacketMs ms
+  static_nack_ms ← required_field (whole_number 0 4294967295) key.StaticNackMs ms
   ports ← ports_in ms
   idle_ms ← idle_in version ms
   ranges ← ranges_in version ms
@@ -92,7 +92,7 @@ entry_in version ms = do
   Ok (setting, ports)
 
 -- the setting and the ports of the entry with this number, else its first fault
-abbrev pub numbered : Version → ℕ → Members → Result (LinkSetting × Ports) LinksFault
-numbered version n ms =
+abbrev pub numbered_entry : Version → ℕ → Members → Result (LinkSetting × Ports) LinksFault
+numbered_entry version n ms =
     if has_known_keys version ms then result_map_both (λ set. set) (BadKey n) (entry_in version ms)
     else Err (UnknownKey n)

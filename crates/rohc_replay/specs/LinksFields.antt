@@ -1,4 +1,5 @@
--- The values in the tables of a links file. Words: whole, size, mode; wanted or allowed at a key.
+-- The values in the tables of a links file. Words: whole_number, size, mode; field_at a name;
+-- required_field, optional_field.
 use Rattle.std.specs.Prelude.{ℕ, List, Bool, true, ◌&&◌, codes, nat_le, Option, Some, None, option_and_then, pos, if◌then◌else◌, Result, Ok}
 use Rattle.std.specs.List.{list_any}
 use Rattle.std.specs.Option.{ok_or, option_map, option_map_or}
@@ -12,9 +13,9 @@ use Rattle.rohc_replay.specs.declared.links.fault.Key.{Key}
 use Rattle.rohc_replay.specs.LinksKeys.{name_of}
 
 -- a whole number from the least to the greatest
-abbrev pub whole : ℕ → ℕ → Data → Option ℕ
-whole least greatest (integer (pos n)) = if nat_le least n && nat_le n greatest then Some n else None
-whole least greatest _ = None
+abbrev pub whole_number : ℕ → ℕ → Data → Option ℕ
+whole_number least greatest (integer (pos n)) = if nat_le least n && nat_le n greatest then Some n else None
+whole_number least greatest _ = None
 
 -- a text that names a CID kind
 abbrev pub size : Data → Option CidKind
@@ -30,16 +31,16 @@ mode (string s) = if bytes_eq s (codes "U") then Some U else if bytes_eq s (code
 mode _ = None
 
 -- the member of this name, if it is there and can be read
-abbrev pub found : {A : Type 0} → (Data → Option A) → List ℕ → Members → Option A
-found read name ms = option_and_then read (get_member name ms)
+abbrev pub field_at : {A : Type 0} → (Data → Option A) → List ℕ → Members → Option A
+field_at read name ms = option_and_then read (get_member name ms)
 
 -- the member at this key, else the key, which is missing or wrong
-abbrev pub wanted : {A : Type 0} → (Data → Option A) → Key → Members → Result A Key
-wanted read key ms = ok_or (found read (name_of key) ms) key
+abbrev pub required_field : {A : Type 0} → (Data → Option A) → Key → Members → Result A Key
+required_field read key ms = ok_or (field_at read (name_of key) ms) key
 
 -- the member at a key that may be missing, else the key, which is wrong
-abbrev pub allowed : {A : Type 0} → (Data → Option A) → Key → Members → Result (Option A) Key
-allowed {A} read key ms =
+abbrev pub optional_field : {A : Type 0} → (Data → Option A) → Key → Members → Result (Option A) Key
+optional_field {A} read key ms =
     option_map_or (λ d. ok_or (option_map Some (read d)) key) (get_member (name_of key) ms) (Ok None)
 
 -- the name is one of the names

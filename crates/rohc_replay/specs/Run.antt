@@ -116,6 +116,10 @@ pub record FlushFails (c : Change) (text : List ℕ) (written : ℕ) : Type 0 wh
   pub run : Runs c.before lines answers c.after
   pub taken : TakesAll c.held c.holding 0 written (flat_map text_of answers)
 
+-- what a write that failed leaves, or else a flush
+abbrev pub WriteFault : Change → List ℕ → ℕ → Type 0
+WriteFault c text written = WriteFails c text written ⊎ FlushFails c text written
+
 -- what a replay works on
 pub record Work (R W : Type 0) : Type 0 where
   pub concentrator : Concentrator

@@ -44,14 +44,14 @@ IsLine octets Bad = (length octets ≤ longest_line) × ((e : Event) → IsEvent
 IsLine octets Long = longest_line < length octets
 
 -- an octet put before the first of these lines, or a line of its own if there are none
-abbrev pub onto_first : ℕ → List (List ℕ) → List (List ℕ)
-onto_first octet [] = (octet ∷ []) ∷ []
-onto_first octet (line ∷ lines) = (octet ∷ line) ∷ lines
+abbrev pub put_in_first : ℕ → List (List ℕ) → List (List ℕ)
+put_in_first octet [] = (octet ∷ []) ∷ []
+put_in_first octet (line ∷ lines) = (octet ∷ line) ∷ lines
 
 -- the lines of a text: each ends with a newline, except a last one that isn't empty
 abbrev pub lines_of : List ℕ → List (List ℕ)
 lines_of [] = []
-lines_of (octet ∷ octets) = if octet == 10 then [] ∷ lines_of octets else onto_first octet (lines_of octets)
+lines_of (octet ∷ octets) = if octet == 10 then [] ∷ lines_of octets else put_in_first octet (lines_of octets)
 
 -- these are the kinds of these lines, one by one
 abbrev pub AreLines : List (List ℕ) → List Line → Type 0

@@ -4,13 +4,13 @@ ghost use Rattle.std.specs.Prelude.{◌≤◌};
 
 use crate::hex_octets::encode;
 
-/// How many octets of a line are kept before they are offered.
+/// The longest part of a line, in octets, that is kept before it is offered.
 pub(crate) const ROOM: usize = 1024;
 
-/// How many octets are spelled at once.
+/// How many octets are written as digits at once.
 pub(crate) const PART: usize = 64;
 
-/// The octets of a line that weren't offered yet.
+/// The octets of a line that have not been offered yet.
 #[derive(Drop)]
 pub(crate) struct LineText {
     octets: [u8; ROOM],
@@ -37,14 +37,14 @@ impl LineText {
         }
     }
 
-    /// The octets that were put.
+    /// The octets of the line so far.
     pub(crate) fn as_slice(&self) -> &[u8]
         ensures { result.now ≡ text_in self.now }
     {
         &self.octets[..self.len]
     }
 
-    /// How many octets may still be put.
+    /// How many octets may still be appended.
     pub(crate) fn room(&self) -> usize
         ensures { result + self.now.len ≡ ROOM }
     {
@@ -59,7 +59,7 @@ impl LineText {
         self.len = 0;
     }
 
-    /// Puts a text behind the line.
+    /// Appends a text to the line.
     pub(crate) fn put(&mut self, text: &[u8])
         requires { self.old.len + length text.now ≤ ROOM }
         ensures text { text_in self.new ≡ text_in self.old ++ text.now }
@@ -70,7 +70,7 @@ impl LineText {
         self.len = end;
     }
 
-    /// Puts a few octets behind the line, as lower case pairs of digits.
+    /// Appends octets to the line, as pairs of lower case digits.
     pub(crate) fn put_hex(&mut self, octets: &[u8])
         requires { self.old.len + 2 * length octets.now ≤ ROOM }
         ensures text { text_in self.new ≡ text_in self.old ++ encode_lower octets.now }
@@ -81,7 +81,7 @@ impl LineText {
         self.len = end;
     }
 
-    /// Puts a number behind the line, in decimal.
+    /// Appends a number to the line, in decimal.
     pub(crate) fn put_number(&mut self, number: u16)
         requires { self.old.len + 5 ≤ ROOM }
         ensures text { text_in self.new ≡ text_in self.old ++ decimal number }
@@ -99,7 +99,7 @@ impl LineText {
         self.put(&digits[at..]);
     }
 
-    /// Puts a link and an identifier behind the line, each with a space behind it.
+    /// Appends a link and a CID to the line, each followed by a space.
     pub(crate) fn put_pair(&mut self, link: u16, cid: u16)
         requires { self.old.len + 12 ≤ ROOM }
         ensures text { text_in self.new ≡ text_in self.old ++ pair_text link cid }
@@ -111,7 +111,7 @@ impl LineText {
         self.put(b" ");
     }
 
-    /// Puts a few octets behind the line, as lower case pairs of digits, or `-` for none.
+    /// Appends octets to the line, as pairs of lower case digits, or `-` for none.
     pub(crate) fn put_octets(&mut self, octets: &[u8])
         requires { self.old.len + 1 + 2 * length octets.now ≤ ROOM }
         ensures text { text_in self.new ≡ text_in self.old ++ hex_text octets.now }

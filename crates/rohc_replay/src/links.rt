@@ -14,16 +14,16 @@ pub use lists::Links;
 /// The UDP ports of a link on 127.0.0.1.
 #[derive(Clone, Copy, Debug, PartialEq, Eq)]
 pub struct Ports {
-    /// Gets the decompressed packets.
+    /// The port that gets the decompressed packets.
     pub deliver: u16,
-    /// Gets the feedback elements to be sent to the peer.
+    /// The port that gets the feedback elements for the peer.
     pub feedback: u16,
-    /// Gets the feedback elements that came from the peer.
+    /// The port that gets the feedback elements from the peer.
     pub relay: u16,
 }
 
 /// The version of a links file.
-#[derive(Clone, Copy, Debug, PartialEq, Eq)]
+#[derive(Clone, Copy)]
 pub(crate) enum Version {
     /// Thirteen keys in each entry.
     One,

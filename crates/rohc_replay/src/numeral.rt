@@ -2,7 +2,7 @@
 
 ghost use Rattle.std.specs.Prelude.{◌≡◌, ℕ, List, ◌+◌, ◌*◌, ◌<◌, ◌^◌, IfSome, IfNone};
 ghost use Rattle.std.specs.Option.{SomeIff};
-ghost use Rattle.rohc_replay.specs.Numeral.{IsNumberAt, is_plain};
+ghost use Rattle.rohc_replay.specs.Numeral.{IsNumberAt, is_canonical};
 
 /// The number with one more digit of this value appended, if it fits a `u64`.
 fn with_digit(number: u64, digit: u8) -> Option<u64>
@@ -13,8 +13,8 @@ fn with_digit(number: u64, digit: u8) -> Option<u64>
 
 /// Whether the digits are how a number is written: at least one digit, and no leading `0` before
 /// others.
-fn is_plain(digits: &[u8]) -> bool
-    ensures { result ≡ is_plain digits.now }
+fn is_canonical(digits: &[u8]) -> bool
+    ensures { result ≡ is_canonical digits.now }
 {
     matches!(digits, [_] | [b'1'..=b'9', ..])
 }
@@ -35,7 +35,7 @@ pub(crate) fn read_number(text: &[u8]) -> Option<(u64, &[u8])>
         size += 1;
     }
     let (digits, rest) = text.split_at(size);
-    if is_plain(digits) {
+    if is_canonical(digits) {
         Some((number, rest))
     } else {
         None

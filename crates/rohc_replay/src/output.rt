@@ -1,4 +1,4 @@
-//! Answers, as lines offered to a writer.
+//! Offering answers to a writer, as lines.
 
 ghost use Rattle.std.specs.Prelude.{◌+◌, ◌<◌, ◌≤◌, ◌≡◌, ◌^◌, length, take};
 ghost use Rattle.std.specs.Io.KnownBytes.{Appends};
@@ -14,12 +14,11 @@ use rohc_context::{Outcome, Refusal, Reply};
 use rohc_frame::Elements;
 use std::io::Write;
 
-/// The writer failed, or took no octets.
+/// A write failed or took no octets.
 #[derive(Clone, Copy, Debug, PartialEq, Eq)]
 pub(crate) struct Stopped;
 
-/// Gives a text to the writer by single writes, until one fails or takes no octets. It answers how many
-/// octets were taken.
+/// Writes a text by single calls, until one fails or takes no octets. Returns how many octets were taken.
 fn give<W: Write>(writer: &mut W, text: &[u8]) -> usize
     ensures within { result ≤ length text.now }
     ensures taken { Appends (W.contents writer.old) (W.contents writer.new) (take result text.now) }
@@ -34,7 +33,7 @@ fn give<W: Write>(writer: &mut W, text: &[u8]) -> usize
     at
 }
 
-/// Puts the line `stored` behind the text, where that is the outcome.
+/// Appends the line `stored`, if that is the outcome.
 fn put_stored(line: &mut LineText, link: u16, cid: u16, outcome: Outcome)
     requires { line.old.len + 19 ≤ ROOM }
     ensures text { text_in line.new ≡ text_in line.old ++ text_of (stored_lines link cid outcome) }
@@ -46,7 +45,7 @@ fn put_stored(line: &mut LineText, link: u16, cid: u16, outcome: Outcome)
     }
 }
 
-/// Puts the line of a reply's feedback behind the text, where there is some.
+/// Appends the line of a reply's feedback, if there is some.
 fn put_feedback(line: &mut LineText, link: u16, cid: u16, reply: &Reply<'_>)
     requires { line.old.len + 39 ≤ ROOM }
     ensures text { text_in line.new ≡ text_in line.old
@@ -61,7 +60,7 @@ fn put_feedback(line: &mut LineText, link: u16, cid: u16, reply: &Reply<'_>)
     }
 }
 
-/// Puts the line of a refusal behind the text, where that is the outcome.
+/// Appends the line of a refusal, if that is the outcome.
 fn put_refused(line: &mut LineText, link: u16, cid: u16, outcome: Outcome)
     requires { line.old.len + 37 ≤ ROOM }
     ensures text { text_in line.new ≡ text_in line.old ++ text_of (refused_lines link cid outcome) }
@@ -78,9 +77,9 @@ fn put_refused(line: &mut LineText, link: u16, cid: u16, outcome: Outcome)
 /// Answers on their way to a writer.
 #[derive(Drop)]
 pub(crate) struct Answers {
-    /// The front of a line, where it wasn't offered yet.
+    /// The start of a line that has not been offered yet.
     line: LineText,
-    /// The octets that the writer took.
+    /// The number of octets that the writer took.
     pub(crate) taken: u64,
     ghost in_range: { taken < 2 ^ 64 },
 }
@@ -104,7 +103,7 @@ impl Answers {
         }
     }
 
-    /// Offers what was put into the line, by single writes whose taken octets are counted.
+    /// Offers the octets of the line so far, by single writes, and counts the octets that are taken.
     fn offer_line<W: Write>(&mut self, writer: &mut W) -> Result<(), Stopped>
         ensures { Offers (W.contents writer.old) (W.contents writer.new) self.old.taken self.new.taken
             (text_in self.old.line) result }
@@ -132,8 +131,8 @@ impl Answers {
         self.offer_line(writer)
     }
 
-    /// Offers a line that ends with octets: what was put into it, `head` and `rest` as hex text, and a newline.
-    /// What doesn't fit into the buffer is offered in parts.
+    /// Offers a line that ends with octets: the line so far, `head` and `rest` as hex text, and a newline. What
+    /// doesn't fit into the buffer is offered in parts.
     fn offer_octets<W: Write>(
         &mut self,
         writer: &mut W,
@@ -153,7 +152,7 @@ impl Answers {
         self.offer_digits(writer, rest)
     }
 
-    /// Offers what was put into a line, octets as lower case pairs of digits, and a newline.
+    /// Offers the line so far, octets as pairs of lower case digits, and a newline.
     fn offer_digits<W: Write>(&mut self, writer: &mut W, octets: &[u8]) -> Result<(), Stopped>
         requires { self.old.line.len < ROOM }
         ensures { Offers (W.contents writer.old) (W.contents writer.new) self.old.taken self.new.taken
@@ -170,7 +169,7 @@ impl Answers {
         self.offer_line(writer)
     }
 
-    /// Offers the line of feedback that the packet carried for this side.
+    /// Offers the line of one feedback element that the packet carried for this side's compressor.
     fn offer_relay<W: Write>(
         &mut self,
         writer: &mut W,
@@ -202,7 +201,7 @@ impl Answers {
         Ok(())
     }
 
-    /// Offers the line of a reply's packet, where there is one.
+    /// Offers the line of a reply's packet, if there is one.
     fn offer_packet<W: Write>(
         &mut self,
         writer: &mut W,
@@ -222,7 +221,7 @@ impl Answers {
         self.offer_octets(writer, packet.head.as_slice(), packet.payload)
     }
 
-    /// Offers the lines of a reply: the packet, `stored`, the feedback and the refusal, each where there is one.
+    /// Offers the lines of a reply: the packet, `stored`, the feedback and the refusal, each if there is one.
     fn offer_reply<W: Write>(
         &mut self,
         writer: &mut W,
@@ -241,7 +240,7 @@ impl Answers {
         self.offer_line(writer)
     }
 
-    /// Offers the lines of an answer: what is relayed, and then the reply.
+    /// Offers the lines of an answer: the relayed feedback, and then the reply.
     pub(crate) fn offer_answer<W: Write>(
         &mut self,
         writer: &mut W,
@@ -265,7 +264,7 @@ impl Answers {
         }
     }
 
-    /// Offers the line of a refusal that bears no identifier.
+    /// Offers the line of a refusal without a CID.
     pub(crate) fn offer_refusal<W: Write>(
         &mut self,
         writer: &mut W,

@@ -1,14 +1,17 @@
 //! Running a script line by line, as it is read.
 
-ghost use Rattle.std.specs.Prelude.{◌≡◌, ◌≢◌, ◌+◌, ◌-◌, ◌<◌, ◌≤◌, length, take, IfOk, IfErr, IfSome, OnErr};
+ghost use Rattle.std.specs.Prelude.{◌≡◌, ◌≢◌, ℕ, List, Option, ◌+◌, ◌-◌, ◌<◌, ◌≤◌, length, take, IfOk, IfErr, IfSome, OnErr};
 ghost use Rattle.std.specs.List.{slice_range};
 ghost use Rattle.std.specs.Io.KnownBytes.{Consumes, IsAtEnd, Keeps};
+ghost use Rattle.rohc_concentrator.specs.declared.concentrator.Concentrator.{Concentrator as State};
 ghost use Rattle.rohc_replay.specs.Script.{longest_line, longest_packet};
 ghost use Rattle.rohc_replay.specs.Isolation.{Isolates};
-ghost use Rattle.rohc_replay.specs.Run.{change, Replays, Fails};
+ghost use Rattle.rohc_replay.specs.Run.{change, Replays, WriteFault, Fails};
+ghost use Rattle.rohc_replay.specs.Stream.{Stands};
 
 use crate::counts::Counts;
 use crate::fault::RunFault;
+use crate::output::Stopped;
 use crate::stream::{LONGEST_LINE, LineFront, end_script, run_lines};
 use crate::tally::Tally;
 use rohc_concentrator::Concentrator;
@@ -92,16 +95,12 @@ fn run_script<R: Read, W: Write>(
     let mut counts = Counts::new();
     let mut front = LineFront::new();
     for _ in 1..LAST_READ {
-        let Ok(end) = read_behind(reader, line, front.len) else {
+        let Ok(end) = read_more(reader, line, front.len) else {
             return Err(counts.read_fault());
         };
         if end == front.len {
-            let last = &line[..front.len];
-            let Ok(()) = end_script(concentrator, packet, writer, &mut counts, front.long, last)
-            else {
-                return Err(counts.write_fault());
-            };
-            let Ok(()) = writer.flush() else {
+            let last = &line[..end];
+            let Ok(()) = finish(concentrator, packet, writer, &mut counts, front.long, last) else {
                 return Err(counts.write_fault());
             };
             return Ok(counts.tally);
@@ -110,16 +109,43 @@ fn run_script<R: Read, W: Write>(
         let Ok(next) = run_lines(concentrator, packet, writer, &mut counts, seen, front) else {
             return Err(counts.write_fault());
         };
-        keep_behind(line, end, next.len);
+        move_to_front(line, end, next.len);
         front = next;
     }
     Err(counts.read_fault())
 }
 
+/// Runs the last line of a script, if it ends without a newline, and flushes the writer.
+fn finish<W: Write>(
+    concentrator: &mut Concentrator,
+    packet: &mut [u8],
+    writer: &mut W,
+    counts: &mut Counts,
+    long: bool,
+    line: &[u8],
+) -> Result<(), Stopped>
+    requires room { length packet.old ≡ longest_packet }
+    requires short { length line.now ≤ longest_line }
+    ensures whole { IfOk result (λ _. (first : State) (held : Option (List ℕ)) (seen : List ℕ) →
+        Stands (change first held concentrator.old (W.contents writer.old)) seen line.now long counts.old →
+        Replays (change first held concentrator.new (W.contents writer.new)) seen counts.new.tally) }
+    ensures fault { IfErr result (λ _. (first : State) (held : Option (List ℕ)) (seen : List ℕ) →
+        Stands (change first held concentrator.old (W.contents writer.old)) seen line.now long counts.old →
+        WriteFault (change first held concentrator.new (W.contents writer.new)) seen counts.new.answers.taken) }
+{
+    let Ok(()) = end_script(concentrator, packet, writer, counts, long, line) else {
+        return Err(Stopped);
+    };
+    match writer.flush() {
+        Ok(()) => Ok(()),
+        Err(_) => Err(Stopped),
+    }
+}
+
 /// Reads into `line` after its first `filled` octets, and returns where the octets that were read end.
-fn read_behind<R: Read>(reader: &mut R, line: &mut [u8], filled: usize) -> io::Result<usize>
+fn read_more<R: Read>(reader: &mut R, line: &mut [u8], filled: usize) -> io::Result<usize>
     requires { filled < length line.old }
-    ensures behind { IfOk result (λ end. (filled ≤ end) × (end ≤ length line.new)) }
+    ensures within { IfOk result (λ end. (filled ≤ end) × (end ≤ length line.new)) }
     ensures kept { take filled line.new ≡ take filled line.old }
     ensures read { IfOk result (λ end. Consumes (R.remaining reader.old) (R.remaining reader.new) (slice_range line.new filled end)) }
     ensures at_end { IfOk result (λ end. end ≡ filled → IsAtEnd (R.remaining reader.new)) }
@@ -130,7 +156,7 @@ fn read_behind<R: Read>(reader: &mut R, line: &mut [u8], filled: usize) -> io::R
 }
 
 /// Moves the `len` octets before `end` to the start of `line`.
-fn keep_behind(line: &mut [u8], end: usize, len: usize)
+fn move_to_front(line: &mut [u8], end: usize, len: usize)
     requires ordered { len ≤ end }
     requires within { end ≤ length line.old }
     ensures { take len line.new ≡ slice_range line.old (end - len) end }

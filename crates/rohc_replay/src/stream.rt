@@ -1,4 +1,4 @@
-//! Lines as they come in pieces.
+//! Lines that come in pieces.
 
 ghost use Rattle.std.specs.Prelude.{◌≡◌, ◌≤◌, ◌<◌, ◌+◌, ◌-◌, ℕ, List, [], ◌∷◌, ◌++◌, length, take, drop, Option, false, slice_index, IfOk, IfErr, IfSome, IfNone};
 ghost use Rattle.rohc_concentrator.specs.declared.concentrator.Concentrator.{Concentrator as State};
@@ -14,22 +14,22 @@ use memchr::memchr;
 use rohc_concentrator::Concentrator;
 use std::io::Write;
 
-/// The greatest length of a line, without its newline.
+/// The longest line without its newline, in octets.
 pub(crate) const LONGEST_LINE: usize = 131_200;
 
-/// The front of a line that isn't finished.
-#[derive(Clone, Copy, Debug)]
+/// The start of a line that isn't finished.
+#[derive(Clone, Copy)]
 pub(crate) struct LineFront {
-    /// How many of its octets are kept: none, where it is long already.
+    /// How many of its octets are kept: none if it is already too long.
     pub(crate) len: usize,
-    /// Whether it is longer than the greatest line already.
+    /// Whether it is already longer than the longest line.
     pub(crate) long: bool,
 }
 
 impl LineFront {
     ghost use Rattle.std.specs.Prelude.{◌≡◌, false};
 
-    /// A line of which nothing was read.
+    /// A line of which nothing has been read.
     pub(crate) fn new() -> Self
         ensures len { result.len ≡ 0 }
         ensures long { result.long ≡ false }
@@ -41,7 +41,7 @@ impl LineFront {
     }
 }
 
-/// Where the first newline stands.
+/// The index of the first newline.
 fn first_newline(octets: &[u8]) -> Option<usize>
     ensures found { IfSome result (λ i. (i < length octets.now) × (slice_index octets.now i ≡ 10) × (has_newline (take i octets.now) ≡ false)) }
     ensures none { IfNone result (has_newline octets.now ≡ false) }
@@ -49,7 +49,7 @@ fn first_newline(octets: &[u8]) -> Option<usize>
     memchr(b'\n', octets)
 }
 
-/// Runs the line that a newline ends, or answers it where it is long.
+/// Runs the line that a newline ends, or answers it if it is long.
 fn end_line<W: Write>(
     concentrator: &mut Concentrator,
     packet: &mut [u8],
@@ -74,9 +74,10 @@ fn end_line<W: Write>(
     }
 }
 
-/// Runs each line that ends in `octets`, at whose front stands what is kept of an unfinished line.
+/// Runs each line that ends in `octets`. They start with what is kept of an unfinished line.
 ///
-/// Answers the front of the line that isn't finished at their end: its octets are their last.
+/// Returns what is kept of the line that is unfinished at their end: its octets are the last of
+/// them.
 pub(crate) fn run_lines<W: Write>(
     concentrator: &mut Concentrator,
     packet: &mut [u8],
@@ -121,7 +122,7 @@ pub(crate) fn run_lines<W: Write>(
     Ok(LineFront { len, long: false })
 }
 
-/// Runs the last line, where the script ends without a newline.
+/// Runs the last line, if the script ends without a newline.
 pub(crate) fn end_script<W: Write>(
     concentrator: &mut Concentrator,
     packet: &mut [u8],

@@ -173,7 +173,7 @@ impl Write for Taker {
 }
 
 /// The result of a replay of the text through this reader and writer, and the text that was written.
-fn replayed(
+fn run_replay(
     alloc: Global,
     reader: &mut Pieces<'_>,
     writer: &mut Taker,
@@ -183,7 +183,7 @@ fn replayed(
 }
 
 /// A writer that never fails.
-fn willing(alloc: Global) -> Taker {
+fn willing_writer(alloc: Global) -> Taker {
     Taker {
         text: Vec::new(alloc),
         calls_left: usize::MAX,
@@ -193,7 +193,7 @@ fn willing(alloc: Global) -> Taker {
 }
 
 /// A reader that never fails.
-fn steady(text: &[u8], size: usize) -> Pieces<'_> {
+fn steady_reader(text: &[u8], size: usize) -> Pieces<'_> {
     Pieces {
         rest: text,
         size,
@@ -301,8 +301,12 @@ const EXAMPLES_OF_FRAMING: [Example; 6] = [
 /// Runs each script, and compares its answers and its tally.
 fn agrees(rt: &impl Abort, alloc: Global, examples: &[Example]) -> Result<(), Fail> {
     for (name, script, answers, events, bad) in examples {
-        let mut writer = willing(alloc);
-        let told = replayed(alloc, &mut steady(script.as_bytes(), 4096), &mut writer)?;
+        let mut writer = willing_writer(alloc);
+        let told = run_replay(
+            alloc,
+            &mut steady_reader(script.as_bytes(), 4096),
+            &mut writer,
+        )?;
         let tally = Tally {
             events: *events,
             bad: *bad,
@@ -343,10 +347,10 @@ fn long_lines(rt: HostRuntime) -> Result<(), Fail> {
         let mut script = vec![in rt.alloc(); b'x'; len]?;
         script.extend_from_slice(behind.as_bytes())?;
         for size in [7, 131_200, 200_000] {
-            let mut writer = willing(rt.alloc());
-            let told = replayed(
+            let mut writer = willing_writer(rt.alloc());
+            let told = run_replay(
                 rt.alloc(),
-                &mut steady(script.as_slice(), size),
+                &mut steady_reader(script.as_slice(), size),
                 &mut writer,
             )?;
             assert!(rt; told.is_ok());
@@ -364,10 +368,10 @@ fn long_lines(rt: HostRuntime) -> Result<(), Fail> {
 fn pieces_of_any_size(rt: HostRuntime) -> Result<(), Fail> {
     let whole = first_answers(rt.alloc(), ANSWERS.len())?;
     for size in [1, 2, 7, 131_200] {
-        let mut writer = willing(rt.alloc());
-        let told = replayed(
+        let mut writer = willing_writer(rt.alloc());
+        let told = run_replay(
             rt.alloc(),
-            &mut steady(SCRIPT.as_bytes(), size),
+            &mut steady_reader(SCRIPT.as_bytes(), size),
             &mut writer,
         )?;
         assert_eq!(rt;
@@ -396,8 +400,8 @@ fn each_read_fails_in_turn(rt: HostRuntime) -> Result<(), Fail> {
             size: 7,
             calls_left: calls,
         };
-        let mut writer = willing(rt.alloc());
-        let told = replayed(rt.alloc(), &mut reader, &mut writer)?;
+        let mut writer = willing_writer(rt.alloc());
+        let told = run_replay(rt.alloc(), &mut reader, &mut writer)?;
         let written = want.len() as u64;
         assert_eq!(rt;
             told,
@@ -425,9 +429,9 @@ fn each_write_fails_in_turn(rt: HostRuntime) -> Result<(), Fail> {
                 tired,
                 flushes: true,
             };
-            let told = replayed(
+            let told = run_replay(
                 rt.alloc(),
-                &mut steady(SCRIPT.as_bytes(), 4096),
+                &mut steady_reader(SCRIPT.as_bytes(), 4096),
                 &mut writer,
             )?;
             let taken = if tired == Tired::TakesOneThenFails {
@@ -455,11 +459,11 @@ fn each_write_fails_in_turn(rt: HostRuntime) -> Result<(), Fail> {
 #[test]
 fn the_flush_fails(rt: HostRuntime) -> Result<(), Fail> {
     let whole = first_answers(rt.alloc(), ANSWERS.len())?;
-    let mut writer = willing(rt.alloc());
+    let mut writer = willing_writer(rt.alloc());
     writer.flushes = false;
-    let told = replayed(
+    let told = run_replay(
         rt.alloc(),
-        &mut steady(SCRIPT.as_bytes(), 4096),
+        &mut steady_reader(SCRIPT.as_bytes(), 4096),
         &mut writer,
     )?;
     let written = whole.len() as u64;

@@ -1,4 +1,4 @@
-//! One line of a script.
+//! Reading one line of a script.
 
 ghost use Rattle.std.specs.Prelude.{◌≡◌, ◌≢◌, ℕ, List, ◌++◌, ◌<◌, ◌≤◌, ◌^◌, length, take, codes, All, IfSome, IfNone};
 ghost use Rattle.std.specs.Fmt.{decimal};
@@ -13,18 +13,18 @@ ghost use Rattle.rohc_replay.specs.Words.{event_in, size_in};
 use crate::hex_octets::decode;
 use crate::numeral::read_number;
 
-/// What a good line says; a packet's octets are put aside.
+/// The content of a good line. The octets of a packet are stored apart.
 #[derive(Clone, Copy, Debug, PartialEq, Eq)]
 pub(crate) enum Words {
-    /// A packet of so many octets arrives on a link at a moment.
+    /// A packet of `size` octets arrives on a link at this time.
     Arrive { link: u16, moment: u64, size: usize },
     /// A link is reset.
     Reset { link: u16 },
 }
 
-/// Reads a line, and puts the octets of its packet at the front of `packet`.
+/// Reads a line, and writes the octets of its packet to the start of `packet`.
 ///
-/// It is `None` exactly for a line that spells no event.
+/// Returns `None` exactly if the line is the text of no event.
 pub(crate) fn read_words(line: &[u8], packet: &mut [u8]) -> Option<Words>
     requires { length packet.old ≡ longest_packet }
     ensures spelled { IfSome result (λ words. line.now ≡ spelling (event_in words packet.new)) }
@@ -41,7 +41,7 @@ pub(crate) fn read_words(line: &[u8], packet: &mut [u8]) -> Option<Words>
     }
 }
 
-/// Reads what stands behind `arrive `: a link, a moment and the octets of a packet.
+/// Reads what follows `arrive `: a link, an arrival time and the octets of a packet.
 fn read_arrival(text: &[u8], packet: &mut [u8]) -> Option<Words>
     requires { length packet.old ≡ longest_packet }
     ensures spelled { IfSome result (λ words.
@@ -58,7 +58,7 @@ fn read_arrival(text: &[u8], packet: &mut [u8]) -> Option<Words>
     Some(Words::Arrive { link, moment, size })
 }
 
-/// Reads what stands behind `reset `: a link.
+/// Reads what follows `reset `: a link.
 fn read_link(text: &[u8]) -> Option<u16>
     ensures read { IfSome result (λ link. text.now ≡ decimal link) }
     ensures none { IfNone result ((link : ℕ) → link < 2 ^ 16 → text.now ≢ decimal link) }
@@ -71,14 +71,14 @@ fn read_link(text: &[u8]) -> Option<u16>
     }
 }
 
-/// A number as that of a link, if it is a `u16`.
+/// The number as that of a link, if it fits a `u16`.
 fn link_number(number: u64) -> Option<u16>
     ensures { SomeIff result (number < 2 ^ 16) number }
 {
     u16::try_from(number).ok()
 }
 
-/// Reads a number and the space behind it, and lends what comes next.
+/// Reads a number and the space after it, and returns it with the text after them.
 fn read_field(text: &[u8]) -> Option<(u64, &[u8])>
     ensures read { IfSome result (λ r. IsNumberAt text.entry.now r.0 (codes " " ++ r.1.now)) }
     ensures none { IfNone result ((number : ℕ) (rest : List ℕ) →
@@ -93,8 +93,8 @@ fn read_field(text: &[u8]) -> Option<(u64, &[u8])>
     }
 }
 
-/// Reads octets as lower case pairs of digits, or `-` for none, into the front of `packet`, and answers how
-/// many they are. It is `None` where the text is of another form, or `packet` has no room.
+/// Reads octets as pairs of lower case digits, or `-` for none, into the start of `packet`, and returns how
+/// many they are. Returns `None` if the text has another form, or if `packet` has no room.
 fn read_octets(text: &[u8], packet: &mut [u8]) -> Option<usize>
     ensures fits { IfSome result (λ size. size ≤ length packet.old) }
     ensures spelled { IfSome result (λ size. text.now ≡ hex_text (take size packet.new)) }
@@ -107,7 +107,7 @@ fn read_octets(text: &[u8], packet: &mut [u8]) -> Option<usize>
     }
 }
 
-/// Reads one or more octets as lower case pairs of digits into the front of `packet`, and answers how many
+/// Reads one or more octets as pairs of lower case digits into the start of `packet`, and returns how many
 /// they are.
 fn read_pairs(text: &[u8], packet: &mut [u8]) -> Option<usize>
     ensures fits { IfSome result (λ size. (0 < size) × (size ≤ length packet.old)) }
@@ -127,105 +127,4 @@ fn read_pairs(text: &[u8], packet: &mut [u8]) -> Option<usize>
 }
 
 #[cfg(test)]
-mod tests {
-    use super::*;
-    use std::alloc::{AllocError, Global};
-    use std::process::Abort;
-
-    #[test]
-    fn lines_are_read(rt: HostRuntime) -> Result<(), AllocError> {
-        let mut packet = vec![in rt.alloc(); 0u8; 65535]?;
-        say_their_event(&rt, &mut packet);
-        say_nothing(&rt, &mut packet);
-        have_room(&rt, rt.alloc(), &mut packet)
-    }
-
-    fn say_their_event(rt: &impl Abort, packet: &mut [u8])
-        requires { length packet.old ≡ longest_packet }
-    {
-        for (line, link, moment, octets) in [
-            (
-                "arrive 1 0 fc00b745aa",
-                1,
-                0,
-                b"\xfc\x00\xb7\x45\xaa".as_slice(),
-            ),
-            (
-                "arrive 1 999999999999 e110ac",
-                1,
-                999_999_999_999,
-                b"\xe1\x10\xac".as_slice(),
-            ),
-            (
-                "arrive 65535 18446744073709551615 -",
-                65535,
-                u64::MAX,
-                b"".as_slice(),
-            ),
-        ] {
-            let size = octets.len();
-            assert_eq!(rt;
-                read_words(line.as_bytes(), packet),
-                Some(Words::Arrive { link, moment, size }),
-                "{line}"
-            );
-            assert!(rt; packet.starts_with(octets), "{line}");
-        }
-        for (line, link) in [("reset 0", 0), ("reset 9", 9), ("reset 65535", 65535)] {
-            assert_eq!(rt;
-                read_words(line.as_bytes(), packet),
-                Some(Words::Reset { link }),
-                "{line}"
-            );
-        }
-    }
-
-    fn say_nothing(rt: &impl Abort, packet: &mut [u8])
-        requires { length packet.old ≡ longest_packet }
-    {
-        for line in [
-            "",
-            "oops",
-            "reset",
-            "reset ",
-            "reset 01",
-            "reset 00",
-            "reset +1",
-            "reset -",
-            "reset 65536",
-            "reset 1 ",
-            "reset 1\r",
-            "reset\t1",
-            "reset  1",
-            " reset 1",
-            "Reset 1",
-            "arrive 1 0 FC",
-            "arrive 1 0 fC",
-            "arrive 1 0 fc0",
-            "arrive 1 0 0g",
-            "arrive 1 0",
-            "arrive 1 0 ",
-            "arrive 1 0 - ",
-            "arrive 1  0 fc",
-            "arrive 1 00 fc",
-            "arrive 1 18446744073709551616 fc",
-            "arrive 65536 0 fc",
-            "arrive 1 0 fc fc",
-            "arrive 1 0 é",
-        ] {
-            assert_eq!(rt; read_words(line.as_bytes(), packet), None, "{line}");
-        }
-    }
-
-    // 65,535 pairs and 65,536 behind the eleven octets `arrive 1 0 `
-    fn have_room(rt: &impl Abort, alloc: Global, packet: &mut [u8]) -> Result<(), AllocError>
-        requires { length packet.old ≡ longest_packet }
-    {
-        for (size, is_good) in [(131_081, true), (131_083, false)] {
-            let mut line = Vec::from_slice(alloc, b"arrive 1 0 ")?;
-            line.resize(size, b'f')?;
-            assert_eq!(rt; read_words(&line, packet).is_some(), is_good);
-        }
-        Ok(())
-    }
-}
+mod tests;

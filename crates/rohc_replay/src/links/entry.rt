@@ -1,52 +1,96 @@
 //! One entry of a links file.
 
-ghost use Rattle.std.specs.Prelude.{◌≡◌};
+ghost use Rattle.std.specs.Prelude.{◌≡◌, map};
 ghost use Rattle.toml.specs.View.{table_view};
-ghost use Rattle.rohc_replay.specs.LinksFields.{whole, wanted};
-ghost use Rattle.rohc_replay.specs.LinksEntry.{ports_in, ranges_in, idle_in, has_known_keys, entry_in, numbered};
+ghost use Rattle.rohc_replay.specs.LinksFields.{whole_number, required_field, is_among};
+ghost use Rattle.rohc_replay.specs.LinksKeys.{name_of};
+ghost use Rattle.rohc_replay.specs.LinksEntry.{keys, ports_in, ranges_in, idle_in, has_known_keys, entry_in, numbered_entry};
 
-use super::fields::{found, has_only, optional, required};
+use super::fields::{field_at, optional_field, required_field};
 use super::{Key, LinksFault, Ports, Version};
 use arrayvec::ArrayVec;
 use rohc_concentrator::{CidRange, LinkSetting};
 use rohc_context::Settings;
 use toml::Table;
 
-/// The keys of an entry; those of version 1 come first.
-const NAMES: [&str; 15] = [
-    "number",
-    "cid",
-    "max_cid",
-    "mode",
-    "k1",
-    "n1",
-    "k2",
-    "n2",
-    "packet_ms",
-    "static_nack_ms",
-    "deliver_port",
-    "feedback_port",
-    "relay_port",
-    "idle_ms",
-    "range",
+/// The keys of version 1, in the order in which they are judged.
+const FIRST_KEYS: [Key; 13] = [
+    Key::Number,
+    Key::Cid,
+    Key::MaxCid,
+    Key::Mode,
+    Key::K1,
+    Key::N1,
+    Key::K2,
+    Key::N2,
+    Key::PacketMs,
+    Key::StaticNackMs,
+    Key::DeliverPort,
+    Key::FeedbackPort,
+    Key::RelayPort,
 ];
 
-/// Whether the version knows all keys of the entry.
-fn has_known_keys(version: Version, table: &Table) -> bool
-    ensures { result ≡ has_known_keys version (table_view table.now) }
+/// The keys of version 2: two more.
+const KEYS: [Key; 15] = [
+    Key::Number,
+    Key::Cid,
+    Key::MaxCid,
+    Key::Mode,
+    Key::K1,
+    Key::N1,
+    Key::K2,
+    Key::N2,
+    Key::PacketMs,
+    Key::StaticNackMs,
+    Key::DeliverPort,
+    Key::FeedbackPort,
+    Key::RelayPort,
+    Key::IdleMs,
+    Key::Range,
+];
+
+/// The keys that a version knows.
+fn keys(version: Version) -> &'static [Key]
+    ensures { result.now ≡ keys version }
 {
     match version {
-        Version::One => has_only(table, &NAMES[..13]),
-        Version::Two => has_only(table, &NAMES),
+        Version::One => &FIRST_KEYS,
+        Version::Two => &KEYS,
     }
 }
 
-/// The port at the key: 1 to 65,535.
-#[tactic(auto, using(crate::proofs::LinksFields::found_above))]
-fn port(table: &Table, key: Key) -> Result<u16, Key>
-    ensures { result ≡ wanted (whole 1 65535) key (table_view table.now) }
+/// Whether the version knows all keys of the entry.
+#[tactic(auto, unfolding(crate::specs::LinksEntry::has_known_keys))]
+fn has_known_keys(version: Version, table: &Table) -> bool
+    ensures { result ≡ has_known_keys version (table_view table.now) }
 {
-    match found(table, key.name()) {
+    for (name, _) in table {
+        if !knows_key(version, name.as_str()) {
+            return false;
+        }
+    }
+    true
+}
+
+/// Whether the version knows a key of this name.
+fn knows_key(version: Version, name: &str) -> bool
+    ensures { result ≡ is_among (map name_of (keys version)) name.now }
+{
+    let known = keys(version);
+    for key in known {
+        if key.name() == name {
+            return true;
+        }
+    }
+    false
+}
+
+/// The port at the key, from 1 to 65,535.
+#[tactic(auto, using(crate::proofs::LinksFields::field_above))]
+fn port(table: &Table, key: Key) -> Result<u16, Key>
+    ensures { result ≡ required_field (whole_number 1 65535) key (table_view table.now) }
+{
+    match field_at(table, key.name()) {
         Some(port) if port > 0 => Ok(port),
         _ => Err(key),
     }
@@ -70,38 +114,38 @@ fn idle_in(version: Version, table: &Table) -> Result<u32, Key>
 {
     match version {
         Version::One => Ok(0),
-        Version::Two => required(table, Key::IdleMs),
+        Version::Two => required_field(table, Key::IdleMs),
     }
 }
 
-/// The ranges of an entry: none in version 1, and where the key is missing.
+/// The ranges of an entry: none in version 1, and none if the key is missing.
 fn ranges_in(version: Version, table: &Table) -> Result<ArrayVec<CidRange, 8>, Key>
     ensures { result ≡ ranges_in version (table_view table.now) }
 {
     match version {
         Version::One => Ok(ArrayVec::new()),
-        Version::Two => match optional(table, Key::Range)? {
+        Version::Two => match optional_field(table, Key::Range)? {
             Some(ranges) => Ok(ranges),
             None => Ok(ArrayVec::new()),
         },
     }
 }
 
-/// What an entry sets, else its first key that is missing or wrong.
+/// The setting and the ports of an entry, else its first key that is missing or wrong.
 #[tactic(auto, unfolding(crate::specs::LinksEntry::entry_in))]
 fn entry_in(version: Version, table: &Table) -> Result<(LinkSetting, Ports), Key>
     ensures { result ≡ entry_in version (table_view table.now) }
 {
-    let link = required(table, Key::Number)?;
-    let size = required(table, Key::Cid)?;
-    let max_cid = required(table, Key::MaxCid)?;
-    let mode = required(table, Key::Mode)?;
-    let k1 = required(table, Key::K1)?;
-    let n1 = required(table, Key::N1)?;
-    let k2 = required(table, Key::K2)?;
-    let n2 = required(table, Key::N2)?;
-    let packet_ms = required(table, Key::PacketMs)?;
-    let static_nack_ms = required(table, Key::StaticNackMs)?;
+    let link = required_field(table, Key::Number)?;
+    let size = required_field(table, Key::Cid)?;
+    let max_cid = required_field(table, Key::MaxCid)?;
+    let mode = required_field(table, Key::Mode)?;
+    let k1 = required_field(table, Key::K1)?;
+    let n1 = required_field(table, Key::N1)?;
+    let k2 = required_field(table, Key::K2)?;
+    let n2 = required_field(table, Key::N2)?;
+    let packet_ms = required_field(table, Key::PacketMs)?;
+    let static_nack_ms = required_field(table, Key::StaticNackMs)?;
     let ports = ports_in(table)?;
     let idle_ms = idle_in(version, table)?;
     let ranges = ranges_in(version, table)?;
@@ -125,13 +169,13 @@ fn entry_in(version: Version, table: &Table) -> Result<(LinkSetting, Ports), Key
     Ok((setting, ports))
 }
 
-/// What the entry of this number sets, else its first fault.
-pub(super) fn numbered(
+/// The setting and the ports of the entry with this number, else its first fault.
+pub(super) fn numbered_entry(
     version: Version,
     entry: usize,
     table: &Table,
 ) -> Result<(LinkSetting, Ports), LinksFault>
-    ensures { result ≡ numbered version entry (table_view table.now) }
+    ensures { result ≡ numbered_entry version entry (table_view table.now) }
 {
     if !has_known_keys(version, table) {
         return Err(LinksFault::UnknownKey { entry });

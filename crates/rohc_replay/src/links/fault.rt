@@ -12,35 +12,35 @@ use thiserror::Error;
 pub enum Key {
     /// `link`, the array of the entries.
     Link,
-    /// `number`, of the link.
+    /// `number`, the number of the link.
     Number,
-    /// `cid`, how identifiers are spelled.
+    /// `cid`, the CID kind: small or large.
     Cid,
-    /// `max_cid`, the greatest identifier.
+    /// `max_cid`, the greatest CID.
     MaxCid,
-    /// `mode`, of operation.
+    /// `mode`, the mode of operation.
     Mode,
-    /// `k1`, failures that lead from Full to Static Context.
+    /// `k1`, the failures that lead from Full to Static Context.
     K1,
-    /// `n1`, among how many outcomes.
+    /// `n1`, the number of outcomes that `k1` is compared with.
     N1,
-    /// `k2`, failures that lead from Static to No Context.
+    /// `k2`, the failures that lead from Static to No Context.
     K2,
-    /// `n2`, among how many outcomes.
+    /// `n2`, the number of outcomes that `k2` is compared with.
     N2,
-    /// `packet_ms`, between two packets of a sender.
+    /// `packet_ms`, the time between two packets of a sender.
     PacketMs,
-    /// `static_nack_ms`, between two STATIC-NACKs at least.
+    /// `static_nack_ms`, the least time between two STATIC-NACKs.
     StaticNackMs,
-    /// `deliver_port`, for decompressed packets.
+    /// `deliver_port`, the port for decompressed packets.
     DeliverPort,
-    /// `feedback_port`, for feedback to the peer.
+    /// `feedback_port`, the port for feedback to the peer.
     FeedbackPort,
-    /// `relay_port`, for feedback from the peer.
+    /// `relay_port`, the port for feedback from the peer.
     RelayPort,
-    /// `idle_ms`, after which a record counts as none.
+    /// `idle_ms`, the time after which a record counts as none.
     IdleMs,
-    /// `range`, the array of the ranges of identifiers with a mode of their own.
+    /// `range`, the array of the ranges of CIDs with a mode of their own.
     Range,
 }
 
@@ -73,7 +73,7 @@ impl Key {
 /// What is wrong with a links file: the first fault in the order of the variants, entry by entry.
 #[derive(Debug, Drop, PartialEq, Eq, Error)]
 pub enum LinksFault {
-    /// The text is no TOML document.
+    /// The text isn't a TOML document.
     #[error("NotToml")]
     NotToml,
     /// `version` is missing, or neither 1 nor 2.
@@ -93,7 +93,7 @@ pub enum LinksFault {
         /// The first such key, in the order of `Key`.
         key: Key,
     },
-    /// An allocation was refused, which may come at any point.
+    /// There is no memory. This may come in place of any other fault.
     #[error("NoMemory")]
     NoMemory,
 }

@@ -1,26 +1,26 @@
-//! What the tables of a links file hold at their keys.
+//! Reading the values in the tables of a links file.
 
 ghost use Rattle.std.specs.Prelude.{◌≡◌, Option, map, option_map};
 ghost use Rattle.toml.specs.Data.{Data, get_member};
 ghost use Rattle.toml.specs.View.{view, table_view};
-ghost use Rattle.rohc_replay.specs.LinksFields.{whole, size, mode, found, wanted, allowed, is_among, has_only};
+ghost use Rattle.rohc_replay.specs.LinksFields.{whole_number, size, mode, field_at, required_field, optional_field, is_among, has_only};
 
 use super::Key;
 use rohc_context::Mode;
 use rohc_frame::CidKind;
 use toml::{Table, Value};
 
-/// A type that a key can ask for.
+/// A type that the value of a key can have.
 pub(super) trait Field: Sized {
     ghost field_of: { Data → Option Self };
 
-    /// The value as this type, if it is of it and fits.
+    /// The value as this type, if it is of this type and fits.
     fn read(value: &Value) -> Option<Self>
         ensures { result ≡ field_of (view value.now) };
 }
 
 impl Field for u8 {
-    ghost field_of = { whole 0 255 };
+    ghost field_of = { whole_number 0 255 };
 
     fn read(value: &Value) -> Option<u8> {
         u8::try_from(value.as_integer()?).ok()
@@ -28,7 +28,7 @@ impl Field for u8 {
 }
 
 impl Field for u16 {
-    ghost field_of = { whole 0 65535 };
+    ghost field_of = { whole_number 0 65535 };
 
     fn read(value: &Value) -> Option<u16> {
         u16::try_from(value.as_integer()?).ok()
@@ -36,7 +36,7 @@ impl Field for u16 {
 }
 
 impl Field for u32 {
-    ghost field_of = { whole 0 4294967295 };
+    ghost field_of = { whole_number 0 4294967295 };
 
     fn read(value: &Value) -> Option<u32> {
         u32::try_from(value.as_integer()?).ok()
@@ -67,16 +67,16 @@ impl Field for Mode {
     }
 }
 
-/// What the table holds at the key.
+/// The value at the key, if there is one.
 pub(super) fn value_at<'a>(table: &'a Table, name: &str) -> Option<&'a Value>
     ensures { option_map (λ v. view v.now) result ≡ get_member name.now (table_view table.now) }
 {
     table.get(name)
 }
 
-/// What the table holds at the key, if it is of the type.
-pub(super) fn found<T: Field>(table: &Table, name: &str) -> Option<T>
-    ensures { result ≡ found T.field_of name.now (table_view table.now) }
+/// The value at the key, if it is there and of the type.
+pub(super) fn field_at<T: Field>(table: &Table, name: &str) -> Option<T>
+    ensures { result ≡ field_at T.field_of name.now (table_view table.now) }
 {
     match value_at(table, name) {
         Some(value) => T::read(value),
@@ -84,16 +84,16 @@ pub(super) fn found<T: Field>(table: &Table, name: &str) -> Option<T>
     }
 }
 
-/// What the table holds at the key, or that this key is missing or wrong.
-pub(super) fn required<T: Field>(table: &Table, key: Key) -> Result<T, Key>
-    ensures { result ≡ wanted T.field_of key (table_view table.now) }
+/// The value at the key, else the key, which is missing or wrong.
+pub(super) fn required_field<T: Field>(table: &Table, key: Key) -> Result<T, Key>
+    ensures { result ≡ required_field T.field_of key (table_view table.now) }
 {
-    found(table, key.name()).ok_or(key)
+    field_at(table, key.name()).ok_or(key)
 }
 
-/// What the table holds at the key, if it has the key, or that this key is wrong.
-pub(super) fn optional<T: Field>(table: &Table, key: Key) -> Result<Option<T>, Key>
-    ensures { result ≡ allowed T.field_of key (table_view table.now) }
+/// The value at the key if the table has the key, else the key, which is wrong.
+pub(super) fn optional_field<T: Field>(table: &Table, key: Key) -> Result<Option<T>, Key>
+    ensures { result ≡ optional_field T.field_of key (table_view table.now) }
 {
     match value_at(table, key.name()) {
         Some(value) => match T::read(value) {

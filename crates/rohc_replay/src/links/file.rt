@@ -1,14 +1,14 @@
-//! The file as a whole.
+//! Reading a whole links file.
 
 ghost use Rattle.std.specs.Prelude.{◌≡◌, ◌≢◌, IfOk, IfErr, IsSome, Some, Ok, Err, option_and_then, option_map, is_some};
 ghost use Rattle.toml.specs.Data.{as_table};
 ghost use Rattle.toml.specs.View.{items_view, table_view};
 ghost use Rattle.rohc_replay.specs.declared.links.fault.LinksFault.TheVariants.{NoMemory};
-ghost use Rattle.rohc_replay.specs.LinksRanges.{each};
+ghost use Rattle.rohc_replay.specs.LinksRanges.{read_each};
 ghost use Rattle.rohc_replay.specs.Links.{version, entries, read_from, read_table, read_text};
 
-use super::entry::numbered;
-use super::fields::{Field, found, has_only, value_at};
+use super::entry::numbered_entry;
+use super::fields::{Field, field_at, has_only, value_at};
 use super::{Key, Links, LinksFault, Version};
 use std::alloc::Global;
 use toml::{Table, Value};
@@ -29,9 +29,9 @@ impl Field for Version {
 ///
 /// # Errors
 ///
-/// The first fault: that of the text, the version, the keys at the top and `link`, and then those of the
-/// entries in order, at each an unknown key first and then the first bad one in the order of `Key`.
-/// Ranges of numbers are judged where a concentrator is made of the settings.
+/// The first fault: of the text, the version, the keys at the top and `link`, and then of the entries in
+/// their order. In each entry an unknown key comes first, and then the first wrong key in the order of
+/// `Key`. Whether settings are within their limits is judged when a concentrator is made from them.
 pub fn read_links(alloc: Global, text: &str) -> Result<Links, LinksFault>
     ensures links { IfOk result (λ links. read_text text.now ≡ Ok links) }
     ensures fault { IfErr result (λ e. e ≢ NoMemory → read_text text.now ≡ Err e) }
@@ -49,7 +49,7 @@ fn read_table(alloc: Global, table: &Table) -> Result<Links, LinksFault>
     ensures links { IfOk result (λ links. read_table (table_view table.now) ≡ Ok links) }
     ensures fault { IfErr result (λ e. e ≢ NoMemory → read_table (table_view table.now) ≡ Err e) }
 {
-    let Some(version) = found(table, "version") else {
+    let Some(version) = field_at(table, "version") else {
         return Err(LinksFault::BadVersion);
     };
     if !has_only(table, &["version", "link"]) {
@@ -64,9 +64,9 @@ fn read_table(alloc: Global, table: &Table) -> Result<Links, LinksFault>
     }
 }
 
-/// The values under `link`, if they are tables; there are none where the key is missing.
+/// The values under `link`, if they are tables. There are none if the key is missing.
 fn entries(table: &Table) -> Option<&[Value]>
-    ensures value { option_and_then (λ values. each as_table (items_view values.now)) result ≡ entries (table_view table.now) }
+    ensures value { option_and_then (λ values. read_each as_table (items_view values.now)) result ≡ entries (table_view table.now) }
     ensures tables { is_some result ≡ is_some (entries (table_view table.now)) }
 {
     match value_at(table, Key::Link.name()) {
@@ -84,7 +84,7 @@ fn entries(table: &Table) -> Option<&[Value]>
 
 /// Whether all of the values are tables.
 fn are_tables(values: &[Value]) -> bool
-    ensures { result ≡ is_some (each as_table (items_view values.now)) }
+    ensures { result ≡ is_some (read_each as_table (items_view values.now)) }
 {
     for value in values {
         if !value.is_table() {
@@ -94,16 +94,16 @@ fn are_tables(values: &[Value]) -> bool
     true
 }
 
-/// Reads the entries, which are numbered from 1.
+/// Reads the entries, numbered from 1.
 fn read_entries(alloc: Global, version: Version, values: &[Value]) -> Result<Links, LinksFault>
-    requires { IsSome (each as_table (items_view values.now)) }
-    ensures links { IfOk result (λ links. option_map (read_from 1 version) (each as_table (items_view values.now)) ≡ Some (Ok links)) }
-    ensures fault { IfErr result (λ e. e ≢ NoMemory → option_map (read_from 1 version) (each as_table (items_view values.now)) ≡ Some (Err e)) }
+    requires { IsSome (read_each as_table (items_view values.now)) }
+    ensures links { IfOk result (λ links. option_map (read_from 1 version) (read_each as_table (items_view values.now)) ≡ Some (Ok links)) }
+    ensures fault { IfErr result (λ e. e ≢ NoMemory → option_map (read_from 1 version) (read_each as_table (items_view values.now)) ≡ Some (Err e)) }
 {
     let mut links = Links::new(alloc);
     for (place, value) in values.iter().enumerate() {
         let table = value.as_table().unwrap();
-        let (setting, ports) = numbered(version, place + 1, table)?;
+        let (setting, ports) = numbered_entry(version, place + 1, table)?;
         links.push(setting, ports)?;
     }
     Ok(links)

@@ -1,4 +1,4 @@
-//! What was read of a links file.
+//! The content of a links file.
 
 ghost use Rattle.std.specs.Prelude.{◌≡◌, [], ◌∷◌, ◌++◌, length, OnOk};
 
@@ -7,7 +7,7 @@ use rohc_concentrator::LinkSetting;
 use std::alloc::{AllocError, Global};
 use std::marker::Model;
 
-/// A links file that was read: a setting and its ports per entry, in order.
+/// The content of a links file: a setting and its ports for each entry, in order.
 #[derive(Debug, Drop)]
 pub struct Links {
     settings: Vec<LinkSetting>,
@@ -26,7 +26,7 @@ impl Model for Links {
 }
 
 impl Links {
-    /// No entries yet.
+    /// No entries.
     pub(super) fn new(alloc: Global) -> Links
         ensures settings { result.settings ≡ [] }
         ensures ports { result.ports ≡ [] }
@@ -37,7 +37,7 @@ impl Links {
         }
     }
 
-    /// Appends what an entry sets.
+    /// Appends the setting and the ports of an entry.
     pub(super) fn push(&mut self, setting: LinkSetting, ports: Ports) -> Result<(), AllocError>
         ensures settings { OnOk result (self.new.settings ≡ self.old.settings ++ setting ∷ []) }
         ensures ports { OnOk result (self.new.ports ≡ self.old.ports ++ ports ∷ []) }
@@ -48,14 +48,14 @@ impl Links {
         Ok(())
     }
 
-    /// The settings of the entries, in order. Takes no memory.
+    /// The settings of the entries, in order. Needs no memory.
     pub fn settings(&self) -> &[LinkSetting]
         ensures { result.now ≡ self.now.settings }
     {
         self.settings.as_slice()
     }
 
-    /// The ports of the entries, in order: as many as there are settings. Takes no memory.
+    /// The ports of the entries, in order, as many as there are settings. Needs no memory.
     pub fn ports(&self) -> &[Ports]
         ensures value { result.now ≡ self.now.ports }
         ensures paired { length self.now.ports ≡ length self.now.settings }

@@ -1,10 +1,10 @@
-//! The ranges of identifiers that have a mode of their own.
+//! The ranges of CIDs that have a mode of their own.
 
 ghost use Rattle.std.specs.Prelude.{◌≡◌, ◌≤◌, length, option_map};
 ghost use Rattle.toml.specs.View.{items_view};
-ghost use Rattle.rohc_replay.specs.LinksRanges.{each, range, ranges};
+ghost use Rattle.rohc_replay.specs.LinksRanges.{read_each, range, ranges};
 
-use super::fields::{Field, found, has_only};
+use super::fields::{Field, field_at, has_only};
 use arrayvec::ArrayVec;
 use rohc_concentrator::CidRange;
 use toml::Value;
@@ -18,9 +18,9 @@ impl Field for CidRange {
             return None;
         }
         Some(CidRange {
-            first: found(table, "first")?,
-            last: found(table, "last")?,
-            mode: found(table, "mode")?,
+            first: field_at(table, "first")?,
+            last: field_at(table, "last")?,
+            mode: field_at(table, "mode")?,
         })
     }
 }
@@ -34,14 +34,14 @@ impl Field for ArrayVec<CidRange, 8> {
         if values.len() > 8 {
             return None;
         }
-        each_range(values.as_slice())
+        read_ranges(values.as_slice())
     }
 }
 
-/// The ranges that the values are, if each is one.
-fn each_range(values: &[Value]) -> Option<ArrayVec<CidRange, 8>>
+/// The values as ranges, if each of them is one.
+fn read_ranges(values: &[Value]) -> Option<ArrayVec<CidRange, 8>>
     requires { length values.now ≤ 8 }
-    ensures { option_map (λ ranges. ranges.items) result ≡ each range (items_view values.now) }
+    ensures { option_map (λ ranges. ranges.items) result ≡ read_each range (items_view values.now) }
 {
     let mut ranges = ArrayVec::new();
     for value in values {

@@ -154,7 +154,7 @@ fn tells_the_first_fault(rt: HostRuntime) -> Result<(), Fail> {
 }
 
 /// The fault of a key in the first entry.
-fn bad(key: Key) -> LinksFault {
+fn bad_key(key: Key) -> LinksFault {
     LinksFault::BadKey { entry: 1, key }
 }
 
@@ -170,14 +170,14 @@ fn wants_each_key(rt: HostRuntime) -> Result<(), Fail> {
         let wrong = with_line(alloc, SECOND, place, truth.as_str())?;
         assert_eq!(rt;
             read_links(alloc, wrong.as_str()).err(),
-            Some(bad(*key)),
+            Some(bad_key(*key)),
             "at {name}"
         );
         if *key != Key::Range {
             let missing = with_line(alloc, SECOND, place, "")?;
             assert_eq!(rt;
                 read_links(alloc, missing.as_str()).err(),
-                Some(bad(*key)),
+                Some(bad_key(*key)),
                 "at {name}"
             );
         }
@@ -233,7 +233,7 @@ fn refuses_wrong_values(rt: HostRuntime) -> Result<(), Fail> {
         let text = with_line(alloc, text, place, line)?;
         assert_eq!(rt;
             read_links(alloc, text.as_str()).err(),
-            Some(bad(key)),
+            Some(bad_key(key)),
             "at {line}"
         );
     }
@@ -243,7 +243,7 @@ fn refuses_wrong_values(rt: HostRuntime) -> Result<(), Fail> {
 #[test]
 fn takes_eight_ranges(rt: HostRuntime) -> Result<(), Fail> {
     let alloc = rt.alloc();
-    for (count, fault) in [(8u8, None), (9, Some(bad(Key::Range)))] {
+    for (count, fault) in [(8u8, None), (9, Some(bad_key(Key::Range)))] {
         let mut line = String::from_str(alloc, "range = [")?;
         for _ in 0..count {
             line.push_str("{ first = 4, last = 7, mode = \"U\" },")?;

@@ -35,7 +35,7 @@ impl Write for Taker {
     }
 }
 
-fn taking(alloc: Global, most: usize, fails_at: u32) -> Taker {
+fn new_taker(alloc: Global, most: usize, fails_at: u32) -> Taker {
     Taker {
         text: Vec::new(alloc),
         calls: 0,
@@ -66,7 +66,7 @@ fn reply<'a>(head: &[u8], payload: &'a [u8], feedback: &[u8], outcome: Outcome) 
 }
 
 /// The answer of one identifier, without anything to relay.
-fn arrived<'a>(cid: u16, reply: Reply<'a>) -> Answer<'a> {
+fn arrival_answer<'a>(cid: u16, reply: Reply<'a>) -> Answer<'a> {
     match cut(CidKind::Small, 15, &[0x10]) {
         Ok(framed) => Answer::Arrived {
             cid,
@@ -137,8 +137,8 @@ const REPLIES: [Told; 6] = [
 ];
 
 /// Offers an answer, and compares what was taken with these lines.
-fn says(rt: &impl Abort, alloc: Global, link: u16, answer: Answer<'_>, lines: &str) {
-    let mut taker = taking(alloc, usize::MAX, 0);
+fn compare_lines(rt: &impl Abort, alloc: Global, link: u16, answer: Answer<'_>, lines: &str) {
+    let mut taker = new_taker(alloc, usize::MAX, 0);
     let mut answers = Answers::new();
     assert!(rt;
         answers.offer_answer(&mut taker, link, &answer).is_ok(),
@@ -152,11 +152,11 @@ fn says(rt: &impl Abort, alloc: Global, link: u16, answer: Answer<'_>, lines: &s
 fn answers_are_lines(rt: HostRuntime) -> Result<(), AllocError> {
     for told in REPLIES {
         let reply = reply(told.head, told.payload, told.feedback, told.outcome);
-        let answer = arrived(told.cid, reply);
-        says(&rt, rt.alloc(), told.link, answer, told.lines);
+        let answer = arrival_answer(told.cid, reply);
+        compare_lines(&rt, rt.alloc(), told.link, answer, told.lines);
     }
     let refused = Answer::Refused(Refusal::NoLink);
-    says(&rt, rt.alloc(), 9, refused, "9 - refused NoLink\n");
+    compare_lines(&rt, rt.alloc(), 9, refused, "9 - refused NoLink\n");
     Ok(())
 }
 
@@ -166,7 +166,7 @@ fn relayed_feedback_is_a_line(rt: HostRuntime) -> Result<(), AllocError> {
         (b"\x20\x07".as_slice(), "1 - relay 2007\n"),
         (b"".as_slice(), "1 - relay -\n"),
     ] {
-        let mut taker = taking(rt.alloc(), usize::MAX, 0);
+        let mut taker = new_taker(rt.alloc(), usize::MAX, 0);
         assert!(rt; Answers::new().offer_relay(&mut taker, 1, feedback).is_ok());
         assert_eq!(rt; taker.text.as_slice(), text.as_bytes());
     }
@@ -180,9 +180,9 @@ fn a_short_line_is_one_write_and_a_long_one_goes_in_parts(
     for (size, calls) in [(200, 1), (1400, 3)] {
         let mut payload = Vec::new(rt.alloc());
         payload.resize(size, 0x5a)?;
-        let answer = arrived(0, reply(&[], &payload, &[], Outcome::Delivered));
-        let mut whole = taking(rt.alloc(), usize::MAX, 0);
-        let mut slow = taking(rt.alloc(), 7, 0);
+        let answer = arrival_answer(0, reply(&[], &payload, &[], Outcome::Delivered));
+        let mut whole = new_taker(rt.alloc(), usize::MAX, 0);
+        let mut slow = new_taker(rt.alloc(), 7, 0);
         assert!(rt; Answers::new().offer_answer(&mut whole, 1, &answer).is_ok());
         assert!(rt; Answers::new().offer_answer(&mut slow, 1, &answer).is_ok());
         assert_eq!(rt; whole.calls, calls);
@@ -201,7 +201,7 @@ fn a_fault_stops_the_line(rt: HostRuntime) -> Result<(), AllocError> {
         (0, 0, ""),
         (usize::MAX, 1, ""),
     ] {
-        let mut taker = taking(rt.alloc(), most, fails_at);
+        let mut taker = new_taker(rt.alloc(), most, fails_at);
         let mut answers = Answers::new();
         assert_eq!(rt;
             answers.offer_refusal(&mut taker, 9, Refusal::NoLink),

@@ -1,6 +1,6 @@
 //! Each CID of each link gets the answers that its own lines alone would get.
 
-use super::{concentrator, steady, willing};
+use super::{concentrator, steady_reader, willing_writer};
 use crate::run::replay;
 use std::alloc::{AllocError, Global};
 use std::test::Fail;
@@ -189,11 +189,11 @@ fn whole_script(alloc: Global, hostile: usize) -> Result<String, AllocError> {
 
 /// What a replay of the script writes.
 fn answers(alloc: Global, script: &str) -> Result<String, Fail> {
-    let mut writer = willing(alloc);
+    let mut writer = willing_writer(alloc);
     replay(
         alloc,
         &mut concentrator(alloc, LINKS)?,
-        &mut steady(script.as_bytes(), 4096),
+        &mut steady_reader(script.as_bytes(), 4096),
         &mut writer,
     )?;
     Ok(String::from_utf8(writer.text)?)

@@ -1,11 +1,9 @@
-use Rattle.std.proofs.Common.{◌≡◌, [], ◌-◌, ◌++◌, length, take, drop, slice_range, arith, refl, sym, ◌∙◌, ap, subst}
+use Rattle.std.proofs.Common.{[], ◌++◌, slice_range, arith}
 use Rattle.std.proofs.KnownBytes.{Consumes-nil, Consumes-trans}
-use Rattle.std.proofs.lemmas.List.{length-take-le}
-use Rattle.rohc_replay.proofs.RangeLemmas.{range-none, drop-front, take-front}
-use Rattle.rohc_replay.proofs.StreamLemmas.{Stands-first, Stands-same, Consumes-nothing, Replays-whole}
-use Rattle.rohc_replay.proofs.FaultLemmas.{fails_writing, fails_at_end, fails_flushing}
-use Rattle.rohc_replay.specs.Run.{change}
-use Rattle.rohc_replay.specs.Stream.{StopsWithin}
+use Rattle.rohc_replay.proofs.StreamLemmas.{Stands-first}
+use Rattle.rohc_replay.proofs.PieceLemmas.{whole_text, Stands-kept, Stands-before, Stands-moved, StopsWithin-piece}
+use Rattle.rohc_replay.proofs.FaultLemmas.{fails_writing}
+use Rattle.rohc_replay.specs.Run.{change, Replays, WriteFault}
 use Rattle.rohc_replay.proofs.run.run_script.Goals as goal
 
 pub loop-init : goal.loop-init
@@ -18,61 +16,39 @@ pub returns-then-end-front-clause-whole : goal.returns-then-end-front-clause-who
 returns-then-end-front-clause-whole g c =
     let before = c.loop.invariant.read in
     let got = c.in-Ok.ensures in
-    let nothing : slice_range c.read_behind.new.line c.loop.front.len c.in-Ok.end ≡ [] = ap (slice_range c.read_behind.new.line c.loop.front.len) c.if-end-front.true ∙ range-none c.read_behind.new.line c.loop.front.len in
-    let stands = Stands-same c.args.concentrator.now (g.W.Write.contents c.args.writer.now) before.0 before.0 _ _ _ _ _ _ refl (sym got.kept) before.2 in
-    Replays-whole _ _ _ _ _ before.0 _ _ _ _ _ before.1 got.read nothing (got.at_end c.if-end-front.true)
-    (c.in-Ok-end_script.ensures.ends c.args.concentrator.now (g.W.Write.contents c.args.writer.now) before.0 stands) c.in-Ok-flush.ensures.bytes
+    let same = c.if-end-front.true in
+    whole_text _ _ _ before.0 _ _ _ (λ t. Replays (change c.args.concentrator.now (g.W.Write.contents c.args.writer.now) c.finish.new.concentrator (g.W.Write.contents c.finish.new.writer)) t c.finish.new.counts.tally) before.1 got.read same (got.at_end same)
+    (c.in-Ok-finish.ensures.whole c.args.concentrator.now (g.W.Write.contents c.args.writer.now) before.0 (Stands-kept _ _ before.0 _ _ _ _ _ _ _ _ same got.kept before.2))
 
 pub loop-preserved : goal.loop-preserved
 loop-preserved g c =
     let before = c.loop.invariant.read in
     let got = c.in-Ok.ensures in
-    let line = c.read_behind.new.line in
-    let end = c.in-Ok.end in
     let ran = c.in-Ok-run_lines.ensures in
-    let len = c.in-Ok-run_lines.next.len in
-    let bound : length (take end line) ≡ end = length-take-le end line got.behind.1 in
-    let last : drop (length (take end line) - len) (take end line) ≡ take len c.keep_behind.new.line =
-    ap (λ n. drop (n - len) (take end line)) bound ∙ drop-front line (end - len) end (omega arith) ∙ sym c.keep_behind.ensures in
     let stands = ran.stands c.args.concentrator.now (g.W.Write.contents c.args.writer.now) before.0
-    (Stands-same _ _ before.0 before.0 _ _ _ _ _ _ refl (sym got.kept ∙ sym (take-front line c.loop.front.len end got.behind.0)) before.2) in
+    (Stands-before _ _ before.0 _ _ _ _ _ _ _ _ got.within.0 got.kept before.2) in
     record {
       kept = ran.kept;
       read = (
-        before.0 ++ slice_range line c.loop.front.len end,
+        before.0 ++ slice_range c.read_more.new.line c.loop.front.len c.in-Ok.end,
         Consumes-trans _ _ _ _ _ before.1 got.read,
-        Stands-same _ _ _ _ _ _ _ _ _ _ (ap (λ t. before.0 ++ t) (drop-front line c.loop.front.len end got.behind.0)) last stands,
+        Stands-moved _ _ before.0 c.read_more.new.line c.move_to_front.new.line _ _ _ _ _ _ _ got.within.0 ran.used got.within.1 c.move_to_front.ensures stands,
       );
     }
 
-pub returns-in_default-end_script-clause-fault : goal.returns-in_default-end_script-clause-fault
-returns-in_default-end_script-clause-fault g c =
+pub returns-in_default-finish-clause-fault : goal.returns-in_default-finish-clause-fault
+returns-in_default-finish-clause-fault g c =
     let before = c.loop.invariant.read in
     let got = c.in-Ok.ensures in
-    let line = c.read_behind.new.line in
-    let nothing : slice_range line c.loop.front.len c.in-Ok.end ≡ [] = ap (slice_range line c.loop.front.len) c.if-end-front.true ∙ range-none line c.loop.front.len in
-    let stands = Stands-same c.args.concentrator.now (g.W.Write.contents c.args.writer.now) before.0 before.0 _ _ _ _ _ _ refl (sym got.kept) before.2 in
-    rw c.write_fault.ensures (fails_at_end _ _ _ _ before.0 c.end_script.new.concentrator (g.W.Write.contents c.end_script.new.writer) c.end_script.new.counts (Consumes-nothing _ _ _ before.0 _ before.1 got.read nothing) (got.at_end c.if-end-front.true)
-    (c.in_default-end_script.ensures.stops c.args.concentrator.now (g.W.Write.contents c.args.writer.now) before.0 stands))
-
-pub returns-in_default-flush-clause-fault : goal.returns-in_default-flush-clause-fault
-returns-in_default-flush-clause-fault g c =
-    let before = c.loop.invariant.read in
-    let got = c.in-Ok.ensures in
-    let line = c.read_behind.new.line in
-    let nothing : slice_range line c.loop.front.len c.in-Ok.end ≡ [] = ap (slice_range line c.loop.front.len) c.if-end-front.true ∙ range-none line c.loop.front.len in
-    let stands = Stands-same c.args.concentrator.now (g.W.Write.contents c.args.writer.now) before.0 before.0 _ _ _ _ _ _ refl (sym got.kept) before.2 in
-    rw c.write_fault-in_default-flush.ensures (fails_flushing _ _ _ _ before.0 c.end_script.new.concentrator (g.W.Write.contents c.end_script.new.writer) _ c.end_script.new.counts (Consumes-nothing _ _ _ before.0 _ before.1 got.read nothing) (got.at_end c.if-end-front.true)
-    (c.in-Ok-end_script.ensures.ends c.args.concentrator.now (g.W.Write.contents c.args.writer.now) before.0 stands) c.flush.ensures.bytes)
+    let same = c.if-end-front.true in
+    rw c.write_fault.ensures (whole_text _ _ _ before.0 _ _ _ (λ t. WriteFault (change c.args.concentrator.now (g.W.Write.contents c.args.writer.now) c.finish.new.concentrator (g.W.Write.contents c.finish.new.writer)) t c.finish.new.counts.answers.taken) before.1 got.read same (got.at_end same)
+    (c.in_default-finish.ensures.fault c.args.concentrator.now (g.W.Write.contents c.args.writer.now) before.0 (Stands-kept _ _ before.0 _ _ _ _ _ _ _ _ same got.kept before.2)))
 
 pub returns-in_default-run_lines-clause-fault : goal.returns-in_default-run_lines-clause-fault
 returns-in_default-run_lines-clause-fault g c =
     let before = c.loop.invariant.read in
     let got = c.in-Ok.ensures in
-    let line = c.read_behind.new.line in
-    let end = c.in-Ok.end in
-    let stands = Stands-same _ _ before.0 before.0 _ _ _ _ _ _ refl (sym got.kept ∙ sym (take-front line c.loop.front.len end got.behind.0)) before.2 in
-    let stops = c.in_default-run_lines.ensures.stops c.args.concentrator.now (g.W.Write.contents c.args.writer.now) before.0 stands in
-    let front : drop c.loop.front.len (take end line) ≡ slice_range line c.loop.front.len end = drop-front line c.loop.front.len end got.behind.0 in
-    rw c.write_fault-in_default-run_lines.ensures (fails_writing _ _ _ _ (before.0 ++ slice_range line c.loop.front.len end) c.run_lines.new.concentrator (g.W.Write.contents c.run_lines.new.writer) c.run_lines.new.counts (Consumes-trans _ _ _ before.0 _ before.1 got.read)
-    (subst (λ t. StopsWithin (change c.args.concentrator.now (g.W.Write.contents c.args.writer.now) c.run_lines.new.concentrator (g.W.Write.contents c.run_lines.new.writer)) (before.0 ++ t) c.run_lines.new.counts) front stops))
+    let stops = c.in_default-run_lines.ensures.stops c.args.concentrator.now (g.W.Write.contents c.args.writer.now) before.0
+    (Stands-before _ _ before.0 _ _ _ _ _ _ _ _ got.within.0 got.kept before.2) in
+    rw c.write_fault-in_default-run_lines.ensures (fails_writing _ _ _ _ _ _ _ c.run_lines.new.counts (Consumes-trans _ _ _ before.0 _ before.1 got.read)
+    (StopsWithin-piece _ _ before.0 c.read_more.new.line _ _ _ _ c.run_lines.new.counts got.within.0 stops))

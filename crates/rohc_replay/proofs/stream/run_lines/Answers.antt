@@ -3,7 +3,7 @@ use Rattle.std.proofs.lemmas.List.{get_or-drop}
 use Rattle.std.proofs.lemmas.Result.{err_from_is_err_and}
 use Rattle.rohc_replay.specs.Lines.{has_newline}
 use Rattle.rohc_replay.proofs.RangeLemmas.{range-ahead, range-end}
-use Rattle.rohc_replay.proofs.StreamLemmas.{seen_parts, Stands-along, Stands-behind, Stands-long, Stands-short, Stands-end}
+use Rattle.rohc_replay.proofs.StreamLemmas.{seen_parts, Stands-along, Stands-after, Stands-long, Stands-short, Stands-end}
 use Rattle.rohc_replay.proofs.stream.run_lines.Goals as goal
 use Rattle.rohc_replay.proofs.stream.run_lines.Goals.{then-long-via-then-long, then-long-via-else-long+then-len-gt-LONGEST_LINE}
 
@@ -23,7 +23,7 @@ loop-ahead-preserved g c =
       later = omega (arith, before.later);
       within = omega arith;
       stands = λ first held seen s.
-          Stands-behind first held seen octets c.args.front.len (from + ahead) _ _ _ (omega (arith, before.later)) inside newline
+          Stands-after first held seen octets c.args.front.len (from + ahead) _ _ _ (omega (arith, before.later)) inside newline
           (c.in_ok-end_line.ensures.stands first held (seen ++ slice_range octets c.args.front.len (from + ahead))
           (Stands-along first held seen octets c.args.front.len c.loop-ahead.start from (from + ahead) _ _ _ _ before.begun before.later (omega arith) none (before.stands first held seen s)));
     }

@@ -2,7 +2,7 @@ use Rattle.std.proofs.Common.{◌∙◌, ◌≡◌, ◌+◌, drop, sym, Some, Ok
 use Rattle.toml.specs.Data.{as_table, item}
 use Rattle.toml.specs.View.{items_view, view, table_view}
 use Rattle.toml.proofs.Views.{items_view-drop}
-use Rattle.rohc_replay.specs.LinksEntry.{numbered}
+use Rattle.rohc_replay.specs.LinksEntry.{numbered_entry}
 use Rattle.rohc_replay.proofs.LinksEntries.{entry_read, others_are_tables}
 use Rattle.rohc_replay.proofs.links.file.read_entries.Goals as goal
 
@@ -15,7 +15,7 @@ loop-place-preserved c =
     let first : items_view (drop place values) ≡ item (view value) (items_view (drop (place + 1) values)) =
     items_view-drop values place value (omega arith) ∙ ap (λ v. item (view v) (items_view (drop (place + 1) values))) (sym c.index-values-place.is) in
     let is_table : as_table (view value) ≡ Some table = sym c.as_table.ensures ∙ ap (option_map (λ m. table_view m.now)) c.unwrap-table.ensures in
-    let good : numbered c.args.version (place + 1) table ≡ Ok (c.in_ok-setting.setting, c.in_ok-setting.ports) = sym c.numbered.ensures ∙ c.in_ok-setting.was in
+    let good : numbered_entry c.args.version (place + 1) table ≡ Ok (c.in_ok-setting.setting, c.in_ok-setting.ports) = sym c.numbered_entry.ensures ∙ c.in_ok-setting.was in
     let more = c.in_ok-push.ensures in
     record {
       tables = others_are_tables (view value) _ _ first c.loop-place.invariant.tables;
