@@ -1,4 +1,5 @@
--- The run of a script, line by line. Words: RunsLine, Runs; marked_of; IsTally; Change; Replays; Work, Fails.
+-- The run of a script, line by line. Words: RunsLine, Runs; marked_of; IsTally; Change; Replays; Work,
+-- WriteFault, Fails.
 use Rattle.std.specs.Prelude.{◌≡◌, ℕ, ◌-◌, ◌^◌, List, [], ◌∷◌, ◌++◌, Bool, true, false, not, count_by, min, length, ◌<◌, ◌⊎◌, Option, IfSome}
 use Rattle.std.specs.List.{flat_map}
 use Rattle.std.specs.Io.KnownBytes.{Appends, Consumes}
