@@ -8,7 +8,7 @@ use Rattle.std.specs.HashMap.{HashMap, get, keys, values, IsUnique}
 use Rattle.indexmap.specs.IndexMap.{with_value_at, index_map_len}
 use Rattle.indexmap.proofs.CallerLemmas.{updates-with_value_at}
 use Rattle.rohc_context.specs.declared.record.Context.{Context}
-use Rattle.rohc_concentrator.specs.Tables.{Stands}
+use Rattle.rohc_concentrator.specs.Tables.{IsPlaceOf}
 
 -- an entry has one value
 pub same_value : (found : Option (ℕ × Context)) (cid key : ℕ) (a b : Context) → found ≡ Some (cid, a) → found ≡ Some (key, b) → a ≡ b
@@ -39,7 +39,7 @@ entry_at (e ∷ es) (suc place) key value k v = entry_at es place key value k v
 
 -- where the first key that is the identifier stands, its record stands
 stands_first : {S : Type 0} (m : HashMap ℕ Context S) (place cid : ℕ) (context : Context) → position (nat_eq cid) (keys m) ≡ Some place → place < index_map_len m
-    → slice_get (values m) place ≡ Some context → get nat_eq m cid ≡ Some context → Stands m place cid
+    → slice_get (values m) place ≡ Some context → get nat_eq m cid ≡ Some context → IsPlaceOf m place cid
 stands_first m place cid context first inside value found =
     let passes = position-Some (nat_eq cid) (keys m) place 0 first in
     let is : get_or (keys m) place 0 ≡ cid = let test = passes.1 in grind (arith, nat_tests) in
@@ -48,10 +48,10 @@ stands_first m place cid context first inside value found =
 
 -- so its record stands where its key is looked up
 pub found_by_key : {S : Type 0} (m : HashMap ℕ Context S) (cid : ℕ) (found : Option ℕ) → found ≡ position (nat_eq cid) (keys m) → IfSome found (λ place. place < index_map_len m)
-    → IfSome found (λ place. slice_get (values m) place ≡ get nat_eq m cid) → is_some found ≡ is_some (get nat_eq m cid) → IfSome found (λ place. Stands m place cid)
+    → IfSome found (λ place. slice_get (values m) place ≡ get nat_eq m cid) → is_some found ≡ is_some (get nat_eq m cid) → IfSome found (λ place. IsPlaceOf m place cid)
 found_by_key m cid None index inside value some = tt
 found_by_key m cid (Some place) index inside value some = by (get nat_eq m cid) refl
   where
-    by : (r : Option Context) → get nat_eq m cid ≡ r → Stands m place cid
+    by : (r : Option Context) → get nat_eq m cid ≡ r → IsPlaceOf m place cid
     by None e = absurd (true≢false (some ∙ ap is_some e))
     by (Some context) e = stands_first m place cid context (sym index) inside (value ∙ e) e

@@ -1,4 +1,4 @@
--- What a concentrator keeps. Words: setting_at k l, record_at k l i, identifiers_at k l; AreTables; Stands;
+-- What a concentrator keeps. Words: setting_at k l, record_at k l i, identifiers_at k l; AreTables; IsPlaceOf;
 -- Keeps, for what stays.
 use Rattle.std.specs.Prelude.{◌≡◌, ◌≢◌, ℕ, List, [], ◌∷◌, ◌++◌, ◌⊎◌, Option, Some, None, nat_eq, map, unwrap_or, ◌<◌, slice_get}
 use Rattle.std.specs.HashMap.{HashMap}
@@ -19,7 +19,7 @@ abbrev pub record_in : LinkRecords → ℕ → Option Record
 record_in r cid = option_map record_of (get nat_eq r.contexts cid)
 
 -- the record at this place among those of a link is this CID's
-pub record Stands {S : Type 0} (contexts : HashMap ℕ Context S) (place cid : ℕ) : Type 0 where
+pub record IsPlaceOf {S : Type 0} (contexts : HashMap ℕ Context S) (place cid : ℕ) : Type 0 where
   pub context : Context
   pub entry : slice_get contexts.entries place ≡ Some (cid, context)
   pub found : get nat_eq contexts cid ≡ Some context

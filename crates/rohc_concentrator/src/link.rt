@@ -5,7 +5,7 @@ ghost use Rattle.indexmap.specs.IndexMap.{keys};
 ghost use Rattle.rohc_frame.specs.Reading.{header_of};
 ghost use Rattle.rohc_context.specs.Response.{response_of};
 ghost use Rattle.rohc_concentrator.specs.Setting.{settings_of};
-ghost use Rattle.rohc_concentrator.specs.Tables.{record_in, KeepsPlace, Stands};
+ghost use Rattle.rohc_concentrator.specs.Tables.{record_in, KeepsPlace, IsPlaceOf};
 ghost use Rattle.rohc_concentrator.specs.Report.{OwnStep};
 
 use crate::records::LinkRecords;
@@ -43,7 +43,7 @@ pub(crate) fn arrive_at<'a>(
 
 /// Whether the record at this place is this CID's.
 fn stands_at(records: &LinkRecords, place: usize, cid: u16) -> bool
-    ensures { result ≡ true → Stands records.now.contexts place cid }
+    ensures { result ≡ true → IsPlaceOf records.now.contexts place cid }
 {
     let Some((key, _)) = records.contexts.get_index(place) else {
         return false;
@@ -56,7 +56,7 @@ fn stands_at(records: &LinkRecords, place: usize, cid: u16) -> bool
 /// If a sender gives each new call its least free CID, the places of the records are their CIDs. So that place is
 /// tried before the key is looked up.
 fn place_of(records: &LinkRecords, cid: u16) -> Option<usize>
-    ensures there { IfSome result (λ place. Stands records.now.contexts place cid) }
+    ensures there { IfSome result (λ place. IsPlaceOf records.now.contexts place cid) }
     ensures absent { result ≡ None → record_in records.now cid ≡ None }
 {
     let place = usize::from(cid);

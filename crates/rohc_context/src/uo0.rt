@@ -42,7 +42,6 @@ fn meant(reference: &Reference, packet: &Uo0<'_>) -> Dynamic
 impl FullContext {
     ghost use Rattle.std.specs.Prelude.{◌≡◌, ℕ, None, Ok, option_map, true, false};
     ghost use Rattle.rohc_frame.specs.Reading.{header_of};
-    ghost use Rattle.rohc_forms.specs.Packets.{IsOther};
     ghost use Rattle.rohc_context.specs.declared.settings.Settings.{Settings as Set};
     ghost use Rattle.rohc_context.specs.declared.state.State.TheVariants.{Full as Level};
     ghost use Rattle.rohc_context.specs.Window.{outcomes};
@@ -96,7 +95,6 @@ impl FullContext {
 impl Context {
     ghost use Rattle.std.specs.Prelude.{◌≡◌, Some, true, false};
     ghost use Rattle.rohc_frame.specs.Reading.{header_of};
-    ghost use Rattle.rohc_context.specs.Settings.{AreGood};
     ghost use Rattle.rohc_context.specs.Record.{record_of};
     ghost use Rattle.rohc_context.specs.Response.{response_of};
     ghost use Rattle.rohc_context.specs.Step.{LoneStep};
