@@ -1,9 +1,12 @@
--- Whole numbers, and members that may be missing.
-use Rattle.std.proofs.Common.{◌≡◌, ℕ, Option, Some, None, List, refl, arith, pos, negsuc}
+-- Whole numbers, members that may be missing, and names among those of two lists of keys.
+use Rattle.std.proofs.Common.{◌≡◌, ◌++◌, ◌∷◌, [], ℕ, Option, Some, None, List, Bool, true, false, ◌||◌, map, refl, ap, ◌∙◌, arith, pos, negsuc}
 use Rattle.std.proofs.lemmas.Grind.{common_steps}
 use Rattle.std.specs.Option.{option_and_then}
 use Rattle.toml.specs.Data.{Data, integer, string, float, boolean, datetime, array, table, get_member, Members}
-use Rattle.rohc_replay.specs.LinksFields.{whole_number, field_at}
+use Rattle.std.specs.Str.{bytes_eq}
+use Rattle.rohc_replay.specs.declared.links.fault.Key.{Key}
+use Rattle.rohc_replay.specs.LinksFields.{whole_number, field_at, is_among}
+use Rattle.rohc_replay.specs.LinksKeys.{name_of}
 
 -- what is no whole number from 0 is none from 1
 whole_number_above : (d : Data) (greatest : ℕ) → whole_number 0 greatest d ≡ None → whole_number 1 greatest d ≡ None
@@ -23,3 +26,15 @@ above (Some d) greatest none = whole_number_above d greatest none
 -- a name without a whole number from 0 has none from 1
 pub field_above : (greatest : ℕ) (name : List ℕ) (ms : Members) → field_at (whole_number 0 greatest) name ms ≡ None → field_at (whole_number 1 greatest) name ms ≡ None
 field_above greatest name ms none = above (get_member name ms) greatest none
+
+or_assoc : (a b c : Bool) → (a || (b || c)) ≡ ((a || b) || c)
+or_assoc true b c = refl
+or_assoc false b c = refl
+
+-- a name among those of two lists is among those of one of them
+pub among_either : (first second : List Key) (name : List ℕ)
+    → is_among (map name_of (first ++ second)) name ≡ (is_among (map name_of first) name || is_among (map name_of second) name)
+among_either [] second name = refl
+among_either (k ∷ first) second name =
+    ap (λ others. bytes_eq (name_of k) name || others) (among_either first second name)
+    ∙ or_assoc (bytes_eq (name_of k) name) (is_among (map name_of first) name) (is_among (map name_of second) name)

@@ -30,34 +30,8 @@ const FIRST_KEYS: [Key; 13] = [
     Key::RelayPort,
 ];
 
-/// The keys of version 2: two more.
-const KEYS: [Key; 15] = [
-    Key::Number,
-    Key::Cid,
-    Key::MaxCid,
-    Key::Mode,
-    Key::K1,
-    Key::N1,
-    Key::K2,
-    Key::N2,
-    Key::PacketMs,
-    Key::StaticNackMs,
-    Key::DeliverPort,
-    Key::FeedbackPort,
-    Key::RelayPort,
-    Key::IdleMs,
-    Key::Range,
-];
-
-/// The keys that a version knows.
-fn keys(version: Version) -> &'static [Key]
-    ensures { result.now ≡ keys version }
-{
-    match version {
-        Version::One => &FIRST_KEYS,
-        Version::Two => &KEYS,
-    }
-}
+/// The keys that only version 2 has.
+const LATER_KEYS: [Key; 2] = [Key::IdleMs, Key::Range];
 
 /// Whether the version knows all keys of the entry.
 #[tactic(auto, unfolding(crate::specs::LinksEntry::has_known_keys))]
@@ -72,17 +46,27 @@ fn has_known_keys(version: Version, table: &Table) -> bool
     true
 }
 
-/// Whether the version knows a key of this name.
-fn knows_key(version: Version, name: &str) -> bool
-    ensures { result ≡ is_among (map name_of (keys version)) name.now }
+/// Whether one of the keys has this name.
+fn is_named(keys: &[Key], name: &str) -> bool
+    ensures { result ≡ is_among (map name_of keys.now) name.now }
 {
-    let known = keys(version);
-    for key in known {
+    for key in keys {
         if key.name() == name {
             return true;
         }
     }
     false
+}
+
+/// Whether the version knows a key of this name.
+#[tactic(auto, using(crate::proofs::LinksFields::among_either))]
+fn knows_key(version: Version, name: &str) -> bool
+    ensures { result ≡ is_among (map name_of (keys version)) name.now }
+{
+    match version {
+        Version::One => is_named(&FIRST_KEYS, name),
+        Version::Two => is_named(&FIRST_KEYS, name) || is_named(&LATER_KEYS, name),
+    }
 }
 
 /// The port at the key, from 1 to 65,535.
