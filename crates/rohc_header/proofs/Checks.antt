@@ -40,6 +40,14 @@ placed_are zero from octets inside = refl
 placed_are (suc n) from octets inside =
     ap (take (suc n)) (drop-cons octets from 0 (omega arith)) ∙ ap (λ rest. get_or octets from 0 ∷ rest) (placed_are n (suc from) octets (omega arith))
 
+-- the dynamic octets, one by one
+pub dynamic_are : (octets : List ℕ) → length octets ≡ 40
+    → let at : ℕ → ℕ = λ k. get_or octets k 0 in
+    dynamic_octets octets ≡ at 2 ∷ at 3 ∷ at 4 ∷ at 5 ∷ at 10 ∷ at 11 ∷ at 24 ∷ at 25 ∷ at 26 ∷ at 27 ∷ at 29 ∷ at 30 ∷ at 31 ∷ at 32 ∷ at 33 ∷ at 34 ∷ at 35 ∷ []
+unfolding placed
+dynamic_are octets forty =
+    dynamic_ranges octets ∙ rw (placed_are 4 2 octets (omega arith), placed_are 2 10 octets (omega arith), placed_are 4 24 octets (omega arith), placed_are 7 29 octets (omega arith)) refl
+
 -- the dynamic octets in sevens from their end, added without carry
 pub dynamic_folded : (poly : List Bool) (reg : ℕ) (octets : List ℕ) → HasPeriod poly → reg < 2 ^ degree poly → length octets ≡ 40 → ((k : ℕ) → get_or octets k 0 < 256)
     → let at : ℕ → ℕ = λ k. get_or octets k 0 in
@@ -47,13 +55,12 @@ pub dynamic_folded : (poly : List Bool) (reg : ℕ) (octets : List ℕ) → HasP
     bit_xor (at 5) (at 29) ∷ bit_xor (at 10) (at 30) ∷ bit_xor (at 11) (at 31) ∷ bit_xor (at 24) (at 32)
     ∷ bit_xor (bit_xor (bit_xor reg (at 2)) (at 25)) (at 33) ∷ bit_xor (bit_xor (at 3) (at 26)) (at 34) ∷ bit_xor (bit_xor (at 4) (at 27)) (at 35) ∷ []
     ) ≡ check poly reg (dynamic_octets octets)
-unfolding placed AreSmall xored
+unfolding AreSmall xored
 dynamic_folded poly reg octets h low forty small =
     let at : ℕ → ℕ = λ k. get_or octets k 0 in
     let second : List ℕ = at 5 ∷ at 10 ∷ at 11 ∷ at 24 ∷ at 25 ∷ at 26 ∷ at 27 ∷ [] in
     let last : List ℕ = at 29 ∷ at 30 ∷ at 31 ∷ at 32 ∷ at 33 ∷ at 34 ∷ at 35 ∷ [] in
-    let all : dynamic_octets octets ≡ at 2 ∷ at 3 ∷ at 4 ∷ second ++ last =
-    dynamic_ranges octets ∙ rw (placed_are 4 2 octets (omega arith), placed_are 2 10 octets (omega arith), placed_are 4 24 octets (omega arith), placed_are 7 29 octets (omega arith)) refl in
+    let all : dynamic_octets octets ≡ at 2 ∷ at 3 ∷ at 4 ∷ second ++ last = dynamic_are octets forty in
     rw (← xor_zero_l (at 5), ← xor_zero_l (at 10), ← xor_zero_l (at 11), ← xor_zero_l (at 24), all)
     (folded poly reg (at 2) (at 3) (at 4) second last h low (small 2) (small 3) (small 4) refl refl
     (all_small second (small 5, (small 10, (small 11, (small 24, (small 25, (small 26, (small 27, tt))))))))

@@ -95,14 +95,18 @@ unfolding AreSmall
 all_small [] small = All-nil (λ octet. octet < 256)
 all_small (x ∷ xs) small = All-cons (λ octet. octet < 256) x xs small.0 (all_small xs small.1)
 
+-- seven zero octets change nothing
+pub seven_zeros : (poly : List Bool) (reg : ℕ) → HasPeriod poly → reg < 2 ^ degree poly → check poly reg (replicate 7 0) ≡ reg
+unfolding stays
+seven_zeros poly reg h low = eqb-true _ _ (h.stays reg low)
+
 pub seven_octets : (poly : List Bool) (reg : ℕ) (octets : List ℕ) → HasPeriod poly → reg < 2 ^ degree poly → length octets ≡ 7 → All (λ octet. octet < 256) octets
     → check poly reg octets ≡ bit_xor reg (check poly 0 octets)
-unfolding stays
 seven_octets poly reg octets h low seven small =
     ap (λ both. check poly both octets) (sym (xor_zero_r reg))
     ∙ ap (check poly (bit_xor reg 0)) (sym (zeros_added octets))
     ∙ added poly reg 0 (replicate (length octets) 0) octets h low (omega arith) (length-replicate (length octets) 0) (All-replicate (λ octet. octet < 256) (length octets) 0 (omega arith)) small
-    ∙ ap (λ first. bit_xor first (check poly 0 octets)) (ap (λ n. check poly reg (replicate n 0)) seven ∙ eqb-true _ _ (h.stays reg low))
+    ∙ ap (λ first. bit_xor first (check poly 0 octets)) (ap (λ n. check poly reg (replicate n 0)) seven ∙ seven_zeros poly reg h low)
 
 -- the register may stand under the first of octets that come behind zeros
 leading : (poly : List Bool) (reg p : ℕ) (ps : List ℕ) → HasPeriod poly → reg < 2 ^ degree poly → p < 256

@@ -1,6 +1,6 @@
 //! Rebuilt headers and their checks.
 
-ghost use Rattle.std.specs.Prelude.{◌≡◌, ◌<◌, ◌≤◌, ◌↔◌, length, IfSome, IsNone};
+ghost use Rattle.std.specs.Prelude.{◌≡◌, ◌+◌, ◌*◌, ◌<◌, ◌≤◌, ◌↔◌, length, IfSome, IsNone};
 ghost use Rattle.rohc_checks.specs.Division.{check, poly3, poly7};
 ghost use Rattle.rohc_header.specs.Original.{IsOriginal, longest_payload};
 ghost use Rattle.rohc_header.specs.Polynomial.{coefficients};
@@ -111,62 +111,64 @@ pub fn put_header(octets: &mut ArrayVec<u8, 40>, fixed: &Static, moving: &Dynami
 }
 
 /// The 3-bit check of a header's 40 octets, from the register `reg` after its static octets (RFC 3095 5.9.2).
+///
+/// It takes one look-up. Since 1 + x + x^3 divides x^7 + 1, bits may be added without carry in groups of seven. So
+/// each dynamic field is shifted by the bits before it modulo seven, where the Total Length starts at bit 4.
 pub fn check3_after(octets: &[u8], reg: u8) -> u8
     requires { length octets.now ≡ 40 }
     ensures { result ≡ check poly3 reg (dynamic_octets octets.now) }
 {
-    dynamic_check(Three, octets, reg)
+    let reg = reg & 0x07;
+    let total_length = word(octets[2] ^ reg, octets[3]) << 4;
+    let id = word(octets[4], octets[5]) << 6;
+    let ip_checksum = word(octets[10], octets[11]) << 1;
+    let udp_length = word(octets[24], octets[25]) << 3;
+    let udp_sum = word(octets[26], octets[27]) << 5;
+    let marker_and_type = u32::from(octets[29]);
+    let sn = word(octets[30], octets[31]) << 1;
+    let ts = (word(octets[32], octets[33]) << 3) ^ (word(octets[34], octets[35]) << 5);
+    let bits = total_length ^ id ^ ip_checksum ^ udp_length ^ udp_sum ^ marker_and_type ^ sn ^ ts;
+    let two = bits ^ (bits >> 14);
+    let one = two ^ (two >> 7);
+    crc3(0x00, &[(one % 128) as u8 * 2])
 }
 
 /// The check of a header's 40 octets, from the register after its static octets. The dynamic octets are at indexes
 /// 2 to 5 (IPv4 Total Length and Identification), 10 and 11 (IPv4 checksum), 24 to 27 (UDP Length and checksum) and
 /// 29 to 35 (RTP M and PT, SN and TS).
-///
-/// These 17 octets are added without carry in groups of seven, counted from their end, and the register is added to
-/// the first of them. That is allowed because both polynomials divide x^56 + 1.
 fn dynamic_check(polynomial: Polynomial, octets: &[u8], reg: u8) -> u8
     requires { length octets.now ≡ 40 }
     ensures { result ≡ check (coefficients polynomial) reg (dynamic_octets octets.now) }
 {
-    let reg = reg & ones(polynomial);
+    match polynomial {
+        Three => check3_after(octets, reg),
+        Seven => dynamic_check7(octets, reg),
+    }
+}
+
+/// Two octets as a number, with the first in its low bits: a check takes the low bit of an octet first.
+fn word(first: u8, second: u8) -> u32
+    ensures { result ≡ first + second * 256 }
+{
+    u32::from(u16::from_le_bytes([first, second]))
+}
+
+/// The 7-bit check over the dynamic octets. They are added without carry in groups of seven, counted from their
+/// end, and the register is added to the first of them. That is allowed because the polynomial divides x^56 + 1.
+fn dynamic_check7(octets: &[u8], reg: u8) -> u8
+    requires { length octets.now ≡ 40 }
+    ensures { result ≡ check poly7 reg (dynamic_octets octets.now) }
+{
     let folded = [
         octets[5] ^ octets[29],
         octets[10] ^ octets[30],
         octets[11] ^ octets[31],
         octets[24] ^ octets[32],
-        reg ^ octets[2] ^ octets[25] ^ octets[33],
+        (reg & 0x7f) ^ octets[2] ^ octets[25] ^ octets[33],
         octets[3] ^ octets[26] ^ octets[34],
         octets[4] ^ octets[27] ^ octets[35],
     ];
-    check_of_seven(polynomial, &folded)
-}
-
-/// The check of seven octets, from register 0.
-fn check_of_seven(polynomial: Polynomial, octets: &[u8; 7]) -> u8
-    ensures { result ≡ check (coefficients polynomial) 0 octets.now }
-{
-    match polynomial {
-        Three => check3_of_seven(octets),
-        Seven => crc7(0x00, octets),
-    }
-}
-
-/// The 3-bit check of seven octets, from register 0, by one look-up. Since 1 + x + x^3 divides x^7 + 1, their bits
-/// may be added in groups of seven.
-fn check3_of_seven(octets: &[u8; 7]) -> u8
-    ensures { result ≡ check poly3 0 octets.now }
-{
-    let bits = u64::from(octets[0])
-        ^ (u64::from(octets[1]) << 8)
-        ^ (u64::from(octets[2]) << 16)
-        ^ (u64::from(octets[3]) << 24)
-        ^ (u64::from(octets[4]) << 32)
-        ^ (u64::from(octets[5]) << 40)
-        ^ (u64::from(octets[6]) << 48);
-    let four = bits ^ (bits >> 28);
-    let two = four ^ (four >> 14);
-    let one = two ^ (two >> 7);
-    crc3(0x00, &[(one % 128) as u8 * 2])
+    crc7(0x00, &folded)
 }
 
 /// A register of all ones, of as many bits as the polynomial's check.
