@@ -53,13 +53,16 @@ impl Concentrator {
         let Some(forward) = framed.forward else {
             return Answer::OnlyFront { relayed };
         };
-        let mut reply = Reply::refused(Refusal::NoContext);
-        arrive_at(records, moment, &forward, &mut reply);
-        Answer::Arrived {
+        // The reply is written into the answer in place.
+        let mut answer = Answer::Arrived {
             cid: forward.cid,
-            reply,
+            reply: Reply::refused(Refusal::NoContext),
             relayed,
+        };
+        if let Answer::Arrived { reply, .. } = &mut answer {
+            arrive_at(records, moment, &forward, reply);
         }
+        answer
     }
 
     /// Forgets every record of a link, and no other record. The error is `NoLink`.

@@ -41,27 +41,27 @@ returns-in_default-forward-clause-order c =
     let at = lent_at c.args.self.now.links c.in-Some.place c.args.link c.in-Some.ensures.there _ _ lent.value in
     order_untouched c.args.self.now c.in-Some.place c.args.link _ lent.unique at _
 
-pub returns-clause-answer : goal.returns-clause-answer
-returns-clause-answer c =
+pub returns-in-Arrived-clause-answer : goal.returns-in-Arrived-clause-answer
+returns-in-Arrived-clause-answer c =
     let lent = c.pair_mut-records.ensures in
     let at = lent_at c.args.self.now.links c.in-Some.place c.args.link c.in-Some.ensures.there _ _ lent.value in
     answer_by c.args.self.now c.in-Some.place c.args.link c.pair_mut-records.result.1.now c.arrive_at.new.records lent.unique at c.args.moment c.args.octets.now _ (search rules)
 
-pub returns-clause-settings : goal.returns-clause-settings
-returns-clause-settings c =
+pub returns-in-Arrived-clause-settings : goal.returns-in-Arrived-clause-settings
+returns-in-Arrived-clause-settings c =
     let lent = c.pair_mut-records.ensures in
     let at = lent_at c.args.self.now.links c.in-Some.place c.args.link c.in-Some.ensures.there _ _ lent.value in
     settings_stay c.args.self.now c.in-Some.place c.args.link _ _ lent.unique at c.arrive_at.ensures.setting
 
-pub returns-clause-others : goal.returns-clause-others
-returns-clause-others c =
+pub returns-in-Arrived-clause-others : goal.returns-in-Arrived-clause-others
+returns-in-Arrived-clause-others c =
     let lent = c.pair_mut-records.ensures in
     let at = lent_at c.args.self.now.links c.in-Some.place c.args.link c.in-Some.ensures.there _ _ lent.value in
     let its : borne (setting_at c.args.self.now c.args.link) c.args.octets.now ≡ Some c.in-Some-forward.forward.cid = rw at.1 (search rules) in
     others_stay c.args.self.now c.in-Some.place c.args.link _ _ lent.unique at _ (λ cid is. c.arrive_at.ensures.others cid (λ same. is (its ∙ ap Some (sym same))))
 
-pub returns-clause-order : goal.returns-clause-order
-returns-clause-order c =
+pub returns-in-Arrived-clause-order : goal.returns-in-Arrived-clause-order
+returns-in-Arrived-clause-order c =
     let lent = c.pair_mut-records.ensures in
     let at = lent_at c.args.self.now.links c.in-Some.place c.args.link c.in-Some.ensures.there _ _ lent.value in
     let its : borne (setting_at c.args.self.now c.args.link) c.args.octets.now ≡ Some c.in-Some-forward.forward.cid = rw at.1 (search rules) in
