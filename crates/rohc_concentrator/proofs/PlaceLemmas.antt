@@ -7,18 +7,17 @@ use Rattle.std.specs.Cmp.{nat_eq_equiv}
 use Rattle.std.specs.HashMap.{HashMap, get, keys, values, IsUnique}
 use Rattle.indexmap.specs.IndexMap.{with_value_at, index_map_len}
 use Rattle.indexmap.proofs.CallerLemmas.{updates-with_value_at}
-use Rattle.rohc_context.specs.declared.record.Context.{Context}
 use Rattle.rohc_concentrator.specs.Tables.{IsPlaceOf}
 
 -- an entry has one value
-pub same_value : (found : Option (ℕ × Context)) (cid key : ℕ) (a b : Context) → found ≡ Some (cid, a) → found ≡ Some (key, b) → a ≡ b
-same_value found cid key a b first second =
-    let split : ◌≡◌ {A = ℕ × Context} (cid, a) (key, b) = cc in
-    ap (λ (x : ℕ × Context). x.1) split
+pub same_value : {V : Type 0} (found : Option (ℕ × V)) (cid key : ℕ) (a b : V) → found ≡ Some (cid, a) → found ≡ Some (key, b) → a ≡ b
+same_value {V} found cid key a b first second =
+    let split : ◌≡◌ {A = ℕ × V} (cid, a) (key, b) = cc in
+    ap (λ (x : ℕ × V). x.1) split
 
 -- What a write at a place does, where this identifier's record stands there.
 
-module _ {S : Type 0} (m : HashMap ℕ Context S) (place cid : ℕ) (before after : Context) (unique : IsUnique nat_eq m)
+module _ {V S : Type 0} (m : HashMap ℕ V S) (place cid : ℕ) (before after : V) (unique : IsUnique nat_eq m)
     (at : slice_get m.entries place ≡ Some (cid, before)) where
   pub own_written : get nat_eq (with_value_at m place after) cid ≡ Some after
   own_written = (updates-with_value_at m place after nat_eq_equiv unique cid before at).1
@@ -29,7 +28,7 @@ module _ {S : Type 0} (m : HashMap ℕ Context S) (place cid : ℕ) (before afte
       (updates-with_value_at m place after nat_eq_equiv unique cid before at).2 other another
 
 -- a key and a value at one place are an entry there
-entry_at : (es : List (ℕ × Context)) (place key : ℕ) (value : Context) → slice_get (keys_of es) place ≡ Some key → slice_get (values_of es) place ≡ Some value → slice_get es place ≡ Some (key, value)
+entry_at : {V : Type 0} (es : List (ℕ × V)) (place key : ℕ) (value : V) → slice_get (keys_of es) place ≡ Some key → slice_get (values_of es) place ≡ Some value → slice_get es place ≡ Some (key, value)
 entry_at [] place key value k v = cc
 entry_at (e ∷ es) zero key value k v =
     let first : e.0 ≡ key = ap (λ u. unwrap_or u key) k in
@@ -38,20 +37,27 @@ entry_at (e ∷ es) zero key value k v =
 entry_at (e ∷ es) (suc place) key value k v = entry_at es place key value k v
 
 -- where the first key that is the identifier stands, its record stands
-stands_first : {S : Type 0} (m : HashMap ℕ Context S) (place cid : ℕ) (context : Context) → position (nat_eq cid) (keys m) ≡ Some place → place < index_map_len m
+stands_first : {V S : Type 0} (m : HashMap ℕ V S) (place cid : ℕ) (context : V) → position (nat_eq cid) (keys m) ≡ Some place → place < index_map_len m
     → slice_get (values m) place ≡ Some context → get nat_eq m cid ≡ Some context → IsPlaceOf m place cid
 stands_first m place cid context first inside value found =
     let passes = position-Some (nat_eq cid) (keys m) place 0 first in
     let is : get_or (keys m) place 0 ≡ cid = let test = passes.1 in grind (arith, nat_tests) in
     let key : slice_get (keys m) place ≡ Some cid = slice_get-get_or (keys m) place 0 passes.0 ∙ ap Some is in
-    record { context = context; entry = entry_at m.entries place cid context key value; found = found; inside = inside }
+    record { value = context; entry = entry_at m.entries place cid context key value; found = found; inside = inside }
 
 -- so its record stands where its key is looked up
-pub found_by_key : {S : Type 0} (m : HashMap ℕ Context S) (cid : ℕ) (found : Option ℕ) → found ≡ position (nat_eq cid) (keys m) → IfSome found (λ place. place < index_map_len m)
+pub found_by_key : {V S : Type 0} (m : HashMap ℕ V S) (cid : ℕ) (found : Option ℕ) → found ≡ position (nat_eq cid) (keys m) → IfSome found (λ place. place < index_map_len m)
     → IfSome found (λ place. slice_get (values m) place ≡ get nat_eq m cid) → is_some found ≡ is_some (get nat_eq m cid) → IfSome found (λ place. IsPlaceOf m place cid)
 found_by_key m cid None index inside value some = tt
-found_by_key m cid (Some place) index inside value some = by (get nat_eq m cid) refl
+found_by_key {V} m cid (Some place) index inside value some = by (get nat_eq m cid) refl
   where
-    by : (r : Option Context) → get nat_eq m cid ≡ r → IsPlaceOf m place cid
+    by : (r : Option V) → get nat_eq m cid ≡ r → IsPlaceOf m place cid
     by None e = absurd (true≢false (some ∙ ap is_some e))
     by (Some context) e = stands_first m place cid context (sym index) inside (value ∙ e) e
+
+-- an entry that is lent at the place of a key is that key's
+pub lent_at : {V S : Type 0} (m : HashMap ℕ V S) (place key : ℕ) → IsPlaceOf m place key → (other : ℕ) (value : V) → slice_get m.entries place ≡ Some (other, value)
+    → (slice_get m.entries place ≡ Some (key, value)) × (get nat_eq m key ≡ Some value)
+lent_at m place key is other value lent =
+    let same = same_value (slice_get m.entries place) key other is.value value is.entry lent in
+    (is.entry ∙ ap (λ v. Some (key, v)) same, is.found ∙ ap Some same)

@@ -5,7 +5,6 @@ use Rattle.std.specs.HashMap.{HashMap}
 use Rattle.std.specs.Option.{option_map, option_and_then}
 use Rattle.indexmap.specs.IndexMap.{get, keys, index_map_len}
 use Rattle.rohc_context.specs.Record.{Record, record_of}
-use Rattle.rohc_context.specs.declared.record.Context.{Context}
 use Rattle.rohc_concentrator.specs.declared.setting.LinkSetting.{LinkSetting}
 use Rattle.rohc_concentrator.specs.declared.records.LinkRecords.{LinkRecords}
 use Rattle.rohc_concentrator.specs.declared.concentrator.Concentrator.{Concentrator}
@@ -18,12 +17,12 @@ setting_at k link = option_map (λ (r : LinkRecords). r.setting) (get nat_eq k.l
 abbrev pub record_in : LinkRecords → ℕ → Option Record
 record_in r cid = option_map record_of (get nat_eq r.contexts cid)
 
--- the record at this place among those of a link is this CID's
-pub record IsPlaceOf {S : Type 0} (contexts : HashMap ℕ Context S) (place cid : ℕ) : Type 0 where
-  pub context : Context
-  pub entry : slice_get contexts.entries place ≡ Some (cid, context)
-  pub found : get nat_eq contexts cid ≡ Some context
-  pub inside : place < index_map_len contexts
+-- the entry at this place of a map is this key's
+pub record IsPlaceOf {V S : Type 0} (m : HashMap ℕ V S) (place key : ℕ) : Type 0 where
+  pub value : V
+  pub entry : slice_get m.entries place ≡ Some (key, value)
+  pub found : get nat_eq m key ≡ Some value
+  pub inside : place < index_map_len m
 
 -- the record of a CID of a link, if the link is there and has one
 abbrev pub record_at : Concentrator → ℕ → ℕ → Option Record

@@ -1,12 +1,26 @@
 //! The events of a concentrator, and what it shows.
 
+ghost use Rattle.std.specs.Prelude.{◌≡◌, None, IfSome, nat_eq};
+ghost use Rattle.indexmap.specs.IndexMap.{get};
+ghost use Rattle.rohc_concentrator.specs.Tables.{IsPlaceOf};
+
 use crate::answer::{Answer, NoLink};
 use crate::concentrator::Concentrator;
 use crate::link::arrive_at;
+use crate::place::place_of;
 use crate::records::LinkRecords;
 use indexmap::IndexMap;
 use rohc_context::{Refusal, Reply};
 use rohc_frame::cut;
+
+/// The place of a link, if it is there. The likely place is one below its number, since most links are numbered
+/// from 1 on in their order.
+fn link_place(links: &IndexMap<u16, LinkRecords>, link: u16) -> Option<usize>
+    ensures there { IfSome result (λ place. IsPlaceOf links.now place link) }
+    ensures absent { result ≡ None → get nat_eq links.now link ≡ None }
+{
+    place_of(links, usize::from(link.wrapping_sub(1)), link)
+}
 
 impl Concentrator {
     ghost use Rattle.std.specs.Prelude.{◌≡◌, [], ◌≢◌, ◌↔◌, ℕ, None, IsErr, is_some, nat_eq};
@@ -26,9 +40,10 @@ impl Concentrator {
         ensures others { KeepsOthers self.old self.new link (borne (setting_at self.old link) octets.entry.now) }
         ensures order { KeepsOrder self.old self.new link (borne (setting_at self.old link) octets.entry.now) }
     {
-        let Some(records) = self.links.get_mut(&link) else {
+        let Some(place) = link_place(&self.links, link) else {
             return Answer::Refused(Refusal::NoLink);
         };
+        let (_, records) = self.links.pair_mut(place);
         let settings = &records.setting.settings;
         let framed = match cut(settings.size, settings.max_cid, octets) {
             Ok(framed) => framed,
@@ -38,13 +53,16 @@ impl Concentrator {
         let Some(forward) = framed.forward else {
             return Answer::OnlyFront { relayed };
         };
-        let mut reply = Reply::refused(Refusal::NoContext);
-        arrive_at(records, moment, &forward, &mut reply);
-        Answer::Arrived {
+        // The reply is written into the answer in place.
+        let mut answer = Answer::Arrived {
             cid: forward.cid,
-            reply,
+            reply: Reply::refused(Refusal::NoContext),
             relayed,
+        };
+        if let Answer::Arrived { reply, .. } = &mut answer {
+            arrive_at(records, moment, &forward, reply);
         }
+        answer
     }
 
     /// Forgets every record of a link, and no other record. The error is `NoLink`.

@@ -7,6 +7,7 @@ pub mod arrival;
 pub mod concentrator;
 pub mod laws;
 mod link;
+mod place;
 pub mod records;
 pub mod setting;
 pub mod setup;

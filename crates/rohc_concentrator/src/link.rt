@@ -8,6 +8,7 @@ ghost use Rattle.rohc_concentrator.specs.Setting.{settings_of};
 ghost use Rattle.rohc_concentrator.specs.Tables.{record_in, KeepsPlace, IsPlaceOf};
 ghost use Rattle.rohc_concentrator.specs.Report.{OwnStep};
 
+use crate::place::place_of;
 use crate::records::LinkRecords;
 use crate::setting::mode_in;
 use rohc_context::{Context, Refusal, Reply};
@@ -29,7 +30,7 @@ pub(crate) fn arrive_at<'a>(
     ensures setting { records.new.setting ≡ records.old.setting }
     ensures order { KeepsPlace (keys records.old.contexts) (keys records.new.contexts) forward.now.cid (record_in records.old forward.now.cid) }
 {
-    let Some(place) = place_of(records, forward.cid) else {
+    let Some(place) = record_place(records, forward.cid) else {
         return first_at(records, moment, forward, reply);
     };
     // Copied whole here, since `settings_of` writes them field by field.
@@ -41,29 +42,15 @@ pub(crate) fn arrive_at<'a>(
     context.arrive(&settings, moment, forward, reply);
 }
 
-/// Whether the record at this place is this CID's.
-fn stands_at(records: &LinkRecords, place: usize, cid: u16) -> bool
-    ensures { result ≡ true → IsPlaceOf records.now.contexts place cid }
-{
-    let Some((key, _)) = records.contexts.get_index(place) else {
-        return false;
-    };
-    *key == cid
-}
-
 /// The place of a CID's record among those of the link, if it has one.
 ///
 /// If a sender gives each new call its least free CID, the places of the records are their CIDs. So that place is
-/// tried before the key is looked up.
-fn place_of(records: &LinkRecords, cid: u16) -> Option<usize>
+/// the likely one.
+fn record_place(records: &LinkRecords, cid: u16) -> Option<usize>
     ensures there { IfSome result (λ place. IsPlaceOf records.now.contexts place cid) }
     ensures absent { result ≡ None → record_in records.now cid ≡ None }
 {
-    let place = usize::from(cid);
-    if stands_at(records, place, cid) {
-        return Some(place);
-    }
-    records.contexts.get_index_of(&cid)
+    place_of(&records.contexts, usize::from(cid), cid)
 }
 
 /// Takes an arrival for a CID without a record, which a first IR makes. The answer overwrites what `reply` held.

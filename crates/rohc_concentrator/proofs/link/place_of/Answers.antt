@@ -1,7 +1,0 @@
-use Rattle.rohc_concentrator.proofs.PlaceLemmas.{found_by_key}
-use Rattle.rohc_concentrator.proofs.link.place_of.Goals as goal
-
-pub returns-clause-there : goal.returns-clause-there
-returns-clause-there c =
-    let e = c.get_index_of.ensures in
-    found_by_key c.args.records.now.contexts c.args.cid c.get_index_of.result e.index e.within e.value e.found

@@ -1,0 +1,30 @@
+//! Where an entry of a map stands, tried at the likely place before its key is looked up.
+
+ghost use Rattle.std.specs.Prelude.{◌≡◌, None, true, IfSome, nat_eq};
+ghost use Rattle.indexmap.specs.IndexMap.{get};
+ghost use Rattle.rohc_concentrator.specs.Tables.{IsPlaceOf};
+
+use indexmap::IndexMap;
+
+/// Whether the entry at this place is this key's.
+#[inline(always)]
+fn stands_at<V>(map: &IndexMap<u16, V>, place: usize, key: u16) -> bool
+    ensures { result ≡ true → IsPlaceOf map.now place key }
+{
+    let Some((found, _)) = map.get_index(place) else {
+        return false;
+    };
+    *found == key
+}
+
+/// The place of a key's entry, if it has one. The likely place is tried before the key is looked up.
+#[inline(always)]
+pub(crate) fn place_of<V>(map: &IndexMap<u16, V>, likely: usize, key: u16) -> Option<usize>
+    ensures there { IfSome result (λ place. IsPlaceOf map.now place key) }
+    ensures absent { result ≡ None → get nat_eq map.now key ≡ None }
+{
+    if stands_at(map, likely, key) {
+        return Some(likely);
+    }
+    map.get_index_of(&key)
+}
