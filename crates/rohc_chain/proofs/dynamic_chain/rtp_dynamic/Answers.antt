@@ -5,4 +5,4 @@ use Rattle.rohc_chain.proofs.dynamic_chain.rtp_dynamic.Goals as goal
 
 pub returns-clause-reads : goal.returns-clause-reads
 unfolding rtp_dynamic_at
-returns-clause-reads c = grind (arith, common_steps)
+returns-clause-reads c = grind (arith, common_steps) steps 1000000
