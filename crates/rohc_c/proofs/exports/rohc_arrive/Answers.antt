@@ -20,15 +20,19 @@ write-requires-clause-packet c =
     (answer_within _ _ _ _ _ _ all c.arrive-answer.ensures.answer)
 
 pub returns-clause-done : goal.returns-clause-done
-returns-clause-done c = λ done. (report_of c.arrive-answer.result, record {
-  before = c.deref_mut.result.now;
-  after = c.arrive-answer.new.self;
-  was = search rules;
-  is = c.of.ensures;
-  arrives = record {
-    answer = c.arrive-answer.ensures.answer;
-    settings = c.arrive-answer.ensures.settings;
-    others = c.arrive-answer.ensures.others;
-    order = c.arrive-answer.ensures.order;
-  };
-}, c.write.ensures)
+returns-clause-done c = λ done. (
+  report_of c.arrive-answer.result,
+  record {
+    before = c.deref_mut.result.now;
+    after = c.arrive-answer.new.self;
+    was = search rules;
+    is = c.of.ensures;
+    arrives = record {
+      answer = c.arrive-answer.ensures.answer;
+      settings = c.arrive-answer.ensures.settings;
+      others = c.arrive-answer.ensures.others;
+      order = c.arrive-answer.ensures.order;
+    };
+  },
+  c.write.ensures,
+)
