@@ -129,6 +129,36 @@ fn plain_irs(rt: HostRuntime) {
     }
 }
 
+// What a packet says of its payload, or why it is refused.
+fn payload_in<'a>(forward: &Forward<'a>) -> Result<&'a [u8], ChainRefusal> {
+    match forward.kind {
+        HeadKind::Ir { .. } => match read_ir(forward)? {
+            Ir::Plain { packet } => Ok(packet),
+            Ir::StaticOnly { .. } => Ok(&[]),
+            Ir::Whole { payload, .. } => Ok(payload),
+        },
+        HeadKind::IrDyn => Ok(read_ir_dyn(forward, 1, false, None)?.payload),
+        HeadKind::Other => Ok(forward.rest),
+    }
+}
+
+// Whether each prefix of the packet that has the first octet and the CID, which are `framed` octets, is read
+// as it must be: inside the header it is Truncated, after it the payload is shorter.
+fn is_read_at_each_cut(size: CidKind, packet: &[u8], framed: usize, header: usize) -> bool {
+    for count in framed..packet.len() + 1 {
+        let expected = if count < header {
+            Err(ChainRefusal::Truncated)
+        } else {
+            Ok(&packet[header..count])
+        };
+        match header_in(size, &packet[..count]) {
+            Some(forward) if payload_in(&forward) == expected => {}
+            _ => return false,
+        }
+    }
+    true
+}
+
 // IRs with both chains: the packet, and the content of its dynamic chain.
 const WHOLE: [(Parts, Moving); 5] = [
     // Whole IR.
@@ -211,6 +241,8 @@ fn whole_irs(rt: HostRuntime) -> Result<(), Fail> {
         assert_eq!(rt; fixed_fields(fixed), FIXED);
         assert!(rt; moving_fields(moving) == expected);
         assert_eq!(rt; payload, [0xab].as_slice());
+        let header = packet.len().saturating_sub(1);
+        assert!(rt; is_read_at_each_cut(CidKind::Small, &packet, 1, header));
     }
     Ok(())
 }
@@ -511,36 +543,6 @@ fn refused_ir_dyns(rt: HostRuntime) {
     }
 }
 
-// What a packet says of its payload, or why it is refused.
-fn payload_in<'a>(forward: &Forward<'a>) -> Result<&'a [u8], ChainRefusal> {
-    match forward.kind {
-        HeadKind::Ir { .. } => match read_ir(forward)? {
-            Ir::Plain { packet } => Ok(packet),
-            Ir::StaticOnly { .. } => Ok(&[]),
-            Ir::Whole { payload, .. } => Ok(payload),
-        },
-        HeadKind::IrDyn => Ok(read_ir_dyn(forward, 1, false, None)?.payload),
-        HeadKind::Other => Ok(forward.rest),
-    }
-}
-
-// Whether each prefix of the packet that has the first octet and the CID, which are `framed` octets, is read
-// as it must be: inside the header it is Truncated, after it the payload is shorter.
-fn is_read_at_each_cut(size: CidKind, packet: &[u8], framed: usize, header: usize) -> bool {
-    for count in framed..packet.len() + 1 {
-        let expected = if count < header {
-            Err(ChainRefusal::Truncated)
-        } else {
-            Ok(&packet[header..count])
-        };
-        match header_in(size, &packet[..count]) {
-            Some(forward) if payload_in(&forward) == expected => {}
-            _ => return false,
-        }
-    }
-    true
-}
-
 // The CID kind, a packet, how many octets its first octet and CID have, and how many its header has.
 const CUT: [(CidKind, Parts, usize, usize); 5] = [
     (
@@ -580,17 +582,6 @@ fn each_beginning_of_a_packet(rt: HostRuntime) -> Result<(), Fail> {
     for (size, parts, framed, header) in CUT {
         let packet = octets_of(rt.alloc(), parts)?;
         assert!(rt; is_read_at_each_cut(size, &packet, framed, header));
-    }
-    Ok(())
-}
-
-// IRs with both chains, whose payload is one octet.
-#[test]
-fn each_beginning_of_a_whole_ir(rt: HostRuntime) -> Result<(), Fail> {
-    for (parts, _) in WHOLE {
-        let packet = octets_of(rt.alloc(), parts)?;
-        let header = packet.len().saturating_sub(1);
-        assert!(rt; is_read_at_each_cut(CidKind::Small, &packet, 1, header));
     }
     Ok(())
 }

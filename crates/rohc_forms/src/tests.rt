@@ -86,6 +86,27 @@ fn said(form: &Form<'_>) -> Said {
     )
 }
 
+// Whether each prefix of these octets is refused as cut off.
+fn is_cut_off_inside(octets: &[u8], context: Context) -> bool {
+    for end in 1..octets.len() {
+        let Some(Err(FormRefusal::Truncated)) = form_in(&octets[..end], context) else {
+            return false;
+        };
+    }
+    true
+}
+
+// A packet with a payload of one octet is Truncated inside its header, and read without the payload.
+fn is_read_behind_its_header(packet: &[u8], context: Context) -> bool {
+    let Some((_payload, header)) = packet.split_last() else {
+        return false;
+    };
+    let Some(Ok(form)) = form_in(header, context) else {
+        return false;
+    };
+    form.payload.is_empty() && is_cut_off_inside(header, context)
+}
+
 // Packets without an extension 3, each with a payload of one octet.
 const PLAIN: [(&[u8], Context, Said); 16] = [
     // First UO-0.
@@ -284,6 +305,7 @@ fn packets_without_extension_3(rt: HostRuntime) {
         assert!(rt; form.values.is_none());
         assert_eq!(rt; form.payload.len(), 1);
         assert_eq!(rt; form.payload.last(), packet.last());
+        assert!(rt; is_read_behind_its_header(packet, context));
     }
 }
 
@@ -409,6 +431,7 @@ fn packets_with_extension_3(rt: HostRuntime) {
         assert_eq!(rt; form.values, Some(of_ip(ip)));
         assert_eq!(rt; form.payload.len(), 1);
         assert_eq!(rt; form.payload.last(), packet.last());
+        assert!(rt; is_read_behind_its_header(packet, context));
     }
 }
 
@@ -532,40 +555,7 @@ fn refused_packets(rt: HostRuntime) {
             panic!(rt; "not refused");
         };
         assert_eq!(rt; refusal, expected);
-    }
-}
-
-// Whether each prefix of these octets is refused as cut off.
-fn is_cut_off_inside(octets: &[u8], context: Context) -> bool {
-    for end in 1..octets.len() {
-        let Some(Err(FormRefusal::Truncated)) = form_in(&octets[..end], context) else {
-            return false;
-        };
-    }
-    true
-}
-
-// A packet with a payload of one octet is Truncated inside its header, and read without the payload.
-fn is_read_behind_its_header(packet: &[u8], context: Context) -> bool {
-    let Some((_payload, header)) = packet.split_last() else {
-        return false;
-    };
-    let Some(Ok(form)) = form_in(header, context) else {
-        return false;
-    };
-    form.payload.is_empty() && is_cut_off_inside(header, context)
-}
-
-#[test]
-fn cut_at_each_octet(rt: HostRuntime) {
-    for (packet, context, _said) in PLAIN {
-        assert!(rt; is_read_behind_its_header(packet, context));
-    }
-    for (packet, context, _said, _ip) in EXTENDED {
-        assert!(rt; is_read_behind_its_header(packet, context));
-    }
-    // What is refused is refused for its last octet, or for what doesn't follow it.
-    for (packet, context, _refusal) in REFUSED {
+        // It is refused for its last octet, or for what doesn't follow it.
         assert!(rt; is_cut_off_inside(packet, context));
     }
 }

@@ -18,3 +18,21 @@ write-requires-clause-packet c =
     let room = c.has_room.ensures.0 (search rules) in
     more_within (report_of c.arrive-answer.result) (length c.args.octets.now) (length c.args.packet.now - 40) (omega (arith, room.packet))
     (answer_within _ _ _ _ _ _ all c.arrive-answer.ensures.answer)
+
+pub returns-clause-done : goal.returns-clause-done
+returns-clause-done c = λ done. (
+  report_of c.arrive-answer.result,
+  record {
+    before = c.deref_mut.result.now;
+    after = c.arrive-answer.new.self;
+    was = search rules;
+    is = c.of.ensures;
+    arrives = record {
+      answer = c.arrive-answer.ensures.answer;
+      settings = c.arrive-answer.ensures.settings;
+      others = c.arrive-answer.ensures.others;
+      order = c.arrive-answer.ensures.order;
+    };
+  },
+  c.write.ensures,
+)

@@ -1,0 +1,8 @@
+use Rattle.std.proofs.Common.{arith}
+use Rattle.std.proofs.lemmas.Grind.{common_steps}
+use Rattle.rohc_chain.specs.Chains.{rtp_dynamic_at}
+use Rattle.rohc_chain.proofs.dynamic_chain.rtp_dynamic.Goals as goal
+
+pub returns-clause-reads : goal.returns-clause-reads
+unfolding rtp_dynamic_at
+returns-clause-reads c = grind (arith, common_steps) steps 1000000
