@@ -133,6 +133,7 @@ impl Answers {
 
     /// Offers a line that ends with octets: the line so far, `head` and `rest` as hex text, and a newline. What
     /// doesn't fit into the buffer is offered in parts.
+    #[inline(always)]
     fn offer_octets<W: Write>(
         &mut self,
         writer: &mut W,
@@ -170,6 +171,7 @@ impl Answers {
     }
 
     /// Offers the line of one feedback element that the packet carried for this side's compressor.
+    #[inline(never)]
     fn offer_relay<W: Write>(
         &mut self,
         writer: &mut W,
@@ -185,7 +187,8 @@ impl Answers {
         self.offer_octets(writer, &[], feedback)
     }
 
-    /// Offers the line of each feedback element.
+    /// Offers the line of each feedback element. Most packets have none, so the test for one stands at the caller's.
+    #[inline(always)]
     fn offer_relays<W: Write>(
         &mut self,
         writer: &mut W,
@@ -237,6 +240,9 @@ impl Answers {
         put_stored(&mut self.line, link, cid, reply.outcome);
         put_feedback(&mut self.line, link, cid, reply);
         put_refused(&mut self.line, link, cid, reply.outcome);
+        if self.line.is_empty() {
+            return Ok(());
+        }
         self.offer_line(writer)
     }
 
