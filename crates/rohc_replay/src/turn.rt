@@ -31,8 +31,12 @@ pub(crate) fn take_turn<W: Write>(
     match read_words(line, packet) {
         Some(Words::Arrive { link, moment, size }) => {
             counts.tally.events = counts.tally.events.saturating_add(1);
-            let answer = concentrator.arrive(link, moment, &packet[..size]);
-            counts.answers.offer_answer(writer, link, &answer)
+            // the answer isn't given a name, since it would be copied into it
+            counts.answers.offer_answer(
+                writer,
+                link,
+                &concentrator.arrive(link, moment, &packet[..size]),
+            )
         }
         Some(Words::Reset { link }) => {
             counts.tally.events = counts.tally.events.saturating_add(1);
