@@ -133,6 +133,7 @@ impl Answers {
 
     /// Offers a line that ends with octets: the line so far, `head` and `rest` as hex text, and a newline. What
     /// doesn't fit into the buffer is offered in parts.
+    // nearly every answer is such a line
     #[inline(always)]
     fn offer_octets<W: Write>(
         &mut self,
@@ -171,6 +172,7 @@ impl Answers {
     }
 
     /// Offers the line of one feedback element that the packet carried for this side's compressor.
+    // few packets carry one
     #[inline(never)]
     fn offer_relay<W: Write>(
         &mut self,
@@ -187,7 +189,8 @@ impl Answers {
         self.offer_octets(writer, &[], feedback)
     }
 
-    /// Offers the line of each feedback element. Most packets have none, so the test for one stands at the caller's.
+    /// Offers the line of each feedback element.
+    // most packets have none, and then no function is called
     #[inline(always)]
     fn offer_relays<W: Write>(
         &mut self,

@@ -31,7 +31,7 @@ pub(crate) fn take_turn<W: Write>(
     match read_words(line, packet) {
         Some(Words::Arrive { link, moment, size }) => {
             counts.tally.events = counts.tally.events.saturating_add(1);
-            // the answer isn't given a name, since it would be copied into it
+            // an answer with a name would be copied to the place of that name
             counts.answers.offer_answer(
                 writer,
                 link,
