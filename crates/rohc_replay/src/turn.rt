@@ -31,12 +31,8 @@ pub(crate) fn take_turn<W: Write>(
     match read_words(line, packet) {
         Some(Words::Arrive { link, moment, size }) => {
             counts.tally.events = counts.tally.events.saturating_add(1);
-            // an answer with a name would be copied to the place of that name
-            counts.answers.offer_answer(
-                writer,
-                link,
-                &concentrator.arrive(link, moment, &packet[..size]),
-            )
+            let answer = concentrator.arrive(link, moment, &packet[..size]);
+            counts.answers.offer_answer(writer, link, &answer)
         }
         Some(Words::Reset { link }) => {
             counts.tally.events = counts.tally.events.saturating_add(1);
