@@ -1,14 +1,15 @@
 -- Octets as lower case pairs of digits, written and read back.
-use Rattle.std.proofs.Common.{◌≡◌, ℕ, zero, suc, ◌+◌, ◌*◌, ◌/◌, ◌%◌, ◌<◌, ◌≤◌, Bool, true, false, not, ◌&&◌, ◌||◌, ◌==◌, List, [], ◌∷◌, ◌++◌, length, slice_index, unwrap_or, Result, Ok, Err, sym, ◌∙◌, ap, refl, arith, inl, inr}
+use Rattle.std.proofs.Common.{◌≡◌, ℕ, zero, suc, ◌+◌, ◌*◌, ◌/◌, ◌%◌, ◌<◌, ◌≤◌, Bool, true, false, ◌&&◌, ◌==◌, if◌then◌else◌, List, [], ◌∷◌, ◌++◌, length, slice_index, unwrap_or, Result, Ok, Err, sym, ◌∙◌, ap, refl, arith, inl, inr}
 use Rattle.std.specs.Prelude.{All, nat_lt, IsOk, MatchResult}
-use Rattle.std.specs.Char.{is_ascii_uppercase}
-use Rattle.std.specs.List.{list_any, AllPass}
+use Rattle.std.specs.List.{list_all, AllPass}
+use Rattle.std.specs.Int.Bits.{bit_and}
 use Rattle.std.proofs.lemmas.Bool.{agree_below_at, and_parts, eqb-true, cases_lt, ltb-true}
 use Rattle.std.proofs.lemmas.List.Elements.{All-head, All-tail}
 use Rattle.hex.specs.Hex.{IsBytes, encode_with, encode_lower, lower_digits, hex_digit_value, is_hex_digit, decode_of, decode_sized}
 use Rattle.hex.specs.declared.error.FromHexError.{FromHexError}
 use Rattle.hex.proofs.HexLemmas.{decode_of-ok, decode_of-same, decode_of-encode_lower, decode_sized-twice, decode_sized-encode_lower, length-encode_with, IsOk-written}
 use Rattle.rohc_frame.specs.Laws.{IsOctet}
+use Rattle.rohc_replay.specs.LowerCase.{has_lower_bit}
 
 -- the digits of two texts, one behind the other
 pub encode-append : (xs ys : List ℕ) → encode_lower (xs ++ ys) ≡ encode_lower xs ++ encode_lower ys
@@ -24,13 +25,13 @@ octets_are_bytes (x ∷ xs) all (suc i) = octets_are_bytes xs (All-tail IsOctet 
 
 -- ---- lower case digits
 
--- none of the digits that are written is of upper case
-digit_is_lower : (v : ℕ) → v < 16 → is_ascii_uppercase (slice_index lower_digits v) ≡ false
+-- each digit that is written has the bit
+digit_is_lower : (v : ℕ) → v < 16 → has_lower_bit (slice_index lower_digits v) ≡ true
 digit_is_lower v small =
-    let agrees = agree_below_at (λ n. is_ascii_uppercase (slice_index lower_digits n)) (λ n. false) 16 v refl small in
+    let agrees = agree_below_at (λ n. has_lower_bit (slice_index lower_digits n)) (λ n. true) 16 v refl small in
     agrees
 
-pub written_is_lower : (xs : List ℕ) → IsBytes xs → list_any is_ascii_uppercase (encode_lower xs) ≡ false
+pub written_is_lower : (xs : List ℕ) → IsBytes xs → list_all has_lower_bit (encode_lower xs) ≡ true
 unfolding encode_with
 written_is_lower [] bytes = refl
 written_is_lower (x ∷ xs) bytes =
@@ -39,11 +40,21 @@ written_is_lower (x ∷ xs) bytes =
     let low = digit_is_lower (x % 16) (omega arith) in
     rw (high, low) (written_is_lower xs (λ i. bytes (suc i)))
 
+-- what the octets so far have in common with the bit, and then one octet more
+pub common_more : (all : Bool) (octet : ℕ) → octet < 256
+    → bit_and (if all then 32 else 0) octet ≡ (if all && has_lower_bit octet then 32 else 0)
+common_more true octet small =
+    let agrees = agree_below_at (λ n. bit_and 32 n == (if has_lower_bit n then 32 else 0)) (λ n. true) 256 octet refl small in
+    eqb-true (bit_and 32 octet) (if has_lower_bit octet then 32 else 0) agrees
+common_more false octet small =
+    let agrees = agree_below_at (λ n. bit_and 0 n == 0) (λ n. true) 256 octet refl small in
+    eqb-true (bit_and 0 octet) 0 agrees
+
 abbrev value : ℕ → ℕ
 value c = unwrap_or (hex_digit_value c) 16
 
 abbrev is_lower_digit : ℕ → Bool
-is_lower_digit c = is_hex_digit c && not (is_ascii_uppercase c)
+is_lower_digit c = is_hex_digit c && has_lower_bit c
 
 abbrev is_spelled : ℕ → Bool
 is_spelled c = (slice_index lower_digits (value c) == c) && nat_lt (value c) 16
@@ -52,8 +63,8 @@ is_spelled c = (slice_index lower_digits (value c) == c) && nat_lt (value c) 16
 past_digits : (c : ℕ) → 103 ≤ c → is_hex_digit c ≡ true → ⊥
 past_digits c above digit = grind arith
 
--- a digit that isn't of upper case is what its value is written as
-lower_digit : (c : ℕ) → is_hex_digit c ≡ true → is_ascii_uppercase c ≡ false → (v : ℕ) × (v < 16) × (slice_index lower_digits v ≡ c)
+-- a digit with the bit is what its value is written as
+lower_digit : (c : ℕ) → is_hex_digit c ≡ true → has_lower_bit c ≡ true → (v : ℕ) × (v < 16) × (slice_index lower_digits v ≡ c)
 lower_digit c digit lower =
     elim (cases_lt c 103) [
       | inl below ↦
@@ -64,20 +75,16 @@ lower_digit c digit lower =
       | inr above ↦ absurd (past_digits c above digit)
     ]
 
-either_false : (a b : Bool) → (a || b) ≡ false → (a ≡ false) × (b ≡ false)
-either_false false b e = (refl, e)
-either_false true b e = cc e
-
 -- an even number of lower case digits is the text of some octets
-octets_of : (text : List ℕ) → length text % 2 ≡ 0 → AllPass is_hex_digit text → list_any is_ascii_uppercase text ≡ false → (xs : List ℕ) × (text ≡ encode_lower xs) × IsBytes xs
+octets_of : (text : List ℕ) → length text % 2 ≡ 0 → AllPass is_hex_digit text → list_all has_lower_bit text ≡ true → (xs : List ℕ) × (text ≡ encode_lower xs) × IsBytes xs
 unfolding encode_with
 octets_of [] even digits lower = ([], refl, λ i. omega arith)
 octets_of (a ∷ []) even digits lower = absurd (omega (arith, even))
 octets_of (a ∷ b ∷ rest) even digits lower =
     let P = λ (c : ℕ). is_hex_digit c ≡ true in
     let tail = All-tail P a (b ∷ rest) digits in
-    let first = either_false (is_ascii_uppercase a) _ lower in
-    let second = either_false (is_ascii_uppercase b) _ first.1 in
+    let first = and_parts (has_lower_bit a) _ lower in
+    let second = and_parts (has_lower_bit b) _ first.1 in
     let high = lower_digit a (All-head P a (b ∷ rest) digits) first.0 in
     let low = lower_digit b (All-head P b rest tail) second.0 in
     let later = octets_of rest (omega (arith, even)) (All-tail P b rest tail) second.1 in
@@ -93,8 +100,8 @@ octets_of (a ∷ b ∷ rest) even digits lower =
     bytes_cons b rest h hs zero = h
     bytes_cons b rest h hs (suc i) = hs i
 
--- a text without an upper case letter that is read as these octets is what they are written as
-pub read_is_written : (text octets : List ℕ) → decode_of text ≡ Ok octets → list_any is_ascii_uppercase text ≡ false → text ≡ encode_lower octets
+-- a text of octets with the bit that is read as these octets is what they are written as
+pub read_is_written : (text octets : List ℕ) → decode_of text ≡ Ok octets → list_all has_lower_bit text ≡ true → text ≡ encode_lower octets
 read_is_written text octets read lower =
     let good = decode_of-ok text octets read in
     let xs = octets_of text good.0 good.1 lower in
@@ -105,8 +112,8 @@ read_is_written text octets read lower =
 abbrev Answers : List ℕ → ℕ → Result Unit FromHexError → List ℕ → Type 0
 Answers text n r out = MatchResult (decode_sized text n) (λ bytes. (r ≡ Ok tt) × (out ≡ bytes)) (λ e. r ≡ Err e)
 
--- a text that was read without an upper case letter is what the octets are written as
-pub spelled : (text out : List ℕ) (n : ℕ) (r : Result Unit FromHexError) → length text ≡ 2 * n → Answers text n r out → IsOk r → list_any is_ascii_uppercase text ≡ false → text ≡ encode_lower out
+-- a text that was read, and has the bit in each octet, is what the octets are written as
+pub spelled : (text out : List ℕ) (n : ℕ) (r : Result Unit FromHexError) → length text ≡ 2 * n → Answers text n r out → IsOk r → list_all has_lower_bit text ≡ true → text ≡ encode_lower out
 spelled text out n r size answers ok lower = go (decode_sized text n) (decode_sized-twice text n size) answers
   where
     go : (d : Result (List ℕ) FromHexError) → d ≡ decode_of text → MatchResult d (λ bytes. (r ≡ Ok tt) × (out ≡ bytes)) (λ e. r ≡ Err e) → text ≡ encode_lower out
@@ -122,6 +129,6 @@ is_read text other out n r size answers octets same =
     let read : decode_sized text n ≡ Ok other = ap (λ (t : List ℕ). decode_sized t n) same ∙ decode_sized-encode_lower other n (omega (arith, len, whole, size)) bytes in
     (IsOk-written (decode_sized text n) r out answers).1 (rw read refl)
 
--- and they have no upper case letter
-pub is_lower : (text other : List ℕ) → All IsOctet other → text ≡ encode_lower other → list_any is_ascii_uppercase text ≡ false
-is_lower text other octets same = ap (list_any is_ascii_uppercase) same ∙ written_is_lower other (octets_are_bytes other octets)
+-- and each octet has the bit
+pub is_lower : (text other : List ℕ) → All IsOctet other → text ≡ encode_lower other → list_all has_lower_bit text ≡ true
+is_lower text other octets same = ap (list_all has_lower_bit) same ∙ written_is_lower other (octets_are_bytes other octets)

@@ -1,32 +1,19 @@
--- A number in decimal, digit by digit from its end.
-use Rattle.std.proofs.Common.{◌≡◌, ℕ, zero, suc, ◌+◌, ◌-◌, ◌/◌, ◌%◌, ◌<◌, ◌≤◌, ◌^◌, List, [], ◌∷◌, ◌++◌, length, take, drop, set, append_assoc, sym, ◌∙◌, ap, arith, add-one, length-drop, length-set}
-use Rattle.std.proofs.lemmas.List.{drop-set, take_all}
-use Rattle.std.proofs.Math.Nat.{pow-suc}
-use Rattle.std.proofs.lemmas.Fmt.{decimal_step, decimal_digit}
+-- A number in decimal, by its last digit and those before it.
+use Rattle.std.proofs.Common.{◌≡◌, ℕ, ◌+◌, ◌/◌, ◌%◌, ◌<◌, ◌≤◌, ◌^◌, [], ◌∷◌, length, ◌∙◌, ap, arith, length-append}
+use Rattle.std.proofs.lemmas.Fmt.{decimal_step, decimal_digit, length-decimal-le}
 use Rattle.std.specs.Fmt.{decimal}
 
--- a number of at least two digits has a place for the last but one
-pub place_left : (rest at : ℕ) → 10 ≤ rest → rest < 10 ^ (at + 1) → 0 < at
-place_left rest zero big small = absurd (omega arith)
-place_left rest (suc n) big small = omega arith
+-- the last digit of a number of two digits or more makes it one longer
+pub one_longer : (n : ℕ) → 10 ≤ n → n < 2 ^ 16 → length (decimal n) ≡ length (decimal (n / 10)) + 1
+one_longer n big small =
+    ap length (decimal_step n big (omega arith)) ∙ length-append (decimal (n / 10)) ((48 + n % 10) ∷ [])
 
--- without its last digit a number has a digit less
-pub shorter : (rest k : ℕ) → rest < 10 ^ (k + 1) → rest / 10 < 10 ^ k
-shorter rest k small = let bound = rw (add-one, pow-suc) at small in omega arith
+-- a number below ten is one digit
+pub one_digit : (n : ℕ) → n < 10 → decimal n ≡ (48 + n % 10) ∷ []
+one_digit n small =
+    let same : n ≡ n % 10 = omega arith in
+    decimal_digit n small ∙ ap (λ (digit : ℕ). (48 + digit) ∷ []) same
 
--- the last digit goes to its place, and the number without it is left
-pub digit_put : (rest at : ℕ) (digits whole : List ℕ) → 10 ≤ rest → rest < 2 ^ 16 → at < length digits
-    → decimal rest ++ drop (at + 1) digits ≡ whole → decimal (rest / 10) ++ drop at (set digits at (48 + rest % 10)) ≡ whole
-digit_put rest at digits whole big small within e =
-    ap (λ (l : List ℕ). decimal (rest / 10) ++ l) (drop-set digits at (48 + rest % 10) within)
-    ∙ sym (append_assoc (decimal (rest / 10)) ((48 + rest % 10) ∷ []) (drop (at + 1) digits))
-    ∙ ap (λ (l : List ℕ). l ++ drop (at + 1) digits) (sym (decimal_step rest big (omega arith))) ∙ e
-
--- the first digit goes to its place, and all digits stand behind it
-pub first_digit_put : (rest at : ℕ) (digits whole : List ℕ) → rest < 10 → at < length digits → length digits ≡ 5
-    → decimal rest ++ drop (at + 1) digits ≡ whole → take (5 - at) (drop at (set digits at (48 + rest))) ≡ whole
-first_digit_put rest at digits whole small within five e =
-    take_all (5 - at) (drop at (set digits at (48 + rest)))
-    (omega (arith, five, length-drop at (set digits at (48 + rest)), length-set digits at (48 + rest)))
-    ∙ drop-set digits at (48 + rest) within
-    ∙ ap (λ (l : List ℕ). l ++ drop (at + 1) digits) (sym (decimal_digit rest small)) ∙ e
+-- a link or a CID has at most five digits
+pub at_most_five : (n : ℕ) → n < 2 ^ 16 → length (decimal n) ≤ 5
+at_most_five n small = length-decimal-le 5 n (omega arith) (omega arith) (omega arith)

@@ -7,6 +7,7 @@ pub mod LinksEntry
 pub mod LinksFields
 pub mod LinksKeys
 pub mod LinksRanges
+pub mod LowerCase
 pub mod Numeral
 pub mod Offers
 pub mod Run

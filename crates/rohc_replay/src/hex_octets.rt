@@ -2,10 +2,10 @@
 //! digits.
 
 ghost use Rattle.std.specs.Prelude.{◌≡◌, ℕ, List, ◌*◌, length, All, IsTrue};
-ghost use Rattle.std.specs.Char.{is_ascii_uppercase};
-ghost use Rattle.std.specs.List.{list_any};
+ghost use Rattle.std.specs.List.{list_all};
 ghost use Rattle.hex.specs.Hex.{encode_lower};
 ghost use Rattle.rohc_frame.specs.Laws.{IsOctet};
+ghost use Rattle.rohc_replay.specs.LowerCase.{has_lower_bit};
 
 use hex::{decode_to_slice, encode_to_slice};
 
@@ -17,16 +17,19 @@ pub(crate) fn encode(octets: &[u8], text: &mut [u8])
     let _ = encode_to_slice(octets, text);
 }
 
-/// Whether a text has an upper case letter. The loop doesn't end early, so that many octets can be judged at
-/// once.
-fn has_upper_case(text: &[u8]) -> bool
-    ensures { result ≡ list_any is_ascii_uppercase text.now }
+/// The bit that `0` to `9` and lower case letters have, and upper case letters don't.
+const LOWER_BIT: u8 = 0x20;
+
+/// Whether each octet of a text has the bit of lower case. The loop doesn't end early and asks nothing of one octet,
+/// so that many octets can be taken at once.
+fn has_lower_bits(text: &[u8]) -> bool
+    ensures { result ≡ list_all has_lower_bit text.now }
 {
-    let mut found = false;
+    let mut common = LOWER_BIT;
     for octet in text {
-        found = found | octet.is_ascii_uppercase();
+        common = common & *octet;
     }
-    found
+    common == LOWER_BIT
 }
 
 /// Reads pairs of lower case digits into `octets`. Returns false if the text has anything else in it; then
@@ -36,5 +39,6 @@ pub(crate) fn decode(text: &[u8], octets: &mut [u8]) -> bool
     ensures spelled { IsTrue result → text.now ≡ encode_lower octets.new }
     ensures only { (other : List ℕ) → All IsOctet other → text.now ≡ encode_lower other → IsTrue result }
 {
-    !has_upper_case(text) && decode_to_slice(text, octets).is_ok()
+    // all digits that are read have the bit, apart from those of upper case
+    has_lower_bits(text) && decode_to_slice(text, octets).is_ok()
 }

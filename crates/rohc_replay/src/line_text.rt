@@ -19,7 +19,7 @@ pub(crate) struct LineText {
 }
 
 impl LineText {
-    ghost use Rattle.std.specs.Prelude.{◌≡◌, ◌+◌, ◌*◌, ◌++◌, [], length};
+    ghost use Rattle.std.specs.Prelude.{◌≡◌, ◌+◌, ◌*◌, ◌++◌, ◌↔◌, IsTrue, [], length};
     ghost use Rattle.std.specs.Fmt.{decimal};
     ghost use Rattle.hex.specs.Hex.{encode_lower};
     ghost use Rattle.rohc_replay.specs.Script.{hex_text};
@@ -49,6 +49,13 @@ impl LineText {
         ensures { result + self.now.len ≡ ROOM }
     {
         ROOM - self.len
+    }
+
+    /// Whether the line is empty.
+    pub(crate) fn is_empty(&self) -> bool
+        ensures { IsTrue result ↔ (self.now.len ≡ 0) }
+    {
+        self.len == 0
     }
 
     /// Empties the line.
@@ -87,16 +94,24 @@ impl LineText {
         ensures text { text_in self.new ≡ text_in self.old ++ decimal number }
         ensures len { self.new.len ≤ self.old.len + 5 }
     {
-        let mut digits = [b'0'; 5];
-        let mut at = 4;
-        let mut rest = number;
-        while rest >= 10 {
-            digits[at] = b'0' + (rest % 10) as u8;
-            rest /= 10;
-            at -= 1;
+        // most numbers of links and CIDs are one digit, which needs no call
+        if number < 10 {
+            self.put(&[b'0' + number as u8]);
+        } else {
+            self.put_digits(number);
         }
-        digits[at] = b'0' + rest as u8;
-        self.put(&digits[at..]);
+    }
+
+    /// Appends the digits of a number, the last of them after those before it.
+    fn put_digits(&mut self, number: u16)
+        requires { self.old.len + length (decimal number) ≤ ROOM }
+        ensures text { text_in self.new ≡ text_in self.old ++ decimal number }
+        ensures len { self.new.len ≡ self.old.len + length (decimal number) }
+    {
+        if number >= 10 {
+            self.put_digits(number / 10);
+        }
+        self.put(&[b'0' + (number % 10) as u8]);
     }
 
     /// Appends a link and a CID to the line, each followed by a space.

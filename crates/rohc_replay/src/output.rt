@@ -133,6 +133,8 @@ impl Answers {
 
     /// Offers a line that ends with octets: the line so far, `head` and `rest` as hex text, and a newline. What
     /// doesn't fit into the buffer is offered in parts.
+    // nearly every answer is such a line
+    #[inline(always)]
     fn offer_octets<W: Write>(
         &mut self,
         writer: &mut W,
@@ -170,6 +172,8 @@ impl Answers {
     }
 
     /// Offers the line of one feedback element that the packet carried for this side's compressor.
+    // few packets carry one
+    #[inline(never)]
     fn offer_relay<W: Write>(
         &mut self,
         writer: &mut W,
@@ -186,6 +190,8 @@ impl Answers {
     }
 
     /// Offers the line of each feedback element.
+    // most packets have none, and then no function is called
+    #[inline(always)]
     fn offer_relays<W: Write>(
         &mut self,
         writer: &mut W,
@@ -237,6 +243,9 @@ impl Answers {
         put_stored(&mut self.line, link, cid, reply.outcome);
         put_feedback(&mut self.line, link, cid, reply);
         put_refused(&mut self.line, link, cid, reply.outcome);
+        if self.line.is_empty() {
+            return Ok(());
+        }
         self.offer_line(writer)
     }
 
