@@ -1,5 +1,5 @@
--- What a concentrator keeps. Words: setting_at k l, record_at k l i, identifiers_at k l; AreTables; IsPlaceOf;
--- Keeps, for what stays.
+-- What a concentrator keeps. Words: setting_at k l, record_at k l i, identifiers_at k l; AreTables;
+-- IsPlaceOf; Keeps, for what stays.
 use Rattle.std.specs.Prelude.{◌≡◌, ◌≢◌, ℕ, List, [], ◌∷◌, ◌++◌, ◌⊎◌, Option, Some, None, nat_eq, map, unwrap_or, ◌<◌, slice_get}
 use Rattle.std.specs.HashMap.{HashMap}
 use Rattle.std.specs.Option.{option_map, option_and_then}

@@ -39,6 +39,6 @@ pub(crate) fn decode(text: &[u8], octets: &mut [u8]) -> bool
     ensures spelled { IsTrue result → text.now ≡ encode_lower octets.new }
     ensures only { (other : List ℕ) → All IsOctet other → text.now ≡ encode_lower other → IsTrue result }
 {
-    // all digits that are read have the bit, apart from those of upper case
+    // Of the digits that `hex` reads, only those of upper case lack the bit.
     has_lower_bits(text) && decode_to_slice(text, octets).is_ok()
 }

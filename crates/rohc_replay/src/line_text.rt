@@ -94,7 +94,7 @@ impl LineText {
         ensures text { text_in self.new ≡ text_in self.old ++ decimal number }
         ensures len { self.new.len ≤ self.old.len + 5 }
     {
-        // most numbers of links and CIDs are one digit, which needs no call
+        // Most links and CIDs have one digit, which needs no call.
         if number < 10 {
             self.put(&[b'0' + number as u8]);
         } else {

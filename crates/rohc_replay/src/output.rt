@@ -133,7 +133,7 @@ impl Answers {
 
     /// Offers a line that ends with octets: the line so far, `head` and `rest` as hex text, and a newline. What
     /// doesn't fit into the buffer is offered in parts.
-    // nearly every answer is such a line
+    // Inlined, since nearly every answer is such a line.
     #[inline(always)]
     fn offer_octets<W: Write>(
         &mut self,
@@ -172,7 +172,7 @@ impl Answers {
     }
 
     /// Offers the line of one feedback element that the packet carried for this side's compressor.
-    // few packets carry one
+    // Not inlined, since few packets carry one.
     #[inline(never)]
     fn offer_relay<W: Write>(
         &mut self,
@@ -190,7 +190,7 @@ impl Answers {
     }
 
     /// Offers the line of each feedback element.
-    // most packets have none, and then no function is called
+    // Inlined, so that no function is called for a packet without feedback, as most are.
     #[inline(always)]
     fn offer_relays<W: Write>(
         &mut self,
