@@ -8,6 +8,7 @@
 #![tactic(auto)]
 
 use rohc_concentrator::{Answer, Concentrator};
+use rohc_context::Refusal;
 use rohc_replay::read_links;
 use std::io::{Error, ErrorKind, Read};
 use std::rt::{Clock, Env, Files};
@@ -21,6 +22,14 @@ struct Packet {
     moment: u64,
     start: usize,
     end: usize,
+}
+
+/// A packet with its octets.
+#[derive(Clone, Copy, Debug)]
+struct Arrival<'a> {
+    link: u16,
+    moment: u64,
+    octets: &'a [u8],
 }
 
 /// The packets of a script.
@@ -98,38 +107,52 @@ impl Script {
         self.packets.push(packet)?;
         Ok(())
     }
+
+    /// The packets with their octets.
+    fn arrivals(&self, alloc: Global) -> io::Result<Vec<Arrival<'_>>> {
+        let mut arrivals = Vec::new(alloc);
+        for packet in self.packets.iter() {
+            let octets = self.octets.get(packet.start..packet.end);
+            arrivals.push(Arrival {
+                link: packet.link,
+                moment: packet.moment,
+                octets: octets.unwrap_or(b""),
+            })?;
+        }
+        Ok(arrivals)
+    }
 }
 
-/// What an answer delivers: the number of octets, and the last octet of its head. It is a function of its own and
-/// reads an octet, so that the answer must be made whole.
-#[inline(never)]
-fn delivered(answer: &Answer<'_>) -> Option<(u64, u8)> {
-    let Answer::Arrived { reply, .. } = answer else {
-        return None;
-    };
-    let Some(packet) = &reply.packet else {
-        return None;
-    };
-    let len = packet.head.len() as u64 + packet.payload.len() as u64;
-    Some((len, packet.head.last().copied().unwrap_or(0)))
+impl Sum {
+    /// Counts an answer. It is a function of its own and reads an octet, so that the answer must be made whole.
+    #[inline(never)]
+    fn count(&mut self, answer: &Answer<'_>) {
+        let Answer::Arrived { reply, .. } = answer else {
+            return;
+        };
+        let Some(packet) = &reply.packet else {
+            return;
+        };
+        let len = packet.head.len() as u64 + packet.payload.len() as u64;
+        let last = packet.head.last().copied().unwrap_or(0);
+        self.delivered = self.delivered.wrapping_add(1);
+        self.octets = self.octets.wrapping_add(len);
+        self.lasts = self.lasts.wrapping_add(u64::from(last));
+    }
 }
 
-/// One turn: all packets in their order.
+/// One turn: all arrivals in their order.
 #[inline(never)]
-fn run(concentrator: &mut Concentrator, script: &Script) -> Sum {
+fn run(concentrator: &mut Concentrator, arrivals: &[Arrival<'_>]) -> Sum {
     let mut sum = Sum {
         delivered: 0,
         octets: 0,
         lasts: 0,
     };
-    for packet in script.packets.iter() {
-        let octets = script.octets.get(packet.start..packet.end).unwrap_or(b"");
-        let answer = concentrator.arrive(packet.link, packet.moment, octets);
-        if let Some((len, last)) = delivered(&answer) {
-            sum.delivered = sum.delivered.wrapping_add(1);
-            sum.octets = sum.octets.wrapping_add(len);
-            sum.lasts = sum.lasts.wrapping_add(u64::from(last));
-        }
+    let mut answer = Answer::Refused(Refusal::NoLink);
+    for arrival in arrivals.iter() {
+        concentrator.arrive_into(arrival.link, arrival.moment, arrival.octets, &mut answer);
+        sum.count(&answer);
     }
     sum
 }
@@ -155,14 +178,15 @@ fn main(rt: HostRuntime) -> io::Result<()> {
     for line in read_text(&rt, path.as_str())?.lines() {
         script.push_line(line)?;
     }
+    let arrivals = script.arrivals(rt.alloc())?;
     for _ in 0..turns {
         let Ok(mut concentrator) = Concentrator::new(rt.alloc(), links.settings()) else {
             return Err(bad());
         };
         let start = Instant::now(&rt)?;
-        let sum = run(&mut concentrator, &script);
+        let sum = run(&mut concentrator, arrivals.as_slice());
         let nanos = start.elapsed(&rt)?.as_nanos();
-        let packets = script.packets.len();
+        let packets = arrivals.len();
         println!(rt;
             "packets {packets} delivered {} octets {} lasts {}",
             sum.delivered, sum.octets, sum.lasts

@@ -28,7 +28,7 @@ impl Concentrator {
     ghost use Rattle.rohc_concentrator.specs.Report.{report_of, IsAnswered};
     ghost use Rattle.rohc_concentrator.specs.Bears.{borne};
 
-    /// Takes one packet of a link. `moment` is its arrival time in milliseconds.
+    /// Takes one packet of a link, and returns the answer. `moment` is its arrival time in milliseconds.
     ///
     /// The answer borrows its payload and relayed feedback from `octets`. A packet without a reading, or of a
     /// link that isn't there, changes nothing. Memory is asked for only at an accepted IR for a CID without a
@@ -40,29 +40,53 @@ impl Concentrator {
         ensures others { KeepsOthers self.old self.new link (borne (setting_at self.old link) octets.entry.now) }
         ensures order { KeepsOrder self.old self.new link (borne (setting_at self.old link) octets.entry.now) }
     {
+        let mut answer = Answer::Refused(Refusal::NoLink);
+        self.arrive_into(link, moment, octets, &mut answer);
+        answer
+    }
+
+    /// Takes one packet of a link as `arrive` does, and writes the answer over what `answer` held. A returned
+    /// answer is copied twice more.
+    pub fn arrive_into<'a>(
+        &mut self,
+        link: u16,
+        moment: u64,
+        octets: &'a [u8],
+        answer: &mut Answer<'a>,
+    )
+        ensures answer { IsAnswered (setting_at self.old link) (record_at self.old link) moment octets.entry.now
+            (report_of answer.new) (record_at self.new link) }
+        ensures settings { KeepsSettings self.old self.new }
+        ensures others { KeepsOthers self.old self.new link (borne (setting_at self.old link) octets.entry.now) }
+        ensures order { KeepsOrder self.old self.new link (borne (setting_at self.old link) octets.entry.now) }
+    {
         let Some(place) = link_place(&self.links, link) else {
-            return Answer::Refused(Refusal::NoLink);
+            *answer = Answer::Refused(Refusal::NoLink);
+            return;
         };
         let (_, records) = self.links.pair_mut(place);
         let settings = &records.setting.settings;
         let framed = match cut(settings.size, settings.max_cid, octets) {
             Ok(framed) => framed,
-            Err(refusal) => return Answer::Refused(Refusal::from(refusal)),
+            Err(refusal) => {
+                *answer = Answer::Refused(Refusal::from(refusal));
+                return;
+            }
         };
         let relayed = framed.feedback();
         let Some(forward) = framed.forward else {
-            return Answer::OnlyFront { relayed };
+            *answer = Answer::OnlyFront { relayed };
+            return;
         };
         // The reply is written into the answer in place.
-        let mut answer = Answer::Arrived {
+        *answer = Answer::Arrived {
             cid: forward.cid,
             reply: Reply::refused(Refusal::NoContext),
             relayed,
         };
-        if let Answer::Arrived { reply, .. } = &mut answer {
+        if let Answer::Arrived { reply, .. } = answer {
             arrive_at(records, moment, &forward, reply);
         }
-        answer
     }
 
     /// Forgets every record of a link, and no other record. The error is `NoLink`.

@@ -39,7 +39,7 @@ pub(crate) fn arrive_at<'a>(
         settings.mode = mode;
     }
     let (_, context) = records.contexts.pair_mut(place);
-    context.arrive(&settings, moment, forward, reply);
+    context.arrive_into(&settings, moment, forward, reply);
 }
 
 /// The place of a CID's record among those of the link, if it has one.

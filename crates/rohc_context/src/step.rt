@@ -77,12 +77,29 @@ impl Context {
         }
     }
 
-    /// Takes an arrival for a CID that has this record, and updates the record. The answer overwrites what `reply`
-    /// held; it isn't returned, because each function that passes a returned reply on copies it.
+    /// Takes an arrival for a CID that has this record, updates the record, and returns the answer.
     ///
     /// The settings are good, and the header has their CID kind and a CID of at most `max_cid`. `moment` is the
     /// arrival time in milliseconds.
     pub fn arrive<'a>(
+        &mut self,
+        settings: &Settings,
+        moment: u64,
+        forward: &Forward<'a>,
+    ) -> Reply<'a>
+        requires good { AreGood settings.now }
+        requires sized { forward.now.size ≡ settings.now.size }
+        requires within { forward.now.cid ≤ settings.now.max_cid }
+        ensures { LoneStep (Some (record_of self.old)) settings.now moment (header_of forward.now) (response_of result) (Some (record_of self.new)) }
+    {
+        let mut reply = Reply::refused(Refusal::NoContext);
+        self.arrive_into(settings, moment, forward, &mut reply);
+        reply
+    }
+
+    /// Takes an arrival as `arrive` does, and writes the answer over what `reply` held. A caller that passes the
+    /// answer on saves its copies, since each function that returns a reply copies it.
+    pub fn arrive_into<'a>(
         &mut self,
         settings: &Settings,
         moment: u64,
@@ -99,8 +116,8 @@ impl Context {
         }
     }
 
-    /// Takes an arrival as `arrive` does, but without the short path for a UO-0. It is a function of its own so
-    /// that `arrive` keeps no stack space for a second reply.
+    /// Takes an arrival as `arrive_into` does, but without the short path for a UO-0. It is a function of its own so
+    /// that `arrive_into` keeps no stack space for a second reply.
     #[inline(never)]
     fn answer<'a>(
         &mut self,

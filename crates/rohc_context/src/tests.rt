@@ -34,8 +34,7 @@ fn first(packet: &[u8]) -> Option<Context> {
 // feedback.
 fn answer(context: &mut Context, packet: &[u8]) -> Option<(Outcome, Option<u8>, Option<u8>)> {
     let forward = cut(CidKind::Small, 15, packet).ok()?.forward?;
-    let mut reply = Reply::refused(Refusal::NoContext);
-    context.arrive(&SETTINGS, 0, &forward, &mut reply);
+    let reply = context.arrive(&SETTINGS, 0, &forward);
     let sn = match &reply.packet {
         Some(packet) => packet.head.get(31).copied(),
         None => None,

@@ -3,7 +3,7 @@ use Rattle.rohc_concentrator.specs.Tables.{setting_at}
 use Rattle.rohc_concentrator.specs.Bears.{borne}
 use Rattle.rohc_concentrator.proofs.PlaceLemmas.{lent_at}
 use Rattle.rohc_concentrator.proofs.LinkPlaceLemmas.{settings_stay, others_stay, order_stays, order_untouched, answer_by}
-use Rattle.rohc_concentrator.proofs.concentrator.Concentrator.arrive.Goals as goal
+use Rattle.rohc_concentrator.proofs.concentrator.Concentrator.arrive_into.Goals as goal
 
 pub returns-in-Err-clause-settings : goal.returns-in-Err-clause-settings
 returns-in-Err-clause-settings c =
