@@ -10,6 +10,7 @@
 use rohc_concentrator::{Answer, Concentrator};
 use rohc_context::Refusal;
 use rohc_replay::read_links;
+use std::alloc::Global;
 use std::io::{Error, ErrorKind, Read};
 use std::rt::{Clock, Env, Files};
 use std::time::Instant;

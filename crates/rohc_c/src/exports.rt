@@ -11,6 +11,8 @@ use crate::names::{put_name, refusal_of};
 use crate::room::has_room;
 use crate::setup::build;
 use crate::standing::{RohcContextInfo, context_at};
+use rohc_concentrator::Answer;
+use rohc_context::Refusal;
 use std::alloc::Global;
 
 /// Makes a concentrator with these links, in this order and without a record, in place of what the gateway had.
@@ -92,7 +94,8 @@ pub extern "C" fn rohc_arrive(
         return 2;
     }
     let mut concentrator = gateway.take(alloc);
-    let answer = concentrator.arrive(link, moment, octets);
+    let mut answer = Answer::Refused(Refusal::NoLink);
+    concentrator.arrive_into(link, moment, octets, &mut answer);
     *arrival = write(&answer, packet, feedback, relayed);
     *gateway = Gateway::of(concentrator);
     0

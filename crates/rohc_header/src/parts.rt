@@ -29,11 +29,13 @@ fn checksum(fixed: &Static, moving: &Dynamic, payload_len: u16) -> u16
     requires { payload_len ≤ longest_payload }
     ensures { result ≡ ip_sum fixed.now moving.now payload_len }
 {
-    let total = u32::from_be_bytes([0, 0, 0x45, moving.tos])
+    let total = 0x4500
+        + u32::from(moving.tos)
         + u32::from(40 + payload_len)
         + u32::from(moving.id)
-        + u32::from_be_bytes([0, 0, flag(moving.df, 0x40), 0x00])
-        + u32::from_be_bytes([0, 0, moving.ttl, 17])
+        + u32::from(flag(moving.df, 0x40)) * 256
+        + u32::from(moving.ttl) * 256
+        + 17
         + two_words(&fixed.source)
         + two_words(&fixed.destination);
     sum_of_total(total)

@@ -8,7 +8,7 @@ ghost use Rattle.rohc_replay.specs.Turn.{TakesTurn, TakesLongTurn};
 use crate::counts::Counts;
 use crate::output::Stopped;
 use crate::words::{Words, read_words};
-use rohc_concentrator::Concentrator;
+use rohc_concentrator::{Answer, Concentrator};
 use rohc_context::Refusal;
 use std::io::Write;
 
@@ -31,7 +31,8 @@ pub(crate) fn take_turn<W: Write>(
     match read_words(line, packet) {
         Some(Words::Arrive { link, moment, size }) => {
             counts.tally.events = counts.tally.events.saturating_add(1);
-            let answer = concentrator.arrive(link, moment, &packet[..size]);
+            let mut answer = Answer::Refused(Refusal::NoLink);
+            concentrator.arrive_into(link, moment, &packet[..size], &mut answer);
             counts.answers.offer_answer(writer, link, &answer)
         }
         Some(Words::Reset { link }) => {

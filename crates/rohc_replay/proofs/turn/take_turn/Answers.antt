@@ -12,12 +12,12 @@ use Rattle.rohc_replay.proofs.turn.take_turn.Goals as goal
 pub returns-in-Some-Arrive : goal.returns-in-Some-Arrive
 returns-in-Some-Arrive g c =
     let a = c.in-Some-Arrive in
-    let said = c.arrive-answer.ensures in
+    let said = c.arrive_into.ensures in
     record {
       line = Good (Arrive a.link a.moment (take a.size c.read_words.new.packet));
-      answers = report_lines a.link (report_of c.arrive-answer.result);
+      answers = report_lines a.link (report_of c.arrive_into.new.answer);
       is_line = (search rules);
-      turns = (Some (report_of c.arrive-answer.result), record { answer = said.answer; settings = said.settings; others = said.others; order = said.order }, refl);
+      turns = (Some (report_of c.arrive_into.new.answer), record { answer = said.answer; settings = said.settings; others = said.others; order = said.order }, refl);
       tally = search rules;
       offers = c.offer_answer.ensures;
     }
