@@ -1,8 +1,9 @@
 -- The 3-bit check of seven octets by one look-up: 1 + x + x^3 divides x^7 + 1, so bits may be added in sevens.
 use Rattle.std.proofs.Common.{◌≡◌, ℕ, zero, suc, ◌-◌, ◌+◌, ◌*◌, ◌/◌, ◌%◌, ◌^◌, ◌<◌, Bool, true, nat_eq, List, [], ◌∷◌, length, get_or, replicate, bit_xor, All, refl, sym, ap, ◌∙◌, arith}
 use Rattle.std.proofs.Math.Bool.{xor}
+use Rattle.std.proofs.Math.Nat.{mod-eq_of_lt}
 use Rattle.std.specs.Int.Bits.{xor_assoc, xor_zero_l, xor_zero_r, xor_shifted}
-use Rattle.std.proofs.lemmas.Nat.{xor_shr, xor_mod, xor_lt, xor_comm, pow_pos}
+use Rattle.std.proofs.lemmas.Nat.{xor_shr, xor_mod, xor_lt, xor_comm, xor_block, pow_pos}
 use Rattle.std.proofs.lemmas.Bool.{agree_below, agree_below_at, eqb-true}
 use Rattle.std.proofs.lemmas.List.{replicate-append-replicate}
 use Rattle.std.proofs.lemmas.List.Elements.{All-cons}
@@ -89,7 +90,7 @@ further i octet inside small =
     let rest : (i * 256 + octet) % 256 ≡ octet = omega arith in
     eqb-true _ _ (rw (high, rest) at (agree_below_at each_further (λ _. true) 2048 (i * 256 + octet) furthers (omega arith)))
 
--- so are seven zeros
+-- Seven zeros are their own sum.
 before_seven : (count octet : ℕ) → before (count + 7) octet ≡ before count octet
 unfolding before
 before_seven count octet =
@@ -194,23 +195,51 @@ unfoldable pub all_words : (a b c d e f g h i j k l m n o p q : ℕ) → ℕ
 all_words a b c d e f g h i j k l m n o p q =
     bit_xor (bit_xor (bit_xor (bit_xor (bit_xor (bit_xor (bit_xor (word a b * 2 ^ 4) (word c d * 2 ^ 6)) (word e f * 2 ^ 1)) (word g h * 2 ^ 3)) (word i j * 2 ^ 5)) k) (word l m * 2 ^ 1)) (bit_xor (word n o * 2 ^ 3) (word p q * 2 ^ 5))
 
--- no word is shifted out of 32 bits
+-- Two words may be added before they are shifted, and no bit is shifted out of 32.
+both_shifted : (s x y : ℕ) → ((n : ℕ) → n < 2 ^ 16 → n * 2 ^ s < 2 ^ 32) → x < 2 ^ 16 → y < 2 ^ 16
+    → bit_xor x y * 2 ^ s % 2 ^ 32 ≡ bit_xor (x * 2 ^ s) (y * 2 ^ s)
+both_shifted s x y within first second =
+    let raised : x * 2 ^ s + 0 ≡ x * 2 ^ s = omega arith in
+    let raised_too : y * 2 ^ s + 0 ≡ y * 2 ^ s = omega arith in
+    let apart : bit_xor (x * 2 ^ s) (y * 2 ^ s) ≡ bit_xor x y * 2 ^ s
+    = ap (λ n. bit_xor n (y * 2 ^ s)) (sym raised) ∙ ap (bit_xor (x * 2 ^ s + 0)) (sym raised_too)
+    ∙ xor_block s x y 0 0 (pow_pos s) (pow_pos s) ∙ omega arith in
+    mod-eq_of_lt (within (bit_xor x y) (xor_lt 16 x y first second)) ∙ sym apart
+
+-- Nine words in the order of their shifts, and in the order of the header.
+in_order : (a b c d e f g h k : ℕ) → bit_xor (bit_xor (bit_xor (bit_xor (bit_xor a b) (bit_xor c f)) (bit_xor d g)) (bit_xor e h)) k
+    ≡ bit_xor (bit_xor (bit_xor (bit_xor (bit_xor (bit_xor (bit_xor a b) c) d) e) k) f) (bit_xor g h)
+in_order a b c d e f g h k =
+    let p1 = bit_xor (bit_xor a b) c in
+    let p2 = bit_xor p1 d in
+    let p3 = bit_xor p2 e in
+    ap (λ x. bit_xor (bit_xor (bit_xor x (bit_xor d g)) (bit_xor e h)) k) (sym (xor_assoc (bit_xor a b) c f))
+    ∙ ap (λ x. bit_xor (bit_xor x (bit_xor e h)) k) (exchanged p1 f d g)
+    ∙ ap (λ x. bit_xor x k) (exchanged p2 (bit_xor f g) e h)
+    ∙ xor_assoc p3 (bit_xor (bit_xor f g) h) k
+    ∙ ap (bit_xor p3) (xor_comm (bit_xor (bit_xor f g) h) k)
+    ∙ sym (xor_assoc p3 k (bit_xor (bit_xor f g) h))
+    ∙ ap (bit_xor (bit_xor p3 k)) (xor_assoc f g h)
+    ∙ sym (xor_assoc (bit_xor p3 k) f (bit_xor g h))
+
+-- The bits that a header's words make when those of one shift are added first.
 pub shifted : (a b c d e f g h i j k l m n o p q : ℕ) → AreSmall (a ∷ b ∷ c ∷ d ∷ e ∷ f ∷ g ∷ h ∷ i ∷ j ∷ k ∷ l ∷ m ∷ n ∷ o ∷ p ∷ q ∷ [])
-    → bit_xor (bit_xor (bit_xor (bit_xor (bit_xor (bit_xor (bit_xor (word a b * 2 ^ 4 % 2 ^ 32) (word c d * 2 ^ 6 % 2 ^ 32)) (word e f * 2 ^ 1 % 2 ^ 32)) (word g h * 2 ^ 3 % 2 ^ 32)) (word i j * 2 ^ 5 % 2 ^ 32)) k) (word l m * 2 ^ 1 % 2 ^ 32)) (bit_xor (word n o * 2 ^ 3 % 2 ^ 32) (word p q * 2 ^ 5 % 2 ^ 32))
+    → bit_xor (bit_xor (bit_xor (bit_xor (bit_xor (word a b * 2 ^ 4 % 2 ^ 32) (word c d * 2 ^ 6 % 2 ^ 32)) (bit_xor (word e f) (word l m) * 2 ^ 1 % 2 ^ 32)) (bit_xor (word g h) (word n o) * 2 ^ 3 % 2 ^ 32)) (bit_xor (word i j) (word p q) * 2 ^ 5 % 2 ^ 32)) k
     ≡ all_words a b c d e f g h i j k l m n o p q
 unfolding AreSmall all_words
 shifted a b c d e f g h i j k l m n o p q s =
     let a_stays : word a b * 2 ^ 4 % 2 ^ 32 ≡ word a b * 2 ^ 4 = omega (arith, s.0, s.1.0) in
     let c_stays : word c d * 2 ^ 6 % 2 ^ 32 ≡ word c d * 2 ^ 6 = omega (arith, s.1.1.0, s.1.1.1.0) in
-    let e_stays : word e f * 2 ^ 1 % 2 ^ 32 ≡ word e f * 2 ^ 1 = omega (arith, s.1.1.1.1.0, s.1.1.1.1.1.0) in
-    let g_stays : word g h * 2 ^ 3 % 2 ^ 32 ≡ word g h * 2 ^ 3 = omega (arith, s.1.1.1.1.1.1.0, s.1.1.1.1.1.1.1.0) in
-    let i_stays : word i j * 2 ^ 5 % 2 ^ 32 ≡ word i j * 2 ^ 5 = omega (arith, s.1.1.1.1.1.1.1.1.0, s.1.1.1.1.1.1.1.1.1.0) in
-    let l_stays : word l m * 2 ^ 1 % 2 ^ 32 ≡ word l m * 2 ^ 1 = omega (arith, s.1.1.1.1.1.1.1.1.1.1.1.0, s.1.1.1.1.1.1.1.1.1.1.1.1.0) in
-    let n_stays : word n o * 2 ^ 3 % 2 ^ 32 ≡ word n o * 2 ^ 3 = omega (arith, s.1.1.1.1.1.1.1.1.1.1.1.1.1.0, s.1.1.1.1.1.1.1.1.1.1.1.1.1.1.0) in
-    let p_stays : word p q * 2 ^ 5 % 2 ^ 32 ≡ word p q * 2 ^ 5 = omega (arith, s.1.1.1.1.1.1.1.1.1.1.1.1.1.1.1.0, s.1.1.1.1.1.1.1.1.1.1.1.1.1.1.1.1.0) in
-    rw (a_stays, c_stays, e_stays, g_stays, i_stays, l_stays, n_stays, p_stays) refl
+    let e_small : word e f < 2 ^ 16 = omega (arith, s.1.1.1.1.0, s.1.1.1.1.1.0) in
+    let g_small : word g h < 2 ^ 16 = omega (arith, s.1.1.1.1.1.1.0, s.1.1.1.1.1.1.1.0) in
+    let i_small : word i j < 2 ^ 16 = omega (arith, s.1.1.1.1.1.1.1.1.0, s.1.1.1.1.1.1.1.1.1.0) in
+    let l_small : word l m < 2 ^ 16 = omega (arith, s.1.1.1.1.1.1.1.1.1.1.1.0, s.1.1.1.1.1.1.1.1.1.1.1.1.0) in
+    let n_small : word n o < 2 ^ 16 = omega (arith, s.1.1.1.1.1.1.1.1.1.1.1.1.1.0, s.1.1.1.1.1.1.1.1.1.1.1.1.1.1.0) in
+    let p_small : word p q < 2 ^ 16 = omega (arith, s.1.1.1.1.1.1.1.1.1.1.1.1.1.1.1.0, s.1.1.1.1.1.1.1.1.1.1.1.1.1.1.1.1.0) in
+    rw (a_stays, c_stays, both_shifted 1 (word e f) (word l m) (λ n small. omega (arith, small)) e_small l_small, both_shifted 3 (word g h) (word n o) (λ n small. omega (arith, small)) g_small n_small, both_shifted 5 (word i j) (word p q) (λ n small. omega (arith, small)) i_small p_small)
+    (in_order (word a b * 2 ^ 4) (word c d * 2 ^ 6) (word e f * 2 ^ 1) (word g h * 2 ^ 3) (word i j * 2 ^ 5) (word l m * 2 ^ 1) (word n o * 2 ^ 3) (word p q * 2 ^ 5) k)
 
--- so is the check of all of them
+-- The check of all words is that of one group.
 pub seventeen_found : (a b c d e f g h i j k l m n o p q : ℕ) → AreSmall (a ∷ b ∷ c ∷ d ∷ e ∷ f ∷ g ∷ h ∷ i ∷ j ∷ k ∷ l ∷ m ∷ n ∷ o ∷ p ∷ q ∷ [])
     → check poly3 0 (sevens (all_words a b c d e f g h i j k l m n o p q) * 2 ∷ [])
     ≡ check poly3 0 (a ∷ b ∷ c ∷ d ∷ e ∷ f ∷ g ∷ h ∷ i ∷ j ∷ k ∷ l ∷ m ∷ n ∷ o ∷ p ∷ q ∷ [])

@@ -113,7 +113,8 @@ pub fn put_header(octets: &mut ArrayVec<u8, 40>, fixed: &Static, moving: &Dynami
 /// The 3-bit check of a header's 40 octets, from the register `reg` after its static octets (RFC 3095 5.9.2).
 ///
 /// It takes one look-up. Since 1 + x + x^3 divides x^7 + 1, bits may be added without carry in groups of seven. So
-/// each dynamic field is shifted by the bits before it modulo seven, where the Total Length starts at bit 4.
+/// each dynamic field is shifted by the bits before it modulo seven, where the Total Length starts at bit 4. Two words
+/// with the same shift are added first.
 pub fn check3_after(octets: &[u8], reg: u8) -> u8
     requires { length octets.now ≡ 40 }
     ensures { result ≡ check poly3 reg (dynamic_octets octets.now) }
@@ -121,13 +122,16 @@ pub fn check3_after(octets: &[u8], reg: u8) -> u8
     let reg = reg & 0x07;
     let total_length = word(octets[2] ^ reg, octets[3]) << 4;
     let id = word(octets[4], octets[5]) << 6;
-    let ip_checksum = word(octets[10], octets[11]) << 1;
-    let udp_length = word(octets[24], octets[25]) << 3;
-    let udp_sum = word(octets[26], octets[27]) << 5;
+    let ip_checksum_and_sn = (word(octets[10], octets[11]) ^ word(octets[30], octets[31])) << 1;
+    let udp_length_and_ts = (word(octets[24], octets[25]) ^ word(octets[32], octets[33])) << 3;
+    let udp_sum_and_ts = (word(octets[26], octets[27]) ^ word(octets[34], octets[35])) << 5;
     let marker_and_type = u32::from(octets[29]);
-    let sn = word(octets[30], octets[31]) << 1;
-    let ts = (word(octets[32], octets[33]) << 3) ^ (word(octets[34], octets[35]) << 5);
-    let bits = total_length ^ id ^ ip_checksum ^ udp_length ^ udp_sum ^ marker_and_type ^ sn ^ ts;
+    let bits = total_length
+        ^ id
+        ^ ip_checksum_and_sn
+        ^ udp_length_and_ts
+        ^ udp_sum_and_ts
+        ^ marker_and_type;
     let two = bits ^ (bits >> 14);
     let one = two ^ (two >> 7);
     crc3(0x00, &[(one % 128) as u8 * 2])
