@@ -70,10 +70,6 @@ pub accepts_as : (s : Settings) (m : ℕ) (h : Header) (r : Record) (state : Acc
     → Accepts s m h r state due (Ok a) (delivered head payload feedback) (Some (record { accepted = m; state = left }))
 accepts_as s m h r state due a head payload feedback left e f g k = rw (e, f, g, k) (refl, refl)
 
--- a first octet from C0 on
-pub from_192 : (n : ℕ) → 192 ≤ n → nat_le 192 n ≡ true
-from_192 n h = grind (arith, nat_tests)
-
 -- the state that the code finds
 pub static_is : (st : code.State) (c : code_static.StaticContext) (r : saved.Reference) → st ≡ states.Static c → c.reference ≡ Some r
     → state_of st ≡ StaticContext c.fixed (Some (reference_of r)) (outcomes c.windows.0) (outcomes c.windows.1)

@@ -1,6 +1,6 @@
 //! Which state takes which packet, and what a packet that isn't accepted leads to (RFC 3095 5.3.2.2).
 
-ghost use Rattle.std.specs.Prelude.{◌≡◌, option_map};
+ghost use Rattle.std.specs.Prelude.{◌≡◌, nat_le, option_map};
 ghost use Rattle.rohc_context.specs.Record.{reference_of};
 ghost use Rattle.rohc_context.specs.Failures.{sn_of};
 
@@ -10,6 +10,13 @@ use crate::settings::Settings;
 use crate::state::{FullContext, NoContext, State, StaticContext};
 use crate::window::Window;
 use rohc_frame::HeadKind;
+
+/// Whether a first octet of a packet of kind Other is that of a UOR-2 format.
+pub(crate) fn is_uor_2(first: u8) -> bool
+    ensures { result ≡ nat_le 192 first }
+{
+    first >= 0xc0
+}
 
 /// The sequence number of a reference, if there is one.
 fn sn_of(reference: &Option<Reference>) -> Option<u16>
@@ -36,7 +43,7 @@ impl State {
             (State::NoContext(_), _) => false,
             (State::Static(_), HeadKind::IrDyn) => true,
             (State::Static(context), HeadKind::Other) => {
-                context.reference.is_some() && first >= 0xc0
+                context.reference.is_some() && is_uor_2(first)
             }
         }
     }

@@ -3,6 +3,7 @@
 ghost use Rattle.std.specs.Prelude.{◌≡◌, [], ◌∷◌};
 
 use crate::due::Due;
+use crate::failures::is_uor_2;
 use crate::fault::Fault;
 use crate::ir::renewal;
 use crate::ir_dyn::{plain_refusal, refresh};
@@ -292,7 +293,7 @@ impl Context {
         let Some(reference) = &context.reference else {
             return self.refuse_low(settings, moment, forward);
         };
-        if forward.first < 0xc0 {
+        if !is_uor_2(forward.first) {
             return self.refuse_low(settings, moment, forward);
         }
         match context.promote(reference, forward) {

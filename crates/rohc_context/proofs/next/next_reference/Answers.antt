@@ -1,3 +1,5 @@
+use Rattle.std.proofs.Common.{rules}
+use Rattle.std.proofs.Common.{tests}
 use Rattle.rohc_context.proofs.Registers.{kept_first, kept_next}
 use Rattle.rohc_context.proofs.next.next_reference.Goals as goal
 
@@ -8,3 +10,6 @@ returns-then-is_for_one_packet-clause-kept c = λ fixed sound.
 pub returns-clause-kept : goal.returns-clause-kept
 returns-clause-kept c = λ fixed sound.
     kept_first fixed c.args.accepted.now.header.moving c.args.accepted.now.header.saved sound.good sound.registers
+
+pub returns-clause-reference : goal.returns-clause-reference
+returns-clause-reference c = let h = c.if-is_for_one_packet.ensures in search (tests, rules)

@@ -1,3 +1,4 @@
+use Rattle.std.proofs.Common.{rules}
 use Rattle.std.proofs.Common.{length}
 use Rattle.rohc_context.proofs.Registers.{octets_three, octets_seven}
 use Rattle.rohc_context.proofs.tries.attempt.Goals as goal
@@ -11,3 +12,6 @@ pub check_from-requires-clause-seven : goal.check_from-requires-clause-seven
 check_from-requires-clause-seven c =
     let h = c.explain-explained.result in
     octets_seven c.args.fixed.now h.moving (length c.args.form.now.payload.now) h.header.octets h.saved c.requires.good c.explain-explained.ensures.explains.octets c.explain-explained.ensures.registers
+
+pub returns-clause-fits : goal.returns-clause-fits
+returns-clause-fits c = search rules

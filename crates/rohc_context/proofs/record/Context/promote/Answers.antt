@@ -8,7 +8,7 @@ use Rattle.rohc_context.specs.Update.{Accepts, acknowledged, promoted}
 use Rattle.rohc_frame.specs.Reading.{header_of}
 use Rattle.rohc_context.specs.Window.{outcomes}
 use Rattle.rohc_context.specs.Record.{Reference, reference_of, state_of, record_of}
-use Rattle.rohc_context.proofs.UpdateLemmas.{promotes, accepts_as, from_192, static_is}
+use Rattle.rohc_context.proofs.UpdateLemmas.{promotes, accepts_as, static_is}
 use Rattle.rohc_context.proofs.record.Context.promote.Goals as goal
 
 pub promote-requires-clause-kept : goal.promote-requires-clause-kept
@@ -28,7 +28,7 @@ returns-in-Ok c =
     promotes state context.fixed (reference_of c.in-Some.reference) (outcomes context.windows.0) (outcomes context.windows.1)
     (static_is c.args.self.now.state context c.in-Some.reference c.in-Static.is c.in-Some.is)
     c.args.self.now.accepted c.args.moment c.args.settings.now h c.args.forward.now.first (Ok t.0) (response_of c.delivered.result) next
-    (from_192 c.args.forward.now.first c.if-forward-lt192.false) t.1
+    (sym c.is_uor_2.ensures ∙ c.if-not-is_uor_2.false) t.1
     (subst (λ x. Accepts c.args.settings.now c.args.moment h r (promoted context.fixed) acknowledged (Ok t.0) x next) (sym c.delivered.ensures)
     (accepts_as c.args.settings.now c.args.moment h r (promoted context.fixed) acknowledged t.0 c.in-Ok.packet.head.items c.in-Ok.packet.payload.now
     (octets_of c.feedback-feedback.result) (state_of (Level c.in-Ok.context)) t.2 t.3 due t.4))
@@ -41,4 +41,4 @@ returns-in-Err c =
     promotes (state_of c.args.self.now.state) context.fixed (reference_of c.in-Some.reference) (outcomes context.windows.0) (outcomes context.windows.1)
     (static_is c.args.self.now.state context c.in-Some.reference c.in-Static.is c.in-Some.is)
     c.args.self.now.accepted c.args.moment c.args.settings.now h c.args.forward.now.first (Err c.in-Err.fault) (response_of c.end.result) (Some (record_of c.end.new.self))
-    (from_192 c.args.forward.now.first c.if-forward-lt192.false) c.in-Err.ensures.fault c.end.ensures
+    (sym c.is_uor_2.ensures ∙ c.if-not-is_uor_2.false) c.in-Err.ensures.fault c.end.ensures

@@ -1,3 +1,4 @@
+use Rattle.std.proofs.Common.{rules}
 use Rattle.std.proofs.Common.{length}
 use Rattle.rohc_context.proofs.Common.{some_holds}
 use Rattle.rohc_context.proofs.Registers.{registers_of}
@@ -9,3 +10,6 @@ invariant_of-context-clause-kept c =
     (registers_of c.args.fixed c.args.moving (length c.args.payload.now) c.unwrap-header.result.octets c.registers.result c.requires.fixed
     (some_holds c.build.result c.unwrap-header.result _ c.unwrap-header.ensures c.build.ensures.header)
     c.registers.ensures.three c.registers.ensures.seven)
+
+pub returns : goal.returns
+returns c = search rules
