@@ -6,6 +6,7 @@ use rohc_context::{Mode, Settings};
 use rohc_frame::CidKind;
 use std::alloc::{AllocError, Global};
 use std::fmt::InlineText;
+use std::process::Abort;
 use std::test::Fail;
 
 const FIRST: &str = "version = 1
@@ -78,6 +79,25 @@ fn with_line(alloc: Global, text: &str, place: usize, other: &str) -> Result<Str
         changed.push_str("\n")?;
     }
     Ok(changed)
+}
+
+/// Reads the text, and compares its fault with this one.
+fn compare_fault(rt: &impl Abort, alloc: Global, text: &str, fault: Option<LinksFault>) {
+    assert_eq!(rt; read_links(alloc, text).err(), fault, "at {text}");
+}
+
+/// The same for a text with another line in the place of one.
+fn compare_changed(
+    rt: &impl Abort,
+    alloc: Global,
+    text: &str,
+    place: usize,
+    other: &str,
+    fault: Option<LinksFault>,
+) -> Result<(), AllocError> {
+    let changed = with_line(alloc, text, place, other)?;
+    compare_fault(rt, alloc, changed.as_str(), fault);
+    Ok(())
 }
 
 #[test]
@@ -160,27 +180,20 @@ fn bad_key(key: Key) -> LinksFault {
 
 #[test]
 fn wants_each_key(rt: HostRuntime) -> Result<(), Fail> {
-    let alloc = rt.alloc();
     for (at, key) in KEYS.iter().enumerate() {
-        let place = at + 2;
-        let line = SECOND.lines().nth(place).ok_or("no line")?;
-        let (name, _) = line.split_once(" = ").ok_or("no key")?;
-        let mut truth = String::from_str(alloc, name)?;
-        truth.push_str(" = true")?;
-        let wrong = with_line(alloc, SECOND, place, truth.as_str())?;
-        assert_eq!(rt;
-            read_links(alloc, wrong.as_str()).err(),
-            Some(bad_key(*key)),
-            "at {name}"
-        );
-        if *key != Key::Range {
-            let missing = with_line(alloc, SECOND, place, "")?;
-            assert_eq!(rt;
-                read_links(alloc, missing.as_str()).err(),
-                Some(bad_key(*key)),
-                "at {name}"
-            );
-        }
+        wants_key(&rt, rt.alloc(), at + 2, *key)?;
+    }
+    Ok(())
+}
+
+/// The line of this key may have no other kind of value, and may be left out only if it is the ranges'.
+fn wants_key(rt: &impl Abort, alloc: Global, place: usize, key: Key) -> Result<(), Fail> {
+    let line = SECOND.lines().nth(place).ok_or("no line")?;
+    let (name, _) = line.split_once(" = ").ok_or("no key")?;
+    let truth = format!(in alloc; "{name} = true")?;
+    compare_changed(rt, alloc, SECOND, place, truth.as_str(), Some(bad_key(key)))?;
+    if key != Key::Range {
+        compare_changed(rt, alloc, SECOND, place, "", Some(bad_key(key)))?;
     }
     Ok(())
 }
@@ -214,28 +227,17 @@ const WRONG: [(&str, usize, &str, Key); 11] = [
 
 #[test]
 fn refuses_unknown_keys(rt: HostRuntime) -> Result<(), Fail> {
-    let alloc = rt.alloc();
     for (place, line, entry) in UNKNOWN {
-        let text = with_line(alloc, FIRST, place, line)?;
-        assert_eq!(rt;
-            read_links(alloc, text.as_str()).err(),
-            Some(LinksFault::UnknownKey { entry }),
-            "at {line}"
-        );
+        let fault = Some(LinksFault::UnknownKey { entry });
+        compare_changed(&rt, rt.alloc(), FIRST, place, line, fault)?;
     }
     Ok(())
 }
 
 #[test]
 fn refuses_wrong_values(rt: HostRuntime) -> Result<(), Fail> {
-    let alloc = rt.alloc();
     for (text, place, line, key) in WRONG {
-        let text = with_line(alloc, text, place, line)?;
-        assert_eq!(rt;
-            read_links(alloc, text.as_str()).err(),
-            Some(bad_key(key)),
-            "at {line}"
-        );
+        compare_changed(&rt, rt.alloc(), text, place, line, Some(bad_key(key)))?;
     }
     Ok(())
 }
@@ -249,8 +251,7 @@ fn takes_eight_ranges(rt: HostRuntime) -> Result<(), Fail> {
             line.push_str("{ first = 4, last = 7, mode = \"U\" },")?;
         }
         line.push_str("]")?;
-        let text = with_line(alloc, SECOND, 16, line.as_str())?;
-        assert_eq!(rt; read_links(alloc, text.as_str()).err(), fault, "of {count}");
+        compare_changed(&rt, alloc, SECOND, 16, line.as_str(), fault)?;
     }
     Ok(())
 }
