@@ -470,14 +470,15 @@ fn the_flush_fails(rt: HostRuntime) -> Result<(), Fail> {
 
 #[test]
 fn faults_show_their_names(rt: HostRuntime) -> Result<(), Fail> {
-    let faults = [
-        (RunFault::NoMemory, "NoMemory"),
-        (RunFault::Read { written: 1 }, "Read"),
-        (RunFault::Write { written: 2 }, "Write"),
-    ];
-    for (fault, name) in faults {
-        let shown = format!(in rt.alloc(); "{fault}")?;
-        assert_eq!(rt; shown.as_str(), name);
-    }
+    shows(&rt, rt.alloc(), RunFault::NoMemory, "NoMemory")?;
+    shows(&rt, rt.alloc(), RunFault::Read { written: 1 }, "Read")?;
+    shows(&rt, rt.alloc(), RunFault::Write { written: 2 }, "Write")?;
+    Ok(())
+}
+
+/// What is shown of the fault is its name.
+fn shows(rt: &impl Abort, alloc: Global, fault: RunFault, name: &str) -> Result<(), AllocError> {
+    let shown = format!(in alloc; "{fault}")?;
+    assert_eq!(rt; shown.as_str(), name);
     Ok(())
 }

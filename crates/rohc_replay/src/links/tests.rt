@@ -128,13 +128,26 @@ fn reads_both_versions(rt: HostRuntime) -> Result<(), Fail> {
         (FIRST, 1, settings, [].as_slice()),
         (SECOND, 4, wide, [range].as_slice()),
     ] {
-        let links = read_links(rt.alloc(), text)?;
-        assert_eq!(rt; links.ports(), [PORTS].as_slice());
-        assert_eq!(rt; links.settings().len(), 1);
-        for setting in links.settings() {
-            assert_eq!(rt; (setting.link, setting.settings), (link, settings));
-            assert_eq!(rt; setting.ranges.as_slice(), ranges);
-        }
+        compare_links(&rt, rt.alloc(), text, link, settings, ranges)?;
+    }
+    Ok(())
+}
+
+/// Reads the text, which has one link with these settings and ranges.
+fn compare_links(
+    rt: &impl Abort,
+    alloc: Global,
+    text: &str,
+    link: u16,
+    settings: Settings,
+    ranges: &[CidRange],
+) -> Result<(), LinksFault> {
+    let links = read_links(alloc, text)?;
+    assert_eq!(rt; links.ports(), [PORTS].as_slice());
+    assert_eq!(rt; links.settings().len(), 1);
+    for setting in links.settings() {
+        assert_eq!(rt; (setting.link, setting.settings), (link, settings));
+        assert_eq!(rt; setting.ranges.as_slice(), ranges);
     }
     Ok(())
 }
@@ -158,19 +171,20 @@ fn tells_the_first_fault(rt: HostRuntime) -> Result<(), Fail> {
         ("version = 1\nlink = [1, {}]", "BadKey", no_link),
     ];
     for (text, name, fault) in faults {
-        let found = read_links(rt.alloc(), text).err().ok_or("no fault")?;
-        assert_eq!(rt; found, fault, "at {text}");
-        assert_eq!(rt; found.name(), name);
-        assert_eq!(rt; InlineText::<16>::of(found).as_str(), name);
+        compare_name(&rt, &fault, name);
+        compare_fault(&rt, rt.alloc(), text, Some(fault));
     }
-    assert_eq!(rt;
-        InlineText::<16>::of(LinksFault::NoMemory).as_str(),
-        "NoMemory"
-    );
+    compare_name(&rt, &LinksFault::NoMemory, "NoMemory");
     for text in ["version = 1", "version = 2\nlink = []"] {
         assert!(rt; read_links(rt.alloc(), text)?.settings().is_empty());
     }
     Ok(())
+}
+
+/// Compares the name of a fault, and what is shown of it, with this name.
+fn compare_name(rt: &impl Abort, fault: &LinksFault, name: &str) {
+    assert_eq!(rt; fault.name(), name);
+    assert_eq!(rt; InlineText::<16>::of(fault).as_str(), name);
 }
 
 /// The fault of a key in the first entry.
@@ -258,19 +272,24 @@ fn takes_eight_ranges(rt: HostRuntime) -> Result<(), Fail> {
 
 #[test]
 fn overlapping_ranges_are_a_bad_setting(rt: HostRuntime) -> Result<(), Fail> {
-    let alloc = rt.alloc();
     let fault = SetupFault::BadSetting { place: 1 };
-    for (first, told) in [(7u16, Some(fault)), (8, None)] {
-        let line = format!(in alloc;
-            "range = [{{ first = 4, last = 7, mode = \"U\" }}, {{ first = {first}, last = 9, mode = \"U\" }}]"
-        )?;
-        let text = with_line(alloc, SECOND, 16, line.as_str())?;
-        let links = read_links(alloc, text.as_str())?;
-        assert_eq!(rt;
-            Concentrator::new(alloc, links.settings()).err(),
-            told,
-            "from {first} on"
-        );
-    }
+    compare_overlap(&rt, rt.alloc(), "7", Some(fault))?;
+    compare_overlap(&rt, rt.alloc(), "8", None)
+}
+
+/// The fault of a link with a range from 4 to 7 and one that begins at this CID.
+fn compare_overlap(
+    rt: &impl Abort,
+    alloc: Global,
+    first: &str,
+    fault: Option<SetupFault>,
+) -> Result<(), Fail> {
+    let line = format!(in alloc;
+        "range = [{{ first = 4, last = 7, mode = \"U\" }}, {{ first = {first}, last = 9, mode = \"U\" }}]"
+    )?;
+    let text = with_line(alloc, SECOND, 16, line.as_str())?;
+    let links = read_links(alloc, text.as_str())?;
+    let told = Concentrator::new(alloc, links.settings()).err();
+    assert_eq!(rt; told, fault, "from {first} on");
     Ok(())
 }
