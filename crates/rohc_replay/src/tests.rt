@@ -7,7 +7,7 @@ use crate::links::read_links;
 use crate::run::replay;
 use crate::tally::Tally;
 use rohc_concentrator::Concentrator;
-use std::alloc::Global;
+use std::alloc::{AllocError, Global};
 use std::io;
 use std::io::{Error, ErrorKind, Read, Write};
 use std::process::Abort;
@@ -172,14 +172,31 @@ impl Write for Taker {
     }
 }
 
-/// The result of a replay of the text through this reader and writer, and the text that was written.
-fn run_replay(
+/// Runs a replay through this reader and writer, and compares its result and the text that was written with these.
+fn compare_replay(
+    rt: &impl Abort,
     alloc: Global,
     reader: &mut Pieces<'_>,
     writer: &mut Taker,
-) -> Result<Result<Tally, RunFault>, Fail> {
+    wanted: Result<Tally, RunFault>,
+    text: &str,
+) -> Result<(), Fail> {
     let mut concentrator = concentrator(alloc, LINKS)?;
-    Ok(replay(alloc, &mut concentrator, reader, writer))
+    let told = replay(alloc, &mut concentrator, reader, writer);
+    compare(rt, told, writer.text.as_slice(), wanted, text);
+    Ok(())
+}
+
+/// Compares what a replay told and wrote with what it should.
+fn compare(
+    rt: &impl Abort,
+    told: Result<Tally, RunFault>,
+    written: &[u8],
+    wanted: Result<Tally, RunFault>,
+    text: &str,
+) {
+    assert_eq!(rt; told, wanted, "for {text}");
+    assert_eq!(rt; written, text.as_bytes(), "for {text}");
 }
 
 /// A writer that never fails.
@@ -300,21 +317,28 @@ const EXAMPLES_OF_FRAMING: [Example; 6] = [
 
 /// Runs each script, and compares its answers and its tally.
 fn agrees(rt: &impl Abort, alloc: Global, examples: &[Example]) -> Result<(), Fail> {
-    for (name, script, answers, events, bad) in examples {
-        let mut writer = willing_writer(alloc);
-        let told = run_replay(
-            alloc,
-            &mut steady_reader(script.as_bytes(), 4096),
-            &mut writer,
-        )?;
+    for (_, script, answers, events, bad) in examples {
         let tally = Tally {
             events: *events,
             bad: *bad,
         };
-        assert_eq!(rt; told, Ok(tally), "{name}");
-        assert_eq!(rt; writer.text.as_slice(), answers.as_bytes(), "{name}");
+        compare_whole(rt, alloc, script.as_bytes(), 4096, tally, answers)?;
     }
     Ok(())
+}
+
+/// Runs a script in pieces of this size without a fault, and compares its tally and its answers with these.
+fn compare_whole(
+    rt: &impl Abort,
+    alloc: Global,
+    script: &[u8],
+    size: usize,
+    tally: Tally,
+    text: &str,
+) -> Result<(), Fail> {
+    let mut reader = steady_reader(script, size);
+    let mut writer = willing_writer(alloc);
+    compare_replay(rt, alloc, &mut reader, &mut writer, Ok(tally), text)
 }
 
 #[test]
@@ -330,91 +354,78 @@ fn worked_examples_of_framing(rt: HostRuntime) -> Result<(), Fail> {
 #[test]
 fn long_lines(rt: HostRuntime) -> Result<(), Fail> {
     let lines = [
-        (131_200, "", "- - refused BadLine\n"),
-        (131_201, "", "- - refused LongLine\n"),
+        (131_200, "", 0, "- - refused BadLine\n"),
+        (131_201, "", 0, "- - refused LongLine\n"),
         (
             200_000,
             "\nreset 9",
+            1,
             "- - refused LongLine\n9 - refused NoLink\n",
         ),
         (
             131_200,
             "\nreset 9\n",
+            1,
             "- - refused BadLine\n9 - refused NoLink\n",
         ),
     ];
-    for (len, behind, answers) in lines {
-        let mut script = vec![in rt.alloc(); b'x'; len]?;
-        script.extend_from_slice(behind.as_bytes())?;
+    for (len, behind, events, answers) in lines {
+        let script = long_script(rt.alloc(), len, behind)?;
+        let tally = Tally { events, bad: 1 };
         for size in [7, 131_200, 200_000] {
-            let mut writer = willing_writer(rt.alloc());
-            let told = run_replay(
-                rt.alloc(),
-                &mut steady_reader(script.as_slice(), size),
-                &mut writer,
-            )?;
-            assert!(rt; told.is_ok());
-            assert_eq!(rt;
-                writer.text.as_slice(),
-                answers.as_bytes(),
-                "of {len} octets"
-            );
+            compare_whole(&rt, rt.alloc(), script.as_slice(), size, tally, answers)?;
         }
     }
     Ok(())
 }
 
+/// A line of this length, with this behind it.
+fn long_script(alloc: Global, len: usize, behind: &str) -> Result<Vec<u8>, AllocError> {
+    let mut script = vec![in alloc; b'x'; len]?;
+    script.extend_from_slice(behind.as_bytes())?;
+    Ok(script)
+}
+
 #[test]
 fn pieces_of_any_size(rt: HostRuntime) -> Result<(), Fail> {
     let whole = first_answers(rt.alloc(), ANSWERS.len())?;
+    let tally = Tally { events: 6, bad: 1 };
     for size in [1, 2, 7, 131_200] {
-        let mut writer = willing_writer(rt.alloc());
-        let told = run_replay(
+        compare_whole(
+            &rt,
             rt.alloc(),
-            &mut steady_reader(SCRIPT.as_bytes(), size),
-            &mut writer,
+            SCRIPT.as_bytes(),
+            size,
+            tally,
+            whole.as_str(),
         )?;
-        assert_eq!(rt;
-            told,
-            Ok(Tally { events: 6, bad: 1 }),
-            "in pieces of {size}"
-        );
-        assert_eq!(rt;
-            writer.text.as_slice(),
-            whole.as_bytes(),
-            "in pieces of {size}"
-        );
     }
     Ok(())
 }
 
 #[test]
 fn each_read_fails_in_turn(rt: HostRuntime) -> Result<(), Fail> {
-    let script = SCRIPT.as_bytes();
-    for calls in 0..=script.len().div_ceil(7) {
-        let seen = &script[..(7 * calls).min(script.len())];
-        let finished = seen.iter().filter(|octet| **octet == b'\n').count();
-        let want = first_answers(rt.alloc(), finished)?;
-        let mut reader = Pieces {
-            rest: script,
-            size: 7,
-            calls_left: calls,
-        };
-        let mut writer = willing_writer(rt.alloc());
-        let told = run_replay(rt.alloc(), &mut reader, &mut writer)?;
-        let written = want.len() as u64;
-        assert_eq!(rt;
-            told,
-            Err(RunFault::Read { written }),
-            "after {calls} reads"
-        );
-        assert_eq!(rt;
-            writer.text.as_slice(),
-            want.as_bytes(),
-            "after {calls} reads"
-        );
+    for calls in 0..=SCRIPT.len().div_ceil(7) {
+        read_fails(&rt, rt.alloc(), calls)?;
     }
     Ok(())
+}
+
+/// Replays the script in pieces of 7 octets, with a read that fails behind this many calls.
+fn read_fails(rt: &impl Abort, alloc: Global, calls: usize) -> Result<(), Fail> {
+    let script = SCRIPT.as_bytes();
+    let seen = &script[..calls.saturating_mul(7).min(script.len())];
+    let finished = seen.iter().filter(|octet| **octet == b'\n').count();
+    let want = first_answers(alloc, finished)?;
+    let mut reader = Pieces {
+        rest: script,
+        size: 7,
+        calls_left: calls,
+    };
+    let mut writer = willing_writer(alloc);
+    let written = want.len() as u64;
+    let fault = Err(RunFault::Read { written });
+    compare_replay(rt, alloc, &mut reader, &mut writer, fault, want.as_str())
 }
 
 #[test]
@@ -422,38 +433,30 @@ fn each_write_fails_in_turn(rt: HostRuntime) -> Result<(), Fail> {
     let whole = first_answers(rt.alloc(), ANSWERS.len())?;
     let places = [0, 90, 114, 136, 152, 176, 196, 286, 298, 318];
     for tired in [Tired::Fails, Tired::TakesNone, Tired::TakesOneThenFails] {
+        let more = usize::from(tired == Tired::TakesOneThenFails);
         for (calls, place) in places.iter().enumerate() {
-            let mut writer = Taker {
-                text: Vec::new(rt.alloc()),
-                calls_left: calls,
-                tired,
-                flushes: true,
-            };
-            let told = run_replay(
-                rt.alloc(),
-                &mut steady_reader(SCRIPT.as_bytes(), 4096),
-                &mut writer,
-            )?;
-            let taken = if tired == Tired::TakesOneThenFails {
-                *place + 1
-            } else {
-                *place
-            };
-            assert_eq!(rt;
-                told,
-                Err(RunFault::Write {
-                    written: taken as u64
-                }),
-                "after {calls} writes"
-            );
-            assert_eq!(rt;
-                writer.text.as_slice(),
-                whole.as_bytes().get(..taken).unwrap_or(b"short"),
-                "after {calls} writes"
-            );
+            let text = whole.as_str().get(..*place + more).unwrap_or("short");
+            let written = (*place + more) as u64;
+            let mut writer = willing_writer(rt.alloc());
+            writer.calls_left = calls;
+            writer.tired = tired;
+            stops_at(&rt, rt.alloc(), &mut writer, written, text)?;
         }
     }
     Ok(())
+}
+
+/// Replays the script, and compares what was written before the writer failed with this.
+fn stops_at(
+    rt: &impl Abort,
+    alloc: Global,
+    writer: &mut Taker,
+    written: u64,
+    text: &str,
+) -> Result<(), Fail> {
+    let mut reader = steady_reader(SCRIPT.as_bytes(), 4096);
+    let fault = Err(RunFault::Write { written });
+    compare_replay(rt, alloc, &mut reader, writer, fault, text)
 }
 
 #[test]
@@ -461,27 +464,21 @@ fn the_flush_fails(rt: HostRuntime) -> Result<(), Fail> {
     let whole = first_answers(rt.alloc(), ANSWERS.len())?;
     let mut writer = willing_writer(rt.alloc());
     writer.flushes = false;
-    let told = run_replay(
-        rt.alloc(),
-        &mut steady_reader(SCRIPT.as_bytes(), 4096),
-        &mut writer,
-    )?;
     let written = whole.len() as u64;
-    assert_eq!(rt; told, Err(RunFault::Write { written }));
-    assert_eq!(rt; writer.text.as_slice(), whole.as_bytes());
-    Ok(())
+    stops_at(&rt, rt.alloc(), &mut writer, written, whole.as_str())
 }
 
 #[test]
 fn faults_show_their_names(rt: HostRuntime) -> Result<(), Fail> {
-    let faults = [
-        (RunFault::NoMemory, "NoMemory"),
-        (RunFault::Read { written: 1 }, "Read"),
-        (RunFault::Write { written: 2 }, "Write"),
-    ];
-    for (fault, name) in faults {
-        let shown = format!(in rt.alloc(); "{fault}")?;
-        assert_eq!(rt; shown.as_str(), name);
-    }
+    shows(&rt, rt.alloc(), RunFault::NoMemory, "NoMemory")?;
+    shows(&rt, rt.alloc(), RunFault::Read { written: 1 }, "Read")?;
+    shows(&rt, rt.alloc(), RunFault::Write { written: 2 }, "Write")?;
+    Ok(())
+}
+
+/// What is shown of the fault is its name.
+fn shows(rt: &impl Abort, alloc: Global, fault: RunFault, name: &str) -> Result<(), AllocError> {
+    let shown = format!(in alloc; "{fault}")?;
+    assert_eq!(rt; shown.as_str(), name);
     Ok(())
 }

@@ -79,6 +79,7 @@ where
 mod tests {
     use super::*;
     use crate::test_links::LINK_1;
+    use std::alloc::{AllocError, Global};
     use std::fs;
     use std::net::{Ipv4Addr, UdpSocket};
     use std::test::Fail;
@@ -92,15 +93,28 @@ mod tests {
             "{LINK_1}deliver_port = 6001\nfeedback_port = 6002\nrelay_port = 6003\n"
         )?;
         fs::write(&rt, path.as_str(), links.as_str())?;
-        let line = format!(in rt.alloc(); "serve --count 1 --port {port} --links {path}")?;
-        let mut words = Vec::new(rt.alloc());
-        for word in line.split(' ') {
-            words.push(word.to_string(rt.alloc())?)?;
-        }
-        let end = run(&rt, words.as_slice());
+        let end = end_at(&rt, port, path.as_str())?;
         fs::remove_file(&rt, path.as_str())?;
-        assert_eq!(rt; end, End::Socket);
-        assert_eq!(rt; end.status(), 4);
+        assert_eq!(rt; (end, end.status()), (End::Socket, 4));
         Ok(())
+    }
+
+    /// How the program ends that serves at this port, with the links of this file.
+    fn end_at<R>(rt: &R, port: u16, path: &str) -> Result<End, AllocError>
+    where
+        R: Files + Input + Print + Net + Clock + AllocGlobal,
+    {
+        let line = format!(in rt.alloc(); "serve --count 1 --port {port} --links {path}")?;
+        let words = words_of(rt.alloc(), line.as_str())?;
+        Ok(run(rt, words.as_slice()))
+    }
+
+    /// The words of a line.
+    fn words_of(alloc: Global, line: &str) -> Result<Vec<String>, AllocError> {
+        let mut words = Vec::new(alloc);
+        for word in line.split(' ') {
+            words.push(word.to_string(alloc)?)?;
+        }
+        Ok(words)
     }
 }

@@ -48,7 +48,8 @@ mod tests {
     use crate::test_links::LINK_1;
     use rohc_concentrator::Concentrator;
     use rohc_replay::read_links;
-    use rohc_serve::serve;
+    use rohc_serve::{ServeTally, serve};
+    use std::alloc::{AllocError, Global};
     use std::process::Abort;
     use std::test::Fail;
     use std::time::Duration;
@@ -74,27 +75,55 @@ mod tests {
         let (deliver, deliver_port) = bound(&rt)?;
         let (feedback, feedback_port) = bound(&rt)?;
         let (relay, relay_port) = bound(&rt)?;
-        let text = format!(in rt.alloc();
+        let links = format!(in rt.alloc();
             "{LINK_1}deliver_port = {deliver_port}\nfeedback_port = {feedback_port}\nrelay_port = {relay_port}\n"
         )?;
-        let links = read_links(rt.alloc(), text.as_str())?;
-        let mut concentrator = Concentrator::new(rt.alloc(), links.settings())?;
-        let mut front = UdpFront::open(&rt, 0)?;
-        front.socket.set_read_timeout(Some(Duration::from_secs(5)))?;
-        let port = front.socket.local_addr()?.port();
-        let (sender, _) = bound(&rt)?;
-        sender.send_to(b"\x00\x01\xfc\x00\xb7\x45\xaa", (Ipv4Addr::LOCALHOST, port))?;
-        sender.send_to(b"\x00\x09\x10\xac", (Ipv4Addr::LOCALHOST, port))?;
-        sender.send_to(b"\x00\x01\xf2\x20\x07", (Ipv4Addr::LOCALHOST, port))?;
-        let tally = serve(rt.alloc(), &mut concentrator, &links, &mut front, 3)?;
+        serves(&rt, links.as_str())?;
         gets(&rt, &deliver, b"\x45\xaa")?;
         gets(&rt, &feedback, b"\xf1\x00")?;
         gets(&rt, &relay, b"\x20\x07")?;
-        let line = format!(in rt.alloc(); "{tally}")?;
+        Ok(())
+    }
+
+    /// Serves three datagrams with the links of this text, and compares the tally's line.
+    fn serves<R: Net + Clock + AllocGlobal + Abort>(rt: &R, links: &str) -> Result<(), Fail> {
+        let links = read_links(rt.alloc(), links)?;
+        let mut concentrator = Concentrator::new(rt.alloc(), links.settings())?;
+        let mut front = waiting_front(rt)?;
+        let tally = serve(rt.alloc(), &mut concentrator, &links, &mut front, 3)?;
+        shows(rt, rt.alloc(), tally)?;
+        Ok(())
+    }
+
+    /// Compares the line of a tally.
+    fn shows(rt: &impl Abort, alloc: Global, tally: ServeTally) -> Result<(), AllocError> {
+        let line = format!(in alloc; "{tally}")?;
         assert_eq!(rt;
             line.as_str(),
             "datagrams 3 delivered 1 feedback 1 relayed 1 refused 1 failed 0"
         );
+        Ok(())
+    }
+
+    /// A front at which three datagrams wait. A receive waits for at most five seconds.
+    fn waiting_front<R: Net + Clock>(rt: &R) -> io::Result<UdpFront<'_, R>> {
+        let front = UdpFront::open(rt, 0)?;
+        front.socket.set_read_timeout(Some(Duration::from_secs(5)))?;
+        let port = front.socket.local_addr()?.port();
+        send_three(rt, port)?;
+        Ok(front)
+    }
+
+    /// Sends three datagrams to the port.
+    fn send_three<R: Net>(rt: &R, port: u16) -> io::Result<()> {
+        let (sender, _) = bound(rt)?;
+        for octets in [
+            b"\x00\x01\xfc\x00\xb7\x45\xaa".as_slice(),
+            b"\x00\x09\x10\xac".as_slice(),
+            b"\x00\x01\xf2\x20\x07".as_slice(),
+        ] {
+            sender.send_to(octets, (Ipv4Addr::LOCALHOST, port))?;
+        }
         Ok(())
     }
 }

@@ -4,11 +4,10 @@ ghost use Rattle.std.specs.Prelude.{◌≡◌};
 ghost use Rattle.rohc_frame.specs.Header as frame;
 
 use crate::framing::cid_kind;
-use crate::text::{NoAnswer, read_octets, spell};
+use crate::text::{NoAnswer, Words, read_octets, spell};
 use rohc_feedback::{Element, Reading, Word, ack, nack, plain_ack, read, static_nack};
 use rohc_frame::CidKind;
 use std::alloc::{AllocError, Global};
-use std::str::SplitWhitespace;
 
 /// Answers a question. The columns are the CID kind, and a call with its arguments: a CID and
 /// perhaps a sequence number, or for `read` an element.
@@ -17,34 +16,25 @@ pub(crate) fn answer(alloc: Global, columns: &[&str]) -> Result<String, NoAnswer
         return Err(NoAnswer::Unreadable);
     };
     let size = cid_kind(kind)?;
-    let mut words = call.split_whitespace();
-    let name = next(&mut words)?;
+    let mut words = Words::of(call);
+    let name = words.text()?;
     if name == "read" {
-        let text = read_octets(alloc, next(&mut words)?)?;
+        let text = read_octets(alloc, words.text()?)?;
         return Ok(meaning(alloc, read(size, &text))?);
     }
     let element = element(size, name, &mut words)?;
     Ok(spell(alloc, &element)?)
 }
 
-/// The next word of a call. It is an error if there is none.
-fn next<'a>(words: &mut SplitWhitespace<'a>) -> Result<&'a str, NoAnswer> {
-    words.next().ok_or(NoAnswer::Unreadable)
-}
-
 /// The element that the function of this name writes.
-fn element(
-    size: CidKind,
-    name: &str,
-    words: &mut SplitWhitespace<'_>,
-) -> Result<Element, NoAnswer> {
-    let cid: u16 = next(words)?.parse()?;
+fn element(size: CidKind, name: &str, words: &mut Words<'_>) -> Result<Element, NoAnswer> {
+    let cid: u16 = words.text()?.parse()?;
     if cid > size.greatest_cid() {
         return Err(NoAnswer::OutsideConditions);
     }
     match name {
-        "ack" => Ok(ack(size, cid, next(words)?.parse()?)),
-        "nack" => Ok(nack(size, cid, number(next(words)?)?)),
+        "ack" => Ok(ack(size, cid, words.text()?.parse()?)),
+        "nack" => Ok(nack(size, cid, number(words.text()?)?)),
         "static_nack" => Ok(static_nack(size, cid)),
         "plain_ack" => Ok(plain_ack(size, cid)),
         _ => Err(NoAnswer::Unreadable),

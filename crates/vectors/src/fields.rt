@@ -1,22 +1,19 @@
 //! The table of header fields, decoded from their low bits: intervals, sequence numbers, timestamps
 //! and the IP Identification.
 
-use crate::text::NoAnswer;
+use crate::text::{NoAnswer, Words, read_small};
 use rohc_bits::Bits;
 use rohc_lsb::{
     inferred_ts, interval_value, ip_id, scaled, sn_shift, sn_value, ts_shift, unscaled,
 };
 use std::alloc::Global;
-use std::str::SplitWhitespace;
 
 /// Answers a question. The columns are a call and its arguments, each after its name.
 pub(crate) fn answer(alloc: Global, columns: &[&str]) -> Result<String, NoAnswer> {
     let [call, arguments] = *columns else {
         return Err(NoAnswer::Unreadable);
     };
-    let mut arguments = Arguments {
-        words: arguments.split_whitespace(),
-    };
+    let mut arguments = Words::of(arguments);
     if call == "sn_value" {
         let (number, steps) = sequence_number(&mut arguments)?;
         return Ok(format!(in alloc; "{number} {steps}")?);
@@ -26,7 +23,7 @@ pub(crate) fn answer(alloc: Global, columns: &[&str]) -> Result<String, NoAnswer
 }
 
 /// The result of a call that gives one number.
-fn value(call: &str, arguments: &mut Arguments<'_>) -> Result<u32, NoAnswer> {
+fn value(call: &str, arguments: &mut Words<'_>) -> Result<u32, NoAnswer> {
     match call {
         "interval_value" => in_interval(arguments),
         "sn_shift" => sequence_shift(arguments),
@@ -39,70 +36,64 @@ fn value(call: &str, arguments: &mut Arguments<'_>) -> Result<u32, NoAnswer> {
     }
 }
 
-/// The arguments of a call that are left.
-#[derive(Drop)]
-struct Arguments<'a> {
-    words: SplitWhitespace<'a>,
-}
-
-impl<'a> Arguments<'a> {
-    /// The text of the next argument. It is an error if it has another name.
-    fn text(&mut self, name: &str) -> Result<&'a str, NoAnswer> {
-        match self.words.next() {
-            Some(word) if word == name => self.words.next().ok_or(NoAnswer::Unreadable),
-            _ => Err(NoAnswer::Unreadable),
-        }
-    }
-
-    /// A number of 32 bits.
-    fn quad(&mut self, name: &str) -> Result<u32, NoAnswer> {
-        Ok(self.text(name)?.parse()?)
-    }
-
-    /// A number of 16 bits.
-    fn word(&mut self, name: &str) -> Result<u16, NoAnswer> {
-        Ok(self.text(name)?.parse()?)
-    }
-
-    /// A number of 8 bits.
-    fn octet(&mut self, name: &str) -> Result<u8, NoAnswer> {
-        Ok(self.text(name)?.parse()?)
-    }
-
-    /// A flag, 0 or 1.
-    fn flag(&mut self, name: &str) -> Result<bool, NoAnswer> {
-        match self.text(name)? {
-            "0" => Ok(false),
-            "1" => Ok(true),
-            _ => Err(NoAnswer::Unreadable),
-        }
-    }
-
-    /// How many bits there are, and the number that they stand for; dashes if there are none.
-    fn optional_bits(&mut self) -> Result<Option<Bits>, NoAnswer> {
-        let (count, value) = (self.text("count")?, self.text("bits")?);
-        if count == "-" && value == "-" {
-            return Ok(None);
-        }
-        let (count, value): (u8, u32) = (count.parse()?, value.parse()?);
-        if count <= 32 && u64::from(value) < 1 << count {
-            Ok(Some(Bits::new(value, count)))
-        } else {
-            Err(NoAnswer::OutsideConditions)
-        }
-    }
-
-    /// The same, with an error if there are none.
-    fn bits(&mut self) -> Result<Bits, NoAnswer> {
-        self.optional_bits()?.ok_or(NoAnswer::Unreadable)
+/// Passes the name of the next argument. It is an error if it has another name.
+fn pass(arguments: &mut Words<'_>, name: &str) -> Result<(), NoAnswer> {
+    if arguments.text()? == name {
+        Ok(())
+    } else {
+        Err(NoAnswer::Unreadable)
     }
 }
 
-fn in_interval(arguments: &mut Arguments<'_>) -> Result<u32, NoAnswer> {
-    let reference = arguments.quad("reference")?;
-    let bits = arguments.bits()?;
-    let p = arguments.quad("p")?;
-    let width = arguments.octet("width")?;
+/// The text of the argument of this name.
+fn text<'a>(arguments: &mut Words<'a>, name: &str) -> Result<&'a str, NoAnswer> {
+    pass(arguments, name)?;
+    arguments.text()
+}
+
+/// A number of 32 bits.
+fn quad(arguments: &mut Words<'_>, name: &str) -> Result<u32, NoAnswer> {
+    pass(arguments, name)?;
+    arguments.quad()
+}
+
+/// A number of 16 bits.
+fn word(arguments: &mut Words<'_>, name: &str) -> Result<u16, NoAnswer> {
+    pass(arguments, name)?;
+    arguments.word()
+}
+
+/// A number of 8 bits.
+fn octet(arguments: &mut Words<'_>, name: &str) -> Result<u8, NoAnswer> {
+    pass(arguments, name)?;
+    arguments.octet()
+}
+
+/// How many bits there are, and the number that they stand for; dashes if there are none.
+fn optional_bits(arguments: &mut Words<'_>) -> Result<Option<Bits>, NoAnswer> {
+    let count = text(arguments, "count")?;
+    let value = text(arguments, "bits")?;
+    if count == "-" && value == "-" {
+        return Ok(None);
+    }
+    let (count, value): (u8, u32) = (read_small(count)?, value.parse()?);
+    if count <= 32 && u64::from(value) < 1 << count {
+        Ok(Some(Bits::new(value, count)))
+    } else {
+        Err(NoAnswer::OutsideConditions)
+    }
+}
+
+/// The same, with an error if there are none.
+fn bits(arguments: &mut Words<'_>) -> Result<Bits, NoAnswer> {
+    optional_bits(arguments)?.ok_or(NoAnswer::Unreadable)
+}
+
+fn in_interval(arguments: &mut Words<'_>) -> Result<u32, NoAnswer> {
+    let reference = quad(arguments, "reference")?;
+    let bits = bits(arguments)?;
+    let p = quad(arguments, "p")?;
+    let width = octet(arguments, "width")?;
     if 1 <= bits.count && bits.count <= width && width <= 32 && u64::from(p) < 1 << bits.count {
         Ok(interval_value(reference, bits, p, width))
     } else {
@@ -110,8 +101,8 @@ fn in_interval(arguments: &mut Arguments<'_>) -> Result<u32, NoAnswer> {
     }
 }
 
-fn sequence_shift(arguments: &mut Arguments<'_>) -> Result<u32, NoAnswer> {
-    let k = arguments.octet("k")?;
+fn sequence_shift(arguments: &mut Words<'_>) -> Result<u32, NoAnswer> {
+    let k = octet(arguments, "k")?;
     if 1 <= k && k <= 16 {
         Ok(sn_shift(k))
     } else {
@@ -119,8 +110,8 @@ fn sequence_shift(arguments: &mut Arguments<'_>) -> Result<u32, NoAnswer> {
     }
 }
 
-fn timestamp_shift(arguments: &mut Arguments<'_>) -> Result<u32, NoAnswer> {
-    let k = arguments.octet("k")?;
+fn timestamp_shift(arguments: &mut Words<'_>) -> Result<u32, NoAnswer> {
+    let k = octet(arguments, "k")?;
     if 2 <= k && k <= 32 {
         Ok(ts_shift(k))
     } else {
@@ -129,10 +120,10 @@ fn timestamp_shift(arguments: &mut Arguments<'_>) -> Result<u32, NoAnswer> {
 }
 
 /// A sequence number, and its steps from the reference.
-fn sequence_number(arguments: &mut Arguments<'_>) -> Result<(u16, i32), NoAnswer> {
-    let reference = arguments.word("reference")?;
-    let shift = arguments.quad("shift")?;
-    let bits = arguments.bits()?;
+fn sequence_number(arguments: &mut Words<'_>) -> Result<(u16, i32), NoAnswer> {
+    let reference = word(arguments, "reference")?;
+    let shift = quad(arguments, "shift")?;
+    let bits = bits(arguments)?;
     if 1 <= bits.count && bits.count <= 16 && shift <= 65_536 {
         Ok(sn_value(reference, shift, bits))
     } else {
@@ -143,10 +134,10 @@ fn sequence_number(arguments: &mut Arguments<'_>) -> Result<(u16, i32), NoAnswer
 /// The greatest stride of a timestamp.
 const GREATEST_STRIDE: u32 = 536_870_911;
 
-fn from_scaled(arguments: &mut Arguments<'_>) -> Result<u32, NoAnswer> {
-    let reference = arguments.quad("reference")?;
-    let stride = arguments.quad("stride")?;
-    let bits = arguments.bits()?;
+fn from_scaled(arguments: &mut Words<'_>) -> Result<u32, NoAnswer> {
+    let reference = quad(arguments, "reference")?;
+    let stride = quad(arguments, "stride")?;
+    let bits = bits(arguments)?;
     if 1 <= stride && stride <= GREATEST_STRIDE && 2 <= bits.count {
         Ok(scaled(reference, stride, bits))
     } else {
@@ -154,9 +145,9 @@ fn from_scaled(arguments: &mut Arguments<'_>) -> Result<u32, NoAnswer> {
     }
 }
 
-fn from_unscaled(arguments: &mut Arguments<'_>) -> Result<u32, NoAnswer> {
-    let reference = arguments.quad("reference")?;
-    let bits = arguments.bits()?;
+fn from_unscaled(arguments: &mut Words<'_>) -> Result<u32, NoAnswer> {
+    let reference = quad(arguments, "reference")?;
+    let bits = bits(arguments)?;
     if 2 <= bits.count {
         Ok(unscaled(reference, bits))
     } else {
@@ -164,22 +155,21 @@ fn from_unscaled(arguments: &mut Arguments<'_>) -> Result<u32, NoAnswer> {
     }
 }
 
-fn from_steps(arguments: &mut Arguments<'_>) -> Result<u32, NoAnswer> {
-    let reference = arguments.quad("reference")?;
-    let stride = match arguments.text("stride")? {
-        "-" => None,
-        stride => Some(stride.parse()?),
-    };
-    let steps = arguments.text("steps")?.parse()?;
+fn from_steps(arguments: &mut Words<'_>) -> Result<u32, NoAnswer> {
+    let reference = quad(arguments, "reference")?;
+    pass(arguments, "stride")?;
+    let stride = arguments.optional_quad()?;
+    let steps = text(arguments, "steps")?.parse()?;
     Ok(inferred_ts(reference, stride, steps))
 }
 
-fn identification(arguments: &mut Arguments<'_>) -> Result<u32, NoAnswer> {
-    let sn = arguments.word("sn")?;
-    let reference_sn = arguments.word("reference_sn")?;
-    let reference_id = arguments.word("reference_id")?;
-    let nbo = arguments.flag("nbo")?;
-    let bits = arguments.optional_bits()?;
+fn identification(arguments: &mut Words<'_>) -> Result<u32, NoAnswer> {
+    let sn = word(arguments, "sn")?;
+    let reference_sn = word(arguments, "reference_sn")?;
+    let reference_id = word(arguments, "reference_id")?;
+    pass(arguments, "nbo")?;
+    let nbo = arguments.flag()?;
+    let bits = optional_bits(arguments)?;
     if let Some(bits) = bits
         && !(1 <= bits.count && bits.count <= 16)
     {

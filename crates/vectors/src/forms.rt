@@ -1,6 +1,6 @@
 //! The table of packets of kind Other: their content, or why they are refused.
 
-use crate::text::{NoAnswer, read_octets, spell_or};
+use crate::text::{NoAnswer, Words, read_octets, spell_or};
 use rohc_bits::Bits;
 use rohc_forms::{Form, IdBits, Values, read_form};
 use rohc_frame::{CidKind, HeadKind, cut};
@@ -14,10 +14,10 @@ pub(crate) fn answer(alloc: Global, columns: &[&str]) -> Result<String, NoAnswer
         return Err(NoAnswer::Unreadable);
     };
     let packet = read_octets(alloc, packet)?;
-    let mut flags = context.split_whitespace();
-    let rnd = read_flag(flags.next())?;
-    let udp_sum = read_flag(flags.next())?;
-    let stride_known = read_flag(flags.next())?;
+    let mut flags = Words::of(context);
+    let rnd = flags.flag()?;
+    let udp_sum = flags.flag()?;
+    let stride_known = flags.flag()?;
     let Ok(framed) = cut(CidKind::Small, 15, &packet) else {
         return Err(NoAnswer::OutsideConditions);
     };
@@ -30,15 +30,6 @@ pub(crate) fn answer(alloc: Global, columns: &[&str]) -> Result<String, NoAnswer
     match read_form(&forward, rnd, udp_sum, stride_known) {
         Ok(form) => Ok(said(alloc, form)?),
         Err(refusal) => Ok(format!(in alloc; "{refusal:?}")?),
-    }
-}
-
-/// A flag, which is `0` or `1`.
-fn read_flag(word: Option<&str>) -> Result<bool, NoAnswer> {
-    match word {
-        Some("0") => Ok(false),
-        Some("1") => Ok(true),
-        _ => Err(NoAnswer::Unreadable),
     }
 }
 

@@ -1,9 +1,8 @@
 //! The table of rebuilt headers, their checks, and the registers after their static octets.
 
-use crate::text::{NoAnswer, read_octets, spell};
+use crate::text::{NoAnswer, Words, read_octets, spell};
 use rohc_header::{Dynamic, Header, Static};
 use std::alloc::Global;
-use std::str::SplitWhitespace;
 
 /// Answers a question. The columns are the static fields, the dynamic fields, and the payload's
 /// length. The answer is the header, its 3-bit and its 7-bit check, and the registers of both.
@@ -31,10 +30,10 @@ fn parts(alloc: Global, header: &Header) -> Result<String, NoAnswer> {
 }
 
 fn read_static(alloc: Global, column: &str) -> Result<Static, NoAnswer> {
-    let mut values = Values::of(column);
+    let mut values = Words::of(column);
     Ok(Static {
-        source: values.address(alloc)?,
-        destination: values.address(alloc)?,
+        source: read_address(alloc, values.text()?)?,
+        destination: read_address(alloc, values.text()?)?,
         source_port: values.word()?,
         destination_port: values.word()?,
         ssrc: values.quad()?,
@@ -42,7 +41,7 @@ fn read_static(alloc: Global, column: &str) -> Result<Static, NoAnswer> {
 }
 
 fn read_dynamic(column: &str) -> Result<Dynamic, NoAnswer> {
-    let mut values = Values::of(column);
+    let mut values = Words::of(column);
     Ok(Dynamic {
         tos: values.octet()?,
         ttl: values.octet()?,
@@ -61,60 +60,10 @@ fn read_dynamic(column: &str) -> Result<Dynamic, NoAnswer> {
     })
 }
 
-/// The values of a column that are left to be read, with a space between them.
-#[derive(Drop)]
-struct Values<'a> {
-    words: SplitWhitespace<'a>,
-}
-
-impl<'a> Values<'a> {
-    fn of(column: &'a str) -> Values<'a> {
-        Values {
-            words: column.split_whitespace(),
-        }
-    }
-
-    fn text(&mut self) -> Result<&'a str, NoAnswer> {
-        self.words.next().ok_or(NoAnswer::Unreadable)
-    }
-
-    /// A number of 32 bits.
-    fn quad(&mut self) -> Result<u32, NoAnswer> {
-        Ok(self.text()?.parse()?)
-    }
-
-    /// A number of 32 bits, or a dash for none.
-    fn optional_quad(&mut self) -> Result<Option<u32>, NoAnswer> {
-        match self.text()? {
-            "-" => Ok(None),
-            number => Ok(Some(number.parse()?)),
-        }
-    }
-
-    /// A number of 16 bits.
-    fn word(&mut self) -> Result<u16, NoAnswer> {
-        Ok(self.text()?.parse()?)
-    }
-
-    /// A number of 8 bits.
-    fn octet(&mut self) -> Result<u8, NoAnswer> {
-        Ok(self.text()?.parse()?)
-    }
-
-    /// A flag, 0 or 1.
-    fn flag(&mut self) -> Result<bool, NoAnswer> {
-        match self.text()? {
-            "0" => Ok(false),
-            "1" => Ok(true),
-            _ => Err(NoAnswer::Unreadable),
-        }
-    }
-
-    /// An address, in hexadecimal digits.
-    fn address(&mut self, alloc: Global) -> Result<[u8; 4], NoAnswer> {
-        match *read_octets(alloc, self.text()?)? {
-            [a, b, c, d] => Ok([a, b, c, d]),
-            _ => Err(NoAnswer::Unreadable),
-        }
+/// An address, in hexadecimal digits.
+fn read_address(alloc: Global, text: &str) -> Result<[u8; 4], NoAnswer> {
+    match *read_octets(alloc, text)? {
+        [a, b, c, d] => Ok([a, b, c, d]),
+        _ => Err(NoAnswer::Unreadable),
     }
 }

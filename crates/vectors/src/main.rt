@@ -18,7 +18,7 @@ mod tests;
 mod text;
 mod values;
 
-use std::alloc::Global;
+use std::alloc::{AllocError, Global};
 use std::io::{self, BufRead, BufReader, BufWriter, Write};
 use text::NoAnswer;
 
@@ -67,23 +67,21 @@ impl Table {
     }
 }
 
-/// Writes the answer to a question of the table on a line, or the mark for a question without an
-/// answer.
-fn write_answer<W: Write>(
+/// The answer to a question of the table, or the mark for a question without an answer.
+fn answer_or_mark(
     alloc: Global,
-    writer: &mut W,
     table: Option<Table>,
     question: &str,
-) -> io::Result<()> {
+) -> Result<String, AllocError> {
     let answer = match table {
         Some(table) => table.answer(alloc, question),
         None => Err(NoAnswer::Unreadable),
     };
     match answer {
-        Ok(answer) => writeln!(writer, "{answer}"),
-        Err(NoAnswer::Unreadable) => writeln!(writer, "?"),
-        Err(NoAnswer::OutsideConditions) => writeln!(writer, "-"),
-        Err(NoAnswer::NoMemory(error)) => Err(error.into()),
+        Ok(answer) => Ok(answer),
+        Err(NoAnswer::Unreadable) => String::from_str(alloc, "?"),
+        Err(NoAnswer::OutsideConditions) => String::from_str(alloc, "-"),
+        Err(NoAnswer::NoMemory(error)) => Err(error),
     }
 }
 
@@ -97,7 +95,8 @@ fn main(rt: HostRuntime) -> io::Result<()> {
             table = Some(begun);
             writeln!(writer, "{line}")?;
         } else {
-            write_answer(alloc, &mut writer, table, &line)?;
+            let answer = answer_or_mark(alloc, table, &line)?;
+            writeln!(writer, "{answer}")?;
         }
     }
     writer.flush()

@@ -6,6 +6,7 @@ use rohc_context::{Mode, Settings};
 use rohc_frame::CidKind;
 use std::alloc::{AllocError, Global};
 use std::fmt::InlineText;
+use std::process::Abort;
 use std::test::Fail;
 
 const FIRST: &str = "version = 1
@@ -80,6 +81,25 @@ fn with_line(alloc: Global, text: &str, place: usize, other: &str) -> Result<Str
     Ok(changed)
 }
 
+/// Reads the text, and compares its fault with this one.
+fn compare_fault(rt: &impl Abort, alloc: Global, text: &str, fault: Option<LinksFault>) {
+    assert_eq!(rt; read_links(alloc, text).err(), fault, "at {text}");
+}
+
+/// The same for a text with another line in the place of one.
+fn compare_changed(
+    rt: &impl Abort,
+    alloc: Global,
+    text: &str,
+    place: usize,
+    other: &str,
+    fault: Option<LinksFault>,
+) -> Result<(), AllocError> {
+    let changed = with_line(alloc, text, place, other)?;
+    compare_fault(rt, alloc, changed.as_str(), fault);
+    Ok(())
+}
+
 #[test]
 fn reads_both_versions(rt: HostRuntime) -> Result<(), Fail> {
     let settings = Settings {
@@ -108,13 +128,26 @@ fn reads_both_versions(rt: HostRuntime) -> Result<(), Fail> {
         (FIRST, 1, settings, [].as_slice()),
         (SECOND, 4, wide, [range].as_slice()),
     ] {
-        let links = read_links(rt.alloc(), text)?;
-        assert_eq!(rt; links.ports(), [PORTS].as_slice());
-        assert_eq!(rt; links.settings().len(), 1);
-        for setting in links.settings() {
-            assert_eq!(rt; (setting.link, setting.settings), (link, settings));
-            assert_eq!(rt; setting.ranges.as_slice(), ranges);
-        }
+        compare_links(&rt, rt.alloc(), text, link, settings, ranges)?;
+    }
+    Ok(())
+}
+
+/// Reads the text, which has one link with these settings and ranges.
+fn compare_links(
+    rt: &impl Abort,
+    alloc: Global,
+    text: &str,
+    link: u16,
+    settings: Settings,
+    ranges: &[CidRange],
+) -> Result<(), LinksFault> {
+    let links = read_links(alloc, text)?;
+    assert_eq!(rt; links.ports(), [PORTS].as_slice());
+    assert_eq!(rt; links.settings().len(), 1);
+    for setting in links.settings() {
+        assert_eq!(rt; (setting.link, setting.settings), (link, settings));
+        assert_eq!(rt; setting.ranges.as_slice(), ranges);
     }
     Ok(())
 }
@@ -138,19 +171,20 @@ fn tells_the_first_fault(rt: HostRuntime) -> Result<(), Fail> {
         ("version = 1\nlink = [1, {}]", "BadKey", no_link),
     ];
     for (text, name, fault) in faults {
-        let found = read_links(rt.alloc(), text).err().ok_or("no fault")?;
-        assert_eq!(rt; found, fault, "at {text}");
-        assert_eq!(rt; found.name(), name);
-        assert_eq!(rt; InlineText::<16>::of(found).as_str(), name);
+        compare_name(&rt, &fault, name);
+        compare_fault(&rt, rt.alloc(), text, Some(fault));
     }
-    assert_eq!(rt;
-        InlineText::<16>::of(LinksFault::NoMemory).as_str(),
-        "NoMemory"
-    );
+    compare_name(&rt, &LinksFault::NoMemory, "NoMemory");
     for text in ["version = 1", "version = 2\nlink = []"] {
         assert!(rt; read_links(rt.alloc(), text)?.settings().is_empty());
     }
     Ok(())
+}
+
+/// Compares the name of a fault, and what is shown of it, with this name.
+fn compare_name(rt: &impl Abort, fault: &LinksFault, name: &str) {
+    assert_eq!(rt; fault.name(), name);
+    assert_eq!(rt; InlineText::<16>::of(fault).as_str(), name);
 }
 
 /// The fault of a key in the first entry.
@@ -160,27 +194,20 @@ fn bad_key(key: Key) -> LinksFault {
 
 #[test]
 fn wants_each_key(rt: HostRuntime) -> Result<(), Fail> {
-    let alloc = rt.alloc();
     for (at, key) in KEYS.iter().enumerate() {
-        let place = at + 2;
-        let line = SECOND.lines().nth(place).ok_or("no line")?;
-        let (name, _) = line.split_once(" = ").ok_or("no key")?;
-        let mut truth = String::from_str(alloc, name)?;
-        truth.push_str(" = true")?;
-        let wrong = with_line(alloc, SECOND, place, truth.as_str())?;
-        assert_eq!(rt;
-            read_links(alloc, wrong.as_str()).err(),
-            Some(bad_key(*key)),
-            "at {name}"
-        );
-        if *key != Key::Range {
-            let missing = with_line(alloc, SECOND, place, "")?;
-            assert_eq!(rt;
-                read_links(alloc, missing.as_str()).err(),
-                Some(bad_key(*key)),
-                "at {name}"
-            );
-        }
+        wants_key(&rt, rt.alloc(), at + 2, *key)?;
+    }
+    Ok(())
+}
+
+/// The line of this key may have no other kind of value, and may be left out only if it is the ranges'.
+fn wants_key(rt: &impl Abort, alloc: Global, place: usize, key: Key) -> Result<(), Fail> {
+    let line = SECOND.lines().nth(place).ok_or("no line")?;
+    let (name, _) = line.split_once(" = ").ok_or("no key")?;
+    let truth = format!(in alloc; "{name} = true")?;
+    compare_changed(rt, alloc, SECOND, place, truth.as_str(), Some(bad_key(key)))?;
+    if key != Key::Range {
+        compare_changed(rt, alloc, SECOND, place, "", Some(bad_key(key)))?;
     }
     Ok(())
 }
@@ -214,28 +241,17 @@ const WRONG: [(&str, usize, &str, Key); 11] = [
 
 #[test]
 fn refuses_unknown_keys(rt: HostRuntime) -> Result<(), Fail> {
-    let alloc = rt.alloc();
     for (place, line, entry) in UNKNOWN {
-        let text = with_line(alloc, FIRST, place, line)?;
-        assert_eq!(rt;
-            read_links(alloc, text.as_str()).err(),
-            Some(LinksFault::UnknownKey { entry }),
-            "at {line}"
-        );
+        let fault = Some(LinksFault::UnknownKey { entry });
+        compare_changed(&rt, rt.alloc(), FIRST, place, line, fault)?;
     }
     Ok(())
 }
 
 #[test]
 fn refuses_wrong_values(rt: HostRuntime) -> Result<(), Fail> {
-    let alloc = rt.alloc();
     for (text, place, line, key) in WRONG {
-        let text = with_line(alloc, text, place, line)?;
-        assert_eq!(rt;
-            read_links(alloc, text.as_str()).err(),
-            Some(bad_key(key)),
-            "at {line}"
-        );
+        compare_changed(&rt, rt.alloc(), text, place, line, Some(bad_key(key)))?;
     }
     Ok(())
 }
@@ -249,27 +265,31 @@ fn takes_eight_ranges(rt: HostRuntime) -> Result<(), Fail> {
             line.push_str("{ first = 4, last = 7, mode = \"U\" },")?;
         }
         line.push_str("]")?;
-        let text = with_line(alloc, SECOND, 16, line.as_str())?;
-        assert_eq!(rt; read_links(alloc, text.as_str()).err(), fault, "of {count}");
+        compare_changed(&rt, alloc, SECOND, 16, line.as_str(), fault)?;
     }
     Ok(())
 }
 
 #[test]
 fn overlapping_ranges_are_a_bad_setting(rt: HostRuntime) -> Result<(), Fail> {
-    let alloc = rt.alloc();
     let fault = SetupFault::BadSetting { place: 1 };
-    for (first, told) in [(7u16, Some(fault)), (8, None)] {
-        let line = format!(in alloc;
-            "range = [{{ first = 4, last = 7, mode = \"U\" }}, {{ first = {first}, last = 9, mode = \"U\" }}]"
-        )?;
-        let text = with_line(alloc, SECOND, 16, line.as_str())?;
-        let links = read_links(alloc, text.as_str())?;
-        assert_eq!(rt;
-            Concentrator::new(alloc, links.settings()).err(),
-            told,
-            "from {first} on"
-        );
-    }
+    compare_overlap(&rt, rt.alloc(), "7", Some(fault))?;
+    compare_overlap(&rt, rt.alloc(), "8", None)
+}
+
+/// The fault of a link with a range from 4 to 7 and one that begins at this CID.
+fn compare_overlap(
+    rt: &impl Abort,
+    alloc: Global,
+    first: &str,
+    fault: Option<SetupFault>,
+) -> Result<(), Fail> {
+    let line = format!(in alloc;
+        "range = [{{ first = 4, last = 7, mode = \"U\" }}, {{ first = {first}, last = 9, mode = \"U\" }}]"
+    )?;
+    let text = with_line(alloc, SECOND, 16, line.as_str())?;
+    let links = read_links(alloc, text.as_str())?;
+    let told = Concentrator::new(alloc, links.settings()).err();
+    assert_eq!(rt; told, fault, "from {first} on");
     Ok(())
 }

@@ -136,16 +136,19 @@ const REPLIES: [Told; 6] = [
     NOTHING,
 ];
 
+/// Compares what was taken, and its count, with this text.
+fn compare_taken(rt: &impl Abort, taker: &Taker, answers: &Answers, text: &str) {
+    assert_eq!(rt; taker.text.as_slice(), text.as_bytes());
+    assert_eq!(rt; answers.taken, text.len() as u64, "{text}");
+}
+
 /// Offers an answer, and compares what was taken with these lines.
 fn compare_lines(rt: &impl Abort, alloc: Global, link: u16, answer: Answer<'_>, lines: &str) {
     let mut taker = new_taker(alloc, usize::MAX, 0);
     let mut answers = Answers::new();
-    assert!(rt;
-        answers.offer_answer(&mut taker, link, &answer).is_ok(),
-        "{lines}"
-    );
-    assert_eq!(rt; taker.text.as_slice(), lines.as_bytes(), "{lines}");
-    assert_eq!(rt; answers.taken, lines.len() as u64, "{lines}");
+    let told = answers.offer_answer(&mut taker, link, &answer);
+    assert!(rt; told.is_ok(), "{lines}");
+    compare_taken(rt, &taker, &answers, lines);
 }
 
 #[test]
@@ -162,35 +165,50 @@ fn answers_are_lines(rt: HostRuntime) -> Result<(), AllocError> {
 
 #[test]
 fn relayed_feedback_is_a_line(rt: HostRuntime) -> Result<(), AllocError> {
-    for (feedback, text) in [
-        (b"\x20\x07".as_slice(), "1 - relay 2007\n"),
-        (b"".as_slice(), "1 - relay -\n"),
-    ] {
-        let mut taker = new_taker(rt.alloc(), usize::MAX, 0);
-        assert!(rt; Answers::new().offer_relay(&mut taker, 1, feedback).is_ok());
-        assert_eq!(rt; taker.text.as_slice(), text.as_bytes());
-    }
+    compare_relay(&rt, rt.alloc(), b"\x20\x07", "1 - relay 2007\n");
+    compare_relay(&rt, rt.alloc(), b"", "1 - relay -\n");
     Ok(())
+}
+
+/// Offers an element to be relayed, and compares what was taken with this line.
+fn compare_relay(rt: &impl Abort, alloc: Global, feedback: &[u8], line: &str) {
+    let mut taker = new_taker(alloc, usize::MAX, 0);
+    let mut answers = Answers::new();
+    assert!(rt; answers.offer_relay(&mut taker, 1, feedback).is_ok());
+    compare_taken(rt, &taker, &answers, line);
 }
 
 #[test]
 fn a_short_line_is_one_write_and_a_long_one_goes_in_parts(
     rt: HostRuntime,
 ) -> Result<(), AllocError> {
-    for (size, calls) in [(200, 1), (1400, 3)] {
-        let mut payload = Vec::new(rt.alloc());
-        payload.resize(size, 0x5a)?;
-        let answer = arrival_answer(0, reply(&[], &payload, &[], Outcome::Delivered));
-        let mut whole = new_taker(rt.alloc(), usize::MAX, 0);
-        let mut slow = new_taker(rt.alloc(), 7, 0);
-        assert!(rt; Answers::new().offer_answer(&mut whole, 1, &answer).is_ok());
-        assert!(rt; Answers::new().offer_answer(&mut slow, 1, &answer).is_ok());
-        assert_eq!(rt; whole.calls, calls);
-        assert_eq!(rt; whole.text.len(), 2 * size + 8);
-        assert!(rt; whole.text.ends_with(b"5a5a5a\n"));
-        assert_eq!(rt; whole.text.as_slice(), slow.text.as_slice());
-    }
+    goes_in(&rt, rt.alloc(), 200, (1, 408))?;
+    goes_in(&rt, rt.alloc(), 1400, (3, 2808))
+}
+
+/// A packet of this size goes in this many writes, with this many octets in all.
+fn goes_in(
+    rt: &impl Abort,
+    alloc: Global,
+    size: usize,
+    written: (u32, usize),
+) -> Result<(), AllocError> {
+    let payload = vec![in alloc; 0x5au8; size]?;
+    let answer = arrival_answer(0, reply(&[], &payload, &[], Outcome::Delivered));
+    let whole = offered(rt, alloc, usize::MAX, &answer);
+    let slow = offered(rt, alloc, 7, &answer);
+    assert_eq!(rt; (whole.calls, whole.text.len()), written);
+    assert!(rt; whole.text.ends_with(b"5a5a5a\n"));
+    assert_eq!(rt; whole.text.as_slice(), slow.text.as_slice());
     Ok(())
+}
+
+/// A writer that took this answer of link 1, so many octets at a call.
+fn offered(rt: &impl Abort, alloc: Global, most: usize, answer: &Answer<'_>) -> Taker {
+    let mut taker = new_taker(alloc, most, 0);
+    let told = Answers::new().offer_answer(&mut taker, 1, answer);
+    assert!(rt; told.is_ok());
+    taker
 }
 
 #[test]
@@ -201,14 +219,16 @@ fn a_fault_stops_the_line(rt: HostRuntime) -> Result<(), AllocError> {
         (0, 0, ""),
         (usize::MAX, 1, ""),
     ] {
-        let mut taker = new_taker(rt.alloc(), most, fails_at);
-        let mut answers = Answers::new();
-        assert_eq!(rt;
-            answers.offer_refusal(&mut taker, 9, Refusal::NoLink),
-            Err(Stopped)
-        );
-        assert_eq!(rt; taker.text.as_slice(), text.as_bytes());
-        assert_eq!(rt; answers.taken, text.len() as u64);
+        stops_behind(&rt, new_taker(rt.alloc(), most, fails_at), text);
     }
     Ok(())
+}
+
+/// A refusal stops at this writer, which has then taken this text.
+fn stops_behind(rt: &impl Abort, taker: Taker, text: &str) {
+    let mut taker = taker;
+    let mut answers = Answers::new();
+    let told = answers.offer_refusal(&mut taker, 9, Refusal::NoLink);
+    assert_eq!(rt; told, Err(Stopped));
+    compare_taken(rt, &taker, &answers, text);
 }

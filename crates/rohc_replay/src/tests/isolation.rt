@@ -167,8 +167,8 @@ fn push_line(text: &mut String, line: &str) -> Result<(), AllocError> {
 /// The pair's own script.
 fn own_script(alloc: Global, link: u16, cid: u16) -> Result<String, AllocError> {
     let mut text = String::new(alloc);
-    for (whose, line) in LINES {
-        if is_own(whose, link, cid) {
+    for (whose, line) in LINES.iter() {
+        if is_own(*whose, link, cid) {
             push_line(&mut text, line)?;
         }
     }
@@ -178,13 +178,19 @@ fn own_script(alloc: Global, link: u16, cid: u16) -> Result<String, AllocError> 
 /// The whole script, with this many hostile lines after each line.
 fn whole_script(alloc: Global, hostile: usize) -> Result<String, AllocError> {
     let mut text = String::new(alloc);
-    for (_, line) in LINES {
+    for (_, line) in LINES.iter() {
         push_line(&mut text, line)?;
-        for place in 0..hostile {
-            push_line(&mut text, HOSTILE[place % HOSTILE.len()])?;
-        }
+        push_hostile(&mut text, hostile)?;
     }
     Ok(text)
+}
+
+/// Appends this many hostile lines, again from the first one after the last.
+fn push_hostile(text: &mut String, count: usize) -> Result<(), AllocError> {
+    for line in HOSTILE.iter().cycle().take(count) {
+        push_line(text, line)?;
+    }
+    Ok(())
 }
 
 /// What a replay of the script writes.

@@ -13,6 +13,13 @@ fn lines_are_read(rt: HostRuntime) -> Result<(), AllocError> {
     have_room(&rt, rt.alloc(), &mut packet)
 }
 
+/// Reads the line, and compares its words with these.
+fn compare_words(rt: &impl Abort, packet: &mut [u8], line: &str, words: Option<Words>)
+    requires { length packet.old ≡ longest_packet }
+{
+    assert_eq!(rt; read_words(line.as_bytes(), packet), words, "{line}");
+}
+
 fn say_their_event(rt: &impl Abort, packet: &mut [u8])
     requires { length packet.old ≡ longest_packet }
 {
@@ -37,56 +44,51 @@ fn say_their_event(rt: &impl Abort, packet: &mut [u8])
         ),
     ] {
         let size = octets.len();
-        assert_eq!(rt;
-            read_words(line.as_bytes(), packet),
-            Some(Words::Arrive { link, moment, size }),
-            "{line}"
-        );
+        compare_words(rt, packet, line, Some(Words::Arrive { link, moment, size }));
         assert!(rt; packet.starts_with(octets), "{line}");
     }
     for (line, link) in [("reset 0", 0), ("reset 9", 9), ("reset 65535", 65535)] {
-        assert_eq!(rt;
-            read_words(line.as_bytes(), packet),
-            Some(Words::Reset { link }),
-            "{line}"
-        );
+        compare_words(rt, packet, line, Some(Words::Reset { link }));
     }
 }
+
+/// Lines that are the text of no event.
+const NO_EVENTS: [&str; 28] = [
+    "",
+    "oops",
+    "reset",
+    "reset ",
+    "reset 01",
+    "reset 00",
+    "reset +1",
+    "reset -",
+    "reset 65536",
+    "reset 1 ",
+    "reset 1\r",
+    "reset\t1",
+    "reset  1",
+    " reset 1",
+    "Reset 1",
+    "arrive 1 0 FC",
+    "arrive 1 0 fC",
+    "arrive 1 0 fc0",
+    "arrive 1 0 0g",
+    "arrive 1 0",
+    "arrive 1 0 ",
+    "arrive 1 0 - ",
+    "arrive 1  0 fc",
+    "arrive 1 00 fc",
+    "arrive 1 18446744073709551616 fc",
+    "arrive 65536 0 fc",
+    "arrive 1 0 fc fc",
+    "arrive 1 0 é",
+];
 
 fn say_nothing(rt: &impl Abort, packet: &mut [u8])
     requires { length packet.old ≡ longest_packet }
 {
-    for line in [
-        "",
-        "oops",
-        "reset",
-        "reset ",
-        "reset 01",
-        "reset 00",
-        "reset +1",
-        "reset -",
-        "reset 65536",
-        "reset 1 ",
-        "reset 1\r",
-        "reset\t1",
-        "reset  1",
-        " reset 1",
-        "Reset 1",
-        "arrive 1 0 FC",
-        "arrive 1 0 fC",
-        "arrive 1 0 fc0",
-        "arrive 1 0 0g",
-        "arrive 1 0",
-        "arrive 1 0 ",
-        "arrive 1 0 - ",
-        "arrive 1  0 fc",
-        "arrive 1 00 fc",
-        "arrive 1 18446744073709551616 fc",
-        "arrive 65536 0 fc",
-        "arrive 1 0 fc fc",
-        "arrive 1 0 é",
-    ] {
-        assert_eq!(rt; read_words(line.as_bytes(), packet), None, "{line}");
+    for line in NO_EVENTS.iter() {
+        compare_words(rt, packet, line, None);
     }
 }
 
