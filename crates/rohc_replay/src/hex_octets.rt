@@ -23,8 +23,8 @@ const LOWER_BIT: u8 = 0x20;
 /// How many octets of a text are taken at once.
 const WIDTH: usize = 32;
 
-/// The bit if each octet of a text has it, and 0 otherwise. The loop doesn't end early and asks nothing of one octet,
-/// so that many octets can be taken at once.
+/// The bit if each octet of a text has it, and 0 otherwise. The loop doesn't end early and asks nothing of one
+/// octet, so that many octets can be taken at once.
 fn common_bit(text: &[u8]) -> u8
     ensures { result ≡ (if list_all has_lower_bit text.now then 32 else 0) }
 {
@@ -37,8 +37,8 @@ fn common_bit(text: &[u8]) -> u8
 
 /// Whether each octet of a text has the bit of lower case.
 ///
-/// The parts of a text have one width, which spares the steps for an odd one. So the last part may overlap the part
-/// before it.
+/// The parts of a text have one width, which spares the steps for an odd one. So the last part may overlap the
+/// part before it.
 fn has_lower_bits(text: &[u8]) -> bool
     ensures { result ≡ list_all has_lower_bit text.now }
 {
@@ -56,6 +56,8 @@ fn has_lower_bits(text: &[u8]) -> bool
 
 /// Reads pairs of lower case digits into `octets`. Returns false if the text has anything else in it; then
 /// the octets may have any values.
+// Not inlined, so that the loop over the digits has the registers for itself.
+#[inline(never)]
 pub(crate) fn decode(text: &[u8], octets: &mut [u8]) -> bool
     requires { length text.now ≡ 2 * length octets.old }
     ensures spelled { IsTrue result → text.now ≡ encode_lower octets.new }

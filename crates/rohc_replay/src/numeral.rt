@@ -20,7 +20,8 @@ fn is_canonical(digits: &[u8]) -> bool
     matches!(digits, [_] | [b'1'..=b'9', ..])
 }
 
-/// The number whose digits are these first octets of a text, with the text after them, if they are how it is written.
+/// The number whose digits are the first octets of a text, with the text after them, if they are how it is
+/// written.
 fn number_of(text: &[u8], number: u64, size: usize) -> Option<(u64, &[u8])>
     requires within { size ≤ length text.now }
     requires digits { AllDigits 10 (take size text.now) }
