@@ -1,10 +1,12 @@
 -- Octets as lower case pairs of digits, written and read back.
-use Rattle.std.proofs.Common.{◌≡◌, ℕ, zero, suc, ◌+◌, ◌*◌, ◌/◌, ◌%◌, ◌<◌, ◌≤◌, Bool, true, false, ◌&&◌, ◌==◌, if◌then◌else◌, List, [], ◌∷◌, ◌++◌, length, slice_index, unwrap_or, Result, Ok, Err, sym, ◌∙◌, ap, refl, arith, inl, inr}
-use Rattle.std.specs.Prelude.{All, nat_lt, IsOk, MatchResult}
+use Rattle.std.proofs.Common.{◌≡◌, ℕ, zero, suc, ◌+◌, ◌*◌, ◌/◌, ◌%◌, ◌<◌, ◌≤◌, Bool, true, false, ◌&&◌, ◌==◌, if◌then◌else◌, List, [], ◌∷◌, ◌++◌, length, slice_index, take, drop, take-add, take-append-drop, unwrap_or, Result, Ok, Err, sym, ◌∙◌, ap, refl, arith, inl, inr}
+use Rattle.std.specs.Prelude.{All, nat_eq, nat_lt, IsOk, MatchResult}
 use Rattle.std.specs.List.{list_all, AllPass}
 use Rattle.std.specs.Int.Bits.{bit_and}
 use Rattle.std.proofs.lemmas.Bool.{agree_below_at, and_parts, eqb-true, cases_lt, ltb-true}
+use lib.Seq.{take-nil}
 use Rattle.std.proofs.lemmas.List.Elements.{All-head, All-tail}
+use Rattle.std.proofs.lemmas.List.Folds.{list_all-append}
 use Rattle.hex.specs.Hex.{IsBytes, encode_with, encode_lower, lower_digits, hex_digit_value, is_hex_digit, decode_of, decode_sized}
 use Rattle.hex.specs.declared.error.FromHexError.{FromHexError}
 use Rattle.hex.proofs.HexLemmas.{decode_of-ok, decode_of-same, decode_of-encode_lower, decode_sized-twice, decode_sized-encode_lower, length-encode_with, IsOk-written}
@@ -49,6 +51,43 @@ common_more true octet small =
 common_more false octet small =
     let agrees = agree_below_at (λ n. bit_and 0 n == 0) (λ n. true) 256 octet refl small in
     eqb-true (bit_and 0 octet) 0 agrees
+
+-- what two texts have in common with the bit
+pub common_both : (a b : Bool) → bit_and (if a then 32 else 0) (if b then 32 else 0) ≡ (if a && b then 32 else 0)
+common_both true true = refl
+common_both true false = refl
+common_both false true = refl
+common_both false false = refl
+
+-- whether the bit is left
+pub bit_left : (all : Bool) → nat_eq (if all then 32 else 0) 32 ≡ all
+bit_left true = refl
+bit_left false = refl
+
+-- a front with one part more
+pub front_more : (text : List ℕ) (at more : ℕ)
+    → list_all has_lower_bit (take (at + more) text) ≡ (list_all has_lower_bit (take at text) && list_all has_lower_bit (take more (drop at text)))
+front_more text at more = ap (list_all has_lower_bit) (take-add at more text) ∙ list_all-append has_lower_bit (take at text) (take more (drop at text))
+
+both_more : (a b c : Bool) → ((a && b) && c) ≡ (a && (b && c))
+both_more true b c = refl
+both_more false b c = refl
+
+twice : (a b : Bool) → (a && (a && b)) ≡ (a && b)
+twice true b = refl
+twice false b = refl
+
+-- a front of a text and a back of it that reach each other are all of it
+pub covered : (text : List ℕ) (back front : ℕ) → back ≤ front
+    → (list_all has_lower_bit (take front text) && list_all has_lower_bit (drop back text)) ≡ list_all has_lower_bit text
+covered text zero front reach =
+    let parts : list_all has_lower_bit text ≡ (list_all has_lower_bit (take front text) && list_all has_lower_bit (drop front text)) =
+    ap (list_all has_lower_bit) (sym (take-append-drop front text)) ∙ list_all-append has_lower_bit (take front text) (drop front text) in
+    ap (λ (b : Bool). list_all has_lower_bit (take front text) && b) parts ∙ twice (list_all has_lower_bit (take front text)) (list_all has_lower_bit (drop front text)) ∙ sym parts
+covered [] (suc back) front reach = rw (take-nil front) refl
+covered (x ∷ xs) (suc back) zero reach = absurd (omega (arith, reach))
+covered (x ∷ xs) (suc back) (suc front) reach =
+    both_more (has_lower_bit x) (list_all has_lower_bit (take front xs)) (list_all has_lower_bit (drop back xs)) ∙ ap (λ (b : Bool). has_lower_bit x && b) (covered xs back front (omega (arith, reach)))
 
 abbrev value : ℕ → ℕ
 value c = unwrap_or (hex_digit_value c) 16

@@ -1,5 +1,5 @@
 -- A number in decimal, by its last digit and those before it.
-use Rattle.std.proofs.Common.{◌≡◌, ℕ, ◌+◌, ◌/◌, ◌%◌, ◌<◌, ◌≤◌, ◌^◌, [], ◌∷◌, length, ◌∙◌, ap, arith, length-append}
+use Rattle.std.proofs.Common.{◌≡◌, ℕ, List, ◌++◌, ◌+◌, ◌/◌, ◌%◌, ◌<◌, ◌≤◌, ◌^◌, [], ◌∷◌, length, ◌∙◌, ap, arith, length-append}
 use Rattle.std.proofs.lemmas.Fmt.{decimal_step, decimal_digit, length-decimal-le}
 use Rattle.std.specs.Fmt.{decimal}
 
@@ -13,6 +13,11 @@ pub one_digit : (n : ℕ) → n < 10 → decimal n ≡ (48 + n % 10) ∷ []
 one_digit n small =
     let same : n ≡ n % 10 = omega arith in
     decimal_digit n small ∙ ap (λ (digit : ℕ). (48 + digit) ∷ []) same
+
+-- a number from ten to ninety-nine is two digits
+pub two_digits : (n : ℕ) → 10 ≤ n → n < 100 → decimal n ≡ (48 + n / 10) ∷ (48 + n % 10) ∷ []
+two_digits n big small =
+    decimal_step n big (omega arith) ∙ ap (λ (front : List ℕ). front ++ (48 + n % 10) ∷ []) (decimal_digit (n / 10) (omega arith))
 
 -- a link or a CID has at most five digits
 pub at_most_five : (n : ℕ) → n < 2 ^ 16 → length (decimal n) ≤ 5

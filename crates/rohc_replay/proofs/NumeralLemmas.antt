@@ -1,6 +1,6 @@
 -- What digits in front of a text are, and the number that they spell.
-use Rattle.std.proofs.Common.{◌≡◌, ℕ, zero, suc, ◌+◌, ◌-◌, ◌*◌, ◌<◌, ◌≤◌, ◌^◌, true, false, List, [], ◌∷◌, ◌++◌, length, take, drop, get_or, sym, ◌∙◌, ap, refl, arith, inl, inr}
-use Rattle.std.proofs.lemmas.Str.Parse.{IsNumeralModel, numerals_by_value, tells_digits, digit_from_value, digits_value-take-le}
+use Rattle.std.proofs.Common.{◌≡◌, ℕ, zero, suc, ◌+◌, ◌-◌, ◌*◌, ◌<◌, ◌≤◌, ◌^◌, true, false, List, [], ◌∷◌, ◌++◌, length, take, drop, get_or, sym, ◌∙◌, ap, refl, arith, inl, inr, length-take}
+use Rattle.std.proofs.lemmas.Str.Parse.{IsNumeralModel, numerals_by_value, tells_digits, digit_from_value, digits_value-take-le, digits_value_short}
 use Rattle.std.proofs.lemmas.Fmt.{digits_decimal, digits_value-decimal, decimal-digits_value, decimal_digit, first_decimal, decimal_injective}
 use Rattle.std.proofs.lemmas.Bool.{cases_lt}
 use Rattle.std.proofs.lemmas.List.{take-append-drop, take-append-le, drop_more, drop_all}
@@ -120,6 +120,10 @@ digit_more text size number within digits value digit = (
   digits_value_more 10 text size within ∙ ap (λ (n : ℕ). n * 10 + digit_value (get_or text size 0)) value
       ∙ ap (λ (d : ℕ). number * 10 + d) (digit_less (get_or text size 0) digit),
 )
+
+-- eighteen digits are a number below the greatest of them
+pub few_digits : (text : List ℕ) (size : ℕ) → AllDigits 10 (take size text) → size < 19 → digits_value 10 (take size text) < 10 ^ 18
+few_digits text size digits few = digits_value_short own (take size text) 18 digits (omega (arith, few, length-take size text))
 
 -- where the text ends or has no digit, the run ends
 pub run_ends : (text : List ℕ) (size : ℕ) → (size < length text → is_ascii_digit (get_or text size 0) ≡ false) → begins_with_digit (drop size text) ≡ false

@@ -1,7 +1,7 @@
 //! Octets as pairs of lower case hexadecimal digits, by the functions of `hex`, which also reads upper case
 //! digits.
 
-ghost use Rattle.std.specs.Prelude.{◌≡◌, ℕ, List, ◌*◌, length, All, IsTrue};
+ghost use Rattle.std.specs.Prelude.{◌≡◌, ℕ, List, ◌*◌, length, All, IsTrue, if◌then◌else◌};
 ghost use Rattle.std.specs.List.{list_all};
 ghost use Rattle.hex.specs.Hex.{encode_lower};
 ghost use Rattle.rohc_frame.specs.Laws.{IsOctet};
@@ -20,20 +20,44 @@ pub(crate) fn encode(octets: &[u8], text: &mut [u8])
 /// The bit that `0` to `9` and lower case letters have, and upper case letters don't.
 const LOWER_BIT: u8 = 0x20;
 
-/// Whether each octet of a text has the bit of lower case. The loop doesn't end early and asks nothing of one octet,
-/// so that many octets can be taken at once.
-fn has_lower_bits(text: &[u8]) -> bool
-    ensures { result ≡ list_all has_lower_bit text.now }
+/// How many octets of a text are taken at once.
+const WIDTH: usize = 32;
+
+/// The bit if each octet of a text has it, and 0 otherwise. The loop doesn't end early and asks nothing of one
+/// octet, so that many octets can be taken at once.
+fn common_bit(text: &[u8]) -> u8
+    ensures { result ≡ (if list_all has_lower_bit text.now then 32 else 0) }
 {
     let mut common = LOWER_BIT;
     for octet in text {
         common = common & *octet;
     }
-    common == LOWER_BIT
+    common
+}
+
+/// Whether each octet of a text has the bit of lower case.
+///
+/// The parts of a text have one width, which spares the steps for an odd one. So the last part may overlap the
+/// part before it.
+fn has_lower_bits(text: &[u8]) -> bool
+    ensures { result ≡ list_all has_lower_bit text.now }
+{
+    if text.len() < WIDTH {
+        return common_bit(text) == LOWER_BIT;
+    }
+    let mut common = LOWER_BIT;
+    let mut at = 0;
+    while at + WIDTH < text.len() {
+        common &= common_bit(&text[at..at + WIDTH]);
+        at += WIDTH;
+    }
+    common & common_bit(&text[text.len() - WIDTH..]) == LOWER_BIT
 }
 
 /// Reads pairs of lower case digits into `octets`. Returns false if the text has anything else in it; then
 /// the octets may have any values.
+// Not inlined, so that the loop over the digits has the registers for itself.
+#[inline(never)]
 pub(crate) fn decode(text: &[u8], octets: &mut [u8]) -> bool
     requires { length text.now ≡ 2 * length octets.old }
     ensures spelled { IsTrue result → text.now ≡ encode_lower octets.new }

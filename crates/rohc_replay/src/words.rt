@@ -32,12 +32,23 @@ pub(crate) fn read_words(line: &[u8], packet: &mut [u8]) -> Option<Words>
     ensures fits { IfSome result (λ words. size_in words ≤ longest_packet) }
     ensures bad { IfNone result ((e : Event) → IsEvent e → line.now ≢ spelling e) }
 {
-    match line.strip_prefix(b"arrive ") {
+    match after_arrive(line) {
         Some(text) => read_arrival(text, packet),
         None => {
             let link = read_link(line.strip_prefix(b"reset ")?)?;
             Some(Words::Reset { link })
         }
+    }
+}
+
+/// What follows `arrive `, if the line starts so. A pattern takes half of what `strip_prefix` takes here.
+fn after_arrive(line: &[u8]) -> Option<&[u8]>
+    ensures some { IfSome result (λ text. line.entry.now ≡ codes "arrive " ++ text.now) }
+    ensures none { IfNone result ((text : List ℕ) → line.entry.now ≢ codes "arrive " ++ text) }
+{
+    match line {
+        [b'a', b'r', b'r', b'i', b'v', b'e', b' ', text @ ..] => Some(text),
+        _ => None,
     }
 }
 

@@ -1,4 +1,4 @@
-use Rattle.std.proofs.Common.{length, ◌-◌, ◌<◌, ◌^◌, ◌≤◌, ◌≡◌, take}
+use Rattle.std.proofs.Common.{length, ◌-◌, ◌≤◌, ◌≡◌, take}
 use Rattle.std.specs.Str.Parse.{AllDigits, digits_value}
 use Rattle.rohc_replay.proofs.numeral.read_number.Given as goal
 
@@ -6,8 +6,8 @@ use Rattle.rohc_replay.proofs.numeral.read_number.Given as goal
 abbrev pub invariant-loop-size : goal.invariant-loop-size
 invariant-loop-size l = record {
   within : l.size ≤ length l.text;
+  few : l.size ≤ 19;
   digits : AllDigits 10 (take l.size l.text);
-  small : l.number < 2 ^ 64;
   value : digits_value 10 (take l.size l.text) ≡ l.number;
 }
 
