@@ -56,8 +56,6 @@ fn has_lower_bits(text: &[u8]) -> bool
 
 /// Reads pairs of lower case digits into `octets`. Returns false if the text has anything else in it; then
 /// the octets may have any values.
-// Not inlined, so that the loop over the digits has the registers for itself.
-#[inline(never)]
 pub(crate) fn decode(text: &[u8], octets: &mut [u8]) -> bool
     requires { length text.now ≡ 2 * length octets.old }
     ensures spelled { IsTrue result → text.now ≡ encode_lower octets.new }
