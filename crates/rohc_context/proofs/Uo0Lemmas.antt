@@ -1,14 +1,11 @@
 -- A UO-0 that fits by the first try is taken as any packet of kind Other.
 use Rattle.std.proofs.Common.{◌≡◌, ℕ, ◌-◌, Bool, true, false, List, length, Option, Some, None, inl, refl, sym, ap, subst, ◌∙◌}
-use Rattle.std.specs.Prelude.{Ok, if◌then◌else◌}
+use Rattle.std.specs.Prelude.{Ok, if◌then◌else◌, ◌&&◌, is_some, unwrap_or}
 use Rattle.std.proofs.lemmas.Bool.{eq-eqb}
-use Rattle.rohc_checks.specs.Division.{check, poly3}
 use Rattle.rohc_frame.specs.Header.{Header}
 use Rattle.rohc_header.specs.declared.fields.Static.{Static}
 use Rattle.rohc_header.specs.declared.fields.Dynamic.{Dynamic}
 use Rattle.rohc_header.specs.Original.{IsOriginal}
-use Rattle.rohc_header.specs.Check.{dynamic_octets, header_check}
-use Rattle.rohc_chain.specs.Good.{IsGoodStatic}
 use Rattle.rohc_forms.specs.Content.{Content}
 use Rattle.rohc_context.specs.declared.due.Due.TheVariants.{Nothing}
 use Rattle.rohc_context.specs.declared.settings.Mode.{Mode}
@@ -16,16 +13,16 @@ use Rattle.rohc_context.specs.declared.settings.Mode.TheVariants.{U, O}
 use Rattle.rohc_context.specs.declared.settings.Settings.{Settings}
 use Rattle.rohc_context.specs.Due.{sent}
 use Rattle.rohc_context.specs.Explains.{Explained, Means}
-use Rattle.rohc_context.specs.NextReference.{without_marker, with_numbers, same_flag, same_stride, kept_previous}
+use Rattle.rohc_context.specs.InForce.{in_force}
+use Rattle.rohc_context.specs.NextReference.{without_marker, with_numbers, is_uo1_id, counts_once, same_flag, same_stride, kept_previous}
 use Rattle.rohc_context.specs.Record.{Reference, State, FullContext, Record}
 use Rattle.rohc_context.specs.Response.{Response, delivered}
-use Rattle.rohc_context.specs.Saved.{AreRegisters}
+use Rattle.rohc_context.specs.Window.{and_outcome}
 use Rattle.rohc_context.specs.Tries.{Acceptance, check_for, full_tries}
 use Rattle.rohc_context.specs.Update.{said_under, Judges, updated}
 use Rattle.rohc_context.specs.Step.{counts, Turn, Steps, LoneStep}
 use Rattle.rohc_frame.specs.declared.header.HeadKind.TheVariants.{Other}
-use Rattle.rohc_context.proofs.Registers.{octets_three, checked_from, kept_registers}
-use Rattle.rohc_context.proofs.UpdateLemmas.{judged}
+use Rattle.rohc_context.proofs.UpdateLemmas.{judged, updated_is}
 
 -- what is accepted
 abbrev pub accepted : Reference → Content → Dynamic → List ℕ → Acceptance
@@ -39,18 +36,11 @@ first_judged fixed h r previous c moving octets e means is checked s passed =
     judged fixed (full_tries s passed r previous) (said_under h r) c (Ok (accepted r c moving octets)) e is.fits
     (inl (header, record { explained = record { fields = means; octets = is }; checked = checked }, refl))
 
--- the check that was found is the header's
-pub checked_3 : (fixed : Static) (r : Reference) (c : Content) (moving : Dynamic) (octets : List ℕ) (saved : ℕ × ℕ) → IsGoodStatic fixed
-    → Means r 0 c moving → c.values ≡ None → IsOriginal fixed moving (length c.payload) octets → AreRegisters fixed r.moving saved
-    → check poly3 saved.0 (dynamic_octets octets) ≡ header_check poly3 octets
-checked_3 fixed r c moving octets saved good means none is are =
-    checked_from poly3 saved.0 octets (octets_three fixed moving (length c.payload) octets saved good is (kept_registers fixed r 0 c moving saved means none are))
-
 -- the reference takes over the numbers
-pub numbers_are : (kept moving : Dynamic) (sum : ℕ) → kept.marker ≡ false
-    → moving ≡ record kept { sn = moving.sn; ts = moving.ts; id = moving.id; udp_sum = sum; marker = false }
+numbers_are : (kept moving : Dynamic) (sum : ℕ) (marker : Bool) → kept.marker ≡ false
+    → moving ≡ record kept { sn = moving.sn; ts = moving.ts; id = moving.id; udp_sum = sum; marker = marker }
     → with_numbers kept moving ≡ without_marker moving
-numbers_are kept moving sum unmarked others =
+numbers_are kept moving sum marker unmarked others =
     let sums : moving.udp_sum ≡ sum = ap (λ (d : Dynamic). d.udp_sum) others in
     ap (λ m. record kept { sn = moving.sn; ts = moving.ts; id = moving.id; udp_sum = moving.udp_sum; marker = m }) unmarked
     ∙ ap (λ u. record kept { sn = moving.sn; ts = moving.ts; id = moving.id; udp_sum = u; marker = false }) sums
@@ -65,8 +55,26 @@ stride_stays None = refl
 stride_stays (Some n) = eq-eqb n n refl
 
 -- RND, NBO and stride stay
-pub previous_is : (held : Reference) (moving : Dynamic) → Some held ≡ kept_previous held (with_numbers held.moving moving) held
+previous_is : (held : Reference) (moving : Dynamic) → Some held ≡ kept_previous held (with_numbers held.moving moving) held
 previous_is held moving = rw (flag_stays held.moving.rnd, flag_stays held.moving.nbo, stride_stays held.moving.stride) refl
+
+and_false : (b : Bool) → (b && false) ≡ false
+and_false true = refl
+and_false false = refl
+
+-- Without an extension 3 the state follows by the numbers alone.
+pub follows : (fixed : Static) (r : Reference) (c : Content) (moving : Dynamic) (octets : List ℕ) (window : List Bool)
+    → c.values ≡ None → r.moving.marker ≡ false → Means r 0 c moving
+    → FullContext fixed (record { moving = with_numbers r.moving moving; carries_sum = r.carries_sum }) (Some r) (and_outcome false window)
+    ≡ updated fixed r window (accepted r c moving octets)
+follows fixed r c moving octets window none unmarked means =
+    let next : Reference = record { moving = with_numbers r.moving moving; carries_sum = r.carries_sum } in
+    let others = means.others ∙ ap (λ v. record (in_force r.moving v) { sn = moving.sn; ts = moving.ts; id = moving.id; udp_sum = unwrap_or c.udp_sum 0; marker = c.marker }) none in
+    let once : counts_once c ≡ false = ap (λ v. is_uo1_id c.kind && is_some v) none ∙ and_false (is_uo1_id c.kind) in
+    let numbers = numbers_are r.moving moving (unwrap_or c.udp_sum 0) c.marker unmarked others
+    ∙ ap (λ b. if b then with_numbers r.moving moving else without_marker moving) (sym once) in
+    updated_is fixed r next window (and_outcome false window) (Some r) (accepted r c moving octets)
+    (ap (λ m. record { moving = m; carries_sum = r.carries_sum }) numbers) (previous_is r moving) refl
 
 silence : (mode : Mode) (h : Header) → sent mode h Nothing ≡ None
 silence U h = refl

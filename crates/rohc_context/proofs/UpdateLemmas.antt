@@ -1,12 +1,15 @@
 -- What a packet of kind Other comes to.
-use Rattle.std.proofs.Common.{◌≡◌, ℕ, ◌≤◌, Bool, true, false, List, [], length, Option, Some, None, inl, ap, option_map, refl, sym, subst, ◌∙◌, arith}
-use Rattle.std.specs.Prelude.{Result, Ok, nat_lt, nat_le}
+use Rattle.std.proofs.Common.{◌≡◌, ℕ, ◌≤◌, Bool, true, false, List, [], length, Option, Some, None, inl, inr, ap, option_map, refl, sym, subst, ◌∙◌, arith}
+use Rattle.std.specs.Prelude.{Result, Ok, Err, IfSome, IfNone, IfOk, IfErr, ◌++◌, nat_lt, nat_le}
 use Rattle.std.proofs.lemmas.Bool.Decides.{nat_tests}
 use Rattle.rohc_header.specs.declared.fields.Static.{Static}
 use Rattle.rohc_forms.specs.declared.refusal.FormRefusal.{FormRefusal}
 use Rattle.rohc_forms.specs.Content.{Content}
 use Rattle.rohc_context.specs.declared.fault.Fault.{Fault}
-use Rattle.rohc_context.specs.Tries.{Try, Acceptance, Verdict, Fits, unshifted, static_tries}
+use Rattle.rohc_context.specs.declared.fault.Fault.TheVariants.{Unfit}
+use Rattle.rohc_context.specs.declared.tries.Accepted.{Accepted}
+use Rattle.rohc_context.specs.Read.{acceptance_of, verdict_of}
+use Rattle.rohc_context.specs.Tries.{Try, Acceptance, Verdict, Fits, Misses, unshifted, static_tries, second_tries, third_tries, full_tries}
 use Rattle.rohc_frame.specs.declared.header.HeadKind.TheVariants.{Other}
 use Rattle.rohc_frame.specs.Header.{Header}
 use Rattle.rohc_context.specs.declared.due.Due.{Due}
@@ -20,6 +23,7 @@ use Rattle.rohc_context.specs.declared.reference.Reference as saved
 use Rattle.rohc_context.specs.declared.state.State as code
 use Rattle.rohc_context.specs.declared.state.State.TheVariants as states
 use Rattle.rohc_context.specs.declared.state.StaticContext as code_static
+use Rattle.rohc_context.specs.declared.state.FullContext as code_full
 use Rattle.rohc_context.specs.Window.{and_outcome, outcomes}
 use Rattle.rohc_context.specs.NextReference.{next_reference, kept_previous}
 use Rattle.rohc_context.specs.Explains.{Explained}
@@ -74,3 +78,37 @@ accepts_as s m h r state due a head payload feedback left e f g k = rw (e, f, g,
 pub static_is : (st : code.State) (c : code_static.StaticContext) (r : saved.Reference) → st ≡ states.Static c → c.reference ≡ Some r
     → state_of st ≡ StaticContext c.fixed (Some (reference_of r)) (outcomes c.windows.0) (outcomes c.windows.1)
 static_is st c r e f = ap state_of e ∙ ap (λ x. StaticContext c.fixed (option_map reference_of x) (outcomes c.windows.0) (outcomes c.windows.1)) f
+
+-- What an update leads to: a packet that is accepted, and the state after it, or a fault.
+abbrev pub Updated : Static → (Content → List Try) → Result Content FormRefusal → Reference → List Bool → Result Unit Fault → Response → State → Type 0
+Updated fixed tries read held window result response left =
+    IfOk result (λ _. (a : Acceptance) × Judges fixed tries read (Ok a) × (response ≡ delivered a.header.octets a.content.payload None) × (left ≡ updated fixed held window a))
+    × IfErr result (λ e. Judges fixed tries read (Err e))
+
+-- What the tries found is accepted, or the packet is unfit.
+pub updated_or_unfit : (fixed : Static) (tries : Content → List Try) (read : Result Content FormRefusal) (held : Reference) (window : List Bool) (c : Content) (found : Option Accepted)
+    (result : Result Unit Fault) (response : Response) (left : State) (Stays : Type 0) → read ≡ Ok c → length c.payload ≤ 65495 → Verdict fixed c (tries c) (verdict_of c found)
+    → IfSome found (λ a. (result ≡ Ok tt) × (response ≡ delivered a.header.header.octets c.payload None) × (left ≡ updated fixed held window (acceptance_of c a)))
+    → IfNone found ((result ≡ Err Unfit) × Stays) → Updated fixed tries read held window result response left
+updated_or_unfit fixed tries read held window c None result response left Stays e few is some none =
+    subst (λ r. Updated fixed tries read held window r response left) (sym none.0) (tt, judged fixed tries read c (Err Unfit) e few is)
+updated_or_unfit fixed tries read held window c (Some a) result response left Stays e few is some none =
+    subst (λ r. Updated fixed tries read held window r response left) (sym some.0)
+    ((acceptance_of c a, judged fixed tries read c (Ok (acceptance_of c a)) e few is, some.1, some.2), tt)
+
+-- Where the first try misses, the later ones decide. The context is still the one that the packet found.
+pub after_first : (s : Settings) (passed : ℕ) (h : Header) (x y : code_full.FullContext) (c : Content) (found : Option Accepted) (result : Result Unit Fault) (response : Response) (left : State)
+    (Stays : Type 0) → y ≡ x → said_under h (reference_of x.reference) ≡ Ok c → length c.payload ≤ 65495 → Misses x.fixed (unshifted (reference_of x.reference)) c
+    → Verdict y.fixed c (second_tries s passed (reference_of y.reference) c ++ third_tries (option_map reference_of y.previous) c) (verdict_of c found)
+    → IfSome found (λ a. (result ≡ Ok tt) × (response ≡ delivered a.header.header.octets c.payload None)
+    × (left ≡ updated y.fixed (reference_of y.reference) (outcomes y.windows.0) (acceptance_of c a)))
+    → IfNone found ((result ≡ Err Unfit) × Stays)
+    → Updated x.fixed (full_tries s passed (reference_of x.reference) (option_map reference_of x.previous)) (said_under h (reference_of x.reference)) (reference_of x.reference) (outcomes x.windows.0)
+    result response left
+after_first s passed h x y c found result response left Stays same read few misses later some none =
+    let decides = subst (λ (z : code_full.FullContext). Verdict z.fixed c (second_tries s passed (reference_of z.reference) c ++ third_tries (option_map reference_of z.previous) c) (verdict_of c found))
+    same later in
+    let leaves = subst (λ (z : code_full.FullContext). IfSome found (λ a. (result ≡ Ok tt) × (response ≡ delivered a.header.header.octets c.payload None)
+    × (left ≡ updated z.fixed (reference_of z.reference) (outcomes z.windows.0) (acceptance_of c a)))) same some in
+    updated_or_unfit x.fixed (full_tries s passed (reference_of x.reference) (option_map reference_of x.previous)) (said_under h (reference_of x.reference)) (reference_of x.reference) (outcomes x.windows.0)
+    c found result response left Stays read few (inr (misses, decides)) leaves none

@@ -99,7 +99,7 @@ fn identification(reference: &Dynamic, nbo: bool, said: IdBits, sn: u16) -> u16
 }
 
 /// The fields that the packet means against the reference, whose sequence number is moved on by `shift`.
-fn meant(reference: &Reference, shift: u32, form: &Form<'_>) -> Dynamic
+pub(crate) fn meant(reference: &Reference, shift: u32, form: &Form<'_>) -> Dynamic
     requires shift { shift ≤ 65536 }
     requires good { IsGoodDynamic reference.now.moving }
     ensures means { Means (reference_of reference.now) shift (content form.now) result }

@@ -7,6 +7,7 @@ mod due;
 mod explain;
 mod failures;
 mod fault;
+mod first_try;
 mod full;
 mod ir;
 mod ir_dyn;

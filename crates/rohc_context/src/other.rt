@@ -14,7 +14,7 @@ use crate::fault::Fault;
 use crate::next::{kept_previous, next_reference};
 use crate::reference::Reference;
 use crate::refusal::Refusal;
-use crate::reply::Delivered;
+use crate::reply::{Delivered, Reply};
 use crate::settings::Settings;
 use crate::state::{FullContext, StaticContext};
 use crate::tries::{Accepted, attempt};
@@ -57,30 +57,35 @@ fn packet<'a>(accepted: &Accepted, form: &Form<'a>) -> Delivered<'a>
 }
 
 impl FullContext {
-    ghost use Rattle.std.specs.Prelude.{◌≡◌, option_map, IfOk, IfErr, Ok, Err};
+    ghost use Rattle.std.specs.Prelude.{◌≡◌, None, option_map, IfSome, IfNone, IfOk, IfErr, Ok, Err};
     ghost use Rattle.rohc_frame.specs.Reading.{header_of};
-    ghost use Rattle.rohc_forms.specs.Packets.{IsOther};
+    ghost use Rattle.rohc_forms.specs.Packets.{IsOther, content};
+    ghost use Rattle.rohc_context.specs.declared.fault.Fault.TheVariants.{Unfit};
     ghost use Rattle.rohc_context.specs.declared.state.State.TheVariants.{Full as Level};
     ghost use Rattle.rohc_context.specs.Settings.{AreGood};
     ghost use Rattle.rohc_context.specs.Window.{outcomes};
     ghost use Rattle.rohc_context.specs.Record.{reference_of, state_of};
+    ghost use Rattle.rohc_context.specs.Response.{response_of, delivered};
+    ghost use Rattle.rohc_context.specs.Read.{acceptance_of, IsSound};
     ghost use Rattle.rohc_context.specs.Tries.{Acceptance, full_tries};
     ghost use Rattle.rohc_context.specs.Update.{said_under, Judges, updated};
 
-    /// Takes a packet of kind Other, `passed` milliseconds after the last accepted arrival. Returns the rebuilt
-    /// packet. If it returns a fault, this context stays as it was.
+    /// Takes a packet of kind Other, `passed` milliseconds after the last accepted arrival, and writes the rebuilt
+    /// packet into the reply. If it returns a fault, this context stays as it was, and what `reply` holds means
+    /// nothing.
     pub(crate) fn update<'a>(
         &mut self,
         settings: &Settings,
         passed: u64,
         forward: &Forward<'a>,
-    ) -> Result<Delivered<'a>, Fault>
+        reply: &mut Reply<'a>,
+    ) -> Result<(), Fault>
         requires kind { IsOther forward.now.kind }
         requires good { AreGood settings.now }
-        ensures taken { IfOk result (λ d. (a : Acceptance)
+        ensures taken { IfOk result (λ _. (a : Acceptance)
             × Judges self.old.fixed (full_tries settings.now passed (reference_of self.old.reference) (option_map reference_of self.old.previous))
             (said_under (header_of forward.now) (reference_of self.old.reference)) (Ok a)
-            × (d.head.items ≡ a.header.octets) × (d.payload.now ≡ a.content.payload)
+            × (response_of reply.new ≡ delivered a.header.octets a.content.payload None)
             × (state_of (Level self.new) ≡ updated self.old.fixed (reference_of self.old.reference) (outcomes self.old.windows.0) a)) }
         ensures fault { IfErr result (λ e.
             Judges self.old.fixed (full_tries settings.now passed (reference_of self.old.reference) (option_map reference_of self.old.previous))
@@ -88,14 +93,41 @@ impl FullContext {
         ensures stays { IfErr result (λ e. self.new ≡ self.old) }
     {
         let form = read(forward, &self.reference)?;
-        let Some(accepted) = self.accepted(settings, passed, &form) else {
+        if form.values.is_some() {
+            let accepted = self.accepted(settings, passed, &form);
+            return self.take(&form, accepted, reply);
+        }
+        if self.take_first(&form, reply) {
+            return Ok(());
+        }
+        let accepted = self.later_tries(settings, passed, &form);
+        self.take(&form, accepted, reply)
+    }
+
+    /// Updates the reference by an accepted header, and writes the rebuilt packet into the reply. Without one, the
+    /// fault is `Unfit`, and this context stays as it was.
+    fn take<'a>(
+        &mut self,
+        form: &Form<'a>,
+        accepted: Option<Accepted>,
+        reply: &mut Reply<'a>,
+    ) -> Result<(), Fault>
+        requires sound { IfSome accepted (λ a. IsSound self.now.fixed a) }
+        ensures taken { IfSome accepted (λ a. (result ≡ Ok tt)
+            × (response_of reply.new ≡ delivered a.header.header.octets form.now.payload.now None)
+            × (state_of (Level self.new) ≡ updated self.old.fixed (reference_of self.old.reference) (outcomes self.old.windows.0) (acceptance_of (content form.now) a))) }
+        ensures unfit { IfNone accepted ((result ≡ Err Unfit) × (self.new ≡ self.old)) }
+    {
+        let Some(accepted) = accepted else {
             return Err(Fault::Unfit);
         };
-        let next = next_reference(&form, &accepted);
+        let next = next_reference(form, &accepted);
         self.previous = kept_previous(&self.reference, &next, &accepted);
         self.reference = next;
         self.windows.0 = self.windows.0.and(false);
-        Ok(packet(&accepted, &form))
+        let packet = packet(&accepted, form);
+        *reply = Reply::delivered(packet.head, packet.payload, None);
+        Ok(())
     }
 }
 

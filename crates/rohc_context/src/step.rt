@@ -113,14 +113,15 @@ impl Context {
         ensures { LoneStep (Some (record_of self.old)) settings.now moment (header_of forward.now) (response_of reply.new) (Some (record_of self.new)) }
     {
         if !self.take_uo0(settings, moment, forward, reply) {
-            self.answer(settings, moment, forward, reply);
+            self.step(settings, moment, forward, reply);
         }
     }
 
-    /// Takes an arrival as `arrive_into` does, but without the short path for a UO-0. It is a function of its own so
-    /// that `arrive_into` keeps no stack space for a second reply.
+    /// Takes an arrival of any kind as `arrive_into` does, but without the short path for a UO-0. It is a
+    /// function of its own so that `arrive_into` keeps no stack space for a second reply.
     #[inline(never)]
-    fn answer<'a>(
+    #[tactic(auto, unfolding(crate::specs::Step::LoneStep))]
+    fn step<'a>(
         &mut self,
         settings: &Settings,
         moment: u64,
@@ -130,21 +131,14 @@ impl Context {
         requires good { AreGood settings.now }
         ensures { LoneStep (Some (record_of self.old)) settings.now moment (header_of forward.now) (response_of reply.new) (Some (record_of self.new)) }
     {
-        *reply = self.step(settings, moment, forward);
-    }
-
-    /// Takes an arrival of any kind, and returns the answer.
-    #[tactic(auto, unfolding(crate::specs::Step::LoneStep))]
-    fn step<'a>(&mut self, settings: &Settings, moment: u64, forward: &Forward<'a>) -> Reply<'a>
-        requires good { AreGood settings.now }
-        ensures { LoneStep (Some (record_of self.old)) settings.now moment (header_of forward.now) (response_of result) (Some (record_of self.new)) }
-    {
         let counts = self.counts(settings, moment);
         match forward.kind {
-            HeadKind::Ir { .. } => self.renew(settings, moment, forward, counts),
-            HeadKind::IrDyn | HeadKind::Other if !counts => Reply::refused(Refusal::NoContext),
-            HeadKind::IrDyn => self.refresh(settings, moment, forward),
-            HeadKind::Other => self.update(settings, moment, forward),
+            HeadKind::Ir { .. } => *reply = self.renew(settings, moment, forward, counts),
+            HeadKind::IrDyn | HeadKind::Other if !counts => {
+                *reply = Reply::refused(Refusal::NoContext);
+            }
+            HeadKind::IrDyn => *reply = self.refresh(settings, moment, forward),
+            HeadKind::Other => self.update(settings, moment, forward, reply),
         }
     }
 
@@ -256,26 +250,32 @@ impl Context {
         }
     }
 
-    /// Takes a packet of kind Other. The record counts.
+    /// Takes a packet of kind Other, and writes the answer into the reply. The record counts.
     #[tactic(auto, unfolding(crate::specs::Record::record_of))]
-    fn update<'a>(&mut self, settings: &Settings, moment: u64, forward: &Forward<'a>) -> Reply<'a>
+    fn update<'a>(
+        &mut self,
+        settings: &Settings,
+        moment: u64,
+        forward: &Forward<'a>,
+        reply: &mut Reply<'a>,
+    )
         requires kind { IsOther forward.now.kind }
         requires good { AreGood settings.now }
-        ensures { Turn settings.now moment (header_of forward.now) KindOther (Some (record_of self.old)) (Some (record_of self.old)) (response_of result) (Some (record_of self.new)) }
+        ensures { Turn settings.now moment (header_of forward.now) KindOther (Some (record_of self.old)) (Some (record_of self.old)) (response_of reply.new) (Some (record_of self.new)) }
     {
         let passed = moment.saturating_sub(self.accepted);
-        let updated = match &mut self.state {
-            State::Plain => Ok(normal_packet(forward)),
-            State::NoContext(_) => return self.refuse_low(settings, moment, forward),
-            State::Static(_) => return self.promote(settings, moment, forward),
-            State::Full(context) => context.update(settings, passed, forward),
-        };
-        match updated {
-            Ok(packet) => {
+        match &mut self.state {
+            State::Plain => {
+                let packet = normal_packet(forward);
+                *reply = Reply::delivered(packet.head, packet.payload, None);
                 self.accepted = moment;
-                Reply::delivered(packet.head, packet.payload, None)
             }
-            Err(fault) => self.end(settings, moment, forward, fault),
+            State::NoContext(_) => *reply = self.refuse_low(settings, moment, forward),
+            State::Static(_) => *reply = self.promote(settings, moment, forward),
+            State::Full(context) => match context.update(settings, passed, forward, reply) {
+                Ok(()) => self.accepted = moment,
+                Err(fault) => *reply = self.end(settings, moment, forward, fault),
+            },
         }
     }
 

@@ -15,7 +15,7 @@ use crate::reference::Reference;
 use crate::settings::Settings;
 use crate::state::FullContext;
 use rohc_forms::{Form, FormKind};
-use rohc_header::{Header, Static};
+use rohc_header::{Static, check3_after, check7_after};
 
 /// A header that was accepted, and the reference against which it was decoded.
 #[derive(Clone, Copy, Debug)]
@@ -34,17 +34,19 @@ fn is_short(kind: FormKind) -> bool
     }
 }
 
-/// The check of a header that packets of this format carry, from the registers of its static
+/// The check of a header's 40 octets that packets of this format carry, from the registers of its static
 /// octets.
-fn check_from(header: &Header, saved: (u8, u8), kind: FormKind) -> u8
-    requires three { saved.0 ≡ check poly3 (all_ones poly3) (static_octets header.now.octets) }
-    requires seven { saved.1 ≡ check poly7 (all_ones poly7) (static_octets header.now.octets) }
-    ensures { result ≡ check_for kind header.now.octets }
+#[inline(always)]
+pub(crate) fn check_of(octets: &[u8], saved: (u8, u8), kind: FormKind) -> u8
+    requires sized { length octets.now ≡ 40 }
+    requires three { saved.0 ≡ check poly3 (all_ones poly3) (static_octets octets.now) }
+    requires seven { saved.1 ≡ check poly7 (all_ones poly7) (static_octets octets.now) }
+    ensures { result ≡ check_for kind octets.now }
 {
     if is_short(kind) {
-        header.check3_from(saved.0)
+        check3_after(octets, saved.0)
     } else {
-        header.check7_from(saved.1)
+        check7_after(octets, saved.1)
     }
 }
 
@@ -67,7 +69,7 @@ pub(crate) fn attempt(
     ensures misses { IfNone result (Misses fixed.now (try_of reference.now shift) (content form.now)) }
 {
     let explained = explain(fixed, reference, shift, form);
-    if check_from(&explained.header, explained.saved, form.kind) != form.check {
+    if check_of(&explained.header.octets, explained.saved, form.kind) != form.check {
         return None;
     }
     Some(Accepted {
@@ -101,7 +103,12 @@ impl FullContext {
     }
 
     /// The second try, if enough time has passed for it, and then the third.
-    fn later_tries(&self, settings: &Settings, passed: u64, form: &Form<'_>) -> Option<Accepted>
+    pub(crate) fn later_tries(
+        &self,
+        settings: &Settings,
+        passed: u64,
+        form: &Form<'_>,
+    ) -> Option<Accepted>
         requires good { AreGood settings.now }
         requires payload { length form.now.payload.now ≤ longest_payload }
         ensures verdict { Verdict self.now.fixed (content form.now)

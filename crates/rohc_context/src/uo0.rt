@@ -9,13 +9,12 @@ ghost use Rattle.rohc_context.specs.Explains.{Means};
 
 use crate::record::Context;
 use crate::reference::Reference;
-use crate::reply::{Delivered, Outcome, Reply};
+use crate::reply::Reply;
 use crate::settings::Settings;
 use crate::state::{FullContext, State};
-use arrayvec::ArrayVec;
-use rohc_forms::{Uo0, read_uo0};
+use rohc_forms::{FormKind, Uo0, read_uo0};
 use rohc_frame::{Forward, HeadKind};
-use rohc_header::{Dynamic, LONGEST_PAYLOAD, check3_after, put_header};
+use rohc_header::{Dynamic, LONGEST_PAYLOAD};
 use rohc_lsb::{inferred_ts, ip_id, sn_value};
 
 /// The fields that a UO-0 means against a reference, without a shift (RFC 3095 5.7.1).
@@ -68,26 +67,10 @@ impl FullContext {
             return false;
         }
         let moving = meant(kept, &packet);
-        // The header is written into the reply in place.
-        reply.packet = Some(Delivered {
-            head: ArrayVec::new(),
-            payload: packet.payload,
-        });
-        reply.feedback = None;
-        reply.outcome = Outcome::Delivered;
-        let Some(Delivered { head, .. }) = &mut reply.packet else {
-            return false;
-        };
-        put_header(head, &self.fixed, &moving, packet.payload.len() as u16);
-        if check3_after(head.as_slice(), kept.saved.0) != packet.check {
+        if !self.rebuild(FormKind::Uo0, &moving, packet.check, packet.payload, reply) {
             return false;
         }
-        self.previous = Some(self.reference);
-        self.reference.moving.sn = moving.sn;
-        self.reference.moving.ts = moving.ts;
-        self.reference.moving.id = moving.id;
-        self.reference.moving.udp_sum = moving.udp_sum;
-        self.windows.0 = self.windows.0.and(false);
+        self.follow(&moving);
         true
     }
 }

@@ -196,15 +196,15 @@ all_words a b c d e f g h i j k l m n o p q =
     bit_xor (bit_xor (bit_xor (bit_xor (bit_xor (bit_xor (bit_xor (word a b * 2 ^ 4) (word c d * 2 ^ 6)) (word e f * 2 ^ 1)) (word g h * 2 ^ 3)) (word i j * 2 ^ 5)) k) (word l m * 2 ^ 1)) (bit_xor (word n o * 2 ^ 3) (word p q * 2 ^ 5))
 
 -- Two words may be added before they are shifted, and no bit is shifted out of 32.
-both_shifted : (s x y : ℕ) → ((n : ℕ) → n < 2 ^ 16 → n * 2 ^ s < 2 ^ 32) → x < 2 ^ 16 → y < 2 ^ 16
+both_shifted : (w s x y : ℕ) → ((n : ℕ) → n < 2 ^ w → n * 2 ^ s < 2 ^ 32) → x < 2 ^ w → y < 2 ^ w
     → bit_xor x y * 2 ^ s % 2 ^ 32 ≡ bit_xor (x * 2 ^ s) (y * 2 ^ s)
-both_shifted s x y within first second =
+both_shifted w s x y within first second =
     let raised : x * 2 ^ s + 0 ≡ x * 2 ^ s = omega arith in
     let raised_too : y * 2 ^ s + 0 ≡ y * 2 ^ s = omega arith in
     let apart : bit_xor (x * 2 ^ s) (y * 2 ^ s) ≡ bit_xor x y * 2 ^ s
     = ap (λ n. bit_xor n (y * 2 ^ s)) (sym raised) ∙ ap (bit_xor (x * 2 ^ s + 0)) (sym raised_too)
     ∙ xor_block s x y 0 0 (pow_pos s) (pow_pos s) ∙ omega arith in
-    mod-eq_of_lt (within (bit_xor x y) (xor_lt 16 x y first second)) ∙ sym apart
+    mod-eq_of_lt (within (bit_xor x y) (xor_lt w x y first second)) ∙ sym apart
 
 -- Nine words in the order of their shifts, and in the order of the header.
 in_order : (a b c d e f g h k : ℕ) → bit_xor (bit_xor (bit_xor (bit_xor (bit_xor a b) (bit_xor c f)) (bit_xor d g)) (bit_xor e h)) k
@@ -236,7 +236,7 @@ shifted a b c d e f g h i j k l m n o p q s =
     let l_small : word l m < 2 ^ 16 = omega (arith, s.1.1.1.1.1.1.1.1.1.1.1.0, s.1.1.1.1.1.1.1.1.1.1.1.1.0) in
     let n_small : word n o < 2 ^ 16 = omega (arith, s.1.1.1.1.1.1.1.1.1.1.1.1.1.0, s.1.1.1.1.1.1.1.1.1.1.1.1.1.1.0) in
     let p_small : word p q < 2 ^ 16 = omega (arith, s.1.1.1.1.1.1.1.1.1.1.1.1.1.1.1.0, s.1.1.1.1.1.1.1.1.1.1.1.1.1.1.1.1.0) in
-    rw (a_stays, c_stays, both_shifted 1 (word e f) (word l m) (λ n small. omega (arith, small)) e_small l_small, both_shifted 3 (word g h) (word n o) (λ n small. omega (arith, small)) g_small n_small, both_shifted 5 (word i j) (word p q) (λ n small. omega (arith, small)) i_small p_small)
+    rw (a_stays, c_stays, both_shifted 16 1 (word e f) (word l m) (λ n small. omega (arith, small)) e_small l_small, both_shifted 16 3 (word g h) (word n o) (λ n small. omega (arith, small)) g_small n_small, both_shifted 16 5 (word i j) (word p q) (λ n small. omega (arith, small)) i_small p_small)
     (in_order (word a b * 2 ^ 4) (word c d * 2 ^ 6) (word e f * 2 ^ 1) (word g h * 2 ^ 3) (word i j * 2 ^ 5) (word l m * 2 ^ 1) (word n o * 2 ^ 3) (word p q * 2 ^ 5) k)
 
 -- The check of all words is that of one group.

@@ -146,7 +146,7 @@ fn dynamic_check(polynomial: Polynomial, octets: &[u8], reg: u8) -> u8
 {
     match polynomial {
         Three => check3_after(octets, reg),
-        Seven => dynamic_check7(octets, reg),
+        Seven => check7_after(octets, reg),
     }
 }
 
@@ -157,9 +157,11 @@ fn word(first: u8, second: u8) -> u32
     u32::from(u16::from_le_bytes([first, second]))
 }
 
-/// The 7-bit check over the dynamic octets. They are added without carry in groups of seven, counted from their
-/// end, and the register is added to the first of them. That is allowed because the polynomial divides x^56 + 1.
-fn dynamic_check7(octets: &[u8], reg: u8) -> u8
+/// The 7-bit check of a header's 40 octets, from the register `reg` after its static octets (RFC 3095 5.9.2).
+///
+/// The dynamic octets are added without carry in groups of seven, counted from their end, and the register is added to
+/// the first of them. That is allowed because the polynomial divides x^56 + 1.
+pub fn check7_after(octets: &[u8], reg: u8) -> u8
     requires { length octets.now ≡ 40 }
     ensures { result ≡ check poly7 reg (dynamic_octets octets.now) }
 {

@@ -1,6 +1,6 @@
 //! The headers of the worked examples, and the checks that their packets carry.
 
-use crate::{Dynamic, Header, Static, check3_after, put_header};
+use crate::{Dynamic, Header, Static, check3_after, check7_after, put_header};
 use arrayvec::ArrayVec;
 
 /// The static fields of the examples' calls.
@@ -128,6 +128,7 @@ fn examples(rt: HostRuntime) {
             Seven(check) => {
                 assert_eq!(rt; header.check7(), check);
                 assert_eq!(rt; header.check7_from(register7), check);
+                assert_eq!(rt; check7_after(&header.octets, register7), check);
             }
         }
     }

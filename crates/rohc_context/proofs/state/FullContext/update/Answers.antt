@@ -1,27 +1,60 @@
-use Rattle.std.proofs.Common.{subst}
-use Rattle.std.specs.Prelude.{option_map}
+use Rattle.std.proofs.Common.{inl, refl, option_map}
 use Rattle.rohc_frame.specs.Reading.{header_of}
 use Rattle.rohc_forms.specs.Packets.{content}
-use Rattle.rohc_context.specs.Record.{reference_of}
+use Rattle.rohc_context.specs.declared.state.State.TheVariants.{Full}
+use Rattle.rohc_context.specs.Record.{reference_of, state_of}
+use Rattle.rohc_context.specs.Response.{response_of}
 use Rattle.rohc_context.specs.Window.{outcomes}
-use Rattle.rohc_context.specs.Tries.{full_tries, Verdict}
+use Rattle.rohc_context.specs.Tries.{full_tries}
 use Rattle.rohc_context.specs.Update.{said_under}
-use Rattle.rohc_context.specs.Read.{acceptance_of, verdict_of}
-use Rattle.rohc_context.proofs.UpdateLemmas.{judged, updated_is}
+use Rattle.rohc_context.proofs.UpdateLemmas.{judged, updated_or_unfit, after_first}
+use Rattle.rohc_context.proofs.Uo0Lemmas.{accepted}
 use Rattle.rohc_context.proofs.state.FullContext.update.Goals as goal
+
+pub returns-then-is_some-clause-taken : goal.returns-then-is_some-clause-taken
+returns-then-is_some-clause-taken c =
+    let self = c.args.self.now in
+    let held = reference_of self.reference in
+    let said = content c.in_ok-form.form in
+    let tries = full_tries c.args.settings.now c.args.passed held (option_map reference_of self.previous) in
+    let read = said_under (header_of c.args.forward.now) held in
+    (updated_or_unfit self.fixed tries read held (outcomes self.windows.0) said c.accepted-accepted.result c.take.result (response_of c.take.new.reply) (state_of (Full c.take.new.self)) _
+    c.in_ok-form.ensures.read c.in_ok-form.ensures.short c.accepted-accepted.ensures.verdict c.take.ensures.taken c.take.ensures.unfit).0
+
+pub returns-then-is_some-clause-fault : goal.returns-then-is_some-clause-fault
+returns-then-is_some-clause-fault c =
+    let self = c.args.self.now in
+    let held = reference_of self.reference in
+    let said = content c.in_ok-form.form in
+    let tries = full_tries c.args.settings.now c.args.passed held (option_map reference_of self.previous) in
+    let read = said_under (header_of c.args.forward.now) held in
+    (updated_or_unfit self.fixed tries read held (outcomes self.windows.0) said c.accepted-accepted.result c.take.result (response_of c.take.new.reply) (state_of (Full c.take.new.self)) _
+    c.in_ok-form.ensures.read c.in_ok-form.ensures.short c.accepted-accepted.ensures.verdict c.take.ensures.taken c.take.ensures.unfit).1
 
 pub returns-clause-taken : goal.returns-clause-taken
 returns-clause-taken c =
+    (after_first c.args.settings.now c.args.passed (header_of c.args.forward.now) c.args.self.now c.take_first.new.self (content c.in_ok-form.form) c.later_tries-accepted.result
+    c.take-2.result (response_of c.take-2.new.reply) (state_of (Full c.take-2.new.self)) _
+    (c.take_first.ensures.stays c.if-take_first.false) c.in_ok-form.ensures.read c.in_ok-form.ensures.short (c.take_first.ensures.misses c.if-take_first.false)
+    c.later_tries-accepted.ensures.verdict c.take-2.ensures.taken c.take-2.ensures.unfit).0
+
+pub returns-clause-fault : goal.returns-clause-fault
+returns-clause-fault c =
+    (after_first c.args.settings.now c.args.passed (header_of c.args.forward.now) c.args.self.now c.take_first.new.self (content c.in_ok-form.form) c.later_tries-accepted.result
+    c.take-2.result (response_of c.take-2.new.reply) (state_of (Full c.take-2.new.self)) _
+    (c.take_first.ensures.stays c.if-take_first.false) c.in_ok-form.ensures.read c.in_ok-form.ensures.short (c.take_first.ensures.misses c.if-take_first.false)
+    c.later_tries-accepted.ensures.verdict c.take-2.ensures.taken c.take-2.ensures.unfit).1
+
+pub returns-then-take_first-clause-taken : goal.returns-then-take_first-clause-taken
+returns-then-take_first-clause-taken c =
     let self = c.args.self.now in
-    let form = content c.in_ok-form.form in
-    let a = acceptance_of form c.in-Some.accepted in (
-      a,
-      judged self.fixed (full_tries c.args.settings.now c.args.passed (reference_of self.reference) (option_map reference_of self.previous))
-          (said_under (header_of c.args.forward.now) (reference_of self.reference)) form _ c.in_ok-form.ensures.read c.in_ok-form.ensures.short
-          (subst (λ r. Verdict self.fixed form (full_tries c.args.settings.now c.args.passed (reference_of self.reference) (option_map reference_of self.previous) form) (verdict_of form r))
-          c.in-Some.is c.accepted.ensures.verdict),
-      c.packet.ensures.head,
-      c.packet.ensures.payload,
-      updated_is self.fixed (reference_of self.reference) (reference_of c.next_reference-next.result) (outcomes self.windows.0) (outcomes c.and-self.result)
-          (option_map reference_of c.kept_previous-self.result) a c.next_reference-next.ensures.reference c.kept_previous-self.ensures.reference c.and-self.ensures,
+    let held = reference_of self.reference in
+    let said = content c.in_ok-form.form in
+    let tries = full_tries c.args.settings.now c.args.passed held (option_map reference_of self.previous) in
+    let read = said_under (header_of c.args.forward.now) held in
+    let taken = c.take_first.ensures.taken c.if-take_first.true in (
+      accepted held said taken.0.moving taken.0.octets,
+      judged self.fixed tries read said _ c.in_ok-form.ensures.read c.in_ok-form.ensures.short (inl (taken.0, taken.1, refl)),
+      taken.2,
+      taken.3,
     )

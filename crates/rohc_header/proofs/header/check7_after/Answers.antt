@@ -4,7 +4,7 @@ use Rattle.rohc_checks.proofs.Division.{check-and}
 use Rattle.rohc_header.specs.Check.{dynamic_octets}
 use Rattle.rohc_header.proofs.SevenOctets.{period7}
 use Rattle.rohc_header.proofs.Checks.{masked, dynamic_folded, ones7}
-use Rattle.rohc_header.proofs.header.dynamic_check7.Goals as goal
+use Rattle.rohc_header.proofs.header.check7_after.Goals as goal
 
 pub returns : goal.returns
 returns c =
