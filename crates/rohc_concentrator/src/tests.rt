@@ -72,6 +72,20 @@ fn a_record_comes_and_goes(rt: HostRuntime) -> Result<(), Fail> {
 }
 
 #[test]
+fn an_answer_overwrites_the_one_that_is_lent(rt: HostRuntime) -> Result<(), Fail> {
+    let mut concentrator = made(rt.alloc(), link_1(0))?;
+    let mut answer = Answer::Refused(Refusal::NoLink);
+    concentrator.arrive_into(1, 0, b"\xfc\x00\xb7\x45\xaa", &mut answer);
+    let Answer::Arrived { cid, reply, .. } = &answer else {
+        panic!(rt; "no answer of a context");
+    };
+    assert_eq!(rt; (*cid, reply.outcome), (0, Outcome::Delivered));
+    concentrator.arrive_into(9, 0, b"\xfc\x00\xb7\x45\xaa", &mut answer);
+    assert!(rt; matches!(answer, Answer::Refused(Refusal::NoLink)));
+    Ok(())
+}
+
+#[test]
 fn an_idle_record_counts_as_none(rt: HostRuntime) -> Result<(), Fail> {
     let mut concentrator = made(rt.alloc(), link_1(5000))?;
     assert_eq!(rt;

@@ -82,6 +82,47 @@ fn a_call_falls_and_is_taken_up_again(rt: HostRuntime) {
     }
 }
 
+// Examples UOR-2-TS jump and offset bits: packets without an extension 3, each after the first UO-0.
+#[test]
+fn packets_without_an_extension_3(rt: HostRuntime) {
+    let packets: [(&[u8], u8); 3] = [
+        (&[0xd4, 0xc3, 0x3e, 0xad], 3),
+        (&[0x84, 0x1f, 0xad], 3),
+        (&[0xc0, 0x0c, 0xfa, 0x63, 0x64, 0xad], 100),
+    ];
+    for (packet, sn) in packets {
+        let Some(mut context) = first(&WHOLE_IR) else {
+            panic!(rt; "refused");
+        };
+        assert!(rt; answer(&mut context, &[0x10, 0xac]).is_some());
+        let delivered = Some((Outcome::Delivered, Some(sn), None));
+        assert_eq!(rt; answer(&mut context, packet), delivered);
+    }
+}
+
+// Example first UO-0, whose answer is written over a refusal.
+#[test]
+fn an_answer_overwrites_the_one_that_is_lent(rt: HostRuntime) {
+    let Some(mut context) = first(&WHOLE_IR) else {
+        panic!(rt; "refused");
+    };
+    let packet = [0x10, 0xac];
+    let Ok(framed) = cut(CidKind::Small, 15, &packet) else {
+        panic!(rt; "refused");
+    };
+    let Some(forward) = framed.forward else {
+        panic!(rt; "no header");
+    };
+    let mut reply = Reply::refused(Refusal::NoLink);
+    context.arrive_into(&SETTINGS, 0, &forward, &mut reply);
+    assert_eq!(rt; reply.outcome, Outcome::Delivered);
+    let Some(delivered) = reply.packet else {
+        panic!(rt; "no packet");
+    };
+    assert_eq!(rt; delivered.head.get(31).copied(), Some(2));
+    assert_eq!(rt; delivered.payload, [0xac].as_slice());
+}
+
 // In Full Context the second window is empty. The registers are those of headers with the reference's fields.
 #[test]
 fn what_is_stored_is_lent(rt: HostRuntime) {
