@@ -2,6 +2,7 @@ pub mod Setting
 pub mod Tables
 pub mod Bears
 pub mod Report
+pub mod Taken
 pub mod Setup
 pub mod Events
 pub mod LoneRun

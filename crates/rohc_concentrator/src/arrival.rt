@@ -6,12 +6,11 @@ ghost use Rattle.rohc_concentrator.specs.Tables.{IsPlaceOf};
 
 use crate::answer::{Answer, NoLink};
 use crate::concentrator::Concentrator;
-use crate::link::arrive_at;
+use crate::link::arrive_on;
 use crate::place::place_of;
 use crate::records::LinkRecords;
 use indexmap::IndexMap;
-use rohc_context::{Refusal, Reply};
-use rohc_frame::cut;
+use rohc_context::Refusal;
 
 /// The place of a link, if it is there. The likely place is one below its number, since most links are numbered
 /// from 1 on in their order.
@@ -65,28 +64,7 @@ impl Concentrator {
             return;
         };
         let (_, records) = self.links.pair_mut(place);
-        let settings = &records.setting.settings;
-        let framed = match cut(settings.size, settings.max_cid, octets) {
-            Ok(framed) => framed,
-            Err(refusal) => {
-                *answer = Answer::Refused(Refusal::from(refusal));
-                return;
-            }
-        };
-        let relayed = framed.feedback();
-        let Some(forward) = framed.forward else {
-            *answer = Answer::OnlyFront { relayed };
-            return;
-        };
-        // The reply is written into the answer in place.
-        *answer = Answer::Arrived {
-            cid: forward.cid,
-            reply: Reply::refused(Refusal::NoContext),
-            relayed,
-        };
-        if let Answer::Arrived { reply, .. } = answer {
-            arrive_at(records, moment, &forward, reply);
-        }
+        arrive_on(records, moment, octets, answer);
     }
 
     /// Forgets every record of a link, and no other record. The error is `NoLink`.

@@ -1,22 +1,142 @@
 //! One arrival on one link.
 
-ghost use Rattle.std.specs.Prelude.{◌≡◌, ◌≢◌, ◌≤◌, ℕ, None, true, IfSome};
+ghost use Rattle.std.specs.Prelude.{◌≡◌, ◌≢◌, ◌≤◌, ℕ, None, true, false, IfSome};
 ghost use Rattle.indexmap.specs.IndexMap.{keys};
 ghost use Rattle.rohc_frame.specs.Reading.{header_of};
 ghost use Rattle.rohc_context.specs.Response.{response_of};
 ghost use Rattle.rohc_concentrator.specs.Setting.{settings_of};
 ghost use Rattle.rohc_concentrator.specs.Tables.{record_in, KeepsPlace, IsPlaceOf};
-ghost use Rattle.rohc_concentrator.specs.Report.{OwnStep};
+ghost use Rattle.rohc_concentrator.specs.Report.{report_of, OwnStep};
+ghost use Rattle.rohc_concentrator.specs.Taken.{Takes, Stays, IsFor};
 
+use crate::answer::Answer;
 use crate::place::place_of;
 use crate::records::LinkRecords;
 use crate::setting::mode_in;
 use rohc_context::{Context, Refusal, Reply};
-use rohc_frame::Forward;
+use rohc_frame::{Elements, Forward, cut, plain_header};
+
+/// Takes an arrival on the link that has these records, and writes the answer over what `answer` held.
+#[inline(always)]
+pub(crate) fn arrive_on<'a>(
+    records: &mut LinkRecords,
+    moment: u64,
+    octets: &'a [u8],
+    answer: &mut Answer<'a>,
+)
+    ensures { Takes records.old moment octets.entry.now (report_of answer.new) records.new }
+{
+    if !take_plain(records, moment, octets, answer) {
+        take_any(records, moment, octets, answer);
+    }
+}
+
+/// Takes a packet that its context takes at once, with nothing before its header, as nearly every packet is, and
+/// returns true. Otherwise it returns false: then the records stay as they were, and what `answer` holds means nothing.
+///
+/// It passes nothing on to `take_any`, which reads the packet again. So what it reads stays in registers.
+#[inline(always)]
+fn take_plain<'a>(
+    records: &mut LinkRecords,
+    moment: u64,
+    octets: &'a [u8],
+    answer: &mut Answer<'a>,
+) -> bool
+    ensures taken { result ≡ true → Takes records.old moment octets.entry.now (report_of answer.new) records.new }
+    ensures stays { result ≡ false → Stays records.old records.new }
+{
+    let settings = &records.setting.settings;
+    let Some(forward) = plain_header(settings.size, settings.max_cid, octets) else {
+        return false;
+    };
+    // No UO-0, and no IP packet: its record isn't looked for twice.
+    if forward.first >= 0x80 {
+        return false;
+    }
+    prepare(answer, forward.cid);
+    let Answer::Arrived { reply, .. } = answer else {
+        return false;
+    };
+    take_at(records, moment, &forward, reply)
+}
+
+/// Makes the answer one for this CID without relayed feedback. What its reply holds means nothing; a reply that
+/// stands there isn't written.
+#[inline(always)]
+fn prepare(answer: &mut Answer<'_>, cid: u16)
+    ensures { IsFor cid (report_of answer.new) }
+{
+    match answer {
+        Answer::Arrived { cid: held, .. } => *held = cid,
+        Answer::OnlyFront { .. } | Answer::Refused(_) => {
+            *answer = Answer::Arrived {
+                cid,
+                reply: Reply::refused(Refusal::NoContext),
+                relayed: Elements::none(),
+            };
+        }
+    }
+    if let Answer::Arrived { relayed, .. } = answer {
+        *relayed = Elements::none();
+    }
+}
+
+/// Takes any packet, and writes the answer.
+#[inline(never)]
+fn take_any<'a>(records: &mut LinkRecords, moment: u64, octets: &'a [u8], answer: &mut Answer<'a>)
+    ensures { Takes records.old moment octets.entry.now (report_of answer.new) records.new }
+{
+    let settings = &records.setting.settings;
+    let framed = match cut(settings.size, settings.max_cid, octets) {
+        Ok(framed) => framed,
+        Err(refusal) => {
+            *answer = Answer::Refused(Refusal::from(refusal));
+            return;
+        }
+    };
+    let relayed = framed.feedback();
+    let Some(forward) = framed.forward else {
+        *answer = Answer::OnlyFront { relayed };
+        return;
+    };
+    // The reply is written into the answer in place.
+    *answer = Answer::Arrived {
+        cid: forward.cid,
+        reply: Reply::refused(Refusal::NoContext),
+        relayed,
+    };
+    if let Answer::Arrived { reply, .. } = answer {
+        arrive_at(records, moment, &forward, reply);
+    }
+}
+
+/// Takes a packet at once by the record of its CID, if there is one that does, and returns true. Otherwise it returns
+/// false: then the records stay as they were, and what `reply` holds means nothing.
+#[inline(always)]
+fn take_at<'a>(
+    records: &mut LinkRecords,
+    moment: u64,
+    forward: &Forward<'a>,
+    reply: &mut Reply<'a>,
+) -> bool
+    ensures own { result ≡ true → OwnStep (settings_of records.old.setting forward.now.cid) moment (header_of forward.now)
+        (record_in records.old forward.now.cid) (response_of reply.new) (record_in records.new forward.now.cid) }
+    ensures others { (cid : ℕ) → cid ≢ forward.now.cid → record_in records.new cid ≡ record_in records.old cid }
+    ensures setting { records.new.setting ≡ records.old.setting }
+    ensures order { keys records.new.contexts ≡ keys records.old.contexts }
+    ensures stays { result ≡ false → record_in records.new forward.now.cid ≡ record_in records.old forward.now.cid }
+{
+    let Some(place) = record_place(records, forward.cid) else {
+        return false;
+    };
+    let idle_ms = records.setting.settings.idle_ms;
+    let (_, context) = records.contexts.pair_mut(place);
+    context.take_at_once(idle_ms, moment, forward, reply)
+}
 
 /// Takes an arrival for a CID: its record takes one step, or a first IR makes it. The answer overwrites what
 /// `reply` held.
-pub(crate) fn arrive_at<'a>(
+fn arrive_at<'a>(
     records: &mut LinkRecords,
     moment: u64,
     forward: &Forward<'a>,
@@ -39,13 +159,14 @@ pub(crate) fn arrive_at<'a>(
         settings.mode = mode;
     }
     let (_, context) = records.contexts.pair_mut(place);
-    context.arrive_into(&settings, moment, forward, reply);
+    context.step(&settings, moment, forward, reply);
 }
 
 /// The place of a CID's record among those of the link, if it has one.
 ///
 /// If a sender gives each new call its least free CID, the places of the records are their CIDs. So that place is
 /// the likely one.
+#[inline(always)]
 fn record_place(records: &LinkRecords, cid: u16) -> Option<usize>
     ensures there { IfSome result (λ place. IsPlaceOf records.now.contexts place cid) }
     ensures absent { result ≡ None → record_in records.now cid ≡ None }

@@ -17,6 +17,16 @@ fn stands_at<V>(map: &IndexMap<u16, V>, place: usize, key: u16) -> bool
     *found == key
 }
 
+/// The place of a key's entry, if it has one, by its hash. It isn't inlined, so that those who find the entry at its
+/// likely place keep their values in registers.
+#[inline(never)]
+fn place_by_hash<V>(map: &IndexMap<u16, V>, key: u16) -> Option<usize>
+    ensures there { IfSome result (λ place. IsPlaceOf map.now place key) }
+    ensures absent { result ≡ None → get nat_eq map.now key ≡ None }
+{
+    map.get_index_of(&key)
+}
+
 /// The place of a key's entry, if it has one. The likely place is tried before the key is looked up.
 #[inline(always)]
 pub(crate) fn place_of<V>(map: &IndexMap<u16, V>, likely: usize, key: u16) -> Option<usize>
@@ -26,5 +36,5 @@ pub(crate) fn place_of<V>(map: &IndexMap<u16, V>, likely: usize, key: u16) -> Op
     if stands_at(map, likely, key) {
         return Some(likely);
     }
-    map.get_index_of(&key)
+    place_by_hash(map, key)
 }

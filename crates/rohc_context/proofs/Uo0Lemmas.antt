@@ -1,5 +1,5 @@
 -- A UO-0 that fits by the first try is taken as any packet of kind Other.
-use Rattle.std.proofs.Common.{◌≡◌, ℕ, ◌-◌, Bool, true, false, List, length, Option, Some, None, inl, refl, sym, ap, subst, ◌∙◌}
+use Rattle.std.proofs.Common.{◌≡◌, ℕ, ◌-◌, Bool, true, false, List, [], ◌∷◌, length, Option, Some, None, inl, refl, sym, ap, subst, ◌∙◌}
 use Rattle.std.specs.Prelude.{Ok, if◌then◌else◌, ◌&&◌, is_some, unwrap_or}
 use Rattle.std.proofs.lemmas.Bool.{eq-eqb}
 use Rattle.rohc_frame.specs.Header.{Header}
@@ -15,7 +15,7 @@ use Rattle.rohc_context.specs.Due.{sent}
 use Rattle.rohc_context.specs.Explains.{Explained, Means}
 use Rattle.rohc_context.specs.InForce.{in_force}
 use Rattle.rohc_context.specs.NextReference.{without_marker, with_numbers, is_uo1_id, counts_once, same_flag, same_stride, kept_previous}
-use Rattle.rohc_context.specs.Record.{Reference, State, FullContext, Record}
+use Rattle.rohc_context.specs.Record.{Reference, State, Plain, FullContext, Record}
 use Rattle.rohc_context.specs.Response.{Response, delivered}
 use Rattle.rohc_context.specs.Window.{and_outcome}
 use Rattle.rohc_context.specs.Tries.{Acceptance, check_for, full_tries}
@@ -95,3 +95,16 @@ lone_uo0 s m h before st fixed reference previous window a response left e kind 
     let counted = subst (λ b. Turn s m h Other (if b then Some full else None) (Some full) response next) (sym counting) taken in
     let turned = subst (λ k. Turn s m h k (if counts s m full then Some full else None) (Some full) response next) (sym kind) counted in
     subst (λ x. Steps (Some (record { accepted = before; state = x })) s m h response next) (sym e) turned
+
+-- A record that counts, in profile 0x0000, takes a Normal packet as its step.
+pub lone_normal : (s : Settings) (m : ℕ) (h : Header) (before : ℕ) (st : State) (response : Response) → st ≡ Plain → h.kind ≡ Other
+    → counts s m (record { accepted = before; state = st }) ≡ true → response ≡ delivered (h.first ∷ []) h.rest None
+    → LoneStep (Some (record { accepted = before; state = st })) s m h response (Some (record { accepted = m; state = st }))
+unfolding LoneStep
+lone_normal s m h before st response e kind counting f =
+    let plain : Record = record { accepted = before; state = Plain } in
+    let next : Option Record = Some (record { accepted = m; state = Plain }) in
+    let taken : Turn s m h Other (Some plain) (Some plain) response next = (f, refl) in
+    let counted = subst (λ b. Turn s m h Other (if b then Some plain else None) (Some plain) response next) (sym counting) taken in
+    subst (λ x. Steps (Some (record { accepted = before; state = x })) s m h response (Some (record { accepted = m; state = x }))) (sym e)
+    (subst (λ k. Turn s m h k (if counts s m plain then Some plain else None) (Some plain) response next) (sym kind) counted)

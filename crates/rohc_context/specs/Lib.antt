@@ -19,6 +19,7 @@ pub mod Outcomes
 pub mod Renewal
 pub mod Refresh
 pub mod Update
+pub mod AtOnce
 pub mod Lent
 pub mod Step
 pub mod Honest

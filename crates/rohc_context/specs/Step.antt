@@ -17,8 +17,11 @@ use Rattle.rohc_context.specs.Update.{Updates}
 
 -- A record counts if fewer than `idle_ms` milliseconds have passed since its last accepted arrival, or if
 -- `idle_ms` is 0. An earlier arrival time counts as no time passed.
+abbrev pub counts_within : (idle_ms : ℕ) → ℕ → Record → Bool
+counts_within idle_ms moment r = (idle_ms == 0) || nat_lt (moment - r.accepted) idle_ms
+
 abbrev pub counts : Settings → ℕ → Record → Bool
-counts s moment r = (s.idle_ms == 0) || nat_lt (moment - r.accepted) s.idle_ms
+counts s moment r = counts_within s.idle_ms moment r
 
 -- the record, if there is one that counts
 abbrev pub counting : Settings → ℕ → Option Record → Option Record

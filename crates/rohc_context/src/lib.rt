@@ -3,6 +3,7 @@
 //! No function allocates memory; payloads are borrowed from the arrival.
 #![tactic(auto)]
 
+mod at_once;
 mod due;
 mod explain;
 mod failures;

@@ -1,7 +1,6 @@
 //! One event of one context.
 
-ghost use Rattle.std.specs.Prelude.{◌≡◌, [], ◌∷◌};
-
+use crate::at_once::deliver_normal;
 use crate::due::Due;
 use crate::failures::is_uor_2;
 use crate::fault::Fault;
@@ -9,26 +8,12 @@ use crate::ir::renewal;
 use crate::ir_dyn::{plain_refusal, refresh};
 use crate::record::Context;
 use crate::refusal::Refusal;
-use crate::reply::{Delivered, Reply};
+use crate::reply::Reply;
 use crate::settings::Settings;
 use crate::state::State;
 use crate::window::Window;
-use arrayvec::ArrayVec;
 use rohc_chain::ChainRefusal;
 use rohc_frame::{Forward, HeadKind};
-
-/// A Normal packet of profile 0x0000: the octets of the arrival without the CID octets (RFC 3095 5.10.2).
-fn normal_packet<'a>(forward: &Forward<'a>) -> Delivered<'a>
-    ensures head { result.head.items ≡ forward.now.first ∷ [] }
-    ensures payload { result.payload.now ≡ forward.now.rest.now }
-{
-    let mut head = ArrayVec::new();
-    head.push(forward.first);
-    Delivered {
-        head,
-        payload: forward.rest,
-    }
-}
 
 impl Context {
     ghost use Rattle.std.specs.Prelude.{◌≡◌, ◌≤◌, Some, None, option_map, true, IfOk, IfErr, if◌then◌else◌};
@@ -44,7 +29,7 @@ impl Context {
     ghost use Rattle.rohc_context.specs.Faults.{fault_of_chain};
     ghost use Rattle.rohc_context.specs.Outcomes.{Fails, Ends};
     ghost use Rattle.rohc_context.specs.Renewal.{Renews};
-    ghost use Rattle.rohc_context.specs.Step.{LoneStep, Turn, counts};
+    ghost use Rattle.rohc_context.specs.Step.{LoneStep, Turn, counts_within};
 
     /// Takes the first arrival for a CID without a record. Returns the record that an IR makes and the answer.
     ///
@@ -112,16 +97,18 @@ impl Context {
         requires within { forward.now.cid ≤ settings.now.max_cid }
         ensures { LoneStep (Some (record_of self.old)) settings.now moment (header_of forward.now) (response_of reply.new) (Some (record_of self.new)) }
     {
-        if !self.take_uo0(settings, moment, forward, reply) {
+        if !self.take_at_once(settings.idle_ms, moment, forward, reply) {
             self.step(settings, moment, forward, reply);
         }
     }
 
-    /// Takes an arrival of any kind as `arrive_into` does, but without the short path for a UO-0. It is a
-    /// function of its own so that `arrive_into` keeps no stack space for a second reply.
+    /// Takes an arrival of any kind as `arrive_into` does, but without the short path: for a caller that has
+    /// tried `take_at_once` itself. It isn't inlined, so that its callers keep no stack space for a second reply.
+    ///
+    /// The settings are good. `moment` is the arrival time in milliseconds.
     #[inline(never)]
     #[tactic(auto, unfolding(crate::specs::Step::LoneStep))]
-    fn step<'a>(
+    pub fn step<'a>(
         &mut self,
         settings: &Settings,
         moment: u64,
@@ -131,7 +118,7 @@ impl Context {
         requires good { AreGood settings.now }
         ensures { LoneStep (Some (record_of self.old)) settings.now moment (header_of forward.now) (response_of reply.new) (Some (record_of self.new)) }
     {
-        let counts = self.counts(settings, moment);
+        let counts = self.counts(settings.idle_ms, moment);
         match forward.kind {
             HeadKind::Ir { .. } => *reply = self.renew(settings, moment, forward, counts),
             HeadKind::IrDyn | HeadKind::Other if !counts => {
@@ -145,10 +132,10 @@ impl Context {
     /// Whether the record counts: fewer than `idle_ms` milliseconds have passed since its last accepted arrival,
     /// or `idle_ms` is 0.
     #[tactic(auto, unfolding(crate::specs::Record::record_of))]
-    pub(crate) fn counts(&self, settings: &Settings, moment: u64) -> bool
-        ensures { result ≡ counts settings.now moment (record_of self.now) }
+    pub(crate) fn counts(&self, idle_ms: u32, moment: u64) -> bool
+        ensures { result ≡ counts_within idle_ms moment (record_of self.now) }
     {
-        settings.idle_ms == 0 || moment.saturating_sub(self.accepted) < u64::from(settings.idle_ms)
+        idle_ms == 0 || moment.saturating_sub(self.accepted) < u64::from(idle_ms)
     }
 
     /// The state, if the record counts.
@@ -266,8 +253,7 @@ impl Context {
         let passed = moment.saturating_sub(self.accepted);
         match &mut self.state {
             State::Plain => {
-                let packet = normal_packet(forward);
-                *reply = Reply::delivered(packet.head, packet.payload, None);
+                deliver_normal(forward, reply);
                 self.accepted = moment;
             }
             State::NoContext(_) => *reply = self.refuse_low(settings, moment, forward),

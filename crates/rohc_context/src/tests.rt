@@ -1,7 +1,7 @@
 //! Arrivals of one context, from the worked examples.
 
 use crate::{Context, ContextState, Mode, Outcome, Profile, Refusal, Reply, Settings};
-use rohc_frame::{CidKind, cut};
+use rohc_frame::{CidKind, cut, plain_header};
 
 const SETTINGS: Settings = Settings {
     size: CidKind::Small,
@@ -121,6 +121,29 @@ fn an_answer_overwrites_the_one_that_is_lent(rt: HostRuntime) {
     };
     assert_eq!(rt; delivered.head.get(31).copied(), Some(2));
     assert_eq!(rt; delivered.payload, [0xac].as_slice());
+}
+
+// Example first UO-0 is taken at once. A packet with another check isn't, and the step refuses it.
+#[test]
+fn a_uo0_is_taken_at_once(rt: HostRuntime) {
+    let Some(mut context) = first(&WHOLE_IR) else {
+        panic!(rt; "refused");
+    };
+    let mut reply = Reply::refused(Refusal::NoLink);
+    let packets: [(&[u8], bool, Outcome); 2] = [
+        (&[0x10, 0xac], true, Outcome::Delivered),
+        (&[0x11, 0xac], false, UNFIT),
+    ];
+    for (packet, taken, outcome) in packets {
+        let Some(forward) = plain_header(CidKind::Small, 15, packet) else {
+            panic!(rt; "no header");
+        };
+        assert_eq!(rt; context.take_at_once(0, 0, &forward, &mut reply), taken);
+        if !taken {
+            context.step(&SETTINGS, 0, &forward, &mut reply);
+        }
+        assert_eq!(rt; reply.outcome, outcome);
+    }
 }
 
 // In Full Context the second window is empty. The registers are those of headers with the reference's fields.

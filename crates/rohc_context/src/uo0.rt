@@ -1,5 +1,4 @@
-//! A short path for a UO-0 that fits by the first try, as nearly every packet of a call does. It leads to the same
-//! as the path for any packet of kind Other, with less work.
+//! A UO-0 that fits by the first try, as nearly every packet of a call does.
 
 ghost use Rattle.std.specs.Prelude.{◌≡◌, ◌<◌};
 ghost use Rattle.rohc_chain.specs.Good.{IsGoodDynamic};
@@ -7,13 +6,11 @@ ghost use Rattle.rohc_forms.specs.Packets.{uo0_content};
 ghost use Rattle.rohc_context.specs.Record.{reference_of};
 ghost use Rattle.rohc_context.specs.Explains.{Means};
 
-use crate::record::Context;
 use crate::reference::Reference;
 use crate::reply::Reply;
-use crate::settings::Settings;
-use crate::state::{FullContext, State};
+use crate::state::FullContext;
 use rohc_forms::{FormKind, Uo0, read_uo0};
-use rohc_frame::{Forward, HeadKind};
+use rohc_frame::Forward;
 use rohc_header::{Dynamic, LONGEST_PAYLOAD};
 use rohc_lsb::{inferred_ts, ip_id, sn_value};
 
@@ -39,7 +36,7 @@ fn meant(reference: &Reference, packet: &Uo0<'_>) -> Dynamic
 }
 
 impl FullContext {
-    ghost use Rattle.std.specs.Prelude.{◌≡◌, ℕ, None, Ok, option_map, true, false};
+    ghost use Rattle.std.specs.Prelude.{◌≡◌, ◌≤◌, ◌⊎◌, ℕ, None, Ok, option_map, true, false};
     ghost use Rattle.rohc_frame.specs.Reading.{header_of};
     ghost use Rattle.rohc_context.specs.declared.settings.Settings.{Settings as Set};
     ghost use Rattle.rohc_context.specs.declared.state.State.TheVariants.{Full as Level};
@@ -48,15 +45,19 @@ impl FullContext {
     ghost use Rattle.rohc_context.specs.Response.{response_of, delivered};
     ghost use Rattle.rohc_context.specs.Tries.{Acceptance, full_tries};
     ghost use Rattle.rohc_context.specs.Update.{said_under, Judges, updated};
+    ghost use Rattle.rohc_context.specs.AtOnce.{MissesFirst};
 
     /// Takes a UO-0 that fits by the first try, and returns true. For any other packet it returns false: then the
     /// context stays as it was, and what `reply` holds means nothing.
-    fn take_uo0<'a>(&mut self, forward: &Forward<'a>, reply: &mut Reply<'a>) -> bool
+    #[inline(always)]
+    pub(crate) fn take_uo0<'a>(&mut self, forward: &Forward<'a>, reply: &mut Reply<'a>) -> bool
         ensures taken { result ≡ true → (a : Acceptance)
             × ((s : Set) (passed : ℕ) → Judges self.old.fixed (full_tries s passed (reference_of self.old.reference) (option_map reference_of self.old.previous))
             (said_under (header_of forward.now) (reference_of self.old.reference)) (Ok a))
             × (response_of reply.new ≡ delivered a.header.octets a.content.payload None)
             × (state_of (Level self.new) ≡ updated self.old.fixed (reference_of self.old.reference) (outcomes self.old.windows.0) a) }
+        ensures missed { result ≡ false → (128 ≤ forward.now.first)
+            ⊎ MissesFirst self.old.fixed (reference_of self.old.reference) (said_under (header_of forward.now) (reference_of self.old.reference)) }
         ensures stays { result ≡ false → self.new ≡ self.old }
     {
         let kept = &self.reference;
@@ -71,40 +72,6 @@ impl FullContext {
             return false;
         }
         self.follow(&moving);
-        true
-    }
-}
-
-impl Context {
-    ghost use Rattle.std.specs.Prelude.{◌≡◌, Some, true, false};
-    ghost use Rattle.rohc_frame.specs.Reading.{header_of};
-    ghost use Rattle.rohc_context.specs.Record.{record_of};
-    ghost use Rattle.rohc_context.specs.Response.{response_of};
-    ghost use Rattle.rohc_context.specs.Step.{LoneStep};
-
-    /// Takes a UO-0 that fits by the first try, if the record counts and is in Full Context, and returns true.
-    /// Otherwise it returns false: then the context stays as it was, and what `reply` holds means nothing.
-    #[tactic(auto, unfolding(crate::specs::Step::LoneStep, crate::specs::Record::record_of))]
-    pub(crate) fn take_uo0<'a>(
-        &mut self,
-        settings: &Settings,
-        moment: u64,
-        forward: &Forward<'a>,
-        reply: &mut Reply<'a>,
-    ) -> bool
-        ensures taken { result ≡ true → LoneStep (Some (record_of self.old)) settings.now moment (header_of forward.now) (response_of reply.new) (Some (record_of self.new)) }
-        ensures stays { result ≡ false → self.new ≡ self.old }
-    {
-        if forward.kind != HeadKind::Other || !self.counts(settings, moment) {
-            return false;
-        }
-        let State::Full(context) = &mut self.state else {
-            return false;
-        };
-        if !context.take_uo0(forward, reply) {
-            return false;
-        }
-        self.accepted = moment;
         true
     }
 }

@@ -117,6 +117,19 @@ pub cut_within : (size : CidKind) (max_cid : ℕ) (after : List ℕ) (forward : 
 cut_within size max_cid after None e = tt
 cut_within size max_cid after (Some f) e = (ends_from_parts size max_cid after (Some (header_of f)) e).within
 
+no_header_in_none : (size : CidKind) (max_cid : ℕ) (h : Header) → header_parts size max_cid [] ≡ Ok (Some h) → ⊥
+unfolding header_parts
+no_header_in_none Small max_cid h e = cc
+no_header_in_none Large max_cid h e = cc
+
+-- a packet that starts with a header has no other part
+pub parts_of_plain : (size : CidKind) (max_cid : ℕ) (octets : List ℕ) (forward : Option Forward) → IfSome forward (λ f. after_items octets ≡ octets)
+    → IfSome forward (λ f. elements_in octets ≡ []) → IfSome forward (λ f. header_parts size max_cid octets ≡ Ok (Some (header_of f)))
+    → IfSome forward (λ f. parts_of size max_cid octets ≡ Ok (record { elements = []; header = Some (header_of f) }))
+parts_of_plain size max_cid octets None front elements header = tt
+parts_of_plain size max_cid octets (Some f) front elements header =
+    parts_by size max_cid octets (λ empty. no_header_in_none size max_cid (header_of f) (rw empty at header)) ∙ rw (elements, front, header) refl
+
 -- The header of a packet of octets.
 
 all_right : (xs ys : List ℕ) → All IsOctet (xs ++ ys) → All IsOctet ys

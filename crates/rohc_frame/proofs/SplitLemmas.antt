@@ -44,10 +44,21 @@ split_end octets e =
     (after_items_none octets none, ap all_contents (longest_items_none octets none))
 
 -- an octet below F0 that isn't padding begins no item
-pub items_end_at : (octets : List ℕ) (first : ℕ) (behind : List ℕ) → octets ≡ first ∷ behind → first < 240 → first ≢ 224 → after_items octets ≡ octets
+no_item_at : (octets : List ℕ) (first : ℕ) (behind : List ℕ) → octets ≡ first ∷ behind → first < 240 → first ≢ 224 → first_item octets ≡ None
 unfolding first_item
-items_end_at octets first behind is low other =
+no_item_at octets first behind is low other =
     let padding : (first == 224) ≡ false = grind (arith, nat_tests) in
     let size : (first == 240) ≡ false = grind (arith, nat_tests) in
     let code : is_within 241 247 first ≡ false = grind (arith, nat_tests) in
-    rw is (after_items_none (first ∷ behind) (rw (padding, size, code) refl))
+    rw (is, padding, size, code) refl
+
+pub items_end_at : (octets : List ℕ) (first : ℕ) (behind : List ℕ) → octets ≡ first ∷ behind → first < 240 → first ≢ 224 → after_items octets ≡ octets
+items_end_at octets first behind is low other = after_items_none octets (no_item_at octets first behind is low other)
+
+pub no_elements_at : (octets : List ℕ) (first : ℕ) (behind : List ℕ) → octets ≡ first ∷ behind → first < 240 → first ≢ 224 → elements_in octets ≡ []
+unfolding elements_in
+no_elements_at octets first behind is low other = ap all_contents (longest_items_none octets (no_item_at octets first behind is low other))
+
+pub no_elements_in_none : elements_in [] ≡ []
+unfolding elements_in first_item
+no_elements_in_none = ap all_contents (longest_items_none [] refl)

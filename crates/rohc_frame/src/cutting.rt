@@ -1,7 +1,8 @@
 //! Splits a packet into its one reading, or finds its one refusal.
 
-ghost use Rattle.std.specs.Prelude.{◌≡◌, ℕ, IsOk, IfOk, IfErr, IfSome, Some, MatchResult, Ok, Err, ◌<◌, ◌≤◌};
-ghost use Rattle.rohc_frame.specs.Items.{after_items};
+ghost use Rattle.std.specs.Prelude.{◌≡◌, [], ℕ, IsOk, IfOk, IfErr, IfSome, IsNone, Some, MatchResult, Ok, Err, ◌<◌, ◌≤◌};
+ghost use Rattle.rohc_frame.specs.Header.{Header, IsOther};
+ghost use Rattle.rohc_frame.specs.Items.{after_items, elements_in};
 ghost use Rattle.rohc_frame.specs.Reading.{Reading, header_of, option_header, reading_of, IsReading};
 ghost use Rattle.rohc_frame.specs.Parts.{kind_of, large_cid, small_parts, large_parts, header_parts, parts_of};
 ghost use Rattle.rohc_frame.specs.Refused.{IsRefused};
@@ -135,12 +136,15 @@ fn header<'a>(
     }
 }
 
-/// The header of a packet that starts with a small CID's header of kind Other, as nearly every packet does. The general
-/// way finds the same header, at a higher cost.
-#[tactic(auto, using(crate::proofs::SplitLemmas::items_end_at))]
-fn plain_header<'a>(max_cid: u16, octets: &'a [u8]) -> Option<Forward<'a>>
+/// The header of kind Other at the start of a packet on a link of small CIDs, if one stands there.
+#[inline(always)]
+#[tactic(auto, using(crate::proofs::SplitLemmas::items_end_at, crate::proofs::SplitLemmas::no_elements_at))]
+fn small_plain<'a>(max_cid: u16, octets: &'a [u8]) -> Option<Forward<'a>>
     ensures front { IfSome result (λ forward. after_items octets.entry.now ≡ octets.entry.now) }
-    ensures parts { IfSome result (λ forward. small_parts max_cid octets.entry.now ≡ Ok (Some (header_of forward))) }
+    ensures elements { IfSome result (λ forward. elements_in octets.entry.now ≡ []) }
+    ensures header { IfSome result (λ forward. small_parts max_cid octets.entry.now ≡ Ok (Some (header_of forward))) }
+    ensures kind { IfSome result (λ forward. forward.kind ≡ HeadKind.Other) }
+    ensures only { IsNone result → (h : Header) → small_parts max_cid octets.entry.now ≡ Ok (Some h) → IsOther h.kind → ⊥ }
 {
     let (front, after) = octets.split_first()?;
     if *front < 0xe0 {
@@ -168,6 +172,59 @@ fn plain_header<'a>(max_cid: u16, octets: &'a [u8]) -> Option<Forward<'a>>
     })
 }
 
+/// The header of kind Other at the start of a packet on a link of large CIDs, if one stands there.
+#[inline(always)]
+#[tactic(auto, using(crate::proofs::SplitLemmas::items_end_at, crate::proofs::SplitLemmas::no_elements_at))]
+fn large_plain<'a>(max_cid: u16, octets: &'a [u8]) -> Option<Forward<'a>>
+    ensures front { IfSome result (λ forward. after_items octets.entry.now ≡ octets.entry.now) }
+    ensures elements { IfSome result (λ forward. elements_in octets.entry.now ≡ []) }
+    ensures header { IfSome result (λ forward. large_parts max_cid octets.entry.now ≡ Ok (Some (header_of forward))) }
+    ensures kind { IfSome result (λ forward. forward.kind ≡ HeadKind.Other) }
+    ensures only { IsNone result → (h : Header) → large_parts max_cid octets.entry.now ≡ Ok (Some h) → IsOther h.kind → ⊥ }
+{
+    let (first, behind) = octets.split_first()?;
+    if *first >= 0xe0 {
+        return None;
+    }
+    let Ok((cid, count)) = large_identifier(behind) else {
+        return None;
+    };
+    if max_cid < cid {
+        return None;
+    }
+    let (cid_octets, rest) = behind.split_at(count);
+    Some(Forward {
+        cid,
+        size: CidKind::Large,
+        kind: HeadKind::Other,
+        first: *first,
+        cid_octets,
+        rest,
+    })
+}
+
+/// The header of a packet that starts with one of kind Other, as nearly every packet does. For any other packet the
+/// result is `None`.
+///
+/// `max_cid` is the link's greatest CID. `cut` finds the same header, at a higher cost, and no feedback element.
+#[inline(always)]
+#[tactic(auto, unfolding(crate::specs::Parts::header_parts))]
+pub fn plain_header<'a>(size: CidKind, max_cid: u16, octets: &'a [u8]) -> Option<Forward<'a>>
+    ensures header { IfSome result (λ forward. header_parts size max_cid octets.entry.now ≡ Ok (Some (header_of forward))) }
+    ensures kind { IfSome result (λ forward. forward.kind ≡ HeadKind.Other) }
+    ensures only { IsNone result → (h : Header) → header_parts size max_cid octets.entry.now ≡ Ok (Some h) → IsOther h.kind → ⊥ }
+    ensures parts { IfSome result (λ forward. parts_of size max_cid octets.entry.now
+        ≡ Ok (record { elements = []; header = Some (header_of forward) })) }
+    ensures front { IfSome result (λ forward. after_items octets.entry.now ≡ octets.entry.now) }
+    ensures sized { IfSome result (λ forward. forward.size ≡ size) }
+    ensures within { IfSome result (λ forward. forward.cid ≤ max_cid) }
+{
+    match size {
+        CidKind::Small => small_plain(max_cid, octets),
+        CidKind::Large => large_plain(max_cid, octets),
+    }
+}
+
 /// The header after the items, if there is one.
 #[tactic(auto, unfolding(crate::specs::Parts::header_parts))]
 fn header_after_items<'a>(
@@ -178,10 +235,8 @@ fn header_after_items<'a>(
     ensures { MatchResult result (λ forward. header_parts size max_cid (after_items octets.entry.now) ≡ Ok (option_header forward))
         (λ e. header_parts size max_cid (after_items octets.entry.now) ≡ Err e) }
 {
-    if let CidKind::Small = size {
-        if let Some(forward) = plain_header(max_cid, octets) {
-            return Ok(Some(forward));
-        }
+    if let Some(forward) = plain_header(size, max_cid, octets) {
+        return Ok(Some(forward));
     }
     header(size, max_cid, after_items(octets))
 }

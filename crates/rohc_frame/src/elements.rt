@@ -12,9 +12,16 @@ pub struct Elements<'a> {
 }
 
 impl<'a> Elements<'a> {
-    ghost use Rattle.std.specs.Prelude.{◌≡◌};
+    ghost use Rattle.std.specs.Prelude.{◌≡◌, []};
     ghost use Rattle.rohc_frame.specs.Items.{elements_in};
     ghost use Rattle.rohc_frame.specs.Reading.{elements_of};
+
+    /// No feedback elements.
+    pub fn none() -> Self
+        ensures { elements_of result ≡ [] }
+    {
+        Elements { octets: &[] }
+    }
 
     /// The feedback elements among the padding and elements at the start of these octets.
     pub(crate) fn at_front_of(octets: &'a [u8]) -> Self

@@ -8,7 +8,7 @@ mod items;
 pub mod laws;
 mod refusal;
 
-pub use cutting::cut;
+pub use cutting::{cut, plain_header};
 pub use elements::{Elements, Framed};
 pub use header::{CidKind, Forward, HeadKind};
 pub use refusal::FrameRefusal;

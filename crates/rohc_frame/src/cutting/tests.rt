@@ -1,4 +1,5 @@
-use crate::cutting::cut;
+use crate::cutting::{cut, plain_header};
+use crate::elements::Elements;
 use crate::header::{CidKind, HeadKind};
 use crate::refusal::FrameRefusal;
 
@@ -139,6 +140,34 @@ fn readings(rt: HostRuntime) {
         });
         assert_eq!(rt; parts, header);
     }
+}
+
+// Packets that start with a header of kind Other, and packets that don't: its CID, first octet and rest.
+const STARTS: [(Link, &[u8], Option<(u16, u8, &'static [u8])>); 8] = [
+    (SMALL, &[0x45, 0xaa], Some((0, 0x45, &[0xaa]))),
+    (SMALL, &[0xef, 0x45, 0xaa], Some((15, 0x45, &[0xaa]))),
+    (
+        LARGE,
+        &[0x45, 0x81, 0x2c, 0x01, 0x02],
+        Some((300, 0x45, &[0x01, 0x02])),
+    ),
+    (SMALL, &[0xe0, 0x45, 0xaa], None),
+    (SMALL, &[0xf8, 0x01, 0x0e], None),
+    (LARGE, &[0xf8, 0x05, 0x01, 0x0e], None),
+    (FEW, &[0xe4, 0x10, 0xac], None),
+    (FEW_LARGE, &[0x45, 0x81, 0x2c, 0x01, 0x02], None),
+];
+
+#[test]
+fn plain_headers(rt: HostRuntime) {
+    for (link, octets, header) in STARTS {
+        let found = plain_header(link.size, link.max_cid, octets);
+        assert_eq!(rt;
+            found.map(|forward| (forward.cid, forward.first, forward.rest)),
+            header
+        );
+    }
+    assert!(rt; Elements::none().next().is_none());
 }
 
 const REFUSALS: [(Link, &[u8], FrameRefusal); 20] = [

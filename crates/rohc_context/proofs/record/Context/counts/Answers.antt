@@ -3,10 +3,10 @@ use Rattle.std.proofs.Common.{rules}
 use Rattle.std.proofs.Common.{tests}
 use Rattle.rohc_context.proofs.record.Context.counts.Goals as goal
 
-pub returns-then-settings-eq0 : goal.returns-then-settings-eq0
+pub returns-then-idle_ms-eq0 : goal.returns-then-idle_ms-eq0
 unfolding record_of
-returns-then-settings-eq0 c = search (tests, rules)
+returns-then-idle_ms-eq0 c = search (tests, rules)
 
-pub returns-else-settings-eq0 : goal.returns-else-settings-eq0
+pub returns-else-idle_ms-eq0 : goal.returns-else-idle_ms-eq0
 unfolding record_of
-returns-else-settings-eq0 c = search (tests, rules)
+returns-else-idle_ms-eq0 c = search (tests, rules)

@@ -1,4 +1,4 @@
-use Rattle.std.proofs.Common.{option_map, refl, ◌∙◌}
+use Rattle.std.proofs.Common.{option_map, inr, refl, ◌∙◌}
 use Rattle.std.specs.Prelude.{is_some}
 use Rattle.rohc_forms.specs.Packets.{uo0_content}
 use Rattle.rohc_frame.specs.Reading.{header_of}
@@ -13,6 +13,16 @@ rebuild-requires-clause-registers c =
     let context = c.args.self.now in
     kept_registers context.fixed (reference_of context.reference) 0 (uo0_content context.reference.moving.rnd c.in-Some.packet) c.meant-moving.result context.reference.saved
     c.meant-moving.ensures.means refl context.kept.registers
+
+pub returns-then-not-rebuild-clause-missed : goal.returns-then-not-rebuild-clause-missed
+returns-then-not-rebuild-clause-missed c = λ _.
+    let context = c.args.self.now in
+    let said = c.in-Some.ensures.says (is_some context.reference.moving.stride) in
+    inr (rw said (inr (record {
+      header = record { moving = c.meant-moving.result; octets = c.rebuild.ensures.0 };
+      explained = record { fields = c.meant-moving.ensures.means; octets = c.rebuild.ensures.1 };
+      unchecked = c.rebuild.ensures.4 c.if-not-rebuild.true;
+    })))
 
 pub returns-clause-taken : goal.returns-clause-taken
 returns-clause-taken c = λ _.

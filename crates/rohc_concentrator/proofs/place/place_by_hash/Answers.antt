@@ -1,5 +1,5 @@
 use Rattle.rohc_concentrator.proofs.PlaceLemmas.{found_by_key}
-use Rattle.rohc_concentrator.proofs.place.place_of.Goals as goal
+use Rattle.rohc_concentrator.proofs.place.place_by_hash.Goals as goal
 
 pub returns-clause-there : goal.returns-clause-there
 returns-clause-there g c =

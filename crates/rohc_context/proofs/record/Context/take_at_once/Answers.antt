@@ -1,0 +1,28 @@
+use Rattle.std.proofs.Common.{rules, ◌-◌, option_map, sym, ap}
+use Rattle.rohc_frame.specs.Reading.{header_of}
+use Rattle.rohc_context.specs.Record.{reference_of, record_of, state_of}
+use Rattle.rohc_context.specs.declared.state.State.TheVariants.{Full}
+use Rattle.rohc_context.specs.Response.{response_of}
+use Rattle.rohc_context.specs.Window.{outcomes}
+use Rattle.rohc_context.proofs.Uo0Lemmas.{lone_uo0, lone_normal}
+use Rattle.rohc_context.proofs.record.Context.take_at_once.Goals as goal
+use Rattle.rohc_context.proofs.record.Context.take_at_once.Goals.{in-Full+else-not-take_uo0, in-Plain}
+
+pub returns-clause-taken : goal.returns-clause-taken
+unfolding record_of
+returns-clause-taken c = λ _ s is.
+    let before = state_of c.args.self.now.state in
+    let header = header_of c.args.forward.now in
+    elim c.match-self.branch [
+      | in-Full+else-not-take_uo0 w ↦
+          let context = w.in-Full.context in
+          let taken = w.take_uo0.ensures.taken w.if-not-take_uo0.false in
+          rw (w.self-is, w.reply-is) (lone_uo0 s c.args.moment header c.args.self.now.accepted before
+          context.fixed (reference_of context.reference) (option_map reference_of context.previous) (outcomes context.windows.0) taken.0
+          (response_of w.take_uo0.new.reply) (state_of (Full w.take_uo0.new.self))
+          (ap state_of w.in-Full.is) (search rules) (rw is (sym c.if-not-counts.ensures))
+          (taken.1 s (c.args.moment - c.args.self.now.accepted)) taken.2 taken.3)
+      | in-Plain w ↦
+          rw (w.self-is, w.reply-is) (lone_normal s c.args.moment header c.args.self.now.accepted before (response_of w.deliver_normal.new.reply)
+          (ap state_of w.in-Plain.is) (search rules) (rw is (sym c.if-not-counts.ensures)) w.deliver_normal.ensures)
+    ]
