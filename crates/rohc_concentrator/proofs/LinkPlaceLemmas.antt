@@ -1,13 +1,12 @@
 -- What a write at a link's place does to a concentrator.
-use Rattle.std.proofs.Common.{◌≡◌, ◌≢◌, ℕ, zero, suc, List, [], ◌∷◌, ◌⊎◌, inl, inr, Bool, true, false, Option, Some, None, map, ap, sym, subst, refl, ◌∙◌, nat_eq, slice_get, unwrap_or, arith}
+use Rattle.std.proofs.Common.{◌≡◌, ◌≢◌, ℕ, zero, suc, List, [], ◌∷◌, ◌⊎◌, inl, inr, Bool, true, false, Option, Some, map, ap, sym, subst, refl, ◌∙◌, nat_eq, slice_get, unwrap_or, arith}
 use Rattle.std.proofs.lemmas.Bool.Decides.{nat_tests}
 use Rattle.std.specs.HashMap.{get, keys, IsUnique}
 use Rattle.std.specs.Option.{option_map, option_and_then}
 use Rattle.indexmap.specs.IndexMap.{with_value_at, set_value_at}
-use Rattle.rohc_context.specs.Record.{Record}
 use Rattle.rohc_concentrator.specs.declared.records.LinkRecords.{LinkRecords}
 use Rattle.rohc_concentrator.specs.declared.concentrator.Concentrator.{Concentrator}
-use Rattle.rohc_concentrator.specs.Tables.{setting_at, record_in, record_at, KeepsSettings, KeepsOthers, KeepsPlace, KeepsPlaces, KeepsOrder}
+use Rattle.rohc_concentrator.specs.Tables.{setting_at, record_in, record_at, KeepsSettings, KeepsOthers, KeepsPlaces, KeepsOrder}
 use Rattle.rohc_concentrator.specs.Report.{Report, IsAnswered}
 use Rattle.rohc_concentrator.proofs.PlaceLemmas.{own_written, others_kept}
 
@@ -27,15 +26,6 @@ in_order_kept (e ∷ es) zero link before after at same =
     let own : e ≡ (link, before) = ap (λ u. unwrap_or u e) at in
     ap (λ s. s ∷ map (λ (e : ℕ × LinkRecords). e.1.setting) es) (same ∙ sym (ap (λ (x : ℕ × LinkRecords). x.1.setting) own))
 in_order_kept (e ∷ es) (suc place) link before after at same = ap (λ ss. e.1.setting ∷ ss) (in_order_kept es place link before after at same)
-
--- CIDs that stay keep their places
-places_stay : (cids : List ℕ) (borne : Option ℕ) (records : ℕ → Option Record) → KeepsPlaces cids cids borne records
-places_stay cids None records = refl
-places_stay cids (Some cid) records = by (records cid)
-  where
-    by : (r : Option Record) → KeepsPlace cids cids cid r
-    by (Some r) = refl
-    by None = inl refl
 
 module _ (k : Concentrator) (place link : ℕ) (before after : LinkRecords) (unique : IsUnique nat_eq k.links)
     (at : (slice_get k.links.entries place ≡ Some (link, before)) × (get nat_eq k.links link ≡ Some before)) where
@@ -83,10 +73,3 @@ module _ (k : Concentrator) (place link : ℕ) (before after : LinkRecords) (uni
   answer_by moment octets report h =
       subst (λ (x : Option LinkRecords). IsAnswered (option_map (λ (r : LinkRecords). r.setting) x) (λ cid. option_and_then (λ (r : LinkRecords). record_in r cid) x) moment octets report (record_at written link)) (sym at.1)
       (subst (λ (y : Option LinkRecords). IsAnswered (Some before.setting) (record_in before) moment octets report (λ cid. option_and_then (λ (r : LinkRecords). record_in r cid) y)) (sym own) h)
-
--- records that are written back as they were keep the order
-pub order_untouched : (k : Concentrator) (place link : ℕ) (records : LinkRecords) → IsUnique nat_eq k.links
-    → (slice_get k.links.entries place ≡ Some (link, records)) × (get nat_eq k.links link ≡ Some records) → (borne : Option ℕ)
-    → KeepsOrder k (record { links = with_value_at k.links place records }) link borne
-order_untouched k place link records unique at borne =
-    order_stays k place link records records unique at borne (places_stay (keys records.contexts) borne (record_in records))

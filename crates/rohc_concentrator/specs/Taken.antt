@@ -9,13 +9,14 @@ use Rattle.rohc_concentrator.specs.Bears.{borne}
 
 -- a packet arrives on the link and is answered; its setting stays, and each record of a CID that the packet
 -- doesn't bear
-pub record Takes (old : LinkRecords) (moment : ℕ) (octets : List ℕ) (report : Report) (new : LinkRecords) : Type 0
-  where
-    pub answer : IsAnswered (Some old.setting) (record_in old) moment octets report (record_in new)
-    pub setting : new.setting ≡ old.setting
-    pub others : (cid : ℕ) → borne (Some old.setting) octets ≢ Some cid → record_in new cid ≡ record_in old cid
-    pub order : KeepsPlaces (keys old.contexts) (keys new.contexts) (borne (Some old.setting) octets)
-        (record_in old)
+pub record Takes (old : LinkRecords) (moment : ℕ) (octets : List ℕ) (report : Report) (new : LinkRecords) :
+    Type 0 where
+  pub answer : IsAnswered (Some old.setting) (record_in old) moment octets report (record_in new)
+  pub setting : new.setting ≡ old.setting
+  pub others : (cid : ℕ) → borne (Some old.setting) octets ≢ Some cid →
+      record_in new cid ≡ record_in old cid
+  pub order : KeepsPlaces (keys old.contexts) (keys new.contexts) (borne (Some old.setting) octets)
+      (record_in old)
 
 -- the setting, the records and their order stay
 pub record Stays (old new : LinkRecords) : Type 0 where

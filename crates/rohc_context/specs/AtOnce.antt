@@ -1,5 +1,5 @@
 -- A packet of kind Other that isn't taken at once. Words: MissesFirst, MissesAtOnce.
-use Rattle.std.specs.Prelude.{ℕ, ◌≤◌, ◌<◌, length, ◌⊎◌, Result, Ok, Err}
+use Rattle.std.specs.Prelude.{◌≤◌, ◌<◌, length, ◌⊎◌, Result, Ok, Err}
 use Rattle.rohc_frame.specs.Header.{Header}
 use Rattle.rohc_header.specs.declared.fields.Static.{Static}
 use Rattle.rohc_header.specs.Original.{longest_payload}

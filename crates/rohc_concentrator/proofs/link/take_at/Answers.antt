@@ -1,4 +1,4 @@
-use Rattle.std.proofs.Common.{◌≡◌, refl, sym, ap, inl, ◌∙◌}
+use Rattle.std.proofs.Common.{refl, ap, inl}
 use Rattle.std.specs.Option.{option_map}
 use Rattle.indexmap.proofs.CallerLemmas.{keys-with_value_at}
 use Rattle.rohc_context.specs.Record.{record_of}
