@@ -138,7 +138,10 @@ fn main(rt: HostRuntime) -> io::Result<()> {
         let start = Instant::now(&rt)?;
         let sum = run(packets.as_slice(), answers.as_slice(), &mut buffers);
         let nanos = start.elapsed(&rt)?.as_nanos();
-        println!(rt; "calls {} octets {} lasts {}", sum.calls, sum.octets, sum.lasts)?;
+        println!(rt;
+            "calls {} octets {} lasts {}",
+            sum.calls, sum.octets, sum.lasts
+        )?;
         eprintln!(rt; "nanoseconds {nanos}")?;
     }
     Ok(())
