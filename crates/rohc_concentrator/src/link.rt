@@ -1,7 +1,7 @@
 //! One arrival on one link.
 
-ghost use Rattle.std.specs.Prelude.{◌≡◌, ◌≢◌, ◌≤◌, ℕ, None, true, false, IfSome};
-ghost use Rattle.indexmap.specs.IndexMap.{keys};
+ghost use Rattle.std.specs.Prelude.{◌≡◌, ◌≢◌, ◌≤◌, ℕ, None, true, false, IfSome, nat_eq};
+ghost use Rattle.indexmap.specs.IndexMap.{get, keys};
 ghost use Rattle.rohc_frame.specs.Reading.{header_of};
 ghost use Rattle.rohc_context.specs.Response.{response_of};
 ghost use Rattle.rohc_concentrator.specs.Setting.{settings_of};
@@ -10,9 +10,10 @@ ghost use Rattle.rohc_concentrator.specs.Report.{report_of, OwnStep};
 ghost use Rattle.rohc_concentrator.specs.Taken.{Takes, Stays, IsFor};
 
 use crate::answer::Answer;
-use crate::place::place_of;
+use crate::place::{LastPlaces, stands_at};
 use crate::records::LinkRecords;
 use crate::setting::mode_in;
+use indexmap::IndexMap;
 use rohc_context::{Context, Refusal, Reply};
 use rohc_frame::{Elements, Forward, cut, plain_header};
 
@@ -81,7 +82,9 @@ fn prepare(answer: &mut Answer<'_>, cid: u16)
     }
 }
 
-/// Takes any packet, and writes the answer.
+/// Takes any packet, and writes the answer. Few packets get here. It is marked as cold, since the compiler inlines less
+/// on a way that it takes for a rare one, and the way past this function isn't.
+#[cold]
 #[inline(never)]
 fn take_any<'a>(records: &mut LinkRecords, moment: u64, octets: &'a [u8], answer: &mut Answer<'a>)
     ensures { Takes records.old moment octets.entry.now (report_of answer.new) records.new }
@@ -126,7 +129,7 @@ fn take_at<'a>(
     ensures order { keys records.new.contexts ≡ keys records.old.contexts }
     ensures stays { result ≡ false → record_in records.new forward.now.cid ≡ record_in records.old forward.now.cid }
 {
-    let Some(place) = record_place(records, forward.cid) else {
+    let Some(place) = record_place(&records.contexts, &mut records.places, forward.cid) else {
         return false;
     };
     let idle_ms = records.setting.settings.idle_ms;
@@ -150,7 +153,7 @@ fn arrive_at<'a>(
     ensures setting { records.new.setting ≡ records.old.setting }
     ensures order { KeepsPlace (keys records.old.contexts) (keys records.new.contexts) forward.now.cid (record_in records.old forward.now.cid) }
 {
-    let Some(place) = record_place(records, forward.cid) else {
+    let Some(place) = record_place(&records.contexts, &mut records.places, forward.cid) else {
         return first_at(records, moment, forward, reply);
     };
     // Copied whole here, since `settings_of` writes them field by field.
@@ -167,11 +170,19 @@ fn arrive_at<'a>(
 /// If a sender gives each new call its least free CID, the places of the records are their CIDs. So that place is
 /// the likely one.
 #[inline(always)]
-fn record_place(records: &LinkRecords, cid: u16) -> Option<usize>
-    ensures there { IfSome result (λ place. IsPlaceOf records.now.contexts place cid) }
-    ensures absent { result ≡ None → record_in records.now cid ≡ None }
+fn record_place(
+    contexts: &IndexMap<u16, Context>,
+    places: &mut LastPlaces,
+    cid: u16,
+) -> Option<usize>
+    ensures there { IfSome result (λ place. IsPlaceOf contexts.now place cid) }
+    ensures absent { result ≡ None → get nat_eq contexts.now cid ≡ None }
 {
-    place_of(&records.contexts, usize::from(cid), cid)
+    let likely = usize::from(cid);
+    if stands_at(contexts, likely, cid) {
+        return Some(likely);
+    }
+    places.place_of(contexts, cid)
 }
 
 /// Takes an arrival for a CID without a record, which a first IR makes. The answer overwrites what `reply` held.

@@ -3,6 +3,7 @@
 ghost use Rattle.std.specs.Prelude.{◌≡◌, ℕ, ◌⊎◌, None, IfOk, OnOk, IfErr};
 
 use crate::concentrator::Concentrator;
+use crate::place::LastPlaces;
 use crate::records::LinkRecords;
 use crate::setting::LinkSetting;
 use indexmap::IndexMap;
@@ -108,6 +109,7 @@ fn build(alloc: Global, settings: &[LinkSetting]) -> Result<Concentrator, AllocE
         let records = LinkRecords {
             setting: setting.clone()?,
             contexts: IndexMap::new(alloc),
+            places: LastPlaces::new(),
         };
         links.insert(setting.link, records)?;
     }

@@ -86,6 +86,29 @@ fn an_answer_overwrites_the_one_that_is_lent(rt: HostRuntime) -> Result<(), Fail
 }
 
 #[test]
+fn records_out_of_order_are_found(rt: HostRuntime) -> Result<(), Fail> {
+    let mut concentrator = made(rt.alloc(), link_1(0))?;
+    let delivered = Some(Outcome::Delivered);
+    assert_eq!(rt;
+        outcome(&mut concentrator, 0, b"\xe1\xfc\x00\x30\x45\xaa"),
+        delivered
+    );
+    assert_eq!(rt;
+        outcome(&mut concentrator, 0, b"\xfc\x00\xb7\x45\xaa"),
+        delivered
+    );
+    for _ in 0..2 {
+        assert_eq!(rt; outcome(&mut concentrator, 1, b"\xe1\x45\xab"), delivered);
+        assert_eq!(rt; outcome(&mut concentrator, 1, b"\x45\xab"), delivered);
+    }
+    assert_eq!(rt; concentrator.reset(1), Ok(()));
+    let refused = Some(Outcome::Refused(Refusal::NoContext));
+    assert_eq!(rt; outcome(&mut concentrator, 2, b"\xe1\x45\xab"), refused);
+    assert_eq!(rt; outcome(&mut concentrator, 2, b"\x45\xab"), refused);
+    Ok(())
+}
+
+#[test]
 fn an_idle_record_counts_as_none(rt: HostRuntime) -> Result<(), Fail> {
     let mut concentrator = made(rt.alloc(), link_1(5000))?;
     assert_eq!(rt;
