@@ -27,7 +27,24 @@ pub(crate) fn arrive_on<'a>(
 )
     ensures { Takes records.old moment octets.entry.now (report_of answer.new) records.new }
 {
-    if !take_plain(records, moment, octets, answer) {
+    if !take_plain(records, moment, octets, true, answer) {
+        take_longer(records, moment, octets, answer);
+    }
+}
+
+/// Takes a packet that has no UO-0 at its start, or isn't taken at once. It is marked as cold, since the compiler
+/// inlines less on a way that it takes for a rare one, and the way past this function isn't.
+#[cold]
+#[inline(never)]
+fn take_longer<'a>(
+    records: &mut LinkRecords,
+    moment: u64,
+    octets: &'a [u8],
+    answer: &mut Answer<'a>,
+)
+    ensures { Takes records.old moment octets.entry.now (report_of answer.new) records.new }
+{
+    if !take_plain(records, moment, octets, false, answer) {
         take_any(records, moment, octets, answer);
     }
 }
@@ -35,12 +52,15 @@ pub(crate) fn arrive_on<'a>(
 /// Takes a packet that its context takes at once, with nothing before its header, as nearly every packet is, and
 /// returns true. Otherwise it returns false: then the records stay as they were, and what `answer` holds means nothing.
 ///
-/// It passes nothing on to `take_any`, which reads the packet again. So what it reads stays in registers.
+/// With `short` it takes only headers whose first octet is that of a UO-0, and else only others. So the compiler makes
+/// two of it, and that for a UO-0, as nearly every packet is, has nothing in it for other formats. Neither passes
+/// anything on to what follows, which reads the packet again. So what they read stays in registers.
 #[inline(always)]
 fn take_plain<'a>(
     records: &mut LinkRecords,
     moment: u64,
     octets: &'a [u8],
+    short: bool,
     answer: &mut Answer<'a>,
 ) -> bool
     ensures taken { result ≡ true → Takes records.old moment octets.entry.now (report_of answer.new) records.new }
@@ -50,8 +70,7 @@ fn take_plain<'a>(
     let Some(forward) = plain_header(settings.size, settings.max_cid, octets) else {
         return false;
     };
-    // No UO-0, and no IP packet: its record isn't looked for twice.
-    if forward.first >= 0x80 {
+    if (forward.first < 0x80) != short {
         return false;
     }
     prepare(answer, forward.cid);
@@ -82,8 +101,7 @@ fn prepare(answer: &mut Answer<'_>, cid: u16)
     }
 }
 
-/// Takes any packet, and writes the answer. Few packets get here. It is marked as cold, since the compiler inlines less
-/// on a way that it takes for a rare one, and the way past this function isn't.
+/// Takes any packet, and writes the answer. Few packets get here.
 #[cold]
 #[inline(never)]
 fn take_any<'a>(records: &mut LinkRecords, moment: u64, octets: &'a [u8], answer: &mut Answer<'a>)

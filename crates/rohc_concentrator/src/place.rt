@@ -41,13 +41,13 @@ pub(crate) fn place_of<V>(map: &IndexMap<u16, V>, likely: usize, key: u16) -> Op
 }
 
 /// How many places are remembered.
-const SLOTS: usize = 16;
+const SLOTS: usize = 64;
 
-/// Where keys were found last by their hashes: one place for all keys with the same remainder modulo 16. A place is
-/// only a hint, since another key's entry may stand there.
+/// Where keys were found last by their hashes: one place for all keys with the same remainder modulo 64. A place is
+/// only a hint, since another key's entry may stand there. So it is kept in 16 bits: only hints are lost by that.
 #[derive(Clone, Copy, Debug)]
 pub(crate) struct LastPlaces {
-    slots: [usize; SLOTS],
+    slots: [u16; SLOTS],
 }
 
 impl LastPlaces {
@@ -68,11 +68,12 @@ impl LastPlaces {
         ensures absent { result ≡ None → get nat_eq map.now key ≡ None }
     {
         let slot = &mut self.slots[usize::from(key) % SLOTS];
-        if stands_at(map, *slot, key) {
-            return Some(*slot);
+        let hint = usize::from(*slot);
+        if stands_at(map, hint, key) {
+            return Some(hint);
         }
         let place = place_by_hash(map, key)?;
-        *slot = place;
+        *slot = (place % 65_536) as u16;
         Some(place)
     }
 }

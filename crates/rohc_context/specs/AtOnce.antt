@@ -1,10 +1,11 @@
 -- A packet of kind Other that isn't taken at once. Words: MissesFirst, MissesAtOnce.
-use Rattle.std.specs.Prelude.{◌≤◌, ◌<◌, length, ◌⊎◌, Result, Ok, Err}
+use Rattle.std.specs.Prelude.{◌≡◌, ◌<◌, true, length, ◌⊎◌, Result, Ok, Err}
 use Rattle.rohc_frame.specs.Header.{Header}
 use Rattle.rohc_header.specs.declared.fields.Static.{Static}
 use Rattle.rohc_header.specs.Original.{longest_payload}
 use Rattle.rohc_forms.specs.declared.refusal.FormRefusal.{FormRefusal}
 use Rattle.rohc_forms.specs.Content.{Content}
+use Rattle.rohc_forms.specs.Packets.{is_extended}
 use Rattle.rohc_context.specs.Record.{Reference, State, Plain, NoContext, StaticContext, FullContext}
 use Rattle.rohc_context.specs.Tries.{unshifted, Misses}
 use Rattle.rohc_context.specs.Update.{said_under}
@@ -15,12 +16,11 @@ MissesFirst fixed reference (Err refusal) = Unit {0}
 MissesFirst fixed reference (Ok c) =
     (longest_payload < length c.payload) ⊎ Misses fixed (unshifted reference) c
 
--- In profile 0x0000 every packet is taken at once. In Full Context a packet isn't if it is no UO-0, whose
--- first octet is below 128 (RFC 3095 5.7.1), or if it misses by the first try. No other state takes a packet
--- at once.
+-- In profile 0x0000 every packet is taken at once. In Full Context a packet isn't if it has an extension (RFC
+-- 3095 5.7.5), or if it misses by the first try. No other state takes a packet at once.
 abbrev pub MissesAtOnce : State → Header → Type 0
 MissesAtOnce Plain h = ⊥
 MissesAtOnce (NoContext nacked) h = Unit {0}
 MissesAtOnce (StaticContext fixed reference first second) h = Unit {0}
 MissesAtOnce (FullContext fixed reference previous window) h =
-    (128 ≤ h.first) ⊎ MissesFirst fixed reference (said_under h reference)
+    (is_extended h reference.moving.rnd ≡ true) ⊎ MissesFirst fixed reference (said_under h reference)

@@ -1,5 +1,5 @@
-//! A short path for most packets of a call: a Normal packet of profile 0x0000, and a UO-0 that fits by the first try.
-//! It leads to the same as the path for any packet of kind Other, with less work.
+//! A short path for most packets of a call: a Normal packet of profile 0x0000, and a packet without an extension that
+//! fits by the first try. It leads to the same as the path for any packet of kind Other, with less work.
 
 ghost use Rattle.std.specs.Prelude.{◌≡◌, [], ◌∷◌, None};
 ghost use Rattle.rohc_context.specs.Response.{response_of, delivered};
@@ -36,9 +36,9 @@ impl Context {
     ghost use Rattle.rohc_context.specs.AtOnce.{MissesAtOnce};
 
     /// Takes a packet at once, if the record counts, and returns true: in profile 0x0000 a Normal packet, and in Full
-    /// Context a UO-0 that fits by the first try. This is the step of `arrive_into` under any settings with this
-    /// `idle_ms`. Otherwise it returns false: then the context stays as it was, what `reply` holds means nothing, and
-    /// `step` takes the arrival.
+    /// Context a packet without an extension that fits by the first try. This is the step of `arrive_into` under any
+    /// settings with this `idle_ms`. Otherwise it returns false: then the context stays as it was, what `reply` holds
+    /// means nothing, and `step` takes the arrival.
     ///
     /// `moment` is the arrival time in milliseconds.
     #[inline(always)]
@@ -60,7 +60,7 @@ impl Context {
         }
         match &mut self.state {
             State::Full(context) => {
-                if !context.take_uo0(forward, reply) {
+                if !context.take_unextended(forward, reply) {
                     return false;
                 }
             }

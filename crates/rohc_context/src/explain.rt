@@ -31,6 +31,7 @@ pub(crate) struct Explained {
 }
 
 /// The stride in force: the one that is given, else the one that is kept, if any.
+#[inline(always)]
 fn stride_of(given: Option<u32>, kept: Option<u32>) -> Option<u32>
     ensures { result ≡ given_stride given kept }
 {
@@ -41,6 +42,7 @@ fn stride_of(given: Option<u32>, kept: Option<u32>) -> Option<u32>
 }
 
 /// The fields in force: those that an extension 3 gives, and the reference's for all others (RFC 3095 5.7.5).
+#[inline(always)]
 fn fields_in_force(kept: &Dynamic, values: Option<Values>) -> Dynamic
     requires { IsGoodDynamic kept.now }
     ensures fields { result ≡ in_force kept.now (option_map values_by values) }
@@ -65,6 +67,7 @@ fn fields_in_force(kept: &Dynamic, values: Option<Values>) -> Dynamic
 
 /// The timestamp that the bits mean. Without bits it follows from the steps of the sequence number (RFC 3095
 /// 4.5.3).
+#[inline(always)]
 fn timestamp(
     reference: u32,
     stride: Option<u32>,
@@ -86,6 +89,7 @@ fn timestamp(
 }
 
 /// The Identification that the packet carries, or that its bits mean against the reference (RFC 3095 4.5.5).
+#[inline(always)]
 fn identification(reference: &Dynamic, nbo: bool, said: IdBits, sn: u16) -> u16
     requires some { ForSome (offset_in said) (λ bits. 1 ≤ bits.count) }
     requires narrow { ForSome (offset_in said) (λ bits. bits.count ≤ 16) }
@@ -99,6 +103,7 @@ fn identification(reference: &Dynamic, nbo: bool, said: IdBits, sn: u16) -> u16
 }
 
 /// The fields that the packet means against the reference, whose sequence number is moved on by `shift`.
+#[inline(always)]
 pub(crate) fn meant(reference: &Reference, shift: u32, form: &Form<'_>) -> Dynamic
     requires shift { shift ≤ 65536 }
     requires good { IsGoodDynamic reference.now.moving }

@@ -6,14 +6,17 @@ use crate::reply::{Delivered, Outcome, Reply};
 use crate::state::FullContext;
 use crate::tries::check_of;
 use arrayvec::ArrayVec;
-use rohc_forms::{Form, FormKind};
-use rohc_header::{Dynamic, put_header};
+use rohc_forms::{Form, FormKind, read_unextended};
+use rohc_frame::Forward;
+use rohc_header::{Dynamic, LONGEST_PAYLOAD, put_header};
 
 impl FullContext {
-    ghost use Rattle.std.specs.Prelude.{◌≡◌, ◌≢◌, ◌≤◌, ℕ, List, length, Some, None, true, false};
+    ghost use Rattle.std.specs.Prelude.{◌≡◌, ◌≢◌, ◌≤◌, ◌⊎◌, ℕ, List, length, Some, None, Ok, option_map, true, false};
     ghost use Rattle.rohc_header.specs.Original.{IsOriginal, longest_payload};
     ghost use Rattle.rohc_chain.specs.Good.{IsGoodDynamic};
-    ghost use Rattle.rohc_forms.specs.Packets.{content};
+    ghost use Rattle.rohc_frame.specs.Reading.{header_of};
+    ghost use Rattle.rohc_forms.specs.Packets.{content, is_extended};
+    ghost use Rattle.rohc_context.specs.declared.settings.Settings.{Settings as Set};
     ghost use Rattle.rohc_context.specs.declared.state.State.TheVariants.{Full as Level};
     ghost use Rattle.rohc_context.specs.Window.{and_outcome, outcomes};
     ghost use Rattle.rohc_context.specs.Record.{FullContext as Left, reference_of, state_of};
@@ -21,8 +24,9 @@ impl FullContext {
     ghost use Rattle.rohc_context.specs.Saved.{AreRegisters};
     ghost use Rattle.rohc_context.specs.NextReference.{with_numbers};
     ghost use Rattle.rohc_context.specs.Explains.{Explained};
-    ghost use Rattle.rohc_context.specs.Tries.{check_for, unshifted, Fits, Misses};
-    ghost use Rattle.rohc_context.specs.Update.{updated};
+    ghost use Rattle.rohc_context.specs.Tries.{Acceptance, check_for, full_tries, unshifted, Fits, Misses};
+    ghost use Rattle.rohc_context.specs.Update.{said_under, Judges, updated};
+    ghost use Rattle.rohc_context.specs.AtOnce.{MissesFirst};
 
     /// Writes the packet with these fields and this payload into the reply, and returns whether its header has
     /// this check, of the width that packets of this format carry. If not, what `reply` holds means nothing.
@@ -78,6 +82,7 @@ impl FullContext {
     /// context stays as it was, and what `reply` holds means nothing.
     ///
     /// The payload is at most 65,495 octets.
+    #[inline(always)]
     pub(crate) fn take_first<'a>(&mut self, form: &Form<'a>, reply: &mut Reply<'a>) -> bool
         requires plain { form.now.values ≡ None }
         requires payload { length form.now.payload.now ≤ longest_payload }
@@ -95,5 +100,29 @@ impl FullContext {
         }
         self.follow(&moving);
         true
+    }
+
+    /// Takes a packet without an extension that fits by the first try, and returns true. For any other packet it
+    /// returns false: then the context stays as it was, and what `reply` holds means nothing.
+    #[inline(always)]
+    pub(crate) fn take_unextended<'a>(
+        &mut self,
+        forward: &Forward<'a>,
+        reply: &mut Reply<'a>,
+    ) -> bool
+        ensures taken { result ≡ true → (a : Acceptance)
+            × ((s : Set) (passed : ℕ) → Judges self.old.fixed (full_tries s passed (reference_of self.old.reference) (option_map reference_of self.old.previous))
+            (said_under (header_of forward.now) (reference_of self.old.reference)) (Ok a))
+            × (response_of reply.new ≡ delivered a.header.octets a.content.payload None)
+            × (state_of (Level self.new) ≡ updated self.old.fixed (reference_of self.old.reference) (outcomes self.old.windows.0) a) }
+        ensures missed { result ≡ false → (is_extended (header_of forward.now) self.old.reference.moving.rnd ≡ true)
+            ⊎ MissesFirst self.old.fixed (reference_of self.old.reference) (said_under (header_of forward.now) (reference_of self.old.reference)) }
+        ensures stays { result ≡ false → self.new ≡ self.old }
+    {
+        let kept = &self.reference;
+        let Some(form) = read_unextended(forward, kept.moving.rnd, kept.carries_sum) else {
+            return false;
+        };
+        form.payload.len() <= LONGEST_PAYLOAD && self.take_first(&form, reply)
     }
 }

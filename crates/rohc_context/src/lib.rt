@@ -24,7 +24,6 @@ pub mod standing;
 mod state;
 mod step;
 mod tries;
-mod uo0;
 pub mod window;
 
 pub use record::Context;

@@ -123,21 +123,34 @@ fn an_answer_overwrites_the_one_that_is_lent(rt: HostRuntime) {
     assert_eq!(rt; delivered.payload, [0xac].as_slice());
 }
 
-// Example first UO-0 is taken at once. A packet with another check isn't, and the step refuses it.
+// Examples first UO-0, UOR-2-TS jump and offset bits: packets without an extension are taken at once. The packet of the
+// last one that has an extension 1 isn't, and the step delivers it. A UO-0 with another check isn't either, and the step
+// refuses it.
 #[test]
-fn a_uo0_is_taken_at_once(rt: HostRuntime) {
-    let Some(mut context) = first(&WHOLE_IR) else {
-        panic!(rt; "refused");
-    };
-    let mut reply = Reply::refused(Refusal::NoLink);
-    let packets: [(&[u8], bool, Outcome); 2] = [
-        (&[0x10, 0xac], true, Outcome::Delivered),
+fn packets_without_an_extension_are_taken_at_once(rt: HostRuntime) {
+    let packets: [(&[u8], bool, Outcome); 4] = [
+        (&[0xd4, 0xc3, 0x3e, 0xad], true, Outcome::Delivered),
+        (&[0x84, 0x1f, 0xad], true, Outcome::Delivered),
+        (
+            &[0xc0, 0x0c, 0xfa, 0x63, 0x64, 0xad],
+            false,
+            Outcome::Delivered,
+        ),
         (&[0x11, 0xac], false, UNFIT),
     ];
     for (packet, taken, outcome) in packets {
-        let Some(forward) = plain_header(CidKind::Small, 15, packet) else {
+        let Some(mut context) = first(&WHOLE_IR) else {
+            panic!(rt; "refused");
+        };
+        let mut reply = Reply::refused(Refusal::NoLink);
+        let (Some(uo_0), Some(forward)) = (
+            plain_header(CidKind::Small, 15, &[0x10, 0xac]),
+            plain_header(CidKind::Small, 15, packet),
+        ) else {
             panic!(rt; "no header");
         };
+        assert!(rt; context.take_at_once(0, 0, &uo_0, &mut reply));
+        assert_eq!(rt; reply.outcome, Outcome::Delivered);
         assert_eq!(rt; context.take_at_once(0, 0, &forward, &mut reply), taken);
         if !taken {
             context.step(&SETTINGS, 0, &forward, &mut reply);

@@ -3,6 +3,6 @@ pub mod FieldLemmas
 pub mod Exact
 pub mod SaysLemmas
 pub mod ShortLemmas
-pub mod Uo0Lemmas
+pub mod UnextendedLemmas
 pub mod GoodLemmas
 pub mod FormLemmas

@@ -1,5 +1,5 @@
 -- Whole packets of kind Other (RFC 3095 5.7.1 to 5.7.5), read from left to right up to the first fault.
-use Rattle.std.specs.Prelude.{ℕ, ◌+◌, ◌*◌, List, Bool, false, nat_lt, if◌then◌else◌, Option, Some, None, option_map, Result, Ok}
+use Rattle.std.specs.Prelude.{ℕ, ◌+◌, ◌*◌, List, Bool, false, nat_lt, if◌then◌else◌, Option, Some, None, option_map, Result, Ok, Err}
 use Rattle.rohc_bits.specs.Reading.{◌>>=◌, judged}
 use Rattle.rohc_frame.specs.Header.{Header}
 pub use Rattle.rohc_frame.specs.Header.{IsOther}
@@ -14,8 +14,6 @@ use Rattle.rohc_forms.specs.declared.parts.Extension3 as parts
 use Rattle.rohc_forms.specs.declared.parts.Head as parts_head
 use Rattle.rohc_forms.specs.declared.parts.RtpGiven.{RtpGiven}
 use Rattle.rohc_forms.specs.declared.refusal.FormRefusal.{FormRefusal}
-use Rattle.rohc_forms.specs.declared.form.FormKind.TheVariants as kinds
-use Rattle.rohc_forms.specs.declared.form.Uo0 as form_uo0
 use Rattle.rohc_bits.specs.LowBits.{low_bits}
 use Rattle.rohc_forms.specs.Octets.{octet_at, word_at, word_if}
 use Rattle.rohc_forms.specs.Table.{Said, Tsc, I, IP, has, under, layout_0, layout_1, layout_2, base_said}
@@ -149,6 +147,15 @@ behind_base base rnd stride_known text =
     then (octet_at text >>= λ x. extension_at base rnd stride_known x.0 x.1)
     else Ok (plain_head (form_kind base rnd) rnd (base_said (form_kind base rnd) base.number), text)
 
+-- X, if the octets that hold it are there
+abbrev pub x_in : Bool → Result (Base × List ℕ) FormRefusal → Bool
+x_in rnd (Ok (base, text)) = (base_said (form_kind base rnd) base.number).extended
+x_in rnd (Err refusal) = false
+
+-- whether an extension follows the octets before it
+abbrev pub is_extended : Header → Bool → Bool
+is_extended h rnd = x_in rnd (base_at h.first h.rest)
+
 -- the octets before an extension, and the extension
 unfoldable pub head_at : ℕ → Bool → Bool → List ℕ → Result (Head × List ℕ) FormRefusal
 head_at first rnd stride_known text = base_at first text >>= λ x. behind_base x.0 rnd stride_known x.1
@@ -181,19 +188,3 @@ form_at h rnd udp_sum stride_known = do
   (id, text) ← word_if head.rnd text
   (sum, text) ← word_if udp_sum text
   Ok (whole_content head id sum text)
-
--- the content of a UO-0 under this RND
-abbrev pub uo0_content : Bool → form_uo0.Uo0 → Content
-uo0_content rnd p = record {
-  kind = kinds.Uo0;
-  rnd = rnd;
-  sn = low_bits p.sn;
-  ts = None;
-  tsc = None;
-  id = id_said p.id None;
-  udp_sum = p.udp_sum;
-  marker = false;
-  values = None;
-  check = p.check;
-  payload = p.payload.now;
-}

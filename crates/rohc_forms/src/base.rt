@@ -19,6 +19,7 @@ use rohc_bits::{Bits, Cursor};
 
 /// Reads the base octets after the first one, which decides how many they are in all: one, two or
 /// three.
+#[inline(always)]
 #[tactic(auto, unfolding(crate::specs::Packets::base_at))]
 pub(crate) fn base(first: u8, cursor: &mut Cursor<'_>) -> Result<Base, FormRefusal>
     ensures { Reads result cursor.new (base_at first cursor.old) }
@@ -34,6 +35,7 @@ pub(crate) fn base(first: u8, cursor: &mut Cursor<'_>) -> Result<Base, FormRefus
 }
 
 /// The format of a packet, by its base octets and the RND in force.
+#[inline(always)]
 pub(crate) fn kind(base: Base, rnd: bool) -> FormKind
     ensures { result ≡ form_kind base rnd }
 {
@@ -55,13 +57,15 @@ pub(crate) fn kind(base: Base, rnd: bool) -> FormKind
 }
 
 /// The 3-bit check: the three least significant bits of the base octets.
-pub(crate) fn check_3(number: u32) -> u8
+#[inline(always)]
+fn check_3(number: u32) -> u8
     ensures { result ≡ (slice number 0 3).value }
 {
     (number % 8) as u8
 }
 
 /// The 7-bit check: the seven least significant bits of the base octets.
+#[inline(always)]
 fn check_7(number: u32) -> u8
     ensures { result ≡ (slice number 0 7).value }
 {
@@ -69,6 +73,7 @@ fn check_7(number: u32) -> u8
 }
 
 /// The fields in the base octets, which are given as one number, under this format.
+#[inline(always)]
 pub(crate) fn base_fields(kind: FormKind, number: u32) -> Fields
     ensures { said_by result ≡ base_said kind number }
 {
@@ -112,6 +117,7 @@ pub(crate) fn base_fields(kind: FormKind, number: u32) -> Fields
 }
 
 /// The fields of any UOR-2, with these bits of the timestamp or of the Identification's offset.
+#[inline(always)]
 fn uor2_fields(number: u32, ts: Option<Bits>, id: Option<Bits>) -> Fields
     ensures { said_by result ≡ uor2_said number (option_map low_bits ts) (option_map low_bits id) }
 {

@@ -99,19 +99,3 @@ pub struct Form<'a> {
     ghost check_7: { check < 128 },
     ghost check_3: { is_uor2 kind ≡ false → check < 8 },
 }
-
-/// The content of a UO-0.
-#[derive(Clone, Copy, Debug)]
-pub struct Uo0<'a> {
-    /// The four low bits of the sequence number.
-    pub sn: Bits,
-    /// The 3-bit check.
-    pub check: u8,
-    /// The whole Identification, if it is random.
-    pub id: Option<u16>,
-    /// The UDP checksum, if packets of the call carry one.
-    pub udp_sum: Option<u16>,
-    /// The octets after the header.
-    pub payload: &'a [u8],
-    ghost four: { sn.count ≡ 4 },
-}

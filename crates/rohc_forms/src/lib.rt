@@ -14,12 +14,12 @@ mod parts;
 mod place;
 mod reading;
 mod refusal;
-mod uo0;
+mod unextended;
 
-pub use form::{Form, FormKind, IdBits, Uo0, Values};
+pub use form::{Form, FormKind, IdBits, Values};
 pub use reading::read_form;
 pub use refusal::FormRefusal;
-pub use uo0::read_uo0;
+pub use unextended::read_unextended;
 
 #[cfg(test)]
 mod tests;

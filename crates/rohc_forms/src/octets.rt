@@ -12,6 +12,7 @@ use crate::refusal::FormRefusal;
 use rohc_bits::{Bits, Cursor, reading};
 
 /// The `width` bits of a number that precede its `places` least significant bits.
+#[inline(always)]
 pub(crate) fn bits(number: u32, places: u8, width: u8) -> Bits
     requires places { places < 32 }
     requires width { width < 32 }
@@ -21,6 +22,7 @@ pub(crate) fn bits(number: u32, places: u8, width: u8) -> Bits
 }
 
 /// Takes the next octet.
+#[inline(always)]
 pub(crate) fn octet(cursor: &mut Cursor<'_>) -> Result<u8, FormRefusal>
     ensures { Reads result cursor.new (octet_at cursor.old) }
 {
@@ -28,6 +30,7 @@ pub(crate) fn octet(cursor: &mut Cursor<'_>) -> Result<u8, FormRefusal>
 }
 
 /// Takes the next two octets as a number, most significant octet first.
+#[inline(always)]
 pub(crate) fn word(cursor: &mut Cursor<'_>) -> Result<u16, FormRefusal>
     ensures { Reads result cursor.new (word_at cursor.old) }
 {
@@ -58,6 +61,7 @@ pub(crate) fn optional_octet(
 }
 
 /// Takes the next two octets as a number, if `present`.
+#[inline(always)]
 #[tactic(auto, unfolding(crate::specs::Octets::word_if))]
 pub(crate) fn optional_word(
     present: bool,

@@ -20,7 +20,8 @@ use rohc_frame::Forward;
 
 /// What is said of the Identification: the whole one, if it stands in the packet, else bits of its offset,
 /// if any.
-fn id_bits(whole: Option<u16>, bits: Option<Bits>) -> IdBits
+#[inline(always)]
+pub(crate) fn id_bits(whole: Option<u16>, bits: Option<Bits>) -> IdBits
     ensures { id_by result ≡ id_said whole (option_map low_bits bits) }
 {
     match (whole, bits) {

@@ -1,6 +1,6 @@
-use crate::{Form, FormKind, FormRefusal, IdBits, Values, read_form, read_uo0};
+use crate::{Form, FormKind, FormRefusal, IdBits, Values, read_form, read_unextended};
 use rohc_bits::Bits;
-use rohc_frame::{CidKind, HeadKind, cut};
+use rohc_frame::{CidKind, HeadKind, cut, plain_header};
 
 // A context: RND, whether packets carry the UDP checksum, whether a stride is in force.
 type Context = (bool, bool, bool);
@@ -309,47 +309,32 @@ fn packets_without_extension_3(rt: HostRuntime) {
     }
 }
 
-// Examples first UO-0 and RND turned on, the first with a UDP checksum too, and what isn't a whole UO-0.
+// The content of a packet without an extension, and how many octets its payload has.
+fn unextended_in(packet: &[u8], context: Context) -> Option<(Said, usize)> {
+    let forward = plain_header(CidKind::Small, 15, packet)?;
+    let form = read_unextended(&forward, context.0, context.1)?;
+    Some((said(&form), form.payload.len()))
+}
+
+// Of the same packets those without any extension: their sequence number has four or six bits. Each is whole
+// without its payload, and not without one octet more.
 #[test]
-fn a_uo0_alone(rt: HostRuntime) {
-    let cases: [(
-        &[u8],
-        bool,
-        bool,
-        Option<(Number, u8, Option<u16>, Option<u16>)>,
-    ); 6] = [
-        (&[0x10, 0xac], false, false, Some(((4, 2), 0, None, None))),
-        (
-            &[0x25, 0x56, 0x78, 0xaf],
-            true,
-            false,
-            Some(((4, 4), 5, Some(0x5678), None)),
-        ),
-        (
-            &[0x10, 0x12, 0x34, 0xac],
-            false,
-            true,
-            Some(((4, 2), 0, None, Some(0x1234))),
-        ),
-        (&[0x25, 0x56], true, false, None),
-        (&[0x10, 0x12], false, true, None),
-        (&[0x94, 0xaf, 0xac], false, false, None),
-    ];
-    for (packet, rnd, udp_sum, expected) in cases {
-        let Ok(framed) = cut(CidKind::Small, 15, packet) else {
-            panic!(rt; "refused");
+fn packets_without_an_extension(rt: HostRuntime) {
+    for (packet, context, expected) in PLAIN {
+        let (sn_bits, _sn) = expected.1;
+        if sn_bits > 6 {
+            assert_eq!(rt; unextended_in(packet, context), None);
+            continue;
+        }
+        assert_eq!(rt; unextended_in(packet, context), Some((expected, 1)));
+        let Some((_payload, header)) = packet.split_last() else {
+            panic!(rt; "no payload");
         };
-        let Some(forward) = framed.forward else {
+        assert_eq!(rt; unextended_in(header, context), Some((expected, 0)));
+        let Some((_last, inside)) = header.split_last() else {
             panic!(rt; "no header");
         };
-        let read = match read_uo0(&forward, rnd, udp_sum) {
-            Some(uo0) => {
-                assert_eq!(rt; uo0.payload, &packet[packet.len() - 1..]);
-                Some((number(uo0.sn), uo0.check, uo0.id, uo0.udp_sum))
-            }
-            None => None,
-        };
-        assert_eq!(rt; read, expected);
+        assert_eq!(rt; unextended_in(inside, context), None);
     }
 }
 

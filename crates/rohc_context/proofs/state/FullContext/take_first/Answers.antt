@@ -3,7 +3,7 @@ use Rattle.rohc_forms.specs.Packets.{content, values_by}
 use Rattle.rohc_context.specs.Record.{reference_of}
 use Rattle.rohc_context.specs.Window.{outcomes}
 use Rattle.rohc_context.proofs.Registers.{kept_registers}
-use Rattle.rohc_context.proofs.Uo0Lemmas.{follows}
+use Rattle.rohc_context.proofs.AtOnceLemmas.{follows}
 use Rattle.rohc_context.proofs.state.FullContext.take_first.Goals as goal
 
 pub rebuild-requires-clause-registers : goal.rebuild-requires-clause-registers

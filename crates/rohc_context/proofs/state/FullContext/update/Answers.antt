@@ -8,7 +8,7 @@ use Rattle.rohc_context.specs.Window.{outcomes}
 use Rattle.rohc_context.specs.Tries.{full_tries}
 use Rattle.rohc_context.specs.Update.{said_under}
 use Rattle.rohc_context.proofs.UpdateLemmas.{Updated, judged, updated_or_unfit, after_first}
-use Rattle.rohc_context.proofs.Uo0Lemmas.{accepted}
+use Rattle.rohc_context.proofs.AtOnceLemmas.{accepted}
 use Rattle.rohc_context.proofs.state.FullContext.update.Goals as goal
 use Rattle.rohc_context.proofs.state.FullContext.update.Goals.{After-take, After-take-2}
 

@@ -1,4 +1,4 @@
--- A UO-0 that fits by the first try is taken as any packet of kind Other.
+-- A packet that fits by the first try is taken as any packet of kind Other.
 use Rattle.std.proofs.Common.{◌≡◌, ℕ, ◌-◌, Bool, true, false, List, [], ◌∷◌, length, Option, Some, None, inl, refl, sym, ap, subst, ◌∙◌}
 use Rattle.std.specs.Prelude.{Ok, if◌then◌else◌, ◌&&◌, is_some, unwrap_or}
 use Rattle.std.proofs.lemmas.Bool.{eq-eqb}
@@ -27,14 +27,6 @@ use Rattle.rohc_context.proofs.UpdateLemmas.{judged, updated_is}
 -- what is accepted
 abbrev pub accepted : Reference → Content → Dynamic → List ℕ → Acceptance
 accepted r c moving octets = record { content = c; reference = r; header = record { moving = moving; octets = octets } }
-
-pub first_judged : (fixed : Static) (h : Header) (r : Reference) (previous : Option Reference) (c : Content) (moving : Dynamic) (octets : List ℕ)
-    → said_under h r ≡ Ok c → Means r 0 c moving → IsOriginal fixed moving (length c.payload) octets → check_for c.kind octets ≡ c.check
-    → (s : Settings) (passed : ℕ) → Judges fixed (full_tries s passed r previous) (said_under h r) (Ok (accepted r c moving octets))
-first_judged fixed h r previous c moving octets e means is checked s passed =
-    let header : Explained = record { moving = moving; octets = octets } in
-    judged fixed (full_tries s passed r previous) (said_under h r) c (Ok (accepted r c moving octets)) e is.fits
-    (inl (header, record { explained = record { fields = means; octets = is }; checked = checked }, refl))
 
 -- the reference takes over the numbers
 numbers_are : (kept moving : Dynamic) (sum : ℕ) (marker : Bool) → kept.marker ≡ false
@@ -81,14 +73,14 @@ silence U h = refl
 silence O h = refl
 
 -- A record that counts, in Full Context, takes it as its step.
-pub lone_uo0 : (s : Settings) (m : ℕ) (h : Header) (before : ℕ) (st : State) (fixed : Static) (reference : Reference) (previous : Option Reference) (window : List Bool)
+pub lone_unextended : (s : Settings) (m : ℕ) (h : Header) (before : ℕ) (st : State) (fixed : Static) (reference : Reference) (previous : Option Reference) (window : List Bool)
     (a : Acceptance) (response : Response) (left : State) → st ≡ FullContext fixed reference previous window → h.kind ≡ Other
     → counts s m (record { accepted = before; state = st }) ≡ true
     → Judges fixed (full_tries s (m - before) reference previous) (said_under h reference) (Ok a)
     → response ≡ delivered a.header.octets a.content.payload None → left ≡ updated fixed reference window a
     → LoneStep (Some (record { accepted = before; state = st })) s m h response (Some (record { accepted = m; state = left }))
 unfolding LoneStep
-lone_uo0 s m h before st fixed reference previous window a response left e kind counting judges f g =
+lone_unextended s m h before st fixed reference previous window a response left e kind counting judges f g =
     let next : Option Record = Some (record { accepted = m; state = left }) in
     let full : Record = record { accepted = before; state = FullContext fixed reference previous window } in
     let taken : Turn s m h Other (Some full) (Some full) response next = (Ok a, judges, (f ∙ ap (delivered a.header.octets a.content.payload) (sym (silence s.mode h)), rw g refl)) in
