@@ -1,28 +1,27 @@
 -- A packet that fits by the first try is taken as any packet of kind Other.
-use Rattle.std.proofs.Common.{◌≡◌, ℕ, ◌-◌, Bool, true, false, List, [], ◌∷◌, length, Option, Some, None, inl, refl, sym, ap, subst, ◌∙◌}
+use Rattle.std.proofs.Common.{◌≡◌, ℕ, ◌-◌, Bool, true, false, List, [], ◌∷◌, Option, Some, None, refl, sym, ap, subst, ◌∙◌}
 use Rattle.std.specs.Prelude.{Ok, if◌then◌else◌, ◌&&◌, is_some, unwrap_or}
 use Rattle.std.proofs.lemmas.Bool.{eq-eqb}
 use Rattle.rohc_frame.specs.Header.{Header}
 use Rattle.rohc_header.specs.declared.fields.Static.{Static}
 use Rattle.rohc_header.specs.declared.fields.Dynamic.{Dynamic}
-use Rattle.rohc_header.specs.Original.{IsOriginal}
 use Rattle.rohc_forms.specs.Content.{Content}
 use Rattle.rohc_context.specs.declared.due.Due.TheVariants.{Nothing}
 use Rattle.rohc_context.specs.declared.settings.Mode.{Mode}
 use Rattle.rohc_context.specs.declared.settings.Mode.TheVariants.{U, O}
 use Rattle.rohc_context.specs.declared.settings.Settings.{Settings}
 use Rattle.rohc_context.specs.Due.{sent}
-use Rattle.rohc_context.specs.Explains.{Explained, Means}
+use Rattle.rohc_context.specs.Explains.{Means}
 use Rattle.rohc_context.specs.InForce.{in_force}
 use Rattle.rohc_context.specs.NextReference.{without_marker, with_numbers, is_uo1_id, counts_once, same_flag, same_stride, kept_previous}
 use Rattle.rohc_context.specs.Record.{Reference, State, Plain, FullContext, Record}
 use Rattle.rohc_context.specs.Response.{Response, delivered}
 use Rattle.rohc_context.specs.Window.{and_outcome}
-use Rattle.rohc_context.specs.Tries.{Acceptance, check_for, full_tries}
+use Rattle.rohc_context.specs.Tries.{Acceptance, full_tries}
 use Rattle.rohc_context.specs.Update.{said_under, Judges, updated}
 use Rattle.rohc_context.specs.Step.{counts, Turn, Steps, LoneStep}
 use Rattle.rohc_frame.specs.declared.header.HeadKind.TheVariants.{Other}
-use Rattle.rohc_context.proofs.UpdateLemmas.{judged, updated_is}
+use Rattle.rohc_context.proofs.UpdateLemmas.{updated_is}
 
 -- what is accepted
 abbrev pub accepted : Reference → Content → Dynamic → List ℕ → Acceptance

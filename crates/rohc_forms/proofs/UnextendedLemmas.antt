@@ -1,7 +1,6 @@
 -- A packet without an extension is read as any packet is.
-use Rattle.std.proofs.Common.{◌≡◌, ℕ, Bool, true, false, List, Option, Result, Ok, Err, refl, sym, subst}
+use Rattle.std.proofs.Common.{◌≡◌, ℕ, Bool, false, List, Option, Result, Ok, Err, refl, sym, subst}
 use Rattle.std.specs.Prelude.{IsErr}
-use Rattle.rohc_bits.specs.Reading.{◌>>=◌}
 use Rattle.rohc_frame.specs.Header.{Header}
 use Rattle.rohc_forms.specs.declared.form.FormKind.{FormKind}
 use Rattle.rohc_forms.specs.declared.parts.Base.{Base}

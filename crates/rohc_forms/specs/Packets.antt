@@ -19,7 +19,7 @@ use Rattle.rohc_forms.specs.Octets.{octet_at, word_at, word_if}
 use Rattle.rohc_forms.specs.Table.{Said, Tsc, I, IP, has, under, layout_0, layout_1, layout_2, base_said}
 use Rattle.rohc_forms.specs.Judging.{twice_fault}
 use Rattle.rohc_forms.specs.Given.{RtpSaid, ValuesSaid, rnd_in_force, Extended3}
-use Rattle.rohc_forms.specs.Content.{Content, Head, IdSaid, Offset, Same, Whole, id_said, form_kind, plain_head, whole_content}
+use Rattle.rohc_forms.specs.Content.{Content, Head, IdSaid, Offset, Same, Whole, form_kind, plain_head, whole_content}
 use Rattle.rohc_forms.specs.Extension.{ip_octet_at, behind_ip_octet}
 
 -- the fields of the code as plain data
