@@ -1,4 +1,4 @@
-use Rattle.std.proofs.Common.{◌≡◌, ◌≢◌, ℕ, zero, suc, ◌<◌, List, [], ◌∷◌, get_or, position, Option, Some, None, ap, sym, refl, ◌∙◌, false, nat_eq, slice_get, unwrap_or, is_some, IfSome, true≢false, arith}
+use Rattle.std.proofs.Common.{◌≡◌, ◌≢◌, ℕ, zero, suc, ◌<◌, List, [], ◌∷◌, get_or, position, Option, Some, None, ap, sym, subst, refl, ◌∙◌, false, nat_eq, slice_get, unwrap_or, is_some, IfSome, true≢false, arith}
 use Rattle.std.proofs.lemmas.Option.{slice_get-get_or}
 use Rattle.std.proofs.lemmas.List.Quantifiers.{position-Some}
 use Rattle.std.specs.Map.{keys_of, values_of}
@@ -8,6 +8,10 @@ use Rattle.std.specs.HashMap.{HashMap, get, keys, values, IsUnique}
 use Rattle.indexmap.specs.IndexMap.{with_value_at, index_map_len}
 use Rattle.indexmap.proofs.CallerLemmas.{updates-with_value_at}
 use Rattle.rohc_concentrator.specs.Tables.{IsPlaceOf}
+
+-- where this map is that one, and this place the one that was found
+pub at_place : {V S : Type 0} {m n : HashMap ℕ V S} {place found key : ℕ} → m ≡ n → place ≡ found → IsPlaceOf n found key → IsPlaceOf m place key
+at_place {V} {S} {m} {n} {place} {found} {key} same e is = subst (λ p. IsPlaceOf m p key) (sym e) (subst (λ (x : HashMap ℕ V S). IsPlaceOf x found key) (sym same) is)
 
 -- an entry has one value
 pub same_value : {V : Type 0} (found : Option (ℕ × V)) (cid key : ℕ) (a b : V) → found ≡ Some (cid, a) → found ≡ Some (key, b) → a ≡ b

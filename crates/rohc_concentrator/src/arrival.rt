@@ -1,25 +1,12 @@
 //! The events of a concentrator, and what it shows.
 
-ghost use Rattle.std.specs.Prelude.{◌≡◌, None, IfSome, nat_eq};
-ghost use Rattle.indexmap.specs.IndexMap.{get};
-ghost use Rattle.rohc_concentrator.specs.Tables.{IsPlaceOf};
-
 use crate::answer::{Answer, NoLink};
 use crate::concentrator::Concentrator;
 use crate::link::arrive_on;
-use crate::place::place_of;
+use crate::place::{place_by_hash, stands_at};
 use crate::records::LinkRecords;
 use indexmap::IndexMap;
 use rohc_context::Refusal;
-
-/// The place of a link, if it is there. The likely place is one below its number, since most links are numbered
-/// from 1 on in their order.
-fn link_place(links: &IndexMap<u16, LinkRecords>, link: u16) -> Option<usize>
-    ensures there { IfSome result (λ place. IsPlaceOf links.now place link) }
-    ensures absent { result ≡ None → get nat_eq links.now link ≡ None }
-{
-    place_of(links, usize::from(link.wrapping_sub(1)), link)
-}
 
 impl Concentrator {
     ghost use Rattle.std.specs.Prelude.{◌≡◌, [], ◌≢◌, ◌↔◌, ℕ, None, IsErr, is_some, nat_eq};
@@ -59,9 +46,16 @@ impl Concentrator {
         ensures others { KeepsOthers self.old self.new link (borne (setting_at self.old link) octets.entry.now) }
         ensures order { KeepsOrder self.old self.new link (borne (setting_at self.old link) octets.entry.now) }
     {
-        let Some(place) = link_place(&self.links, link) else {
-            *answer = Answer::Refused(Refusal::NoLink);
-            return;
+        // Most links are numbered from 1 on in their order. Written out as in `take_at`.
+        let likely = usize::from(link.wrapping_sub(1));
+        let place = if stands_at(&self.links, likely, link) {
+            likely
+        } else {
+            let Some(found) = place_by_hash(&self.links, link) else {
+                *answer = Answer::Refused(Refusal::NoLink);
+                return;
+            };
+            found
         };
         let (_, records) = self.links.pair_mut(place);
         arrive_on(records, moment, octets, answer);

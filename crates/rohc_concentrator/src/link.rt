@@ -147,8 +147,15 @@ fn take_at<'a>(
     ensures order { keys records.new.contexts ≡ keys records.old.contexts }
     ensures stays { result ≡ false → record_in records.new forward.now.cid ≡ record_in records.old forward.now.cid }
 {
-    let Some(place) = record_place(&records.contexts, &mut records.places, forward.cid) else {
-        return false;
+    // Written out: an option of the place would be tested once more on the likely way.
+    let likely = likely_place(forward.cid);
+    let place = if stands_at(&records.contexts, likely, forward.cid) {
+        likely
+    } else {
+        let Some(found) = records.places.place_of(&records.contexts, forward.cid) else {
+            return false;
+        };
+        found
     };
     let idle_ms = records.setting.settings.idle_ms;
     let (_, context) = records.contexts.pair_mut(place);
@@ -183,11 +190,15 @@ fn arrive_at<'a>(
     context.step(&settings, moment, forward, reply);
 }
 
+/// The likely place of a CID's record among those of the link. If a sender gives each new call its least free CID, the
+/// places of the records are their CIDs.
+fn likely_place(cid: u16) -> usize
+    ensures { result ≡ cid }
+{
+    usize::from(cid)
+}
+
 /// The place of a CID's record among those of the link, if it has one.
-///
-/// If a sender gives each new call its least free CID, the places of the records are their CIDs. So that place is
-/// the likely one.
-#[inline(always)]
 fn record_place(
     contexts: &IndexMap<u16, Context>,
     places: &mut LastPlaces,
@@ -196,7 +207,7 @@ fn record_place(
     ensures there { IfSome result (λ place. IsPlaceOf contexts.now place cid) }
     ensures absent { result ≡ None → get nat_eq contexts.now cid ≡ None }
 {
-    let likely = usize::from(cid);
+    let likely = likely_place(cid);
     if stands_at(contexts, likely, cid) {
         return Some(likely);
     }

@@ -21,23 +21,11 @@ pub(crate) fn stands_at<V>(map: &IndexMap<u16, V>, place: usize, key: u16) -> bo
 /// likely place keep their values in registers.
 #[cold]
 #[inline(never)]
-fn place_by_hash<V>(map: &IndexMap<u16, V>, key: u16) -> Option<usize>
+pub(crate) fn place_by_hash<V>(map: &IndexMap<u16, V>, key: u16) -> Option<usize>
     ensures there { IfSome result (λ place. IsPlaceOf map.now place key) }
     ensures absent { result ≡ None → get nat_eq map.now key ≡ None }
 {
     map.get_index_of(&key)
-}
-
-/// The place of a key's entry, if it has one. The likely place is tried before the key is looked up.
-#[inline(always)]
-pub(crate) fn place_of<V>(map: &IndexMap<u16, V>, likely: usize, key: u16) -> Option<usize>
-    ensures there { IfSome result (λ place. IsPlaceOf map.now place key) }
-    ensures absent { result ≡ None → get nat_eq map.now key ≡ None }
-{
-    if stands_at(map, likely, key) {
-        return Some(likely);
-    }
-    place_by_hash(map, key)
 }
 
 /// How many places are remembered.

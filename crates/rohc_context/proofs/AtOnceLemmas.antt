@@ -6,11 +6,7 @@ use Rattle.rohc_frame.specs.Header.{Header}
 use Rattle.rohc_header.specs.declared.fields.Static.{Static}
 use Rattle.rohc_header.specs.declared.fields.Dynamic.{Dynamic}
 use Rattle.rohc_forms.specs.Content.{Content}
-use Rattle.rohc_context.specs.declared.due.Due.TheVariants.{Nothing}
-use Rattle.rohc_context.specs.declared.settings.Mode.{Mode}
-use Rattle.rohc_context.specs.declared.settings.Mode.TheVariants.{U, O}
 use Rattle.rohc_context.specs.declared.settings.Settings.{Settings}
-use Rattle.rohc_context.specs.Due.{sent}
 use Rattle.rohc_context.specs.Explains.{Means}
 use Rattle.rohc_context.specs.InForce.{in_force}
 use Rattle.rohc_context.specs.NextReference.{without_marker, with_numbers, is_uo1_id, counts_once, same_flag, same_stride, kept_previous}
@@ -21,7 +17,7 @@ use Rattle.rohc_context.specs.Tries.{Acceptance, full_tries}
 use Rattle.rohc_context.specs.Update.{said_under, Judges, updated}
 use Rattle.rohc_context.specs.Step.{counts, Turn, Steps, LoneStep}
 use Rattle.rohc_frame.specs.declared.header.HeadKind.TheVariants.{Other}
-use Rattle.rohc_context.proofs.UpdateLemmas.{updated_is}
+use Rattle.rohc_context.proofs.UpdateLemmas.{updated_is, delivers_silently}
 
 -- what is accepted
 abbrev pub accepted : Reference → Content → Dynamic → List ℕ → Acceptance
@@ -67,10 +63,6 @@ follows fixed r c moving octets window none unmarked means =
     updated_is fixed r next window (and_outcome false window) (Some r) (accepted r c moving octets)
     (ap (λ m. record { moving = m; carries_sum = r.carries_sum }) numbers) (previous_is r moving) refl
 
-silence : (mode : Mode) (h : Header) → sent mode h Nothing ≡ None
-silence U h = refl
-silence O h = refl
-
 -- A record that counts, in Full Context, takes it as its step.
 pub lone_unextended : (s : Settings) (m : ℕ) (h : Header) (before : ℕ) (st : State) (fixed : Static) (reference : Reference) (previous : Option Reference) (window : List Bool)
     (a : Acceptance) (response : Response) (left : State) → st ≡ FullContext fixed reference previous window → h.kind ≡ Other
@@ -82,7 +74,7 @@ unfolding LoneStep
 lone_unextended s m h before st fixed reference previous window a response left e kind counting judges f g =
     let next : Option Record = Some (record { accepted = m; state = left }) in
     let full : Record = record { accepted = before; state = FullContext fixed reference previous window } in
-    let taken : Turn s m h Other (Some full) (Some full) response next = (Ok a, judges, (f ∙ ap (delivered a.header.octets a.content.payload) (sym (silence s.mode h)), rw g refl)) in
+    let taken : Turn s m h Other (Some full) (Some full) response next = (Ok a, judges, delivers_silently s m h full (updated fixed reference window) a response left f g) in
     let counted = subst (λ b. Turn s m h Other (if b then Some full else None) (Some full) response next) (sym counting) taken in
     let turned = subst (λ k. Turn s m h k (if counts s m full then Some full else None) (Some full) response next) (sym kind) counted in
     subst (λ x. Steps (Some (record { accepted = before; state = x })) s m h response next) (sym e) turned

@@ -25,11 +25,13 @@ use Rattle.std.specs.Option.{ForSome}
 use Rattle.rohc_checks.proofs.Division.{length-bits}
 use Rattle.rohc_context.specs.declared.record.Context.{Context}
 use Rattle.rohc_context.specs.declared.reference.Reference as saved
+use Rattle.rohc_context.specs.declared.reference.Previous.{Previous}
+use Rattle.rohc_context.specs.Previous.{fields_by}
 use Rattle.rohc_context.specs.declared.state.State as code
 use Rattle.rohc_context.specs.declared.state.State.TheVariants as states
 use Rattle.rohc_context.specs.declared.window.Window.{Window}
 use Rattle.rohc_context.specs.Saved.{IsKept}
-use Rattle.rohc_context.specs.Record.{reference_of, state_of, record_of, Reference, State, Plain, NoContext, StaticContext, FullContext, Record}
+use Rattle.rohc_context.specs.Record.{reference_of, previous_by, state_of, record_of, Reference, State, Plain, NoContext, StaticContext, FullContext, Record}
 use Rattle.rohc_context.specs.Response.{Response}
 use Rattle.rohc_context.specs.Window.{outcomes, and_outcome, is_filled}
 use Rattle.rohc_context.specs.Good.{AreGoodValues, IsGoodReference, IsGoodState, IsGoodWindow, IsGoodRecord}
@@ -287,11 +289,16 @@ kept_references : (fixed : Static) (reference : Option saved.Reference) → ForS
 kept_references fixed None kept = tt
 kept_references fixed (Some r) kept = kept_reference fixed r (kept r refl)
 
+kept_previous : (fixed : Static) (r : saved.Reference) (previous : Option Previous) → ForSome previous (λ p. IsKept fixed (fields_by r.moving p) p.saved)
+    → IfSome (option_map (previous_by r) previous) IsGoodReference
+kept_previous fixed r None kept = tt
+kept_previous fixed r (Some p) kept = record { moving = (kept p refl).good; unmarked = (kept p refl).unmarked }
+
 kept_state : (st : code.State) → IsGoodState (state_of st)
 kept_state states.Plain = tt
 kept_state (states.NoContext c) = c.in_range
 kept_state (states.Static c) = (c.good, kept_references c.fixed c.reference c.kept, kept_window c.windows.0, kept_window c.windows.1)
-kept_state (states.Full c) = (c.good, kept_reference c.fixed c.reference c.kept, kept_references c.fixed c.previous c.kept_before, kept_window c.windows.0)
+kept_state (states.Full c) = (c.good, kept_reference c.fixed c.reference c.kept, kept_previous c.fixed c.reference c.previous c.kept_before, kept_window c.window)
 
 pub context_good : (c : Context) → IsGoodRecord (record_of c)
 unfolding record_of

@@ -55,11 +55,11 @@ static_settles c a m s h first (Err e) response next taken fault reply kept refu
     let r : Record = record { accepted = a; state = state_of (states.Static c) } in
     subst (λ read. RefreshesBy s m h r (state_of (states.Static c)) read response (Some next)) (sym fault) refused
 
-full_settles : (c : code_full.FullContext) → Settles (states.Full c) c.fixed (Some (reference_of c.reference)) (and_outcome false (outcomes c.windows.0))
+full_settles : (c : code_full.FullContext) → Settles (states.Full c) c.fixed (Some (reference_of c.reference)) (and_outcome false (outcomes c.window))
 full_settles c a m s h first (Ok x) response next taken fault reply kept refused =
     let r : Record = record { accepted = a; state = state_of (states.Full c) } in
     subst (λ read. RefreshesBy s m h r (state_of (states.Full c)) read response (Some next)) (sym taken.1)
-    (delivers_as s m h c.fixed taken.0 (and_outcome false (outcomes c.windows.0)) response (response_of x.1) next (record { accepted = m; state = state_of x.0 }) reply kept (taken.2 m))
+    (delivers_as s m h c.fixed taken.0 (and_outcome false (outcomes c.window)) response (response_of x.1) next (record { accepted = m; state = state_of x.0 }) reply kept (taken.2 m))
 full_settles c a m s h first (Err e) response next taken fault reply kept refused =
     let r : Record = record { accepted = a; state = state_of (states.Full c) } in
     subst (λ read. RefreshesBy s m h r (state_of (states.Full c)) read response (Some next)) (sym fault) refused
@@ -68,5 +68,5 @@ pub settles_static : (st : code.State) (c : code_static.StaticContext) → st �
 settles_static st c e = subst (λ x. Settles x c.fixed (option_map reference_of c.reference) []) (sym e) (static_settles c)
 
 pub settles_full : (st : code.State) (c : code_full.FullContext) → st ≡ states.Full c
-    → Settles st c.fixed (Some (reference_of c.reference)) (and_outcome false (outcomes c.windows.0))
-settles_full st c e = subst (λ x. Settles x c.fixed (Some (reference_of c.reference)) (and_outcome false (outcomes c.windows.0))) (sym e) (full_settles c)
+    → Settles st c.fixed (Some (reference_of c.reference)) (and_outcome false (outcomes c.window))
+settles_full st c e = subst (λ x. Settles x c.fixed (Some (reference_of c.reference)) (and_outcome false (outcomes c.window))) (sym e) (full_settles c)

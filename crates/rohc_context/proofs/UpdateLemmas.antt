@@ -1,5 +1,5 @@
 -- What a packet of kind Other comes to.
-use Rattle.std.proofs.Common.{◌≡◌, ℕ, ◌≤◌, Bool, true, false, List, [], length, Option, Some, None, inl, inr, ap, option_map, refl, sym, subst, ◌∙◌, arith}
+use Rattle.std.proofs.Common.{◌≡◌, ℕ, ◌-◌, ◌≤◌, Bool, true, false, List, [], length, Option, Some, None, inl, inr, ap, option_map, refl, sym, subst, ◌∙◌, arith}
 use Rattle.std.specs.Prelude.{Result, Ok, Err, IfSome, IfNone, IfOk, IfErr, ◌++◌, nat_lt, nat_le}
 use Rattle.std.proofs.lemmas.Bool.Decides.{nat_tests}
 use Rattle.rohc_header.specs.declared.fields.Static.{Static}
@@ -13,12 +13,15 @@ use Rattle.rohc_context.specs.Tries.{Try, Acceptance, Verdict, Fits, Misses, uns
 use Rattle.rohc_frame.specs.declared.header.HeadKind.TheVariants.{Other}
 use Rattle.rohc_frame.specs.Header.{Header}
 use Rattle.rohc_context.specs.declared.due.Due.{Due}
+use Rattle.rohc_context.specs.declared.due.Due.TheVariants.{Nothing}
+use Rattle.rohc_context.specs.declared.settings.Mode.{Mode}
+use Rattle.rohc_context.specs.declared.settings.Mode.TheVariants.{U, O}
 use Rattle.rohc_context.specs.declared.settings.Settings.{Settings}
 use Rattle.rohc_context.specs.Due.{sent}
 use Rattle.rohc_context.specs.Failures.{takes}
 use Rattle.rohc_context.specs.Response.{Response, delivered}
 use Rattle.rohc_context.specs.Step.{TakenBy}
-use Rattle.rohc_context.specs.Record.{Reference, State, StaticContext, FullContext, Record, reference_of, state_of}
+use Rattle.rohc_context.specs.Record.{Reference, State, StaticContext, FullContext, Record, reference_of, previous_of, state_of}
 use Rattle.rohc_context.specs.declared.reference.Reference as saved
 use Rattle.rohc_context.specs.declared.state.State as code
 use Rattle.rohc_context.specs.declared.state.State.TheVariants as states
@@ -27,7 +30,7 @@ use Rattle.rohc_context.specs.declared.state.FullContext as code_full
 use Rattle.rohc_context.specs.Window.{and_outcome, outcomes}
 use Rattle.rohc_context.specs.NextReference.{next_reference, kept_previous}
 use Rattle.rohc_context.specs.Explains.{Explained}
-use Rattle.rohc_context.specs.Update.{VerdictUnless, Judges, Accepts, said_under, acknowledged, promoted, updated}
+use Rattle.rohc_context.specs.Update.{VerdictUnless, Judges, Accepts, said_under, acknowledged, silent, promoted, updated}
 
 short : (n : ℕ) → n ≤ 65495 → nat_lt 65495 n ≡ false
 short n h = grind (arith, nat_tests)
@@ -79,6 +82,28 @@ pub static_is : (st : code.State) (c : code_static.StaticContext) (r : saved.Ref
     → state_of st ≡ StaticContext c.fixed (Some (reference_of r)) (outcomes c.windows.0) (outcomes c.windows.1)
 static_is st c r e f = ap state_of e ∙ ap (λ x. StaticContext c.fixed (option_map reference_of x) (outcomes c.windows.0) (outcomes c.windows.1)) f
 
+silence : (mode : Mode) (h : Header) → sent mode h Nothing ≡ None
+silence U h = refl
+silence O h = refl
+
+-- an accepted packet for which no feedback is sent
+pub delivers_silently : (s : Settings) (m : ℕ) (h : Header) (r : Record) (state : Acceptance → State) (a : Acceptance) (response : Response) (left : State)
+    → response ≡ delivered a.header.octets a.content.payload None → left ≡ state a
+    → Accepts s m h r state silent (Ok a) response (Some (record { accepted = m; state = left }))
+delivers_silently s m h r state a response left e f =
+    (e ∙ ap (delivered a.header.octets a.content.payload) (sym (silence s.mode h)), ap (λ x. Some (record { accepted = m; state = x })) f)
+
+-- An arrival of kind Other in Full Context.
+pub updates : (st : State) (fixed : Static) (reference : Reference) (previous : Option Reference) (window : List Bool) → st ≡ FullContext fixed reference previous window
+    → (a m passed : ℕ) (s : Settings) (h : Header) (first : ℕ) (verdict : Result Acceptance Fault) (response : Response) (next : Option Record) → passed ≡ m - a
+    → Judges fixed (full_tries s passed reference previous) (said_under h reference) verdict
+    → Accepts s m h (record { accepted = a; state = st }) (updated fixed reference window) silent verdict response next
+    → TakenBy (takes st Other first) s m h Other (record { accepted = a; state = st }) response next
+updates st fixed reference previous window is a m passed s h first verdict response next since judges accepts =
+    subst (λ x. Accepts s m h (record { accepted = a; state = x }) (updated fixed reference window) silent verdict response next
+    → TakenBy (takes x Other first) s m h Other (record { accepted = a; state = x }) response next) (sym is)
+    (λ is_accepted. (verdict, subst (λ n. Judges fixed (full_tries s n reference previous) (said_under h reference) verdict) since judges, is_accepted)) accepts
+
 -- What an update leads to: a packet that is accepted, and the state after it, or a fault.
 abbrev pub Updated : Static → (Content → List Try) → Result Content FormRefusal → Reference → List Bool → Result Unit Fault → Response → State → Type 0
 Updated fixed tries read held window result response left =
@@ -99,16 +124,16 @@ updated_or_unfit fixed tries read held window c (Some a) result response left St
 -- Where the first try misses, the later ones decide. The context is still the one that the packet found.
 pub after_first : (s : Settings) (passed : ℕ) (h : Header) (x y : code_full.FullContext) (c : Content) (found : Option Accepted) (result : Result Unit Fault) (response : Response) (left : State)
     (Stays : Type 0) → y ≡ x → said_under h (reference_of x.reference) ≡ Ok c → length c.payload ≤ 65495 → Misses x.fixed (unshifted (reference_of x.reference)) c
-    → Verdict y.fixed c (second_tries s passed (reference_of y.reference) c ++ third_tries (option_map reference_of y.previous) c) (verdict_of c found)
+    → Verdict y.fixed c (second_tries s passed (reference_of y.reference) c ++ third_tries (previous_of y) c) (verdict_of c found)
     → IfSome found (λ a. (result ≡ Ok tt) × (response ≡ delivered a.header.header.octets c.payload None)
-    × (left ≡ updated y.fixed (reference_of y.reference) (outcomes y.windows.0) (acceptance_of c a)))
+    × (left ≡ updated y.fixed (reference_of y.reference) (outcomes y.window) (acceptance_of c a)))
     → IfNone found ((result ≡ Err Unfit) × Stays)
-    → Updated x.fixed (full_tries s passed (reference_of x.reference) (option_map reference_of x.previous)) (said_under h (reference_of x.reference)) (reference_of x.reference) (outcomes x.windows.0)
+    → Updated x.fixed (full_tries s passed (reference_of x.reference) (previous_of x)) (said_under h (reference_of x.reference)) (reference_of x.reference) (outcomes x.window)
     result response left
 after_first s passed h x y c found result response left Stays same read few misses later some none =
-    let decides = subst (λ (z : code_full.FullContext). Verdict z.fixed c (second_tries s passed (reference_of z.reference) c ++ third_tries (option_map reference_of z.previous) c) (verdict_of c found))
+    let decides = subst (λ (z : code_full.FullContext). Verdict z.fixed c (second_tries s passed (reference_of z.reference) c ++ third_tries (previous_of z) c) (verdict_of c found))
     same later in
     let leaves = subst (λ (z : code_full.FullContext). IfSome found (λ a. (result ≡ Ok tt) × (response ≡ delivered a.header.header.octets c.payload None)
-    × (left ≡ updated z.fixed (reference_of z.reference) (outcomes z.windows.0) (acceptance_of c a)))) same some in
-    updated_or_unfit x.fixed (full_tries s passed (reference_of x.reference) (option_map reference_of x.previous)) (said_under h (reference_of x.reference)) (reference_of x.reference) (outcomes x.windows.0)
+    × (left ≡ updated z.fixed (reference_of z.reference) (outcomes z.window) (acceptance_of c a)))) same some in
+    updated_or_unfit x.fixed (full_tries s passed (reference_of x.reference) (previous_of x)) (said_under h (reference_of x.reference)) (reference_of x.reference) (outcomes x.window)
     c found result response left Stays read few (inr (misses, decides)) leaves none

@@ -8,6 +8,7 @@ pub mod Record
 pub mod Response
 pub mod Good
 pub mod Saved
+pub mod Previous
 pub mod InForce
 pub mod Explains
 pub mod Tries

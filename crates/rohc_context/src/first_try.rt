@@ -2,6 +2,7 @@
 //! only those fields of the reference that such a packet changes.
 
 use crate::explain::meant;
+use crate::reference::Previous;
 use crate::reply::{Delivered, Outcome, Reply};
 use crate::state::FullContext;
 use crate::tries::check_of;
@@ -11,7 +12,7 @@ use rohc_frame::Forward;
 use rohc_header::{Dynamic, LONGEST_PAYLOAD, put_header};
 
 impl FullContext {
-    ghost use Rattle.std.specs.Prelude.{◌≡◌, ◌≢◌, ◌≤◌, ◌⊎◌, ℕ, List, length, Some, None, Ok, option_map, true, false};
+    ghost use Rattle.std.specs.Prelude.{◌≡◌, ◌≢◌, ◌≤◌, ◌⊎◌, ℕ, List, length, Some, None, Ok, true, false};
     ghost use Rattle.rohc_header.specs.Original.{IsOriginal, longest_payload};
     ghost use Rattle.rohc_chain.specs.Good.{IsGoodDynamic};
     ghost use Rattle.rohc_frame.specs.Reading.{header_of};
@@ -19,7 +20,7 @@ impl FullContext {
     ghost use Rattle.rohc_context.specs.declared.settings.Settings.{Settings as Set};
     ghost use Rattle.rohc_context.specs.declared.state.State.TheVariants.{Full as Level};
     ghost use Rattle.rohc_context.specs.Window.{and_outcome, outcomes};
-    ghost use Rattle.rohc_context.specs.Record.{FullContext as Left, reference_of, state_of};
+    ghost use Rattle.rohc_context.specs.Record.{FullContext as Left, reference_of, previous_of, state_of};
     ghost use Rattle.rohc_context.specs.Response.{response_of, delivered};
     ghost use Rattle.rohc_context.specs.Saved.{AreRegisters};
     ghost use Rattle.rohc_context.specs.NextReference.{with_numbers};
@@ -68,14 +69,14 @@ impl FullContext {
         requires { IsGoodDynamic moving.now }
         ensures { state_of (Level self.new) ≡ Left self.old.fixed
             (record { moving = with_numbers self.old.reference.moving moving.now; carries_sum = self.old.reference.carries_sum })
-            (Some (reference_of self.old.reference)) (and_outcome false (outcomes self.old.windows.0)) }
+            (Some (reference_of self.old.reference)) (and_outcome false (outcomes self.old.window)) }
     {
-        self.previous = Some(self.reference);
+        self.previous = Some(Previous::of(&self.reference));
         self.reference.moving.sn = moving.sn;
         self.reference.moving.ts = moving.ts;
         self.reference.moving.id = moving.id;
         self.reference.moving.udp_sum = moving.udp_sum;
-        self.windows.0 = self.windows.0.and(false);
+        self.window.push(false);
     }
 
     /// Takes a packet without an extension 3 by the first try, and returns whether it fits. If it doesn't, the
@@ -89,7 +90,7 @@ impl FullContext {
         ensures taken { result ≡ true → (h : Explained)
             × Fits self.old.fixed (unshifted (reference_of self.old.reference)) (content form.now) h
             × (response_of reply.new ≡ delivered h.octets form.now.payload.now None)
-            × (state_of (Level self.new) ≡ updated self.old.fixed (reference_of self.old.reference) (outcomes self.old.windows.0)
+            × (state_of (Level self.new) ≡ updated self.old.fixed (reference_of self.old.reference) (outcomes self.old.window)
             (record { content = content form.now; reference = reference_of self.old.reference; header = h })) }
         ensures misses { result ≡ false → Misses self.old.fixed (unshifted (reference_of self.old.reference)) (content form.now) }
         ensures stays { result ≡ false → self.new ≡ self.old }
@@ -111,10 +112,10 @@ impl FullContext {
         reply: &mut Reply<'a>,
     ) -> bool
         ensures taken { result ≡ true → (a : Acceptance)
-            × ((s : Set) (passed : ℕ) → Judges self.old.fixed (full_tries s passed (reference_of self.old.reference) (option_map reference_of self.old.previous))
+            × ((s : Set) (passed : ℕ) → Judges self.old.fixed (full_tries s passed (reference_of self.old.reference) (previous_of self.old))
             (said_under (header_of forward.now) (reference_of self.old.reference)) (Ok a))
             × (response_of reply.new ≡ delivered a.header.octets a.content.payload None)
-            × (state_of (Level self.new) ≡ updated self.old.fixed (reference_of self.old.reference) (outcomes self.old.windows.0) a) }
+            × (state_of (Level self.new) ≡ updated self.old.fixed (reference_of self.old.reference) (outcomes self.old.window) a) }
         ensures missed { result ≡ false → (is_extended (header_of forward.now) self.old.reference.moving.rnd ≡ true)
             ⊎ MissesFirst self.old.fixed (reference_of self.old.reference) (said_under (header_of forward.now) (reference_of self.old.reference)) }
         ensures stays { result ≡ false → self.new ≡ self.old }

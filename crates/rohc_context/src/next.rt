@@ -5,12 +5,13 @@ ghost use Rattle.std.specs.Option.{ForSome};
 ghost use Rattle.rohc_header.specs.declared.fields.Static.{Static};
 ghost use Rattle.rohc_chain.specs.Good.{IsGoodDynamic};
 ghost use Rattle.rohc_forms.specs.Packets.{content};
-ghost use Rattle.rohc_context.specs.Record.{reference_of};
+ghost use Rattle.rohc_context.specs.Record.{reference_of, previous_by};
+ghost use Rattle.rohc_context.specs.Previous.{fields_by, SharesNumbering};
 ghost use Rattle.rohc_context.specs.Saved.{AreRegisters, IsKept};
 ghost use Rattle.rohc_context.specs.NextReference.{first_reference, counts_once, next_reference, kept_previous, same_numbering, same_stride};
 ghost use Rattle.rohc_context.specs.Read.{acceptance_of, IsSound};
 
-use crate::reference::Reference;
+use crate::reference::{Previous, Reference};
 use crate::tries::Accepted;
 use rohc_forms::{Form, FormKind};
 use rohc_header::Dynamic;
@@ -84,18 +85,21 @@ fn is_same_stride(a: Option<u32>, b: Option<u32>) -> bool
     }
 }
 
-/// The previous reference after an accepted packet: the one against which the packet was decoded, if RND, NBO
-/// and stride stay as the held reference has them.
+/// What is kept of the previous reference after an accepted packet: of the one against which the packet was decoded,
+/// if RND, NBO and stride stay as the held reference has them.
 pub(crate) fn kept_previous(
     held: &Reference,
     next: &Reference,
     accepted: &Accepted,
-) -> Option<Reference>
-    ensures is { ForSome result (λ r. r ≡ accepted.now.reference) }
-    ensures reference { option_map reference_of result ≡ kept_previous (reference_of held.now) next.now.moving (reference_of accepted.now.reference) }
+) -> Option<Previous>
+    requires near { SharesNumbering held.now.moving accepted.now.reference.moving }
+    requires sum { next.now.carries_sum ≡ accepted.now.reference.carries_sum }
+    requires marker { next.now.moving.marker ≡ accepted.now.reference.moving.marker }
+    ensures is { ForSome result (λ p. (fields_by next.now.moving p ≡ accepted.now.reference.moving) × (p.saved ≡ accepted.now.reference.saved)) }
+    ensures reference { option_map (previous_by next.now) result ≡ kept_previous (reference_of held.now) next.now.moving (reference_of accepted.now.reference) }
 {
     if is_same_numbering(&held.moving, &next.moving) {
-        Some(accepted.reference)
+        Some(Previous::of(&accepted.reference))
     } else {
         None
     }

@@ -57,14 +57,15 @@ fn packet<'a>(accepted: &Accepted, form: &Form<'a>) -> Delivered<'a>
 }
 
 impl FullContext {
-    ghost use Rattle.std.specs.Prelude.{◌≡◌, None, option_map, IfSome, IfNone, IfOk, IfErr, Ok, Err};
+    ghost use Rattle.std.specs.Prelude.{◌≡◌, None, IfSome, IfNone, IfOk, IfErr, Ok, Err};
     ghost use Rattle.rohc_frame.specs.Reading.{header_of};
     ghost use Rattle.rohc_forms.specs.Packets.{IsOther, content};
     ghost use Rattle.rohc_context.specs.declared.fault.Fault.TheVariants.{Unfit};
     ghost use Rattle.rohc_context.specs.declared.state.State.TheVariants.{Full as Level};
     ghost use Rattle.rohc_context.specs.Settings.{AreGood};
     ghost use Rattle.rohc_context.specs.Window.{outcomes};
-    ghost use Rattle.rohc_context.specs.Record.{reference_of, state_of};
+    ghost use Rattle.rohc_context.specs.Record.{reference_of, previous_of, state_of};
+    ghost use Rattle.rohc_context.specs.Previous.{SharesNumbering};
     ghost use Rattle.rohc_context.specs.Response.{response_of, delivered};
     ghost use Rattle.rohc_context.specs.Read.{acceptance_of, IsSound};
     ghost use Rattle.rohc_context.specs.Tries.{Acceptance, full_tries};
@@ -83,12 +84,12 @@ impl FullContext {
         requires kind { IsOther forward.now.kind }
         requires good { AreGood settings.now }
         ensures taken { IfOk result (λ _. (a : Acceptance)
-            × Judges self.old.fixed (full_tries settings.now passed (reference_of self.old.reference) (option_map reference_of self.old.previous))
+            × Judges self.old.fixed (full_tries settings.now passed (reference_of self.old.reference) (previous_of self.old))
             (said_under (header_of forward.now) (reference_of self.old.reference)) (Ok a)
             × (response_of reply.new ≡ delivered a.header.octets a.content.payload None)
-            × (state_of (Level self.new) ≡ updated self.old.fixed (reference_of self.old.reference) (outcomes self.old.windows.0) a)) }
+            × (state_of (Level self.new) ≡ updated self.old.fixed (reference_of self.old.reference) (outcomes self.old.window) a)) }
         ensures fault { IfErr result (λ e.
-            Judges self.old.fixed (full_tries settings.now passed (reference_of self.old.reference) (option_map reference_of self.old.previous))
+            Judges self.old.fixed (full_tries settings.now passed (reference_of self.old.reference) (previous_of self.old))
             (said_under (header_of forward.now) (reference_of self.old.reference)) (Err e)) }
         ensures stays { IfErr result (λ e. self.new ≡ self.old) }
     {
@@ -113,9 +114,10 @@ impl FullContext {
         reply: &mut Reply<'a>,
     ) -> Result<(), Fault>
         requires sound { IfSome accepted (λ a. IsSound self.now.fixed a) }
+        requires near { IfSome accepted (λ a. SharesNumbering self.now.reference.moving a.reference.moving) }
         ensures taken { IfSome accepted (λ a. (result ≡ Ok tt)
             × (response_of reply.new ≡ delivered a.header.header.octets form.now.payload.now None)
-            × (state_of (Level self.new) ≡ updated self.old.fixed (reference_of self.old.reference) (outcomes self.old.windows.0) (acceptance_of (content form.now) a))) }
+            × (state_of (Level self.new) ≡ updated self.old.fixed (reference_of self.old.reference) (outcomes self.old.window) (acceptance_of (content form.now) a))) }
         ensures unfit { IfNone accepted ((result ≡ Err Unfit) × (self.new ≡ self.old)) }
     {
         let Some(accepted) = accepted else {
@@ -124,7 +126,7 @@ impl FullContext {
         let next = next_reference(form, &accepted);
         self.previous = kept_previous(&self.reference, &next, &accepted);
         self.reference = next;
-        self.windows.0 = self.windows.0.and(false);
+        self.window.push(false);
         let packet = packet(&accepted, form);
         *reply = Reply::delivered(packet.head, packet.payload, None);
         Ok(())
@@ -168,7 +170,7 @@ impl StaticContext {
             fixed: self.fixed,
             reference: next_reference(&form, &accepted),
             previous: None,
-            windows: (Window::empty(), Window::empty()),
+            window: Window::empty(),
         };
         Ok((context, packet(&accepted, &form)))
     }

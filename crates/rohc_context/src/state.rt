@@ -5,8 +5,9 @@ ghost use Rattle.std.specs.Option.{ForSome};
 ghost use Rattle.std.proofs.Props.{props};
 ghost use Rattle.rohc_chain.specs.Good.{IsGoodStatic, IsGoodDynamic};
 ghost use Rattle.rohc_context.specs.Saved.{IsKept};
+ghost use Rattle.rohc_context.specs.Previous.{fields_by};
 
-use crate::reference::Reference;
+use crate::reference::{Previous, Reference};
 use crate::window::Window;
 use rohc_header::Static;
 
@@ -39,13 +40,12 @@ pub(crate) struct FullContext {
     /// The reference, against which packets are decoded.
     pub reference: Reference,
     /// The previous reference, if the last packet left RND, NBO and stride as they were.
-    pub previous: Option<Reference>,
-    /// The outcomes that lead to Static Context, and an empty window.
-    pub windows: (Window, Window),
+    pub previous: Option<Previous>,
+    /// The outcomes that lead to Static Context.
+    pub window: Window,
     ghost good: { IsGoodStatic fixed },
     ghost kept: { IsKept fixed reference.moving reference.saved } by { Prim.hlevel props },
-    ghost kept_before: { ForSome previous (λ r. IsKept fixed r.moving r.saved) } by { Prim.hlevel props },
-    ghost one_window: { windows.1.length ≡ 0 },
+    ghost kept_before: { ForSome previous (λ p. IsKept fixed (fields_by reference.moving p) p.saved) } by { Prim.hlevel props },
 }
 
 /// The state of a context.

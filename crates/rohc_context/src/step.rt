@@ -205,7 +205,7 @@ impl Context {
                     forward,
                     context.fixed,
                     Some(context.reference),
-                    context.windows.0.and(false),
+                    context.window.and(false),
                 );
                 self.settle(settings, moment, forward, refreshed)
             }

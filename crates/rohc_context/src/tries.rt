@@ -79,11 +79,12 @@ pub(crate) fn attempt(
 }
 
 impl FullContext {
-    ghost use Rattle.std.specs.Prelude.{◌≡◌, ◌≤◌, ◌++◌, length, option_map, IfSome};
+    ghost use Rattle.std.specs.Prelude.{◌≡◌, ◌≤◌, ◌++◌, length, IfSome};
     ghost use Rattle.rohc_header.specs.Original.{longest_payload};
     ghost use Rattle.rohc_forms.specs.Packets.{content};
     ghost use Rattle.rohc_context.specs.Settings.{AreGood};
-    ghost use Rattle.rohc_context.specs.Record.{reference_of};
+    ghost use Rattle.rohc_context.specs.Record.{reference_of, previous_of};
+    ghost use Rattle.rohc_context.specs.Previous.{SharesNumbering};
     ghost use Rattle.rohc_context.specs.Tries.{Verdict, second_tries, third_tries, full_tries};
     ghost use Rattle.rohc_context.specs.Read.{verdict_of, IsSound};
 
@@ -92,12 +93,15 @@ impl FullContext {
     fn third_try(&self, form: &Form<'_>) -> Option<Accepted>
         requires payload { length form.now.payload.now ≤ longest_payload }
         ensures verdict { Verdict self.now.fixed (content form.now)
-            (third_tries (option_map reference_of self.now.previous) (content form.now))
+            (third_tries (previous_of self.now) (content form.now))
             (verdict_of (content form.now) result) }
         ensures sound { IfSome result (λ a. IsSound self.now.fixed a) }
+        ensures near { IfSome result (λ a. SharesNumbering self.now.reference.moving a.reference.moving) }
     {
         match &self.previous {
-            Some(previous) if is_short(form.kind) => attempt(&self.fixed, previous, 0, form),
+            Some(previous) if is_short(form.kind) => {
+                attempt(&self.fixed, &previous.beside(&self.reference), 0, form)
+            }
             _ => None,
         }
     }
@@ -113,9 +117,10 @@ impl FullContext {
         requires payload { length form.now.payload.now ≤ longest_payload }
         ensures verdict { Verdict self.now.fixed (content form.now)
             (second_tries settings.now passed (reference_of self.now.reference) (content form.now)
-            ++ third_tries (option_map reference_of self.now.previous) (content form.now))
+            ++ third_tries (previous_of self.now) (content form.now))
             (verdict_of (content form.now) result) }
         ensures sound { IfSome result (λ a. IsSound self.now.fixed a) }
+        ensures near { IfSome result (λ a. SharesNumbering self.now.reference.moving a.reference.moving) }
     {
         let wraps_after = u64::from(settings.packet_ms) << form.sn.count;
         if !is_short(form.kind) || passed < wraps_after {
@@ -138,9 +143,10 @@ impl FullContext {
         requires good { AreGood settings.now }
         requires payload { length form.now.payload.now ≤ longest_payload }
         ensures verdict { Verdict self.now.fixed (content form.now)
-            (full_tries settings.now passed (reference_of self.now.reference) (option_map reference_of self.now.previous) (content form.now))
+            (full_tries settings.now passed (reference_of self.now.reference) (previous_of self.now) (content form.now))
             (verdict_of (content form.now) result) }
         ensures sound { IfSome result (λ a. IsSound self.now.fixed a) }
+        ensures near { IfSome result (λ a. SharesNumbering self.now.reference.moving a.reference.moving) }
     {
         match attempt(&self.fixed, &self.reference, 0, form) {
             Some(accepted) => Some(accepted),

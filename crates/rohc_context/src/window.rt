@@ -26,16 +26,23 @@ impl Window {
         Window { word: 0, length: 0 }
     }
 
-    /// This window with one more outcome. The last 64 are kept.
+    /// Adds one more outcome. The last 64 are kept.
     #[tactic(auto, unfolding(crate::specs::Window::outcomes, crate::specs::Window::and_outcome))]
+    #[inline(always)]
+    pub(crate) fn push(&mut self, failure: bool)
+        ensures { outcomes self.new ≡ and_outcome failure (outcomes self.old) }
+    {
+        self.word = (self.word << 1) + u64::from(failure);
+        self.length = (self.length + 1).min(64);
+    }
+
+    /// This window with one more outcome.
     pub(crate) fn and(self, failure: bool) -> Window
         ensures { outcomes result ≡ and_outcome failure (outcomes self) }
     {
-        let word = (self.word << 1) + u64::from(failure);
-        Window {
-            word,
-            length: (self.length + 1).min(64),
-        }
+        let mut window = self;
+        window.push(failure);
+        window
     }
 
     /// Whether at least `k` of the last `n` outcomes are failures. `n` is at most 64.

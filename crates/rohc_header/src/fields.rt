@@ -25,26 +25,26 @@ pub struct Dynamic {
     pub ttl: u8,
     /// The Identification (IP-ID), as it stands in the IP header.
     pub id: u16,
-    /// The flag Don't Fragment.
-    pub df: bool,
-    /// RND: whether the Identification is random, and so carried in each packet.
-    pub rnd: bool,
-    /// NBO: whether the Identification is in network byte order.
-    pub nbo: bool,
     /// The UDP checksum.
     pub udp_sum: u16,
+    /// RTP's sequence number.
+    pub sn: u16,
+    /// RTP's timestamp.
+    pub ts: u32,
+    /// RTP's payload type, below 128.
+    pub payload_type: u8,
+    /// The flag Don't Fragment.
+    pub df: bool,
     /// RTP's padding flag.
     pub padding: bool,
     /// RTP's extension flag.
     pub extension: bool,
     /// RTP's marker.
     pub marker: bool,
-    /// RTP's payload type, below 128.
-    pub payload_type: u8,
-    /// RTP's sequence number.
-    pub sn: u16,
-    /// RTP's timestamp.
-    pub ts: u32,
+    /// RND: whether the Identification is random, and so carried in each packet.
+    pub rnd: bool,
+    /// NBO: whether the Identification is in network byte order.
+    pub nbo: bool,
     /// TS_STRIDE, from 1 to 536,870,911, if one is known.
     pub stride: Option<u32>,
 }

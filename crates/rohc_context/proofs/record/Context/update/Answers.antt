@@ -1,11 +1,38 @@
-use Rattle.rohc_context.specs.Record.{record_of}
-use Rattle.std.proofs.Common.{rules}
+use Rattle.std.proofs.Common.{ap, sym, subst, ◌∙◌, Ok, Err, Some}
+use Rattle.rohc_frame.specs.Reading.{header_of}
+use Rattle.rohc_context.specs.declared.state.State.TheVariants.{Full}
+use Rattle.rohc_context.specs.Record.{reference_of, previous_of, state_of, record_of}
+use Rattle.rohc_context.specs.Response.{response_of}
+use Rattle.rohc_context.specs.Window.{outcomes}
+use Rattle.rohc_context.specs.Outcomes.{Ends}
+use Rattle.rohc_context.specs.Update.{updated}
+use Rattle.rohc_context.proofs.UpdateLemmas.{delivers_silently, updates}
 use Rattle.rohc_context.proofs.record.Context.update.Goals as goal
 
 pub returns-in-Ok : goal.returns-in-Ok
 unfolding record_of
-returns-in-Ok c = search rules
+returns-in-Ok c =
+    let context = c.in-Full.context in
+    let held = reference_of context.reference in
+    let window = outcomes context.window in
+    let h = header_of c.args.forward.now in
+    let t = c.in-Ok.ensures.taken in
+    updates (state_of c.args.self.now.state) context.fixed held (previous_of context) window (ap state_of c.in-Full.is)
+    c.args.self.now.accepted c.args.moment c.saturating_sub-passed.result c.args.settings.now h c.args.forward.now.first (Ok t.0) (response_of c.update.new.reply) _
+    c.saturating_sub-passed.ensures t.1
+    (delivers_silently c.args.settings.now c.args.moment h (record_of c.args.self.now) (updated context.fixed held window) t.0 (response_of c.update.new.reply)
+    (state_of (Full c.update.new.self)) t.2 t.3)
 
 pub returns-in-Err : goal.returns-in-Err
 unfolding record_of
-returns-in-Err c = search rules
+returns-in-Err c =
+    let context = c.in-Full.context in
+    let h = header_of c.args.forward.now in
+    let accepted = c.args.self.now.accepted in
+    let same = ap Full c.in-Err.ensures.stays ∙ sym c.in-Full.is in
+    let found = ap (λ st. Some (record { accepted = accepted; state = state_of st })) same in
+    updates (state_of c.args.self.now.state) context.fixed (reference_of context.reference) (previous_of context) (outcomes context.window) (ap state_of c.in-Full.is)
+    accepted c.args.moment c.saturating_sub-passed.result c.args.settings.now h c.args.forward.now.first (Err c.in-Err.fault)
+    (response_of c.end.result) (Some (record_of c.end.new.self))
+    c.saturating_sub-passed.ensures c.in-Err.ensures.fault
+    (subst (λ r. Ends c.args.settings.now c.args.moment h r r c.in-Err.fault (response_of c.end.result) (Some (record_of c.end.new.self))) found c.end.ensures)

@@ -1,8 +1,7 @@
-use Rattle.std.proofs.Common.{ap, subst}
+use Rattle.std.proofs.Common.{ap}
 use Rattle.std.specs.Prelude.{unwrap_or}
-use Rattle.rohc_context.specs.declared.reference.Reference as saved
-use Rattle.rohc_context.specs.Saved.{IsKept}
 use Rattle.rohc_context.proofs.Registers.{kept_next}
+use Rattle.rohc_context.proofs.PreviousLemmas.{kept_by}
 use Rattle.rohc_context.proofs.state.FullContext.follow.Goals as goal
 
 pub invariant_of-self : goal.invariant_of-self
@@ -11,6 +10,6 @@ invariant_of-self c =
     record {
       good = context.good;
       kept = kept_next context.fixed context.reference.moving c.args.moving.now context.reference.saved context.kept c.requires;
-      kept_before = λ r e. subst (λ (x : saved.Reference). IsKept context.fixed x.moving x.saved) (ap (λ x. unwrap_or x context.reference) e) context.kept;
-      one_window = context.one_window;
+      kept_before = λ p e. kept_by context.fixed context.reference.moving p context.reference c.of.result (ap (λ x. unwrap_or x c.of.result) e)
+          c.of.ensures.fields c.of.ensures.saved context.kept;
     }
