@@ -68,16 +68,26 @@ fn take_plain<'a>(
 {
     let settings = &records.setting.settings;
     let Some(forward) = plain_header(settings.size, settings.max_cid, octets) else {
-        return false;
+        return missed();
     };
     if (forward.first < 0x80) != short {
-        return false;
+        return missed();
     }
     prepare(answer, forward.cid);
     let Answer::Arrived { reply, .. } = answer else {
-        return false;
+        return missed();
     };
     take_at(records, moment, &forward, reply)
+}
+
+/// False: a packet isn't taken. The compiler takes the way to a cold function for a rare one, and inlines what is called
+/// on the way past it.
+#[cold]
+#[inline(never)]
+fn missed() -> bool
+    ensures { result ≡ false }
+{
+    false
 }
 
 /// Makes the answer one for this CID without relayed feedback. What its reply holds means nothing; a reply that

@@ -4,6 +4,7 @@
 ghost use Rattle.std.specs.Prelude.{◌≡◌, [], ◌∷◌, None};
 ghost use Rattle.rohc_context.specs.Response.{response_of, delivered};
 
+use crate::first_try::missed;
 use crate::record::Context;
 use crate::reply::{Delivered, Outcome, Reply};
 use crate::state::State;
@@ -56,16 +57,16 @@ impl Context {
         ensures stays { result ≡ false → self.new ≡ self.old }
     {
         if forward.kind != HeadKind::Other || !self.counts(idle_ms, moment) {
-            return false;
+            return missed();
         }
         match &mut self.state {
             State::Full(context) => {
                 if !context.take_unextended(forward, reply) {
-                    return false;
+                    return missed();
                 }
             }
             State::Plain => deliver_normal(forward, reply),
-            State::NoContext(_) | State::Static(_) => return false,
+            State::NoContext(_) | State::Static(_) => return missed(),
         }
         self.accepted = moment;
         true

@@ -1,6 +1,8 @@
 //! The first try of a packet without an extension 3. It rebuilds the packet in the reply in place, and writes
 //! only those fields of the reference that such a packet changes.
 
+ghost use Rattle.std.specs.Prelude.{◌≡◌, false};
+
 use crate::explain::meant;
 use crate::reference::Previous;
 use crate::reply::{Delivered, Outcome, Reply};
@@ -10,6 +12,16 @@ use arrayvec::ArrayVec;
 use rohc_forms::{Form, FormKind, read_unextended};
 use rohc_frame::Forward;
 use rohc_header::{Dynamic, LONGEST_PAYLOAD, put_header};
+
+/// False: a packet isn't taken. The compiler takes the way to a cold function for a rare one, and inlines what is called
+/// on the way past it.
+#[cold]
+#[inline(never)]
+pub(crate) fn missed() -> bool
+    ensures { result ≡ false }
+{
+    false
+}
 
 impl FullContext {
     ghost use Rattle.std.specs.Prelude.{◌≡◌, ◌≢◌, ◌≤◌, ◌⊎◌, ℕ, List, length, Some, None, Ok, true, false};
@@ -122,8 +134,11 @@ impl FullContext {
     {
         let kept = &self.reference;
         let Some(form) = read_unextended(forward, kept.moving.rnd, kept.carries_sum) else {
-            return false;
+            return missed();
         };
-        form.payload.len() <= LONGEST_PAYLOAD && self.take_first(&form, reply)
+        if form.payload.len() > LONGEST_PAYLOAD {
+            return missed();
+        }
+        self.take_first(&form, reply)
     }
 }

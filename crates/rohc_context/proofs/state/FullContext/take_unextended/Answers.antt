@@ -9,8 +9,8 @@ use Rattle.rohc_context.proofs.UpdateLemmas.{judged}
 use Rattle.rohc_context.proofs.AtOnceLemmas.{accepted}
 use Rattle.rohc_context.proofs.state.FullContext.take_unextended.Goals as goal
 
-pub returns-then-form-le-LONGEST_PAYLOAD-clause-taken : goal.returns-then-form-le-LONGEST_PAYLOAD-clause-taken
-returns-then-form-le-LONGEST_PAYLOAD-clause-taken c = λ fits.
+pub returns-clause-taken : goal.returns-clause-taken
+returns-clause-taken c = λ fits.
     let self = c.args.self.now in
     let held = reference_of self.reference in
     let said = content c.in-Some.form in
