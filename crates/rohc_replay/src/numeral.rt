@@ -40,7 +40,7 @@ fn number_of(text: &[u8], number: u64, size: usize) -> Option<(u64, &[u8])>
 }
 
 /// How many digits always make a number that fits a `u64`.
-const SAFE: usize = 19;
+const FITTING_DIGITS: usize = 19;
 
 /// Reads the decimal number at the start of a text, and returns it with the text after it.
 ///
@@ -54,11 +54,11 @@ pub(crate) fn read_number(text: &[u8]) -> Option<(u64, &[u8])>
     let mut number = 0;
     let mut size = 0;
     // So few digits need no test whether the number still fits.
-    while size < SAFE && size < text.len() && text[size].is_ascii_digit() {
+    while size < FITTING_DIGITS && size < text.len() && text[size].is_ascii_digit() {
         number = number * 10 + u64::from(text[size] - b'0');
         size += 1;
     }
-    if size == SAFE {
+    if size == FITTING_DIGITS {
         return read_great(text);
     }
     number_of(text, number, size)
