@@ -4,7 +4,7 @@ use std::fmt;
 
 /// How a run of the program ends.
 #[derive(Clone, Copy, Debug, PartialEq, Eq)]
-pub enum End {
+pub(crate) enum End {
     /// All was done.
     Done,
     /// The words are not a command, or they ask for help.
@@ -26,7 +26,7 @@ impl End {
     ghost use Rattle.rohcd.specs.End.{status_of};
 
     /// The exit status of the program.
-    pub fn status(&self) -> u8
+    pub(crate) fn status(&self) -> u8
         ensures { result ≡ status_of self.now }
     {
         match self {
