@@ -1,6 +1,6 @@
 //! Writing an answer into the caller's struct and buffers.
 
-ghost use Rattle.std.specs.Prelude.{◌≡◌, ◌≤◌, ◌+◌, ◌-◌, ◌++◌, length};
+ghost use Rattle.std.specs.Prelude.{◌≡◌, ◌≤◌, ◌+◌, ◌-◌, ◌++◌, length, drop};
 ghost use Rattle.rohc_frame.specs.Reading.{elements_of};
 ghost use Rattle.rohc_context.specs.Response.{response_of};
 ghost use Rattle.rohc_concentrator.specs.Report.{report_of, Arrived};
@@ -8,6 +8,7 @@ ghost use Rattle.rohc_c.specs.Relay.{Fits};
 ghost use Rattle.rohc_c.specs.Written.{outcome_number, packet_octets, relayed_in, StandsIn, IsTold, IsWritten, IsPacketWithin, IsWithin};
 
 use crate::relay::{put_behind, put_elements};
+use crate::room::HEAD;
 use rohc_concentrator::Answer;
 use rohc_context::{Delivered, Outcome, Reply};
 use rohc_frame::Elements;
@@ -47,15 +48,31 @@ fn number(outcome: Outcome) -> u8
     }
 }
 
-/// Writes a packet into a buffer, and returns its length.
+/// Writes a packet's head at the start of a buffer. The head of nearly every packet has 40 octets, and the compiler makes
+/// no call of a copy whose length it knows.
+#[inline(always)]
+fn put_head(head: &[u8], place: &mut [u8])
+    requires { length head.now ≤ length place.old }
+    ensures { place.new ≡ head.entry.now ++ drop (length head.entry.now) place.old }
+{
+    if head.len() == HEAD {
+        place[..HEAD].copy_from_slice(head);
+    } else {
+        place[..head.len()].copy_from_slice(head);
+    }
+}
+
+/// Writes a packet into a buffer, and returns its length. The payload comes first, since the head was just written octet
+/// by octet, and reading it back at once in wider parts would wait for that.
 fn put_packet(delivered: &Delivered<'_>, place: &mut [u8]) -> usize
     requires { 40 + length delivered.now.payload.now ≤ length place.old }
     ensures { StandsIn (delivered.now.head.items ++ delivered.now.payload.now) result place.new }
 {
     let head = delivered.head.as_slice();
-    put_behind(place, 0, head);
-    put_behind(place, head.len(), delivered.payload);
-    head.len() + delivered.payload.len()
+    let len = head.len() + delivered.payload.len();
+    place[head.len()..len].copy_from_slice(delivered.payload);
+    put_head(head, place);
+    len
 }
 
 /// Writes a reply's packet into its buffer. Returns whether there is one, and its length.

@@ -94,7 +94,7 @@ pub extern "C" fn rohc_arrive(
         return 2;
     }
     let mut concentrator = gateway.take(alloc);
-    let mut answer = Answer::Refused(Refusal::NoLink);
+    let mut answer = Answer::refusing(0, Refusal::NoContext);
     concentrator.arrive_into(link, moment, octets, &mut answer);
     *arrival = write(&answer, packet, feedback, relayed);
     *gateway = Gateway::of(concentrator);

@@ -1,7 +1,7 @@
 //! The concentrator as a library for C.
 //!
 //! Each exported function restates the contract clauses of the safe function that it calls. include/rohc.h declares
-//! the functions, and says what the caller must guarantee.
+//! the functions, and says what the caller must guarantee. tools/library_calls.c tests each of them from C.
 #![tactic(auto)]
 
 pub mod arrival;
@@ -15,5 +15,3 @@ mod relay;
 mod room;
 pub mod setup;
 pub mod standing;
-#[cfg(test)]
-mod tests;

@@ -4,7 +4,7 @@ ghost use Rattle.std.specs.Prelude.{◌↔◌, IsTrue};
 ghost use Rattle.rohc_c.specs.Calls.{HasRoom};
 
 /// The longest head of a packet, in octets.
-const HEAD: usize = 40;
+pub(crate) const HEAD: usize = 40;
 
 /// The longest feedback element, in octets.
 const FEEDBACK: usize = 8;

@@ -1,5 +1,9 @@
 //! The answer of a concentrator.
 
+ghost use Rattle.std.specs.Prelude.{◌≡◌, []};
+ghost use Rattle.rohc_context.specs.Response.{refused};
+ghost use Rattle.rohc_concentrator.specs.Report.{report_of, Arrived};
+
 use rohc_context::{Refusal, Reply};
 use rohc_frame::Elements;
 use std::fmt;
@@ -22,6 +26,22 @@ pub enum Answer<'a> {
     },
     /// There is no such link, or the packet has no reading.
     Refused(Refusal),
+}
+
+impl Answer<'_> {
+    /// The answer of a CID's context that refuses a packet without feedback.
+    ///
+    /// `arrive_into` writes over it sooner than over another answer, since the answer to most packets has its shape.
+    #[inline(always)]
+    pub fn refusing(cid: u16, refusal: Refusal) -> Self
+        ensures { report_of result ≡ Arrived cid (refused refusal) [] }
+    {
+        Answer::Arrived {
+            cid,
+            reply: Reply::refused(refusal),
+            relayed: Elements::none(),
+        }
+    }
 }
 
 /// There is no such link.

@@ -26,7 +26,7 @@ impl Concentrator {
         ensures others { KeepsOthers self.old self.new link (borne (setting_at self.old link) octets.entry.now) }
         ensures order { KeepsOrder self.old self.new link (borne (setting_at self.old link) octets.entry.now) }
     {
-        let mut answer = Answer::Refused(Refusal::NoLink);
+        let mut answer = Answer::refusing(0, Refusal::NoContext);
         self.arrive_into(link, moment, octets, &mut answer);
         answer
     }

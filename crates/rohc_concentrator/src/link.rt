@@ -99,11 +99,7 @@ fn prepare(answer: &mut Answer<'_>, cid: u16)
     match answer {
         Answer::Arrived { cid: held, .. } => *held = cid,
         Answer::OnlyFront { .. } | Answer::Refused(_) => {
-            *answer = Answer::Arrived {
-                cid,
-                reply: Reply::refused(Refusal::NoContext),
-                relayed: Elements::none(),
-            };
+            *answer = Answer::refusing(cid, Refusal::NoContext);
         }
     }
     if let Answer::Arrived { relayed, .. } = answer {
