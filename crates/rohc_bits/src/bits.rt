@@ -51,16 +51,3 @@ fn joined(high: u32, low: u32, count: u8) -> u32
         (high << count).wrapping_add(low)
     }
 }
-
-#[cfg(test)]
-mod tests {
-    use super::*;
-
-    #[test]
-    fn bits_stand_behind_one_another(rt: HostRuntime) {
-        let bits = Bits::new(0b101, 3).append(0b0011, 4);
-        assert_eq!(rt; bits, Bits::new(0b101_0011, 7));
-        let full = Bits::new(0xffff_ff12, 32).append(0x34, 8);
-        assert_eq!(rt; full, Bits::new(0xffff_1234, 32));
-    }
-}

@@ -55,17 +55,3 @@ impl<'a> Cursor<'a> {
         self.octets
     }
 }
-
-#[cfg(test)]
-mod tests {
-    use super::*;
-
-    #[test]
-    fn a_text_is_taken_in_order(rt: HostRuntime) {
-        let mut cursor = Cursor::new(&[1, 2, 3, 4]);
-        assert_eq!(rt; cursor.octet(), Some(1));
-        assert_eq!(rt; cursor.take(2), Some([2, 3].as_slice()));
-        assert_eq!(rt; cursor.take(2), None);
-        assert_eq!(rt; cursor.rest(), [4].as_slice());
-    }
-}

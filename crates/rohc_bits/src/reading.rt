@@ -83,33 +83,3 @@ pub fn value<E: Copy>(cursor: &mut Cursor<'_>, short: E) -> Result<Bits, E>
     cursor.take(count).ok_or(short)?;
     Ok(value)
 }
-
-#[cfg(test)]
-mod tests {
-    use super::*;
-
-    #[test]
-    fn parts_in_order(rt: HostRuntime) {
-        let mut cursor = cursor_over(&[0x12, 0x34, 0x56, 0x80, 0x05, 0x07, 0xff]);
-        assert_eq!(rt; octet(&mut cursor, ()), Ok(0x12));
-        assert_eq!(rt; word(&mut cursor, ()), Ok(0x3456));
-        assert_eq!(rt; value(&mut cursor, ()), Ok(Bits::new(5, 14)));
-        assert_eq!(rt; value(&mut cursor, ()), Ok(Bits::new(7, 7)));
-        assert_eq!(rt; value(&mut cursor, "cut off"), Err("cut off"));
-        assert_eq!(rt; cursor.rest(), [0xff].as_slice());
-    }
-
-    #[test]
-    fn what_is_left_is_too_short(rt: HostRuntime) {
-        let mut cursor = cursor_over(&[0x12]);
-        assert_eq!(rt; word(&mut cursor, 9u8), Err(9));
-        assert_eq!(rt; octet(&mut cursor, 9u8), Err(9));
-    }
-
-    #[test]
-    fn bits_by_their_places(rt: HostRuntime) {
-        assert!(rt; is_set(0b0100, 2));
-        assert!(rt; !is_set(0b0100, 1));
-        assert!(rt; is_set(0x8000_0000, 31));
-    }
-}

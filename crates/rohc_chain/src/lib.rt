@@ -17,6 +17,3 @@ pub use ir::read_ir;
 pub use ir_dyn::read_ir_dyn;
 pub use packet::{Ir, IrDyn};
 pub use refusal::ChainRefusal;
-
-#[cfg(test)]
-mod tests;

@@ -8,6 +8,3 @@ mod tables;
 
 pub use crc::{crc3, crc7, crc8};
 pub use sum::{internet_sum, sum_of_total};
-
-#[cfg(test)]
-mod tests;

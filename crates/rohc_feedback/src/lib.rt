@@ -11,6 +11,3 @@ mod reader;
 pub use element::{Element, ack, nack, plain_ack, static_nack};
 pub use meaning::{Reading, Word};
 pub use reader::read;
-
-#[cfg(test)]
-mod tests;

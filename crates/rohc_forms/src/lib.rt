@@ -20,6 +20,3 @@ pub use form::{Form, FormKind, IdBits, Values};
 pub use reading::read_form;
 pub use refusal::FormRefusal;
 pub use unextended::read_unextended;
-
-#[cfg(test)]
-mod tests;

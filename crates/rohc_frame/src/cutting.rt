@@ -264,6 +264,3 @@ pub fn cut<'a>(size: CidKind, max_cid: u16, octets: &'a [u8]) -> Result<Framed<'
         elements: Elements::at_front_of(octets),
     })
 }
-
-#[cfg(test)]
-mod tests;

@@ -12,6 +12,3 @@ pub use cutting::{cut, plain_header};
 pub use elements::{Elements, Framed};
 pub use header::{CidKind, Forward, HeadKind};
 pub use refusal::FrameRefusal;
-
-#[cfg(test)]
-mod tests;

@@ -11,6 +11,3 @@ mod polynomial;
 
 pub use fields::{Dynamic, Static};
 pub use header::{Header, LONGEST_PAYLOAD, check3_after, check7_after, put_header};
-
-#[cfg(test)]
-mod tests;

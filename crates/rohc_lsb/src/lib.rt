@@ -12,6 +12,3 @@ pub use identification::ip_id;
 pub use interval::interval_value;
 pub use sequence::{sn_shift, sn_value};
 pub use timestamp::{inferred_ts, scaled, ts_shift, unscaled};
-
-#[cfg(test)]
-mod tests;

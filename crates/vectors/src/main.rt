@@ -13,8 +13,6 @@ mod fields;
 mod forms;
 mod framing;
 mod headers;
-#[cfg(test)]
-mod tests;
 mod text;
 mod values;
 

@@ -1,4 +1,6 @@
-use crate::{ChainRefusal, Ir, IrDyn, read_ir, read_ir_dyn};
+//! IRs and IR-DYNs of the worked examples and of other streams, whole, cut off and refused.
+
+use rohc_chain::{ChainRefusal, Ir, IrDyn, read_ir, read_ir_dyn};
 use rohc_frame::{CidKind, Forward, HeadKind, cut};
 use rohc_header::{Dynamic, Static};
 use std::alloc::{AllocError, Global};

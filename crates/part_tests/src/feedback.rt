@@ -1,7 +1,7 @@
 //! The elements of the worked examples, each written and read, and texts that are not elements.
 
-use super::*;
 use arrayvec::ArrayVec;
+use rohc_feedback::{Reading, Word, ack, nack, plain_ack, read, static_nack};
 use rohc_frame::CidKind;
 use rohc_frame::CidKind::{Large, Small};
 

@@ -1,7 +1,6 @@
-use crate::cutting::{cut, plain_header};
-use crate::elements::Elements;
-use crate::header::{CidKind, HeadKind};
-use crate::refusal::FrameRefusal;
+//! Packets with their one reading, packets with their one refusal, and the greatest CID of each kind.
+
+use rohc_frame::{CidKind, Elements, FrameRefusal, HeadKind, cut, plain_header};
 
 // A link: its CID kind, and its greatest CID.
 #[derive(Clone, Copy)]
@@ -235,4 +234,10 @@ fn each_beginning_of_a_packet(rt: HostRuntime) {
         };
         assert!(rt; found == *expected);
     }
+}
+
+#[test]
+fn greatest_identifiers(rt: HostRuntime) {
+    assert_eq!(rt; CidKind::Small.greatest_cid(), 15);
+    assert_eq!(rt; CidKind::Large.greatest_cid(), 16_383);
 }

@@ -1,4 +1,6 @@
-use crate::{crc3, crc7, crc8, internet_sum, sum_of_total};
+//! Checks and sums: check values, and each check by the division that defines it.
+
+use rohc_checks::{crc3, crc7, crc8, internet_sum, sum_of_total};
 use std::alloc::{AllocError, Global};
 use std::collections::VecDeque;
 use std::test::Fail;

@@ -1,5 +1,7 @@
-use crate::{Form, FormKind, FormRefusal, IdBits, Values, read_form, read_unextended};
+//! Packets of kind Other from the worked examples, whole, cut off and refused.
+
 use rohc_bits::Bits;
+use rohc_forms::{Form, FormKind, FormRefusal, IdBits, Values, read_form, read_unextended};
 use rohc_frame::{CidKind, HeadKind, cut, plain_header};
 
 // A context: RND, whether packets carry the UDP checksum, whether a stride is in force.

@@ -1,7 +1,7 @@
 //! The headers of the worked examples, and the checks that their packets carry.
 
-use crate::{Dynamic, Header, Static, check3_after, check7_after, put_header};
 use arrayvec::ArrayVec;
+use rohc_header::{Dynamic, Header, Static, check3_after, check7_after, put_header};
 
 /// The static fields of the examples' calls.
 const FIXED: Static = Static {

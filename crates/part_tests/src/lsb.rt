@@ -1,8 +1,10 @@
 //! Expected values from outside: worked examples of packets, and lines of a table that another
 //! program made.
 
-use super::*;
 use rohc_bits::Bits;
+use rohc_lsb::{
+    inferred_ts, interval_value, ip_id, scaled, sn_shift, sn_value, ts_shift, unscaled,
+};
 use std::process::Abort;
 
 /// Bits as the tables give them: how many, and their number.
