@@ -1,18 +1,20 @@
 //! Checks and sums: check values, and each check by the division that defines it.
 
 use rohc_checks::{crc3, crc7, crc8, internet_sum, sum_of_total};
-use std::alloc::{AllocError, Global};
-use std::collections::VecDeque;
-use std::test::Fail;
 
 const DIGITS: &[u8] = b"123456789";
 
-// The coefficients of each polynomial without the highest power, from the next power down.
-const LOWER3: &[bool] = &[false, true, true];
+// A polynomial and the places of its check, each as a number. The highest power is the lowest bit.
+type Division = (u128, u8);
 
-const LOWER7: &[bool] = &[true, false, false, true, true, true, true];
+// x^3 + x + 1.
+const THREE: Division = (0b1101, 0x07);
 
-const LOWER8: &[bool] = &[false, false, false, false, false, true, true, true];
+// x^7 + x^6 + x^3 + x^2 + x + 1.
+const SEVEN: Division = (0b1111_0011, 0x7f);
+
+// x^8 + x^2 + x + 1.
+const EIGHT: Division = (0b1_1100_0001, 0xff);
 
 // The check values of the nine digits, starting from all ones.
 #[test]
@@ -24,7 +26,7 @@ fn check_values(rt: HostRuntime) {
 
 // Register, octets, check.
 #[test]
-fn three_bits(rt: HostRuntime) -> Result<(), Fail> {
+fn three_bits(rt: HostRuntime) {
     let cases: [(u8, &[u8], u8); 7] = [
         (0x07, &[], 0x07),
         (0x07, &[0x00], 0x05),
@@ -40,14 +42,13 @@ fn three_bits(rt: HostRuntime) -> Result<(), Fail> {
     ];
     for (reg, octets, check) in cases {
         assert_eq!(rt; crc3(reg, octets), check);
-        assert_eq!(rt; by_division(rt.alloc(), LOWER3, reg, octets)?, check);
+        assert_eq!(rt; by_division(THREE, reg, octets), check);
     }
-    Ok(())
 }
 
 // Register, octets, check.
 #[test]
-fn seven_bits(rt: HostRuntime) -> Result<(), Fail> {
+fn seven_bits(rt: HostRuntime) {
     let cases: [(u8, &[u8], u8); 7] = [
         (0x7f, &[], 0x7f),
         (0x7f, &[0x00], 0x46),
@@ -67,14 +68,13 @@ fn seven_bits(rt: HostRuntime) -> Result<(), Fail> {
     ];
     for (reg, octets, check) in cases {
         assert_eq!(rt; crc7(reg, octets), check);
-        assert_eq!(rt; by_division(rt.alloc(), LOWER7, reg, octets)?, check);
+        assert_eq!(rt; by_division(SEVEN, reg, octets), check);
     }
-    Ok(())
 }
 
 // Register, octets, check.
 #[test]
-fn eight_bits(rt: HostRuntime) -> Result<(), Fail> {
+fn eight_bits(rt: HostRuntime) {
     let cases: [(u8, &[u8], u8); 7] = [
         (0xff, &[], 0xff),
         (0xff, &[0x00], 0xcf),
@@ -96,58 +96,43 @@ fn eight_bits(rt: HostRuntime) -> Result<(), Fail> {
     ];
     for (reg, octets, check) in cases {
         assert_eq!(rt; crc8(reg, octets), check);
-        assert_eq!(rt; by_division(rt.alloc(), LOWER8, reg, octets)?, check);
+        assert_eq!(rt; by_division(EIGHT, reg, octets), check);
     }
-    Ok(())
 }
 
 // Each octet alone, from each register.
 #[test]
-fn each_octet(rt: HostRuntime) -> Result<(), Fail> {
+fn each_octet(rt: HostRuntime) {
     for octet in 0..=u8::MAX {
         for reg in 0..=u8::MAX {
-            let check3 = by_division(rt.alloc(), LOWER3, reg, &[octet])?;
+            let check3 = by_division(THREE, reg, &[octet]);
             assert_eq!(rt; crc3(reg, &[octet]), check3);
-            let check7 = by_division(rt.alloc(), LOWER7, reg, &[octet])?;
+            let check7 = by_division(SEVEN, reg, &[octet]);
             assert_eq!(rt; crc7(reg, &[octet]), check7);
-            let check8 = by_division(rt.alloc(), LOWER8, reg, &[octet])?;
+            let check8 = by_division(EIGHT, reg, &[octet]);
             assert_eq!(rt; crc8(reg, &[octet]), check8);
         }
     }
-    Ok(())
 }
 
-// The check as it is defined: the whole message, followed by a zero for each lower coefficient, is
-// divided place by place.
-fn by_division(alloc: Global, lower: &[bool], reg: u8, octets: &[u8]) -> Result<u8, AllocError> {
-    let mut places = VecDeque::new(alloc);
-    for octet in octets {
-        for k in 0..8u8 {
-            places.push_back((octet >> k) & 1 == 1)?;
-        }
+// The check as it is defined: the whole message, of at most 16 octets, is divided place by place. What is left is the
+// check.
+fn by_division((polynomial, places): Division, reg: u8, octets: &[u8]) -> u8 {
+    let mut message = [0; 16];
+    for (place, octet) in message.iter_mut().zip(octets) {
+        *place = *octet;
     }
-    for _ in lower {
-        places.push_back(false)?;
-    }
-    let mut register = reg;
-    for (place, _) in places.iter_mut().zip(lower) {
-        *place = *place != (register & 1 == 1);
-        register >>= 1;
-    }
+    let mut left = u128::from_le_bytes(message) ^ u128::from(reg & places);
     for _ in octets {
         for _ in 0..8u8 {
-            if places.pop_front() == Some(true) {
-                for (place, coefficient) in places.iter_mut().zip(lower) {
-                    *place = *place != *coefficient;
-                }
+            if left & 1 == 1 {
+                left ^= polynomial;
             }
+            left >>= 1;
         }
     }
-    let mut check = 0;
-    for place in places.iter().rev() {
-        check = (check << 1) | u8::from(*place);
-    }
-    Ok(check)
+    let [check, ..] = left.to_le_bytes();
+    check
 }
 
 // Octets, header sum.
