@@ -18,6 +18,3 @@ pub use concentrator::Concentrator;
 pub use records::LinkRecords;
 pub use setting::{CidRange, LinkSetting};
 pub use setup::SetupFault;
-
-#[cfg(test)]
-mod tests;

@@ -32,6 +32,3 @@ pub use reply::{Delivered, Outcome, Reply};
 pub use settings::{Mode, Settings};
 pub use standing::{ContextState, Profile};
 pub use window::Window;
-
-#[cfg(test)]
-mod tests;

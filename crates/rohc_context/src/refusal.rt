@@ -177,23 +177,3 @@ impl fmt::Display for Refusal {
         f.write_str(self.name())
     }
 }
-
-#[cfg(test)]
-mod tests {
-    use super::*;
-    use std::test::Fail;
-
-    #[test]
-    fn a_refusal_shows_its_name(rt: HostRuntime) -> Result<(), Fail> {
-        let shown = format!(in rt.alloc(); "{}", Refusal::NoContext)?;
-        assert_eq!(rt; shown.as_str(), "NoContext");
-        Ok(())
-    }
-
-    #[test]
-    fn names_and_numbers(rt: HostRuntime) {
-        assert_eq!(rt; Refusal::Empty.number(), 1);
-        assert_eq!(rt; Refusal::NoMemory.number(), 30);
-        assert_eq!(rt; Refusal::AddCidOnLarge.name(), "AddCidOnLarge");
-    }
-}

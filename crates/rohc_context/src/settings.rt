@@ -57,33 +57,3 @@ impl Settings {
             && self.idle_ms <= 86_400_000
     }
 }
-
-#[cfg(test)]
-mod tests {
-    use super::*;
-
-    #[test]
-    fn limits(rt: HostRuntime) {
-        let settings = Settings {
-            size: CidKind::Small,
-            max_cid: 15,
-            mode: Mode::O,
-            k1: 2,
-            n1: 3,
-            k2: 2,
-            n2: 3,
-            packet_ms: 20,
-            static_nack_ms: 1000,
-            idle_ms: 0,
-        };
-        assert!(rt; settings.is_good());
-        assert!(rt; !Settings { k1: 4, ..settings }.is_good());
-        assert!(rt;
-            !Settings {
-                max_cid: 16,
-                ..settings
-            }
-            .is_good()
-        );
-    }
-}

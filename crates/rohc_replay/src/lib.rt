@@ -19,6 +19,3 @@ pub use fault::RunFault;
 pub use links::{Key, Links, LinksFault, Ports, read_links};
 pub use run::{LONGEST_PACKET, replay};
 pub use tally::Tally;
-
-#[cfg(test)]
-mod tests;

@@ -30,6 +30,3 @@ pub(crate) enum Version {
     /// Two more: `idle_ms` and `range`.
     Two,
 }
-
-#[cfg(test)]
-mod tests;

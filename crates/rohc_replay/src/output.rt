@@ -291,6 +291,3 @@ impl Answers {
         self.offer_line(writer)
     }
 }
-
-#[cfg(test)]
-mod tests;

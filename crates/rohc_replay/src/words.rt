@@ -136,6 +136,3 @@ fn read_pairs(text: &[u8], packet: &mut [u8]) -> Option<usize>
         None
     }
 }
-
-#[cfg(test)]
-mod tests;

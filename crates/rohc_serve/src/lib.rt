@@ -15,6 +15,3 @@ pub use front::Front;
 pub use sends::Sends;
 pub use server::serve;
 pub use tally::ServeTally;
-
-#[cfg(test)]
-mod tests;

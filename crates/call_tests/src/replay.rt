@@ -1,20 +1,19 @@
-//! Worked examples, long lines, pieces and faults, through `replay`.
+//! Worked examples, long lines and pieces, through `replay`.
 
+mod faults;
 mod isolation;
+mod lines;
+mod links;
 
-use crate::fault::RunFault;
-use crate::links::read_links;
-use crate::run::replay;
-use crate::tally::Tally;
 use rohc_concentrator::Concentrator;
+use rohc_replay::{RunFault, Tally, read_links, replay};
 use std::alloc::{AllocError, Global};
-use std::io;
-use std::io::{Error, ErrorKind, Read, Write};
+use std::io::{self, Error, ErrorKind, Read, Write};
 use std::process::Abort;
 use std::test::Fail;
 
 /// Links 1 to 3 of the worked examples.
-const LINKS: &str = "version = 1
+pub(crate) const LINKS: &str = "version = 1
 [[link]]
 number = 1
 cid = \"small\"
@@ -88,7 +87,7 @@ fn concentrator(alloc: Global, links: &str) -> Result<Concentrator, Fail> {
     Ok(Concentrator::new(alloc, links.settings())?)
 }
 
-/// The answers of the script's first lines, as many as `count`.
+/// The answers of this many first lines of the script.
 fn first_answers(alloc: Global, lines: usize) -> Result<String, Fail> {
     let mut text = String::new(alloc);
     for answer in ANSWERS.iter().take(lines) {
@@ -97,7 +96,7 @@ fn first_answers(alloc: Global, lines: usize) -> Result<String, Fail> {
     Ok(text)
 }
 
-/// A reader that gives pieces of this size and fails at one call.
+/// A reader that gives pieces of this size and fails when its calls are used up.
 #[derive(Drop)]
 struct Pieces<'a> {
     rest: &'a [u8],
@@ -106,10 +105,6 @@ struct Pieces<'a> {
 }
 
 impl Read for Pieces<'_> {
-    ghost use Rattle.std.specs.Prelude.{Some};
-
-    ghost remaining = { λ p. Some p.rest.now };
-
     fn read(&mut self, buf: &mut [u8]) -> io::Result<usize> {
         if self.calls_left == 0 {
             return Err(Error::from(ErrorKind::TimedOut));
@@ -131,24 +126,21 @@ enum Tired {
     TakesOneThenFails,
 }
 
-/// A writer in memory that takes whole texts for a number of calls.
+/// A writer in memory that takes at most this many octets at a call, for a number of calls.
 #[derive(Drop)]
 struct Taker {
     text: Vec<u8>,
+    most: usize,
     calls_left: usize,
     tired: Tired,
     flushes: bool,
 }
 
 impl Write for Taker {
-    ghost use Rattle.std.specs.Prelude.{Some};
-
-    ghost contents = { λ t. Some t.text.items };
-
     fn write(&mut self, buf: &[u8]) -> io::Result<usize> {
         let count = if self.calls_left > 0 {
             self.calls_left -= 1;
-            buf.len()
+            buf.len().min(self.most)
         } else {
             match self.tired {
                 Tired::Fails => return Err(Error::from(ErrorKind::TimedOut)),
@@ -170,6 +162,22 @@ impl Write for Taker {
             Err(Error::from(ErrorKind::TimedOut))
         }
     }
+}
+
+/// Replays a script on a new concentrator with these links, to a writer that takes so many octets at a call and never
+/// fails. Returns both.
+fn replayed(
+    alloc: Global,
+    links: &str,
+    script: &str,
+    most: usize,
+) -> Result<(Concentrator, Taker), Fail> {
+    let mut concentrator = concentrator(alloc, links)?;
+    let mut reader = steady_reader(script.as_bytes(), 4096);
+    let mut writer = willing_writer(alloc);
+    writer.most = most;
+    replay(alloc, &mut concentrator, &mut reader, &mut writer)?;
+    Ok((concentrator, writer))
 }
 
 /// Runs a replay through this reader and writer, and compares its result and the text that was written with these.
@@ -203,6 +211,7 @@ fn compare(
 fn willing_writer(alloc: Global) -> Taker {
     Taker {
         text: Vec::new(alloc),
+        most: usize::MAX,
         calls_left: usize::MAX,
         tired: Tired::Fails,
         flushes: true,
@@ -222,7 +231,7 @@ fn steady_reader(text: &[u8], size: usize) -> Pieces<'_> {
 /// many bad.
 type Example = (&'static str, &'static str, &'static str, u64, u64);
 
-const EXAMPLES: [Example; 9] = [
+const EXAMPLES: [Example; 10] = [
     (
         "plain call",
         "arrive 1 0 fc00b745aa\n",
@@ -268,6 +277,26 @@ const EXAMPLES: [Example; 9] = [
         2,
     ),
     ("script ends", "arrive 9 0 -", "9 - refused NoLink\n", 1, 0),
+    (
+        "fall to static",
+        "arrive 1 0 fd012b40110a0000010a0000021388138a00000001004000012000000090000001000000a0000980a0ab
+arrive 1 0 11ac
+arrive 1 0 11ac
+arrive 1 0 10ac
+arrive 1 0 d4c33ead
+",
+        "1 0 ip 4500002900010000401166c10a0000010a0000021388138a0015000080000001000000a000000001ab
+1 0 feedback f420011139
+1 0 refused Check
+1 0 feedback f46001110d
+1 0 refused Check
+1 0 refused StateTooLow
+1 0 ip 4500002900030000401166bf0a0000010a0000021388138a001500008080000300000c8000000001ad
+1 0 feedback f420031158
+",
+        5,
+        0,
+    ),
 ];
 
 const EXAMPLES_OF_FRAMING: [Example; 6] = [
@@ -400,85 +429,5 @@ fn pieces_of_any_size(rt: HostRuntime) -> Result<(), Fail> {
             whole.as_str(),
         )?;
     }
-    Ok(())
-}
-
-#[test]
-fn each_read_fails_in_turn(rt: HostRuntime) -> Result<(), Fail> {
-    for calls in 0..=SCRIPT.len().div_ceil(7) {
-        read_fails(&rt, rt.alloc(), calls)?;
-    }
-    Ok(())
-}
-
-/// Replays the script in pieces of 7 octets, with a read that fails behind this many calls.
-fn read_fails(rt: &impl Abort, alloc: Global, calls: usize) -> Result<(), Fail> {
-    let script = SCRIPT.as_bytes();
-    let seen = &script[..calls.saturating_mul(7).min(script.len())];
-    let finished = seen.iter().filter(|octet| **octet == b'\n').count();
-    let want = first_answers(alloc, finished)?;
-    let mut reader = Pieces {
-        rest: script,
-        size: 7,
-        calls_left: calls,
-    };
-    let mut writer = willing_writer(alloc);
-    let written = want.len() as u64;
-    let fault = Err(RunFault::Read { written });
-    compare_replay(rt, alloc, &mut reader, &mut writer, fault, want.as_str())
-}
-
-#[test]
-fn each_write_fails_in_turn(rt: HostRuntime) -> Result<(), Fail> {
-    let whole = first_answers(rt.alloc(), ANSWERS.len())?;
-    let places = [0, 90, 114, 136, 152, 176, 196, 286, 298, 318];
-    for tired in [Tired::Fails, Tired::TakesNone, Tired::TakesOneThenFails] {
-        let more = usize::from(tired == Tired::TakesOneThenFails);
-        for (calls, place) in places.iter().enumerate() {
-            let text = whole.as_str().get(..*place + more).unwrap_or("short");
-            let written = (*place + more) as u64;
-            let mut writer = willing_writer(rt.alloc());
-            writer.calls_left = calls;
-            writer.tired = tired;
-            stops_at(&rt, rt.alloc(), &mut writer, written, text)?;
-        }
-    }
-    Ok(())
-}
-
-/// Replays the script, and compares what was written before the writer failed with this.
-fn stops_at(
-    rt: &impl Abort,
-    alloc: Global,
-    writer: &mut Taker,
-    written: u64,
-    text: &str,
-) -> Result<(), Fail> {
-    let mut reader = steady_reader(SCRIPT.as_bytes(), 4096);
-    let fault = Err(RunFault::Write { written });
-    compare_replay(rt, alloc, &mut reader, writer, fault, text)
-}
-
-#[test]
-fn the_flush_fails(rt: HostRuntime) -> Result<(), Fail> {
-    let whole = first_answers(rt.alloc(), ANSWERS.len())?;
-    let mut writer = willing_writer(rt.alloc());
-    writer.flushes = false;
-    let written = whole.len() as u64;
-    stops_at(&rt, rt.alloc(), &mut writer, written, whole.as_str())
-}
-
-#[test]
-fn faults_show_their_names(rt: HostRuntime) -> Result<(), Fail> {
-    shows(&rt, rt.alloc(), RunFault::NoMemory, "NoMemory")?;
-    shows(&rt, rt.alloc(), RunFault::Read { written: 1 }, "Read")?;
-    shows(&rt, rt.alloc(), RunFault::Write { written: 2 }, "Write")?;
-    Ok(())
-}
-
-/// What is shown of the fault is its name.
-fn shows(rt: &impl Abort, alloc: Global, fault: RunFault, name: &str) -> Result<(), AllocError> {
-    let shown = format!(in alloc; "{fault}")?;
-    assert_eq!(rt; shown.as_str(), name);
     Ok(())
 }

@@ -1,9 +1,9 @@
 //! Links files of both versions, and the first fault of each.
 
-use super::{Key, LinksFault, Ports, read_links};
 use rohc_concentrator::{CidRange, Concentrator, SetupFault};
 use rohc_context::{Mode, Settings};
 use rohc_frame::CidKind;
+use rohc_replay::{Key, LinksFault, Ports, read_links};
 use std::alloc::{AllocError, Global};
 use std::fmt::InlineText;
 use std::process::Abort;

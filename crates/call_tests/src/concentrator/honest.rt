@@ -2,9 +2,8 @@
 //! between its own.
 
 use super::{link_1, made};
-use crate::answer::Answer;
-use crate::concentrator::Concentrator;
 use arrayvec::ArrayVec;
+use rohc_concentrator::{Answer, Concentrator};
 use std::test::Fail;
 
 /// How much the timestamp grows from packet to packet.

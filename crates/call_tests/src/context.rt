@@ -1,7 +1,8 @@
-//! Arrivals of one context, from the worked examples.
+//! Arrivals of one context, from the worked examples; settings and refusals.
 
-use crate::{Context, ContextState, Mode, Outcome, Profile, Refusal, Reply, Settings};
+use rohc_context::{Context, ContextState, Mode, Outcome, Profile, Refusal, Reply, Settings};
 use rohc_frame::{CidKind, cut, plain_header};
+use std::fmt::InlineText;
 
 const SETTINGS: Settings = Settings {
     size: CidKind::Small,
@@ -184,4 +185,29 @@ fn a_plain_context_lends_nothing(rt: HostRuntime) {
     assert!(rt; context.saved().is_none());
     assert_eq!(rt; context.profile(), Profile::Uncompressed);
     assert_eq!(rt; (context.state(), context.accepted()), (FULL, 0));
+}
+
+#[test]
+fn limits_of_settings(rt: HostRuntime) {
+    let long_window = Settings { k1: 4, ..SETTINGS };
+    let great_cid = Settings {
+        max_cid: 16,
+        ..SETTINGS
+    };
+    for (settings, good) in [(SETTINGS, true), (long_window, false), (great_cid, false)] {
+        assert_eq!(rt; settings.is_good(), good);
+    }
+}
+
+#[test]
+fn a_refusal_shows_its_name(rt: HostRuntime) {
+    let shown = InlineText::<16>::of(&Refusal::NoContext);
+    assert_eq!(rt; shown.as_str(), "NoContext");
+}
+
+#[test]
+fn names_and_numbers_of_refusals(rt: HostRuntime) {
+    assert_eq!(rt; Refusal::Empty.number(), 1);
+    assert_eq!(rt; Refusal::NoMemory.number(), 30);
+    assert_eq!(rt; Refusal::AddCidOnLarge.name(), "AddCidOnLarge");
 }

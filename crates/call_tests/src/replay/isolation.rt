@@ -1,7 +1,6 @@
 //! Each CID of each link gets the answers that its own lines alone would get.
 
-use super::{concentrator, steady_reader, willing_writer};
-use crate::run::replay;
+use super::replayed;
 use std::alloc::{AllocError, Global};
 use std::test::Fail;
 
@@ -195,13 +194,7 @@ fn push_hostile(text: &mut String, count: usize) -> Result<(), AllocError> {
 
 /// What a replay of the script writes.
 fn answers(alloc: Global, script: &str) -> Result<String, Fail> {
-    let mut writer = willing_writer(alloc);
-    replay(
-        alloc,
-        &mut concentrator(alloc, LINKS)?,
-        &mut steady_reader(script.as_bytes(), 4096),
-        &mut writer,
-    )?;
+    let (_, writer) = replayed(alloc, LINKS, script, usize::MAX)?;
     Ok(String::from_utf8(writer.text)?)
 }
 

@@ -3,48 +3,13 @@
 ghost use Rattle.std.specs.Prelude.{IfOk};
 ghost use Rattle.rohc_serve.specs.Datagram.{AreSettingsOf};
 
-use crate::datagram::answer_datagram;
-use crate::front::Front;
-use crate::sends::Sends;
-use crate::server::serve;
-use crate::tally::ServeTally;
+use crate::replay::LINKS;
 use rohc_concentrator::Concentrator;
 use rohc_replay::{Links, Ports, read_links};
+use rohc_serve::{Front, Sends, ServeTally, answer_datagram, serve};
 use std::alloc::Global;
 use std::process::Abort;
 use std::test::Fail;
-
-/// Links 1 and 2 of the worked examples.
-const LINKS: &str = "version = 1
-[[link]]
-number = 1
-cid = \"small\"
-max_cid = 15
-mode = \"O\"
-k1 = 2
-n1 = 3
-k2 = 2
-n2 = 3
-packet_ms = 20
-static_nack_ms = 1000
-deliver_port = 6001
-feedback_port = 6002
-relay_port = 6003
-[[link]]
-number = 2
-cid = \"large\"
-max_cid = 16383
-mode = \"O\"
-k1 = 2
-n1 = 3
-k2 = 2
-n2 = 3
-packet_ms = 20
-static_nack_ms = 1000
-deliver_port = 6004
-feedback_port = 6005
-relay_port = 6006
-";
 
 /// The ports of link 1.
 const PORTS_1: Ports = Ports {

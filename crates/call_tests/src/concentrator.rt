@@ -1,0 +1,270 @@
+//! Each public call of the concentrator once, and idle records.
+
+mod honest;
+
+use arrayvec::ArrayVec;
+use rohc_concentrator::{
+    Answer, CidRange, Concentrator, LinkRecords, LinkSetting, NoLink, SetupFault,
+};
+use rohc_context::{Mode, Outcome, Refusal, Settings};
+use rohc_frame::CidKind;
+use std::alloc::Global;
+use std::fmt::InlineText;
+use std::process::Abort;
+use std::test::Fail;
+
+/// Link 1 of the worked examples, with this `idle_ms`.
+fn link_1(idle_ms: u32) -> LinkSetting {
+    LinkSetting {
+        link: 1,
+        settings: Settings {
+            size: CidKind::Small,
+            max_cid: 15,
+            mode: Mode::O,
+            k1: 2,
+            n1: 3,
+            k2: 2,
+            n2: 3,
+            packet_ms: 20,
+            static_nack_ms: 1000,
+            idle_ms,
+        },
+        ranges: ArrayVec::new(),
+    }
+}
+
+/// The outcome of a packet on link 1, if it has a CID.
+fn outcome(concentrator: &mut Concentrator, moment: u64, packet: &[u8]) -> Option<Outcome> {
+    match concentrator.arrive(1, moment, packet) {
+        Answer::Arrived { reply, .. } => Some(reply.outcome),
+        Answer::OnlyFront { .. } | Answer::Refused(_) => None,
+    }
+}
+
+/// The concentrator with this link alone.
+fn made(alloc: Global, setting: LinkSetting) -> Result<Concentrator, SetupFault> {
+    Concentrator::new(alloc, &[setting])
+}
+
+/// A packet of link 1: its time, its octets and its outcome.
+type Arrival = (u64, &'static [u8], Outcome);
+
+/// Compares the outcomes of these packets, which arrive one after the other.
+fn compare_outcomes(rt: &impl Abort, concentrator: &mut Concentrator, arrivals: &[Arrival]) {
+    for (moment, packet, wanted) in arrivals {
+        assert_eq!(rt;
+            outcome(concentrator, *moment, packet),
+            Some(*wanted),
+            "of {packet:?}"
+        );
+    }
+}
+
+const DELIVERED: Outcome = Outcome::Delivered;
+
+const NO_CONTEXT: Outcome = Outcome::Refused(Refusal::NoContext);
+
+#[test]
+fn a_record_comes_and_goes(rt: HostRuntime) -> Result<(), Fail> {
+    let mut concentrator = made(rt.alloc(), link_1(0))?;
+    let packets: [(&[u8], Outcome, bool); 3] = [
+        (b"\x10\xac", NO_CONTEXT, false),
+        (
+            b"\xfc\x00\xb8\x45\xaa",
+            Outcome::Refused(Refusal::Check),
+            false,
+        ),
+        (b"\xfc\x00\xb7\x45\xaa", DELIVERED, true),
+    ];
+    for (packet, wanted, stands) in packets {
+        assert_eq!(rt; outcome(&mut concentrator, 0, packet), Some(wanted));
+        assert_eq!(rt; concentrator.has_context(1, 0), stands);
+    }
+    assert_eq!(rt; concentrator.reset(1), Ok(()));
+    assert!(rt; !concentrator.has_context(1, 0));
+    assert_eq!(rt; concentrator.reset(9), Err(NoLink));
+    let shown = InlineText::<32>::of(&NoLink);
+    assert_eq!(rt; shown.as_str(), "there is no such link");
+    Ok(())
+}
+
+#[test]
+fn an_answer_overwrites_the_one_that_is_lent(rt: HostRuntime) -> Result<(), Fail> {
+    let mut concentrator = made(rt.alloc(), link_1(0))?;
+    let mut answer = Answer::Refused(Refusal::NoLink);
+    concentrator.arrive_into(1, 0, b"\xfc\x00\xb7\x45\xaa", &mut answer);
+    let Answer::Arrived { cid, reply, .. } = &answer else {
+        panic!(rt; "no answer of a context");
+    };
+    assert_eq!(rt; (*cid, reply.outcome), (0, DELIVERED));
+    concentrator.arrive_into(9, 0, b"\xfc\x00\xb7\x45\xaa", &mut answer);
+    assert!(rt; matches!(answer, Answer::Refused(Refusal::NoLink)));
+    Ok(())
+}
+
+/// Packets of two CIDs, of which the greater comes first.
+const OUT_OF_ORDER: [Arrival; 6] = [
+    (0, b"\xe1\xfc\x00\x30\x45\xaa", DELIVERED),
+    (0, b"\xfc\x00\xb7\x45\xaa", DELIVERED),
+    (1, b"\xe1\x45\xab", DELIVERED),
+    (1, b"\x45\xab", DELIVERED),
+    (1, b"\xe1\x45\xab", DELIVERED),
+    (1, b"\x45\xab", DELIVERED),
+];
+
+/// Packets of the same CIDs, which have no record.
+const WITHOUT_RECORDS: [Arrival; 2] = [
+    (2, b"\xe1\x45\xab", NO_CONTEXT),
+    (2, b"\x45\xab", NO_CONTEXT),
+];
+
+#[test]
+fn records_out_of_order_are_found(rt: HostRuntime) -> Result<(), Fail> {
+    let mut concentrator = made(rt.alloc(), link_1(0))?;
+    compare_outcomes(&rt, &mut concentrator, &OUT_OF_ORDER);
+    assert_eq!(rt; concentrator.reset(1), Ok(()));
+    compare_outcomes(&rt, &mut concentrator, &WITHOUT_RECORDS);
+    Ok(())
+}
+
+/// A record is made, and is asked for 5,000 milliseconds later and then 4,999 milliseconds later.
+const IDLE: [Arrival; 3] = [
+    (1000, b"\xfc\x00\xb7\x45\xaa", DELIVERED),
+    (6000, b"\x45\xaa", NO_CONTEXT),
+    (5999, b"\x45\xaa", DELIVERED),
+];
+
+#[test]
+fn an_idle_record_counts_as_none(rt: HostRuntime) -> Result<(), Fail> {
+    let mut concentrator = made(rt.alloc(), link_1(5000))?;
+    for arrival in IDLE {
+        compare_outcomes(&rt, &mut concentrator, &[arrival]);
+        assert!(rt; concentrator.has_context(1, 0));
+    }
+    Ok(())
+}
+
+/// IRs of CID 1, of CID 0 and again of CID 1.
+const IRS: [Arrival; 3] = [
+    (0, b"\xe1\xfc\x00\x30\x45\xaa", DELIVERED),
+    (0, b"\xfc\x00\xb7\x45\xaa", DELIVERED),
+    (0, b"\xe1\xfc\x00\x30\x45\xaa", DELIVERED),
+];
+
+#[test]
+fn tables_keep_the_order_of_first_records(rt: HostRuntime) -> Result<(), Fail> {
+    let mut concentrator = made(rt.alloc(), link_1(0))?;
+    compare_outcomes(&rt, &mut concentrator, &IRS);
+    let tables = concentrator.tables();
+    assert_eq!(rt; tables.len(), 1);
+    for (link, records) in tables {
+        assert_eq!(rt; *link, 1);
+        compare_cids(&rt, records, &[1, 0]);
+    }
+    Ok(())
+}
+
+/// Compares the CIDs of a link's records, in their order.
+fn compare_cids(rt: &impl Abort, records: &LinkRecords, wanted: &[u16]) {
+    assert_eq!(rt; records.contexts.len(), wanted.len());
+    for (cid, wanted_cid) in records.contexts.keys().zip(wanted) {
+        assert_eq!(rt; cid, wanted_cid);
+    }
+}
+
+#[test]
+fn places_keep_the_order_of_first_records(rt: HostRuntime) -> Result<(), Fail> {
+    let mut concentrator = made(rt.alloc(), link_1(0))?;
+    compare_outcomes(&rt, &mut concentrator, &IRS);
+    for (place, wanted) in [(0, Some(1)), (1, None)] {
+        assert_eq!(rt; concentrator.link_at(place), wanted);
+    }
+    for (link, place, wanted) in [(1, 0, Some(1)), (1, 1, Some(0)), (1, 2, None), (2, 0, None)] {
+        let stands = concentrator.context_at(link, place);
+        assert_eq!(rt; stands.map(|(cid, _context)| cid), wanted);
+    }
+    Ok(())
+}
+
+/// Link 1 with a range of CIDs in U mode.
+fn link_1_with(range: CidRange) -> LinkSetting {
+    let mut setting = link_1(0);
+    let _ = setting.ranges.try_push(range);
+    setting
+}
+
+/// The CIDs 4 to 7, in U mode.
+const RANGE: CidRange = CidRange {
+    first: 4,
+    last: 7,
+    mode: Mode::U,
+};
+
+#[test]
+fn a_range_has_its_own_mode(rt: HostRuntime) -> Result<(), Fail> {
+    let setting = link_1_with(RANGE);
+    assert!(rt; setting.is_good());
+    for (cid, mode) in [(3, Mode::O), (4, Mode::U), (7, Mode::U), (8, Mode::O)] {
+        assert_eq!(rt; setting.settings_of(cid).mode, mode, "of {cid}");
+    }
+    let mut concentrator = made(rt.alloc(), setting)?;
+    for (packet, answered) in [
+        (b"\xe5\xfc\x00\xf2\x45\xaa", false),
+        (b"\xe1\xfc\x00\x30\x45\xaa", true),
+    ] {
+        match concentrator.arrive(1, 0, packet) {
+            Answer::Arrived { reply, .. } => assert_eq!(rt; reply.feedback.is_some(), answered),
+            Answer::OnlyFront { .. } | Answer::Refused(_) => assert!(rt; false),
+        }
+    }
+    Ok(())
+}
+
+/// The faults, and their names.
+const FAULTS: [(SetupFault, &str); 5] = [
+    (SetupFault::NoLinks, "NoLinks"),
+    (SetupFault::TooManyLinks, "TooManyLinks"),
+    (SetupFault::BadSetting { place: 2 }, "BadSetting"),
+    (SetupFault::DuplicateLink { place: 2 }, "DuplicateLink"),
+    (SetupFault::NoMemory, "NoMemory"),
+];
+
+#[test]
+fn setup_faults_show_their_names(rt: HostRuntime) {
+    for (fault, name) in FAULTS {
+        assert_eq!(rt; fault.name(), name);
+        assert_eq!(rt; InlineText::<16>::of(&fault).as_str(), name);
+    }
+}
+
+#[test]
+fn setup_faults(rt: HostRuntime) -> Result<(), Fail> {
+    let wrong = LinkSetting {
+        settings: Settings {
+            k1: 4,
+            ..link_1(0).settings
+        },
+        ..link_1(0)
+    };
+    let mut touching = link_1_with(RANGE);
+    let second = CidRange { first: 7, ..RANGE };
+    assert!(rt; touching.ranges.try_push(second).is_ok());
+    let mut many = Vec::new(rt.alloc());
+    for link in 0..257 {
+        many.push(LinkSetting { link, ..link_1(0) })?;
+    }
+    let faults: [(&[LinkSetting], SetupFault); 5] = [
+        (&[], SetupFault::NoLinks),
+        (many.as_slice(), SetupFault::TooManyLinks),
+        (&[link_1(0), wrong], SetupFault::BadSetting { place: 2 }),
+        (&[touching], SetupFault::BadSetting { place: 1 }),
+        (
+            &[link_1(0), link_1(0)],
+            SetupFault::DuplicateLink { place: 2 },
+        ),
+    ];
+    for (settings, fault) in faults {
+        assert_eq!(rt; Concentrator::new(rt.alloc(), settings).err(), Some(fault));
+    }
+    Ok(())
+}

@@ -1,0 +1,13 @@
+//! The tests of contexts, the concentrator, replays and the server.
+//!
+//! They stand apart from these crates, so that each of those is proved once, and not again with its tests.
+#![tactic(auto)]
+
+#[cfg(test)]
+mod concentrator;
+#[cfg(test)]
+mod context;
+#[cfg(test)]
+mod replay;
+#[cfg(test)]
+mod serve;
