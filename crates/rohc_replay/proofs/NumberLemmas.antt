@@ -19,6 +19,12 @@ pub two_digits : (n : ℕ) → 10 ≤ n → n < 100 → decimal n ≡ (48 + n / 
 two_digits n big small =
     decimal_step n big (omega arith) ∙ ap (λ (front : List ℕ). front ++ (48 + n % 10) ∷ []) (decimal_digit (n / 10) (omega arith))
 
+-- a number from one hundred to 999 is three digits
+pub three_digits : (n : ℕ) → 100 ≤ n → n < 1000 → decimal n ≡ (48 + n / 10 / 10) ∷ (48 + n / 10 % 10) ∷ (48 + n % 10) ∷ []
+three_digits n big small =
+    decimal_step n (omega arith) (omega arith)
+    ∙ ap (λ (front : List ℕ). front ++ (48 + n % 10) ∷ []) (two_digits (n / 10) (omega arith) (omega arith))
+
 -- a link or a CID has at most five digits
 pub at_most_five : (n : ℕ) → n < 2 ^ 16 → length (decimal n) ≤ 5
 at_most_five n small = length-decimal-le 5 n (omega arith) (omega arith) (omega arith)

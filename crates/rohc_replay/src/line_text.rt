@@ -94,11 +94,18 @@ impl LineText {
         ensures text { text_in self.new ≡ text_in self.old ++ decimal number }
         ensures len { self.new.len ≤ self.old.len + 5 }
     {
-        // Most links and CIDs have one digit or two, which need no call.
+        // Most links and CIDs have at most three digits, which need no call.
         if number < 10 {
             self.put(&[b'0' + number as u8]);
         } else if number < 100 {
             self.put(&[b'0' + (number / 10) as u8, b'0' + (number % 10) as u8]);
+        } else if number < 1000 {
+            let tens = number / 10;
+            self.put(&[
+                b'0' + (tens / 10) as u8,
+                b'0' + (tens % 10) as u8,
+                b'0' + (number % 10) as u8,
+            ]);
         } else {
             self.put_digits(number);
         }
