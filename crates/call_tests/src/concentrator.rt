@@ -88,17 +88,25 @@ fn a_record_comes_and_goes(rt: HostRuntime) -> Result<(), Fail> {
     Ok(())
 }
 
+/// The CID and the outcome of a context's answer.
+fn cid_and_outcome(answer: &Answer<'_>) -> Option<(u16, Outcome)> {
+    match answer {
+        Answer::Arrived { cid, reply, .. } => Some((*cid, reply.outcome)),
+        Answer::OnlyFront { .. } | Answer::Refused(_) => None,
+    }
+}
+
 #[test]
 fn an_answer_overwrites_the_one_that_is_lent(rt: HostRuntime) -> Result<(), Fail> {
     let mut concentrator = made(rt.alloc(), link_1(0))?;
-    let mut answer = Answer::Refused(Refusal::NoLink);
+    let mut answer = Answer::refusing(7, Refusal::NoContext);
+    assert_eq!(rt; cid_and_outcome(&answer), Some((7, NO_CONTEXT)));
     concentrator.arrive_into(1, 0, b"\xfc\x00\xb7\x45\xaa", &mut answer);
-    let Answer::Arrived { cid, reply, .. } = &answer else {
-        panic!(rt; "no answer of a context");
-    };
-    assert_eq!(rt; (*cid, reply.outcome), (0, DELIVERED));
+    assert_eq!(rt; cid_and_outcome(&answer), Some((0, DELIVERED)));
     concentrator.arrive_into(9, 0, b"\xfc\x00\xb7\x45\xaa", &mut answer);
     assert!(rt; matches!(answer, Answer::Refused(Refusal::NoLink)));
+    concentrator.arrive_into(1, 0, b"\x45\xab", &mut answer);
+    assert_eq!(rt; cid_and_outcome(&answer), Some((0, DELIVERED)));
     Ok(())
 }
 
