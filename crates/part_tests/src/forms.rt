@@ -296,18 +296,30 @@ const PLAIN: [(&[u8], Context, Said); 16] = [
     ),
 ];
 
+// Whether a packet with a payload of one octet is read with this content, under this RND and with these values, and
+// is read behind its header.
+fn is_read_as(
+    packet: &[u8],
+    context: Context,
+    expected: Said,
+    rnd: bool,
+    values: Option<Values>,
+) -> bool {
+    let Some(Ok(form)) = form_in(packet, context) else {
+        return false;
+    };
+    said(&form) == expected
+        && form.rnd == rnd
+        && form.values == values
+        && form.payload.len() == 1
+        && form.payload.last() == packet.last()
+        && is_read_behind_its_header(packet, context)
+}
+
 #[test]
 fn packets_without_extension_3(rt: HostRuntime) {
     for (packet, context, expected) in PLAIN {
-        let Some(Ok(form)) = form_in(packet, context) else {
-            panic!(rt; "refused");
-        };
-        assert_eq!(rt; said(&form), expected);
-        assert_eq!(rt; form.rnd, context.0);
-        assert!(rt; form.values.is_none());
-        assert_eq!(rt; form.payload.len(), 1);
-        assert_eq!(rt; form.payload.last(), packet.last());
-        assert!(rt; is_read_behind_its_header(packet, context));
+        assert!(rt; is_read_as(packet, context, expected, context.0, None));
     }
 }
 
@@ -318,25 +330,30 @@ fn unextended_in(packet: &[u8], context: Context) -> Option<(Said, usize)> {
     Some((said(&form), form.payload.len()))
 }
 
-// Of the same packets those without any extension: their sequence number has four or six bits. Each is whole
-// without its payload, and not without one octet more.
+// Whether a packet with a payload of one octet is read so, whole and without its payload, and is none without one octet
+// more.
+fn is_read_unextended(packet: &[u8], context: Context, expected: Said) -> bool {
+    let Some((_payload, header)) = packet.split_last() else {
+        return false;
+    };
+    let Some((_last, inside)) = header.split_last() else {
+        return false;
+    };
+    unextended_in(packet, context) == Some((expected, 1))
+        && unextended_in(header, context) == Some((expected, 0))
+        && unextended_in(inside, context).is_none()
+}
+
+// Of the same packets those without any extension: their sequence number has four or six bits.
 #[test]
 fn packets_without_an_extension(rt: HostRuntime) {
     for (packet, context, expected) in PLAIN {
         let (sn_bits, _sn) = expected.1;
         if sn_bits > 6 {
-            assert_eq!(rt; unextended_in(packet, context), None);
-            continue;
+            assert!(rt; unextended_in(packet, context).is_none());
+        } else {
+            assert!(rt; is_read_unextended(packet, context, expected));
         }
-        assert_eq!(rt; unextended_in(packet, context), Some((expected, 1)));
-        let Some((_payload, header)) = packet.split_last() else {
-            panic!(rt; "no payload");
-        };
-        assert_eq!(rt; unextended_in(header, context), Some((expected, 0)));
-        let Some((_last, inside)) = header.split_last() else {
-            panic!(rt; "no header");
-        };
-        assert_eq!(rt; unextended_in(inside, context), None);
     }
 }
 
@@ -410,15 +427,7 @@ const EXTENDED: [(&[u8], Context, Said, Ip); 3] = [
 #[test]
 fn packets_with_extension_3(rt: HostRuntime) {
     for (packet, context, expected, ip) in EXTENDED {
-        let Some(Ok(form)) = form_in(packet, context) else {
-            panic!(rt; "refused");
-        };
-        assert_eq!(rt; said(&form), expected);
-        assert_eq!(rt; form.rnd, ip.2);
-        assert_eq!(rt; form.values, Some(of_ip(ip)));
-        assert_eq!(rt; form.payload.len(), 1);
-        assert_eq!(rt; form.payload.last(), packet.last());
-        assert!(rt; is_read_behind_its_header(packet, context));
+        assert!(rt; is_read_as(packet, context, expected, ip.2, Some(of_ip(ip))));
     }
 }
 

@@ -88,6 +88,24 @@ const ROWS: [Row; 20] = [
     (0x00, 0x0200, 0x64c2, 0, 0x00, 2, 0x140, Three(2)),
 ];
 
+/// Whether each way to compute the check of a header gives the check that the packet carries.
+fn has_check(header: &Header, carried: Carried) -> bool {
+    let (register3, register7) = header.registers();
+    match carried {
+        Nothing => true,
+        Three(check) => {
+            header.check3() == check
+                && header.check3_from(register3) == check
+                && check3_after(&header.octets, register3) == check
+        }
+        Seven(check) => {
+            header.check7() == check
+                && header.check7_from(register7) == check
+                && check7_after(&header.octets, register7) == check
+        }
+    }
+}
+
 #[test]
 fn examples(rt: HostRuntime) {
     for (tos, id, sum, udp_sum, m, sn, ts, check) in ROWS {
@@ -117,20 +135,7 @@ fn examples(rt: HostRuntime) {
         put_header(&mut head, &FIXED, &moving, 1);
         assert_eq!(rt; head.as_slice(), octets.as_slice());
 
-        let (register3, register7) = header.registers();
-        match check {
-            Nothing => {}
-            Three(check) => {
-                assert_eq!(rt; header.check3(), check);
-                assert_eq!(rt; header.check3_from(register3), check);
-                assert_eq!(rt; check3_after(&header.octets, register3), check);
-            }
-            Seven(check) => {
-                assert_eq!(rt; header.check7(), check);
-                assert_eq!(rt; header.check7_from(register7), check);
-                assert_eq!(rt; check7_after(&header.octets, register7), check);
-            }
-        }
+        assert!(rt; has_check(&header, check));
     }
 }
 
