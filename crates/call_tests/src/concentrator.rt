@@ -8,10 +8,9 @@ use rohc_concentrator::{
 };
 use rohc_context::{Mode, Outcome, Refusal, Settings};
 use rohc_frame::CidKind;
-use std::alloc::Global;
+use std::alloc::{AllocError, Global};
 use std::fmt::InlineText;
 use std::process::Abort;
-use std::test::Fail;
 
 /// Link 1 of the worked examples, with this `idle_ms`.
 fn link_1(idle_ms: u32) -> LinkSetting {
@@ -42,8 +41,8 @@ fn outcome(concentrator: &mut Concentrator, moment: u64, packet: &[u8]) -> Optio
 }
 
 /// The concentrator with this link alone.
-fn made(alloc: Global, setting: LinkSetting) -> Result<Concentrator, SetupFault> {
-    Concentrator::new(alloc, &[setting])
+fn made(rt: &impl Abort, alloc: Global, setting: LinkSetting) -> Concentrator {
+    Concentrator::new(alloc, &[setting]).expect(rt, "a concentrator")
 }
 
 /// A packet of link 1: its time, its octets and its outcome.
@@ -64,20 +63,20 @@ const DELIVERED: Outcome = Outcome::Delivered;
 
 const NO_CONTEXT: Outcome = Outcome::Refused(Refusal::NoContext);
 
+const UNFIT: Outcome = Outcome::Refused(Refusal::Check);
+
+/// A UO-0, an IR with a wrong check and an IR, each with whether there is a record after it.
+const COMING: [(Arrival, bool); 3] = [
+    ((0, b"\x10\xac", NO_CONTEXT), false),
+    ((0, b"\xfc\x00\xb8\x45\xaa", UNFIT), false),
+    ((0, b"\xfc\x00\xb7\x45\xaa", DELIVERED), true),
+];
+
 #[test]
-fn a_record_comes_and_goes(rt: HostRuntime) -> Result<(), Fail> {
-    let mut concentrator = made(rt.alloc(), link_1(0))?;
-    let packets: [(&[u8], Outcome, bool); 3] = [
-        (b"\x10\xac", NO_CONTEXT, false),
-        (
-            b"\xfc\x00\xb8\x45\xaa",
-            Outcome::Refused(Refusal::Check),
-            false,
-        ),
-        (b"\xfc\x00\xb7\x45\xaa", DELIVERED, true),
-    ];
-    for (packet, wanted, stands) in packets {
-        assert_eq!(rt; outcome(&mut concentrator, 0, packet), Some(wanted));
+fn a_record_comes_and_goes(rt: HostRuntime) {
+    let mut concentrator = made(&rt, rt.alloc(), link_1(0));
+    for (arrival, stands) in COMING {
+        compare_outcomes(&rt, &mut concentrator, &[arrival]);
         assert_eq!(rt; concentrator.has_context(1, 0), stands);
     }
     assert_eq!(rt; concentrator.reset(1), Ok(()));
@@ -85,7 +84,6 @@ fn a_record_comes_and_goes(rt: HostRuntime) -> Result<(), Fail> {
     assert_eq!(rt; concentrator.reset(9), Err(NoLink));
     let shown = InlineText::<32>::of(&NoLink);
     assert_eq!(rt; shown.as_str(), "there is no such link");
-    Ok(())
 }
 
 /// The CID and the outcome of a context's answer.
@@ -97,8 +95,8 @@ fn cid_and_outcome(answer: &Answer<'_>) -> Option<(u16, Outcome)> {
 }
 
 #[test]
-fn an_answer_overwrites_the_one_that_is_lent(rt: HostRuntime) -> Result<(), Fail> {
-    let mut concentrator = made(rt.alloc(), link_1(0))?;
+fn an_answer_overwrites_the_one_that_is_lent(rt: HostRuntime) {
+    let mut concentrator = made(&rt, rt.alloc(), link_1(0));
     let mut answer = Answer::refusing(7, Refusal::NoContext);
     assert_eq!(rt; cid_and_outcome(&answer), Some((7, NO_CONTEXT)));
     concentrator.arrive_into(1, 0, b"\xfc\x00\xb7\x45\xaa", &mut answer);
@@ -107,7 +105,6 @@ fn an_answer_overwrites_the_one_that_is_lent(rt: HostRuntime) -> Result<(), Fail
     assert!(rt; matches!(answer, Answer::Refused(Refusal::NoLink)));
     concentrator.arrive_into(1, 0, b"\x45\xab", &mut answer);
     assert_eq!(rt; cid_and_outcome(&answer), Some((0, DELIVERED)));
-    Ok(())
 }
 
 /// Packets of two CIDs, of which the greater comes first.
@@ -127,12 +124,11 @@ const WITHOUT_RECORDS: [Arrival; 2] = [
 ];
 
 #[test]
-fn records_out_of_order_are_found(rt: HostRuntime) -> Result<(), Fail> {
-    let mut concentrator = made(rt.alloc(), link_1(0))?;
+fn records_out_of_order_are_found(rt: HostRuntime) {
+    let mut concentrator = made(&rt, rt.alloc(), link_1(0));
     compare_outcomes(&rt, &mut concentrator, &OUT_OF_ORDER);
     assert_eq!(rt; concentrator.reset(1), Ok(()));
     compare_outcomes(&rt, &mut concentrator, &WITHOUT_RECORDS);
-    Ok(())
 }
 
 /// A record is made, and is asked for 5,000 milliseconds later and then 4,999 milliseconds later.
@@ -143,13 +139,12 @@ const IDLE: [Arrival; 3] = [
 ];
 
 #[test]
-fn an_idle_record_counts_as_none(rt: HostRuntime) -> Result<(), Fail> {
-    let mut concentrator = made(rt.alloc(), link_1(5000))?;
+fn an_idle_record_counts_as_none(rt: HostRuntime) {
+    let mut concentrator = made(&rt, rt.alloc(), link_1(5000));
     for arrival in IDLE {
         compare_outcomes(&rt, &mut concentrator, &[arrival]);
         assert!(rt; concentrator.has_context(1, 0));
     }
-    Ok(())
 }
 
 /// IRs of CID 1, of CID 0 and again of CID 1.
@@ -160,8 +155,8 @@ const IRS: [Arrival; 3] = [
 ];
 
 #[test]
-fn tables_keep_the_order_of_first_records(rt: HostRuntime) -> Result<(), Fail> {
-    let mut concentrator = made(rt.alloc(), link_1(0))?;
+fn tables_keep_the_order_of_first_records(rt: HostRuntime) {
+    let mut concentrator = made(&rt, rt.alloc(), link_1(0));
     compare_outcomes(&rt, &mut concentrator, &IRS);
     let tables = concentrator.tables();
     assert_eq!(rt; tables.len(), 1);
@@ -169,7 +164,6 @@ fn tables_keep_the_order_of_first_records(rt: HostRuntime) -> Result<(), Fail> {
         assert_eq!(rt; *link, 1);
         compare_cids(&rt, records, &[1, 0]);
     }
-    Ok(())
 }
 
 /// Compares the CIDs of a link's records, in their order.
@@ -181,8 +175,8 @@ fn compare_cids(rt: &impl Abort, records: &LinkRecords, wanted: &[u16]) {
 }
 
 #[test]
-fn places_keep_the_order_of_first_records(rt: HostRuntime) -> Result<(), Fail> {
-    let mut concentrator = made(rt.alloc(), link_1(0))?;
+fn places_keep_the_order_of_first_records(rt: HostRuntime) {
+    let mut concentrator = made(&rt, rt.alloc(), link_1(0));
     compare_outcomes(&rt, &mut concentrator, &IRS);
     for (place, wanted) in [(0, Some(1)), (1, None)] {
         assert_eq!(rt; concentrator.link_at(place), wanted);
@@ -191,7 +185,6 @@ fn places_keep_the_order_of_first_records(rt: HostRuntime) -> Result<(), Fail> {
         let stands = concentrator.context_at(link, place);
         assert_eq!(rt; stands.map(|(cid, _context)| cid), wanted);
     }
-    Ok(())
 }
 
 /// Link 1 with a range of CIDs in U mode.
@@ -208,24 +201,28 @@ const RANGE: CidRange = CidRange {
     mode: Mode::U,
 };
 
+/// Whether feedback is sent for a packet of link 1, if it has a CID.
+fn has_feedback(concentrator: &mut Concentrator, packet: &[u8]) -> Option<bool> {
+    match concentrator.arrive(1, 0, packet) {
+        Answer::Arrived { reply, .. } => Some(reply.feedback.is_some()),
+        Answer::OnlyFront { .. } | Answer::Refused(_) => None,
+    }
+}
+
 #[test]
-fn a_range_has_its_own_mode(rt: HostRuntime) -> Result<(), Fail> {
+fn a_range_has_its_own_mode(rt: HostRuntime) {
     let setting = link_1_with(RANGE);
     assert!(rt; setting.is_good());
     for (cid, mode) in [(3, Mode::O), (4, Mode::U), (7, Mode::U), (8, Mode::O)] {
         assert_eq!(rt; setting.settings_of(cid).mode, mode, "of {cid}");
     }
-    let mut concentrator = made(rt.alloc(), setting)?;
+    let mut concentrator = made(&rt, rt.alloc(), setting);
     for (packet, answered) in [
         (b"\xe5\xfc\x00\xf2\x45\xaa", false),
         (b"\xe1\xfc\x00\x30\x45\xaa", true),
     ] {
-        match concentrator.arrive(1, 0, packet) {
-            Answer::Arrived { reply, .. } => assert_eq!(rt; reply.feedback.is_some(), answered),
-            Answer::OnlyFront { .. } | Answer::Refused(_) => assert!(rt; false),
-        }
+        assert_eq!(rt; has_feedback(&mut concentrator, packet), Some(answered));
     }
-    Ok(())
 }
 
 /// The faults, and their names.
@@ -245,8 +242,17 @@ fn setup_faults_show_their_names(rt: HostRuntime) {
     }
 }
 
+/// The settings of 257 links.
+fn many_links(alloc: Global) -> Result<Vec<LinkSetting>, AllocError> {
+    let mut many = Vec::new(alloc);
+    for link in 0..257 {
+        many.push(LinkSetting { link, ..link_1(0) })?;
+    }
+    Ok(many)
+}
+
 #[test]
-fn setup_faults(rt: HostRuntime) -> Result<(), Fail> {
+fn setup_faults(rt: HostRuntime) {
     let wrong = LinkSetting {
         settings: Settings {
             k1: 4,
@@ -257,10 +263,7 @@ fn setup_faults(rt: HostRuntime) -> Result<(), Fail> {
     let mut touching = link_1_with(RANGE);
     let second = CidRange { first: 7, ..RANGE };
     assert!(rt; touching.ranges.try_push(second).is_ok());
-    let mut many = Vec::new(rt.alloc());
-    for link in 0..257 {
-        many.push(LinkSetting { link, ..link_1(0) })?;
-    }
+    let many = many_links(rt.alloc()).expect(&rt, "memory");
     let faults: [(&[LinkSetting], SetupFault); 5] = [
         (&[], SetupFault::NoLinks),
         (many.as_slice(), SetupFault::TooManyLinks),
@@ -274,5 +277,4 @@ fn setup_faults(rt: HostRuntime) -> Result<(), Fail> {
     for (settings, fault) in faults {
         assert_eq!(rt; Concentrator::new(rt.alloc(), settings).err(), Some(fault));
     }
-    Ok(())
 }

@@ -10,7 +10,6 @@ use rohc_replay::{RunFault, Tally, read_links, replay};
 use std::alloc::{AllocError, Global};
 use std::io::{self, Error, ErrorKind, Read, Write};
 use std::process::Abort;
-use std::test::Fail;
 
 /// Links 1 to 3 of the worked examples.
 pub(crate) const LINKS: &str = "version = 1
@@ -82,13 +81,13 @@ const ANSWERS: [&str; 7] = [
 ];
 
 /// The concentrator with these links, without a record.
-fn concentrator(alloc: Global, links: &str) -> Result<Concentrator, Fail> {
-    let links = read_links(alloc, links)?;
-    Ok(Concentrator::new(alloc, links.settings())?)
+fn concentrator(rt: &impl Abort, alloc: Global, links: &str) -> Concentrator {
+    let links = read_links(alloc, links).expect(rt, "links");
+    Concentrator::new(alloc, links.settings()).expect(rt, "a concentrator")
 }
 
 /// The answers of this many first lines of the script.
-fn first_answers(alloc: Global, lines: usize) -> Result<String, Fail> {
+fn first_answers(alloc: Global, lines: usize) -> Result<String, AllocError> {
     let mut text = String::new(alloc);
     for answer in ANSWERS.iter().take(lines) {
         text.push_str(answer)?;
@@ -167,17 +166,19 @@ impl Write for Taker {
 /// Replays a script on a new concentrator with these links, to a writer that takes so many octets at a call and never
 /// fails. Returns both.
 fn replayed(
+    rt: &impl Abort,
     alloc: Global,
     links: &str,
     script: &str,
     most: usize,
-) -> Result<(Concentrator, Taker), Fail> {
-    let mut concentrator = concentrator(alloc, links)?;
+) -> (Concentrator, Taker) {
+    let mut concentrator = concentrator(rt, alloc, links);
     let mut reader = steady_reader(script.as_bytes(), 4096);
     let mut writer = willing_writer(alloc);
     writer.most = most;
-    replay(alloc, &mut concentrator, &mut reader, &mut writer)?;
-    Ok((concentrator, writer))
+    let told = replay(alloc, &mut concentrator, &mut reader, &mut writer);
+    assert!(rt; told.is_ok(), "for {script}");
+    (concentrator, writer)
 }
 
 /// Runs a replay through this reader and writer, and compares its result and the text that was written with these.
@@ -188,11 +189,10 @@ fn compare_replay(
     writer: &mut Taker,
     wanted: Result<Tally, RunFault>,
     text: &str,
-) -> Result<(), Fail> {
-    let mut concentrator = concentrator(alloc, LINKS)?;
+) {
+    let mut concentrator = concentrator(rt, alloc, LINKS);
     let told = replay(alloc, &mut concentrator, reader, writer);
     compare(rt, told, writer.text.as_slice(), wanted, text);
-    Ok(())
 }
 
 /// Compares what a replay told and wrote with what it should.
@@ -345,15 +345,14 @@ const EXAMPLES_OF_FRAMING: [Example; 6] = [
 ];
 
 /// Runs each script, and compares its answers and its tally.
-fn agrees(rt: &impl Abort, alloc: Global, examples: &[Example]) -> Result<(), Fail> {
+fn agrees(rt: &impl Abort, alloc: Global, examples: &[Example]) {
     for (_, script, answers, events, bad) in examples {
         let tally = Tally {
             events: *events,
             bad: *bad,
         };
-        compare_whole(rt, alloc, script.as_bytes(), 4096, tally, answers)?;
+        compare_whole(rt, alloc, script.as_bytes(), 4096, tally, answers);
     }
-    Ok(())
 }
 
 /// Runs a script in pieces of this size without a fault, and compares its tally and its answers with these.
@@ -364,24 +363,24 @@ fn compare_whole(
     size: usize,
     tally: Tally,
     text: &str,
-) -> Result<(), Fail> {
+) {
     let mut reader = steady_reader(script, size);
     let mut writer = willing_writer(alloc);
-    compare_replay(rt, alloc, &mut reader, &mut writer, Ok(tally), text)
+    compare_replay(rt, alloc, &mut reader, &mut writer, Ok(tally), text);
 }
 
 #[test]
-fn worked_examples(rt: HostRuntime) -> Result<(), Fail> {
-    agrees(&rt, rt.alloc(), &EXAMPLES)
+fn worked_examples(rt: HostRuntime) {
+    agrees(&rt, rt.alloc(), &EXAMPLES);
 }
 
 #[test]
-fn worked_examples_of_framing(rt: HostRuntime) -> Result<(), Fail> {
-    agrees(&rt, rt.alloc(), &EXAMPLES_OF_FRAMING)
+fn worked_examples_of_framing(rt: HostRuntime) {
+    agrees(&rt, rt.alloc(), &EXAMPLES_OF_FRAMING);
 }
 
 #[test]
-fn long_lines(rt: HostRuntime) -> Result<(), Fail> {
+fn long_lines(rt: HostRuntime) {
     let lines = [
         (131_200, "", 0, "- - refused BadLine\n"),
         (131_201, "", 0, "- - refused LongLine\n"),
@@ -399,13 +398,12 @@ fn long_lines(rt: HostRuntime) -> Result<(), Fail> {
         ),
     ];
     for (len, behind, events, answers) in lines {
-        let script = long_script(rt.alloc(), len, behind)?;
+        let script = long_script(rt.alloc(), len, behind).expect(&rt, "memory");
         let tally = Tally { events, bad: 1 };
         for size in [7, 131_200, 200_000] {
-            compare_whole(&rt, rt.alloc(), script.as_slice(), size, tally, answers)?;
+            compare_whole(&rt, rt.alloc(), script.as_slice(), size, tally, answers);
         }
     }
-    Ok(())
 }
 
 /// A line of this length, with this behind it.
@@ -416,8 +414,8 @@ fn long_script(alloc: Global, len: usize, behind: &str) -> Result<Vec<u8>, Alloc
 }
 
 #[test]
-fn pieces_of_any_size(rt: HostRuntime) -> Result<(), Fail> {
-    let whole = first_answers(rt.alloc(), ANSWERS.len())?;
+fn pieces_of_any_size(rt: HostRuntime) {
+    let whole = first_answers(rt.alloc(), ANSWERS.len()).expect(&rt, "memory");
     let tally = Tally { events: 6, bad: 1 };
     for size in [1, 2, 7, 131_200] {
         compare_whole(
@@ -427,7 +425,6 @@ fn pieces_of_any_size(rt: HostRuntime) -> Result<(), Fail> {
             size,
             tally,
             whole.as_str(),
-        )?;
+        );
     }
-    Ok(())
 }

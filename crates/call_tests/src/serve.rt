@@ -42,9 +42,14 @@ impl Front for Memory<'_> {
         if port == self.fails_at {
             return false;
         }
-        let mut datagram = Vec::new(*self.sent.allocator());
-        datagram.extend_from_slice(octets).is_ok() && self.sent.push((port, datagram)).is_ok()
+        is_kept(&mut self.sent, port, octets)
     }
+}
+
+/// Appends a datagram and its port, and returns whether there was memory for them.
+fn is_kept(sent: &mut Vec<(u16, Vec<u8>)>, port: u16, octets: &[u8]) -> bool {
+    let mut datagram = Vec::new(*sent.allocator());
+    datagram.extend_from_slice(octets).is_ok() && sent.push((port, datagram)).is_ok()
 }
 
 /// The links, and their concentrator without a record.
@@ -114,12 +119,12 @@ fn a_datagram_is_answered(rt: HostRuntime) -> Result<(), Fail> {
     assert_eq!(rt; ports, Some(PORTS_1));
     assert!(rt; relayed.next().is_none() && !refused);
     let Some(packet) = packet else {
-        return Err(Fail::new("no packet"));
+        panic!(rt; "no packet");
     };
     assert!(rt; packet.head.is_empty());
     assert_eq!(rt; packet.payload, b"\x45\xaa".as_slice());
     let Some(element) = feedback else {
-        return Err(Fail::new("no feedback"));
+        panic!(rt; "no feedback");
     };
     assert_eq!(rt; element.as_slice(), b"\xf1\x00".as_slice());
     for_nobody(&rt, &links, &mut concentrator, b"\x00\x09\x10\xac", None);
@@ -234,11 +239,23 @@ const CALL: [&[u8]; 3] = [
     b"\x00\x01\xd4\xc3\x3e\xad",
 ];
 
-/// The packets that these datagrams deliver.
-const PACKETS: [&[u8]; 3] = [
-    b"\x45\x00\x00\x29\x00\x01\x00\x00\x40\x11\x66\xc1\x0a\x00\x00\x01\x0a\x00\x00\x02\x13\x88\x13\x8a\x00\x15\x00\x00\x80\x00\x00\x01\x00\x00\x00\xa0\x00\x00\x00\x01\xab",
-    b"\x45\x00\x00\x29\x00\x02\x00\x00\x40\x11\x66\xc0\x0a\x00\x00\x01\x0a\x00\x00\x02\x13\x88\x13\x8a\x00\x15\x00\x00\x80\x00\x00\x02\x00\x00\x01\x40\x00\x00\x00\x01\xac",
-    b"\x45\x00\x00\x29\x00\x03\x00\x00\x40\x11\x66\xbf\x0a\x00\x00\x01\x0a\x00\x00\x02\x13\x88\x13\x8a\x00\x15\x00\x00\x80\x80\x00\x03\x00\x00\x0c\x80\x00\x00\x00\x01\xad",
+/// The length of the packets of the call, in octets.
+const LENGTH: usize = 41;
+
+/// The packets that these datagrams deliver, and their port.
+const PACKETS: [(u16, &[u8]); 3] = [
+    (
+        6001,
+        b"\x45\x00\x00\x29\x00\x01\x00\x00\x40\x11\x66\xc1\x0a\x00\x00\x01\x0a\x00\x00\x02\x13\x88\x13\x8a\x00\x15\x00\x00\x80\x00\x00\x01\x00\x00\x00\xa0\x00\x00\x00\x01\xab",
+    ),
+    (
+        6001,
+        b"\x45\x00\x00\x29\x00\x02\x00\x00\x40\x11\x66\xc0\x0a\x00\x00\x01\x0a\x00\x00\x02\x13\x88\x13\x8a\x00\x15\x00\x00\x80\x00\x00\x02\x00\x00\x01\x40\x00\x00\x00\x01\xac",
+    ),
+    (
+        6001,
+        b"\x45\x00\x00\x29\x00\x03\x00\x00\x40\x11\x66\xbf\x0a\x00\x00\x01\x0a\x00\x00\x02\x13\x88\x13\x8a\x00\x15\x00\x00\x80\x80\x00\x03\x00\x00\x0c\x80\x00\x00\x00\x01\xad",
+    ),
 ];
 
 /// Datagrams under other CIDs and links, or under none.
@@ -277,7 +294,7 @@ const BETWEEN: u32 = 33_334;
 #[derive(Drop)]
 struct Flood {
     taken: u32,
-    packets: Vec<Vec<u8>>,
+    sent: Vec<(u16, Vec<u8>)>,
 }
 
 impl Flood {
@@ -302,11 +319,10 @@ impl Front for Flood {
     }
 
     fn send(&mut self, port: u16, octets: &[u8]) -> bool {
-        if port != PORTS_1.deliver || octets.len() < PACKETS[0].len() {
+        if port != PORTS_1.deliver || octets.len() < LENGTH {
             return true;
         }
-        let mut packet = Vec::new(*self.packets.allocator());
-        packet.extend_from_slice(octets).is_ok() && self.packets.push(packet).is_ok()
+        is_kept(&mut self.sent, port, octets)
     }
 }
 
@@ -315,15 +331,12 @@ fn a_flood_changes_no_packet_of_a_call(rt: HostRuntime) -> Result<(), Fail> {
     let (links, mut concentrator) = made(rt.alloc())?;
     let mut flood = Flood {
         taken: 0,
-        packets: Vec::new(rt.alloc()),
+        sent: Vec::new(rt.alloc()),
     };
     let count = 3 * (BETWEEN + 1);
     let tally = serve(rt.alloc(), &mut concentrator, &links, &mut flood, count)?;
     assert_eq!(rt; tally.datagrams, 100_005);
     assert_eq!(rt; tally.failed, 0);
-    assert_eq!(rt; flood.packets.len(), PACKETS.len());
-    for (packet, wanted) in flood.packets.iter().zip(PACKETS) {
-        assert_eq!(rt; packet.as_slice(), wanted);
-    }
+    were_sent(&rt, flood.sent.as_slice(), &PACKETS);
     Ok(())
 }

@@ -2,7 +2,7 @@
 
 use super::replayed;
 use std::alloc::{AllocError, Global};
-use std::test::Fail;
+use std::process::Abort;
 
 /// To which CIDs a line belongs.
 #[derive(Clone, Copy, Debug, PartialEq, Eq)]
@@ -193,9 +193,21 @@ fn push_hostile(text: &mut String, count: usize) -> Result<(), AllocError> {
 }
 
 /// What a replay of the script writes.
-fn answers(alloc: Global, script: &str) -> Result<String, Fail> {
-    let (_, writer) = replayed(alloc, LINKS, script, usize::MAX)?;
-    Ok(String::from_utf8(writer.text)?)
+fn answers(rt: &impl Abort, alloc: Global, script: &str) -> String {
+    let (_, writer) = replayed(rt, alloc, LINKS, script, usize::MAX);
+    String::from_utf8(writer.text).expect(rt, "text")
+}
+
+/// What a replay of the pair's own script writes.
+fn own_answers(rt: &impl Abort, alloc: Global, link: u16, cid: u16) -> String {
+    let script = own_script(alloc, link, cid).expect(rt, "memory");
+    answers(rt, alloc, script.as_str())
+}
+
+/// What a replay of the whole script writes, with this many hostile lines after each line.
+fn whole_answers(rt: &impl Abort, alloc: Global, hostile: usize) -> String {
+    let script = whole_script(alloc, hostile).expect(rt, "memory");
+    answers(rt, alloc, script.as_str())
 }
 
 /// The lines of a text that start with the link and the CID.
@@ -211,37 +223,34 @@ fn lines_of_pair(alloc: Global, text: &str, link: u16, cid: u16) -> Result<Strin
     Ok(lines)
 }
 
-#[test]
-fn each_pair_is_told_what_its_own_script_tells(rt: HostRuntime) -> Result<(), Fail> {
-    let alloc = rt.alloc();
-    let whole = answers(alloc, whole_script(alloc, 0)?.as_str())?;
-    for (link, cid) in PAIRS {
-        let alone = answers(alloc, own_script(alloc, link, cid)?.as_str())?;
-        let told = lines_of_pair(alloc, whole.as_str(), link, cid)?;
-        let expected = lines_of_pair(alloc, alone.as_str(), link, cid)?;
-        assert!(rt; !expected.is_empty(), "of {link} {cid}");
-        assert_eq!(rt; told.as_str(), expected.as_str(), "of {link} {cid}");
-    }
-    let first = lines_of_pair(alloc, whole.as_str(), 1, 0)?;
-    assert_eq!(rt; first.as_str(), FIRST_TOLD);
-    Ok(())
+/// Compares the lines of two texts that start with the link and the CID. There are some.
+fn compare_pair(rt: &impl Abort, alloc: Global, texts: (&str, &str), link: u16, cid: u16) {
+    let told = lines_of_pair(alloc, texts.0, link, cid).expect(rt, "memory");
+    let expected = lines_of_pair(alloc, texts.1, link, cid).expect(rt, "memory");
+    assert!(rt; !expected.is_empty(), "of {link} {cid}");
+    assert_eq!(rt; told.as_str(), expected.as_str(), "of {link} {cid}");
 }
 
 #[test]
-fn ten_thousand_hostile_lines_change_nothing(rt: HostRuntime) -> Result<(), Fail> {
-    let alloc = rt.alloc();
-    let quiet = answers(alloc, whole_script(alloc, 0)?.as_str())?;
-    let noisy = answers(alloc, whole_script(alloc, BETWEEN)?.as_str())?;
+fn each_pair_is_told_what_its_own_script_tells(rt: HostRuntime) {
+    let whole = whole_answers(&rt, rt.alloc(), 0);
+    for (link, cid) in PAIRS {
+        let alone = own_answers(&rt, rt.alloc(), link, cid);
+        compare_pair(&rt, rt.alloc(), (whole.as_str(), alone.as_str()), link, cid);
+    }
+    compare_pair(&rt, rt.alloc(), (whole.as_str(), FIRST_TOLD), 1, 0);
+}
+
+#[test]
+fn ten_thousand_hostile_lines_change_nothing(rt: HostRuntime) {
+    let quiet = whole_answers(&rt, rt.alloc(), 0);
+    let noisy = whole_answers(&rt, rt.alloc(), BETWEEN);
     assert!(rt; noisy.lines().count() > 10_000);
     for told in HOSTILE_TOLD {
         assert!(rt; noisy.lines().any(|line| line == told), "{told}");
     }
     for (link, cid) in PAIRS {
-        let told = lines_of_pair(alloc, noisy.as_str(), link, cid)?;
-        let expected = lines_of_pair(alloc, quiet.as_str(), link, cid)?;
-        assert_eq!(rt; told.as_str(), expected.as_str(), "of {link} {cid}");
+        compare_pair(&rt, rt.alloc(), (noisy.as_str(), quiet.as_str()), link, cid);
     }
-    let first = lines_of_pair(alloc, noisy.as_str(), 1, 0)?;
-    assert_eq!(rt; first.as_str(), FIRST_TOLD);
-    Ok(())
+    compare_pair(&rt, rt.alloc(), (noisy.as_str(), FIRST_TOLD), 1, 0);
 }

@@ -6,7 +6,6 @@ use super::{LINKS, compare_whole, replayed};
 use rohc_replay::Tally;
 use std::alloc::{AllocError, Global};
 use std::process::Abort;
-use std::test::Fail;
 
 /// The tally of one good line.
 const GOOD: Tally = Tally { events: 1, bad: 0 };
@@ -28,11 +27,10 @@ const EVENTS: [(&str, &str); 6] = [
 ];
 
 #[test]
-fn good_lines_are_events(rt: HostRuntime) -> Result<(), Fail> {
+fn good_lines_are_events(rt: HostRuntime) {
     for (line, answer) in EVENTS {
-        compare_whole(&rt, rt.alloc(), line.as_bytes(), 4096, GOOD, answer)?;
+        compare_whole(&rt, rt.alloc(), line.as_bytes(), 4096, GOOD, answer);
     }
-    Ok(())
 }
 
 /// Lines that make a record of CID 0 on link 1, and their times.
@@ -43,21 +41,18 @@ const TIMES: [(&str, u64); 3] = [
 ];
 
 #[test]
-fn times_are_read(rt: HostRuntime) -> Result<(), Fail> {
+fn times_are_read(rt: HostRuntime) {
     for (line, moment) in TIMES {
-        assert_eq!(rt; accepted_by(rt.alloc(), line)?, Some(moment), "{line}");
+        assert_eq!(rt; accepted_by(&rt, rt.alloc(), line), Some(moment), "{line}");
     }
-    Ok(())
 }
 
 /// When CID 0 of link 1 has last accepted an arrival, after a replay of this line.
-fn accepted_by(alloc: Global, line: &str) -> Result<Option<u64>, Fail> {
-    let (concentrator, _) = replayed(alloc, LINKS, line, usize::MAX)?;
-    Ok(
-        concentrator
-            .context_at(1, 0)
-            .map(|(_cid, context)| context.accepted()),
-    )
+fn accepted_by(rt: &impl Abort, alloc: Global, line: &str) -> Option<u64> {
+    let (concentrator, _) = replayed(rt, alloc, LINKS, line, usize::MAX);
+    concentrator
+        .context_at(1, 0)
+        .map(|(_cid, context)| context.accepted())
 }
 
 /// Lines that are the text of no event.
@@ -93,13 +88,12 @@ const NO_EVENTS: [&str; 28] = [
 ];
 
 #[test]
-fn other_lines_are_bad(rt: HostRuntime) -> Result<(), Fail> {
+fn other_lines_are_bad(rt: HostRuntime) {
     for line in NO_EVENTS {
-        let script = format!(in rt.alloc(); "{line}\n")?;
+        let script = format!(in rt.alloc(); "{line}\n").expect(&rt, "memory");
         let answer = "- - refused BadLine\n";
-        compare_whole(&rt, rt.alloc(), script.as_bytes(), 4096, BAD, answer)?;
+        compare_whole(&rt, rt.alloc(), script.as_bytes(), 4096, BAD, answer);
     }
-    Ok(())
 }
 
 /// Lines with a packet of octets ff: the length of each, its tally and its answer. Behind the eleven characters
@@ -110,40 +104,38 @@ const LENGTHS: [(usize, Tally, &str); 2] = [
 ];
 
 #[test]
-fn the_longest_packet_is_read(rt: HostRuntime) -> Result<(), Fail> {
+fn the_longest_packet_is_read(rt: HostRuntime) {
     for (len, tally, answer) in LENGTHS {
-        let mut line = Vec::from_slice(rt.alloc(), b"arrive 1 0 ")?;
-        line.resize(len, b'f')?;
-        compare_whole(&rt, rt.alloc(), line.as_slice(), 4096, tally, answer)?;
+        let line = long_packet(rt.alloc(), len).expect(&rt, "memory");
+        compare_whole(&rt, rt.alloc(), line.as_slice(), 4096, tally, answer);
     }
-    Ok(())
+}
+
+/// A line of this length with a packet of octets ff.
+fn long_packet(alloc: Global, len: usize) -> Result<Vec<u8>, AllocError> {
+    let mut line = Vec::from_slice(alloc, b"arrive 1 0 ")?;
+    line.resize(len, b'f')?;
+    Ok(line)
 }
 
 /// How many octets a payload has, how many writes its line goes in, and how many octets the line has.
 const WRITES: [(usize, usize, usize); 2] = [(200, 1, 408), (1400, 3, 2808)];
 
 #[test]
-fn a_short_line_is_one_write_and_a_long_one_goes_in_parts(rt: HostRuntime) -> Result<(), Fail> {
+fn a_short_line_is_one_write_and_a_long_one_goes_in_parts(rt: HostRuntime) {
     for (size, writes, len) in WRITES {
-        goes_in(&rt, rt.alloc(), size, (writes, len))?;
+        goes_in(&rt, rt.alloc(), size, (writes, len));
     }
-    Ok(())
 }
 
 /// A payload of this size goes in this many writes, with this many octets in all.
-fn goes_in(
-    rt: &impl Abort,
-    alloc: Global,
-    size: usize,
-    written: (usize, usize),
-) -> Result<(), Fail> {
-    let line = line_with_payload(alloc, size)?;
-    let (_, whole) = replayed(alloc, LINKS, line.as_str(), usize::MAX)?;
-    let (_, slow) = replayed(alloc, LINKS, line.as_str(), 7)?;
+fn goes_in(rt: &impl Abort, alloc: Global, size: usize, written: (usize, usize)) {
+    let line = line_with_payload(alloc, size).expect(rt, "memory");
+    let (_, whole) = replayed(rt, alloc, LINKS, line.as_str(), usize::MAX);
+    let (_, slow) = replayed(rt, alloc, LINKS, line.as_str(), 7);
     assert_eq!(rt; (usize::MAX - whole.calls_left, whole.text.len()), written);
     assert!(rt; whole.text.ends_with(b"5a5a5a\n"));
     assert_eq!(rt; whole.text.as_slice(), slow.text.as_slice());
-    Ok(())
 }
 
 /// A line with an IR of profile 0x0000 for CID 0 of link 3, whose payload has this many octets.

@@ -7,7 +7,6 @@ use rohc_replay::{Key, LinksFault, Ports, read_links};
 use std::alloc::{AllocError, Global};
 use std::fmt::InlineText;
 use std::process::Abort;
-use std::test::Fail;
 
 const FIRST: &str = "version = 1
 [[link]]
@@ -94,14 +93,13 @@ fn compare_changed(
     place: usize,
     other: &str,
     fault: Option<LinksFault>,
-) -> Result<(), AllocError> {
-    let changed = with_line(alloc, text, place, other)?;
+) {
+    let changed = with_line(alloc, text, place, other).expect(rt, "memory");
     compare_fault(rt, alloc, changed.as_str(), fault);
-    Ok(())
 }
 
 #[test]
-fn reads_both_versions(rt: HostRuntime) -> Result<(), Fail> {
+fn reads_both_versions(rt: HostRuntime) {
     let settings = Settings {
         size: CidKind::Small,
         max_cid: 15,
@@ -128,9 +126,8 @@ fn reads_both_versions(rt: HostRuntime) -> Result<(), Fail> {
         (FIRST, 1, settings, [].as_slice()),
         (SECOND, 4, wide, [range].as_slice()),
     ] {
-        compare_links(&rt, rt.alloc(), text, link, settings, ranges)?;
+        compare_links(&rt, rt.alloc(), text, link, settings, ranges);
     }
-    Ok(())
 }
 
 /// Reads the text, which has one link with these settings and ranges.
@@ -141,19 +138,18 @@ fn compare_links(
     link: u16,
     settings: Settings,
     ranges: &[CidRange],
-) -> Result<(), LinksFault> {
-    let links = read_links(alloc, text)?;
+) {
+    let links = read_links(alloc, text).expect(rt, "links");
     assert_eq!(rt; links.ports(), [PORTS].as_slice());
     assert_eq!(rt; links.settings().len(), 1);
     for setting in links.settings() {
         assert_eq!(rt; (setting.link, setting.settings), (link, settings));
         assert_eq!(rt; setting.ranges.as_slice(), ranges);
     }
-    Ok(())
 }
 
 #[test]
-fn tells_the_first_fault(rt: HostRuntime) -> Result<(), Fail> {
+fn tells_the_first_fault(rt: HostRuntime) {
     let no_link = LinksFault::BadKey {
         entry: 0,
         key: Key::Link,
@@ -176,9 +172,9 @@ fn tells_the_first_fault(rt: HostRuntime) -> Result<(), Fail> {
     }
     compare_name(&rt, &LinksFault::NoMemory, "NoMemory");
     for text in ["version = 1", "version = 2\nlink = []"] {
-        assert!(rt; read_links(rt.alloc(), text)?.settings().is_empty());
+        let links = read_links(rt.alloc(), text).expect(&rt, "links");
+        assert!(rt; links.settings().is_empty());
     }
-    Ok(())
 }
 
 /// Compares the name of a fault, and what is shown of it, with this name.
@@ -193,23 +189,21 @@ fn bad_key(key: Key) -> LinksFault {
 }
 
 #[test]
-fn wants_each_key(rt: HostRuntime) -> Result<(), Fail> {
+fn wants_each_key(rt: HostRuntime) {
     for (at, key) in KEYS.iter().enumerate() {
-        wants_key(&rt, rt.alloc(), at + 2, *key)?;
+        wants_key(&rt, rt.alloc(), at + 2, *key);
     }
-    Ok(())
 }
 
 /// The line of this key may have no other kind of value, and may be left out only if it is the ranges'.
-fn wants_key(rt: &impl Abort, alloc: Global, place: usize, key: Key) -> Result<(), Fail> {
-    let line = SECOND.lines().nth(place).ok_or("no line")?;
-    let (name, _) = line.split_once(" = ").ok_or("no key")?;
-    let truth = format!(in alloc; "{name} = true")?;
-    compare_changed(rt, alloc, SECOND, place, truth.as_str(), Some(bad_key(key)))?;
+fn wants_key(rt: &impl Abort, alloc: Global, place: usize, key: Key) {
+    let line = SECOND.lines().nth(place).expect(rt, "a line");
+    let (name, _) = line.split_once(" = ").expect(rt, "a key");
+    let truth = format!(in alloc; "{name} = true").expect(rt, "memory");
+    compare_changed(rt, alloc, SECOND, place, truth.as_str(), Some(bad_key(key)));
     if key != Key::Range {
-        compare_changed(rt, alloc, SECOND, place, "", Some(bad_key(key)))?;
+        compare_changed(rt, alloc, SECOND, place, "", Some(bad_key(key)));
     }
-    Ok(())
 }
 
 /// Lines that take the place of one, each with the entry that has an unknown key by it.
@@ -240,56 +234,53 @@ const WRONG: [(&str, usize, &str, Key); 11] = [
 ];
 
 #[test]
-fn refuses_unknown_keys(rt: HostRuntime) -> Result<(), Fail> {
+fn refuses_unknown_keys(rt: HostRuntime) {
     for (place, line, entry) in UNKNOWN {
         let fault = Some(LinksFault::UnknownKey { entry });
-        compare_changed(&rt, rt.alloc(), FIRST, place, line, fault)?;
+        compare_changed(&rt, rt.alloc(), FIRST, place, line, fault);
     }
-    Ok(())
 }
 
 #[test]
-fn refuses_wrong_values(rt: HostRuntime) -> Result<(), Fail> {
+fn refuses_wrong_values(rt: HostRuntime) {
     for (text, place, line, key) in WRONG {
-        compare_changed(&rt, rt.alloc(), text, place, line, Some(bad_key(key)))?;
+        compare_changed(&rt, rt.alloc(), text, place, line, Some(bad_key(key)));
     }
-    Ok(())
 }
 
 #[test]
-fn takes_eight_ranges(rt: HostRuntime) -> Result<(), Fail> {
+fn takes_eight_ranges(rt: HostRuntime) {
     let alloc = rt.alloc();
     for (count, fault) in [(8u8, None), (9, Some(bad_key(Key::Range)))] {
-        let mut line = String::from_str(alloc, "range = [")?;
-        for _ in 0..count {
-            line.push_str("{ first = 4, last = 7, mode = \"U\" },")?;
-        }
-        line.push_str("]")?;
-        compare_changed(&rt, alloc, SECOND, 16, line.as_str(), fault)?;
+        let line = line_of_ranges(alloc, count).expect(&rt, "memory");
+        compare_changed(&rt, alloc, SECOND, 16, line.as_str(), fault);
     }
-    Ok(())
+}
+
+/// The line of this many ranges.
+fn line_of_ranges(alloc: Global, count: u8) -> Result<String, AllocError> {
+    let mut line = String::from_str(alloc, "range = [")?;
+    for _ in 0..count {
+        line.push_str("{ first = 4, last = 7, mode = \"U\" },")?;
+    }
+    line.push_str("]")?;
+    Ok(line)
 }
 
 #[test]
-fn overlapping_ranges_are_a_bad_setting(rt: HostRuntime) -> Result<(), Fail> {
+fn overlapping_ranges_are_a_bad_setting(rt: HostRuntime) {
     let fault = SetupFault::BadSetting { place: 1 };
-    compare_overlap(&rt, rt.alloc(), "7", Some(fault))?;
-    compare_overlap(&rt, rt.alloc(), "8", None)
+    compare_overlap(&rt, rt.alloc(), "7", Some(fault));
+    compare_overlap(&rt, rt.alloc(), "8", None);
 }
 
 /// The fault of a link with a range from 4 to 7 and one that begins at this CID.
-fn compare_overlap(
-    rt: &impl Abort,
-    alloc: Global,
-    first: &str,
-    fault: Option<SetupFault>,
-) -> Result<(), Fail> {
+fn compare_overlap(rt: &impl Abort, alloc: Global, first: &str, fault: Option<SetupFault>) {
     let line = format!(in alloc;
         "range = [{{ first = 4, last = 7, mode = \"U\" }}, {{ first = {first}, last = 9, mode = \"U\" }}]"
-    )?;
-    let text = with_line(alloc, SECOND, 16, line.as_str())?;
-    let links = read_links(alloc, text.as_str())?;
+    ).expect(rt, "memory");
+    let text = with_line(alloc, SECOND, 16, line.as_str()).expect(rt, "memory");
+    let links = read_links(alloc, text.as_str()).expect(rt, "links");
     let told = Concentrator::new(alloc, links.settings()).err();
     assert_eq!(rt; told, fault, "from {first} on");
-    Ok(())
 }
