@@ -1,31 +1,21 @@
-//! Times the 8-bit check, and the rebuilding of headers with their 3-bit check. The script
-//! `bench/parts` compares the times with those of the same work in plain Rust.
+//! Times the 8-bit check, and the rebuilding of headers with their 3-bit check. The script `bench/parts` compares the
+//! times with those of the same work in plain Rust.
 //!
-//! The results are written to standard output, the nanoseconds to standard error. A word on the
-//! command line is the number of turns.
-#![tactic(auto)]
+//! The results are written to standard output, the nanoseconds to standard error.
 
 ghost use Rattle.std.specs.Prelude.{◌<◌};
 
 use rohc_checks::crc8;
 use rohc_header::{Dynamic, Header, Static};
-use std::rt::{Clock, Env};
+use std::io;
+use std::rt::Clock;
 use std::time::Instant;
-use std::{env, io};
 
 /// How many turns there are if the command line gives no number.
-const TURNS: u32 = 1000;
+pub(crate) const TURNS: u32 = 1000;
 
 /// The text that each turn checks.
 const TEXT: [u8; 64] = [0x5a; 64];
-
-/// The number of turns that the command line asks for.
-fn turns<R: Env + AllocGlobal>(rt: &R) -> io::Result<u32> {
-    match env::args(rt)?.nth(1) {
-        Some(word) => Ok(word.parse().unwrap_or(TURNS)),
-        None => Ok(TURNS),
-    }
-}
 
 /// The 8-bit check of a text, computed once each turn.
 #[inline(never)]
@@ -84,18 +74,17 @@ fn check_headers(turns: u32) -> u8 {
     register
 }
 
-fn main(rt: HostRuntime) -> io::Result<()> {
-    let turns = turns(&rt)?;
-
-    let start = Instant::now(&rt)?;
+/// Times so many turns of both.
+pub(crate) fn time<R: Print + Eprint + Clock + AllocGlobal>(rt: &R, turns: u32) -> io::Result<()> {
+    let start = Instant::now(rt)?;
     let register = check_texts(turns, &TEXT);
-    let nanos = start.elapsed(&rt)?.as_nanos();
+    let nanos = start.elapsed(rt)?.as_nanos();
     println!(rt; "crc8 {register:02x}")?;
     eprintln!(rt; "crc8 {nanos}")?;
 
-    let start = Instant::now(&rt)?;
+    let start = Instant::now(rt)?;
     let register = check_headers(turns);
-    let nanos = start.elapsed(&rt)?.as_nanos();
+    let nanos = start.elapsed(rt)?.as_nanos();
     println!(rt; "headers {register:x}")?;
     eprintln!(rt; "headers {nanos}")?;
     Ok(())

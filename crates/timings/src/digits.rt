@@ -1,19 +1,15 @@
 //! Times what a replay asks of `hex`, and nothing else: for each line of a script `decode_to_slice` for the digits of
 //! its packet, and for each answer line `encode_to_slice` for the octets that its digits encode.
 //!
-//!     digits SCRIPT ANSWERS [TURNS]
-//!
 //! Standard output gets the number of calls, the octets that they read or wrote, and the sum of each call's last
-//! written octet. Standard error gets the nanoseconds of each turn. Both files are read before the clock starts. Without
-//! words on the command line there are no calls.
-#![tactic(auto)]
+//! written octet. Standard error gets the nanoseconds of each turn.
 
+use crate::input::read_text;
 use hex::{decode_to_slice, encode_to_slice};
 use std::alloc::Global;
-use std::io::{Error, ErrorKind, Read};
-use std::rt::{Clock, Env, Files};
+use std::io;
+use std::rt::{Clock, Files};
 use std::time::Instant;
-use std::{env, fs, io};
 
 /// The most octets that a call may read or write.
 const LONGEST: usize = 131_072;
@@ -33,19 +29,6 @@ struct Sum {
 struct Buffers {
     octets: Vec<u8>,
     text: Vec<u8>,
-}
-
-/// The error for a file whose text isn't what it should be.
-fn bad() -> Error {
-    Error::from(ErrorKind::InvalidData)
-}
-
-/// The text of a file.
-fn read_text<R: Files + AllocGlobal>(rt: &R, path: &str) -> io::Result<String> {
-    let mut octets = Vec::new(rt.alloc());
-    let mut file = fs::open(rt, path)?;
-    file.read_to_end(&mut octets)?;
-    String::from_utf8(octets).map_err(|_| bad())
 }
 
 /// The fourth words of those lines of a text that have four: the digits of a packet in a script, and those of a
@@ -115,19 +98,14 @@ fn run(packets: &[&[u8]], answers: &[&[u8]], buffers: &mut Buffers) -> Sum {
     sum
 }
 
-fn main(rt: HostRuntime) -> io::Result<()> {
-    let mut words = env::args(&rt)?.skip(1);
-    let (Some(script), Some(answers)) = (words.next(), words.next()) else {
-        println!(rt; "calls 0 octets 0 lasts 0")?;
-        return Ok(());
-    };
-    let turns = match words.next() {
-        Some(word) => word.parse().unwrap_or(1u32),
-        None => 1,
-    };
+/// Times so many turns of the calls for a script and the answers to it.
+pub(crate) fn time<R>(rt: &R, script: &str, answers: &str, turns: u32) -> io::Result<()>
+where
+    R: Files + Print + Eprint + Clock + AllocGlobal,
+{
     let alloc = rt.alloc();
-    let script = read_text(&rt, script.as_str())?;
-    let answers = read_text(&rt, answers.as_str())?;
+    let script = read_text(rt, script)?;
+    let answers = read_text(rt, answers)?;
     let packets = fourth_words(alloc, script.as_str())?;
     let answers = fourth_words(alloc, answers.as_str())?;
     let mut buffers = Buffers {
@@ -135,9 +113,9 @@ fn main(rt: HostRuntime) -> io::Result<()> {
         text: vec![in alloc; 0u8; LONGEST]?,
     };
     for _ in 0..turns {
-        let start = Instant::now(&rt)?;
+        let start = Instant::now(rt)?;
         let sum = run(packets.as_slice(), answers.as_slice(), &mut buffers);
-        let nanos = start.elapsed(&rt)?.as_nanos();
+        let nanos = start.elapsed(rt)?.as_nanos();
         println!(rt;
             "calls {} octets {} lasts {}",
             sum.calls, sum.octets, sum.lasts

@@ -1,4 +1,4 @@
-//! The work that `crates/speed` times, in plain Rust: the same turns and the same output.
+//! The work that `timings parts` times, in plain Rust: the same turns and the same output.
 
 use std::time::Instant;
 
