@@ -107,8 +107,8 @@ impl Sum {
     }
 }
 
-/// One turn: all arrivals in their order. There is one loop for both targets: with a loop for each, the compiler doesn't
-/// inline `arrive_into`, and an arrival takes 44 instructions more.
+/// One turn: all arrivals in their order. There is one loop for both targets. With a loop for each, the compiler
+/// doesn't inline `arrive_into`, and an arrival takes 44 instructions more.
 #[inline(never)]
 fn run(
     concentrator: &mut Concentrator,
