@@ -54,6 +54,14 @@ impl Sum {
 }
 
 impl Buffers {
+    /// Buffers with room for the longest call.
+    fn new(alloc: Global) -> io::Result<Self> {
+        Ok(Buffers {
+            octets: vec![in alloc; 0u8; LONGEST]?,
+            text: vec![in alloc; 0u8; LONGEST]?,
+        })
+    }
+
     /// Decodes these digits, as a replay decodes those of a packet.
     fn decode(&mut self, digits: &[u8], sum: &mut Sum) {
         let half = digits.len() / 2;
@@ -108,10 +116,7 @@ where
     let answers = read_text(rt, answers)?;
     let packets = fourth_words(alloc, script.as_str())?;
     let answers = fourth_words(alloc, answers.as_str())?;
-    let mut buffers = Buffers {
-        octets: vec![in alloc; 0u8; LONGEST]?,
-        text: vec![in alloc; 0u8; LONGEST]?,
-    };
+    let mut buffers = Buffers::new(alloc)?;
     for _ in 0..turns {
         let start = Instant::now(rt)?;
         let sum = run(packets.as_slice(), answers.as_slice(), &mut buffers);
