@@ -1,15 +1,20 @@
 #!/usr/bin/env python3
 """Cuts tables of test data to what the program `vectors` reads and must write.
 
-    tools/cut_vectors.py DIR
+    tools/cut_vectors.py [DIR]
 
-DIR holds checks.tsv, values.tsv, framing.tsv, fields.tsv, feedback.tsv, headers.tsv, chains.tsv and
-forms.tsv, whose first lines name their columns; a line that begins with # is a comment. The questions go to
-crates/vectors/stdin, the wanted answers to crates/vectors/stdout. Of a long table the first 500 lines are
-kept, and each fifth of the others.
+The questions go to crates/vectors/stdin, the wanted answers to crates/vectors/stdout. DIR holds checks.tsv,
+values.tsv, framing.tsv, fields.tsv, feedback.tsv, headers.tsv, chains.tsv and forms.tsv, whose first lines
+name their columns; a line that begins with # is a comment. Of a long table the first 500 lines are kept, and
+each fifth of the others. Without DIR the tables stay as they are in crates/vectors.
 
 The tables were computed by a model that was written from the rules alone, bit by bit and over whole lists,
 apart from the crates here. The model and the whole tables aren't in this repository; what is cut from them is.
+
+At the end of each table stand the rows of tools/part_rows.txt that the table lacks: the worked examples and
+the limits of each part. There a line with # and a table's name begins that table, a line that begins with //
+is a comment, and a row is a question, ` = ` and its answer. These rows are computed by hand, and not by the
+program.
 """
 
 import pathlib
@@ -28,6 +33,9 @@ TABLES = {
 }
 KEPT_WHOLE = 500
 KEPT_OF_THE_OTHERS = 5
+TOP = pathlib.Path(__file__).resolve().parent.parent
+QUESTIONS = TOP / "crates" / "vectors" / "stdin"
+ANSWERS = TOP / "crates" / "vectors" / "stdout"
 
 
 def cut(lines):
@@ -44,30 +52,59 @@ def question_and_answer(line, answer_columns):
     return "\t".join(columns[:-answer_columns]), "\t".join(columns[-answer_columns:])
 
 
-def lines_of(table):
-    """The lines of a table, without the one that names its columns."""
+def lines_of(file):
+    """The lines of a file."""
     try:
-        return table.read_text().splitlines()[1:]
+        return file.read_text().splitlines()
     except (OSError, UnicodeDecodeError) as fault:
-        sys.exit(f"cut_vectors.py: {table} can't be read: {getattr(fault, 'strerror', None) or 'it is no text'}")
+        sys.exit(f"cut_vectors.py: {file} can't be read: {getattr(fault, 'strerror', None) or 'it is no text'}")
+
+
+def tables_from(folder):
+    """The rows of each table that are kept of the files in a folder."""
+    tables = {}
+    for name, answer_columns in TABLES.items():
+        # The first line names the columns.
+        lines = [line for line in lines_of(folder / f"{name}.tsv")[1:] if not line.startswith("#")]
+        tables[name] = [question_and_answer(line, answer_columns) for line in cut(lines)]
+    return tables
+
+
+def tables_of(rows):
+    """The rows of each table, from rows among which a table's name begins it."""
+    tables = {name: [] for name in TABLES}
+    for question, answer in rows:
+        if question.startswith("# "):
+            table = tables[question[2:]]
+        else:
+            table.append((question, answer))
+    return tables
+
+
+def part_rows():
+    """The rows of each table in tools/part_rows.txt."""
+    lines = lines_of(TOP / "tools" / "part_rows.txt")
+    return tables_of(line.partition(" = ")[::2] for line in lines if not line.startswith("//"))
 
 
 def main():
-    if len(sys.argv) != 2:
+    if len(sys.argv) > 2 or sys.argv[1:2] == ["--help"]:
         sys.exit(__doc__)
-    tables = pathlib.Path(sys.argv[1])
-    crate = pathlib.Path(__file__).resolve().parent.parent / "crates" / "vectors"
+    if len(sys.argv) == 2:
+        tables = tables_from(pathlib.Path(sys.argv[1]))
+    else:
+        tables = tables_of(zip(lines_of(QUESTIONS), lines_of(ANSWERS)))
     questions, answers = [], []
-    for name, answer_columns in TABLES.items():
-        questions.append(f"# {name}")
-        answers.append(f"# {name}")
-        lines = lines_of(tables / f"{name}.tsv")
-        for line in cut([line for line in lines if not line.startswith("#")]):
-            question, answer = question_and_answer(line, answer_columns)
-            questions.append(question)
-            answers.append(answer)
-    (crate / "stdin").write_text("\n".join(questions) + "\n")
-    (crate / "stdout").write_text("\n".join(answers) + "\n")
+    for name, more in part_rows().items():
+        known = dict(tables[name])
+        for question, answer in more:
+            if known.setdefault(question, answer) != answer:
+                sys.exit(f"cut_vectors.py: {question} has two answers: {known[question]} and {answer}")
+        rows = tables[name] + [row for row in dict.fromkeys(more) if row not in tables[name]]
+        questions += [f"# {name}", *(question for question, _ in rows)]
+        answers += [f"# {name}", *(answer for _, answer in rows)]
+    QUESTIONS.write_text("\n".join(questions) + "\n")
+    ANSWERS.write_text("\n".join(answers) + "\n")
 
 
 if __name__ == "__main__":
