@@ -1,7 +1,7 @@
-//! Cursors, readers, bit strings and self-describing values.
+//! Cursors, readers and bit strings.
 
 use rohc_bits::reading::{cursor_over, is_set, octet, value, word};
-use rohc_bits::{Bits, Cursor, read_value, write_value};
+use rohc_bits::{Bits, Cursor};
 
 #[test]
 fn bits_stand_behind_one_another(rt: HostRuntime) {
@@ -43,39 +43,4 @@ fn bits_by_their_places(rt: HostRuntime) {
     assert!(rt; is_set(0b0100, 2));
     assert!(rt; !is_set(0b0100, 1));
     assert!(rt; is_set(0x8000_0000, 31));
-}
-
-// The first and last values of each length (RFC 3095 4.5.6).
-const ENDS: [(u32, &[u8]); 8] = [
-    (0, &[0x00]),
-    (127, &[0x7f]),
-    (128, &[0x80, 0x80]),
-    (16_383, &[0xbf, 0xff]),
-    (16_384, &[0xc0, 0x40, 0x00]),
-    (2_097_151, &[0xdf, 0xff, 0xff]),
-    (2_097_152, &[0xe0, 0x20, 0x00, 0x00]),
-    (536_870_911, &[0xff, 0xff, 0xff, 0xff]),
-];
-
-#[test]
-fn the_ends_of_each_length(rt: HostRuntime) {
-    for (value, octets) in ENDS {
-        assert_eq!(rt; read_value(octets), Some((value, octets.len())));
-        let text = write_value(value).expect(&rt, "a spelling");
-        assert_eq!(rt; text.as_slice(), octets);
-    }
-    assert!(rt; write_value(536_870_912).is_none());
-}
-
-#[test]
-fn a_longer_spelling_is_read(rt: HostRuntime) {
-    assert_eq!(rt; read_value(&[0x80, 0x05, 0xaa]), Some((5, 2)));
-}
-
-#[test]
-fn a_cut_off_value_is_none(rt: HostRuntime) {
-    let texts: [&[u8]; 4] = [&[], &[0x80], &[0xc0, 0x00], &[0xe0, 0x00, 0x00]];
-    for octets in texts {
-        assert!(rt; read_value(octets).is_none());
-    }
 }
