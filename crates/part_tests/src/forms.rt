@@ -38,29 +38,27 @@ fn say_the_same(a: &Form<'_>, b: &Form<'_>) -> bool {
         && a.payload == b.payload
 }
 
-// The RND in force after the example RND turned on, after an extension that turns it off, and in packets without an
-// extension 3.
+// Whether a packet is read under this RND, and the RND in force is the expected one.
+fn has_rnd(packet: &[u8], rnd: bool, expected: bool) -> bool {
+    match form_in(packet, rnd, false) {
+        Some(form) => form.rnd == expected,
+        None => false,
+    }
+}
+
+// Example RND turned on, an extension that turns it off, and a packet without an extension.
 #[test]
 fn rnd_in_force(rt: HostRuntime) {
-    let turned_on: [u8; 8] = [0xc1, 0x83, 0xa4, 0xca, 0x06, 0x12, 0x34, 0xae];
-    let turned_off: [u8; 6] = [0xc1, 0x83, 0xa4, 0xca, 0x04, 0xae];
-    let as_it_was: [u8; 4] = [0x25, 0x56, 0x78, 0xaf];
-    assert_eq!(rt;
-        form_in(&turned_on, false, false).map(|form| form.rnd),
-        Some(true)
+    assert!(rt;
+        has_rnd(
+            &[0xc1, 0x83, 0xa4, 0xca, 0x06, 0x12, 0x34, 0xae],
+            false,
+            true
+        )
     );
-    assert_eq!(rt;
-        form_in(&turned_off, true, false).map(|form| form.rnd),
-        Some(false)
-    );
-    assert_eq!(rt;
-        form_in(&as_it_was, true, false).map(|form| form.rnd),
-        Some(true)
-    );
-    assert_eq!(rt;
-        form_in(&as_it_was, false, false).map(|form| form.rnd),
-        Some(false)
-    );
+    assert!(rt; has_rnd(&[0xc1, 0x83, 0xa4, 0xca, 0x04, 0xae], true, false));
+    assert!(rt; has_rnd(&[0x25, 0x56, 0x78, 0xaf], true, true));
+    assert!(rt; has_rnd(&[0x25, 0x56, 0x78, 0xaf], false, false));
 }
 
 // The content of a packet that is read without extensions.
@@ -140,16 +138,22 @@ fn have_format(rnd: bool, second: u8, low: u8, high: u8, expected: FormKind) -> 
     true
 }
 
-// The first octets of each format, with the T bit of a UOR-2.
+// The RND, the T bit of a UOR-2, the first and the last first octet, and their format.
+const FIRST_OCTETS: [(bool, u8, u8, u8, FormKind); 9] = [
+    (false, 0x00, 0x00, 0x7f, FormKind::Uo0),
+    (true, 0x80, 0x00, 0x7f, FormKind::Uo0),
+    (false, 0x00, 0x80, 0x9f, FormKind::Uo1Id),
+    (false, 0x00, 0xa0, 0xbf, FormKind::Uo1Ts),
+    (true, 0x00, 0x80, 0xbf, FormKind::Uo1),
+    (false, 0x00, 0xc0, 0xdf, FormKind::Uor2Id),
+    (false, 0x80, 0xc0, 0xdf, FormKind::Uor2Ts),
+    (true, 0x00, 0xc0, 0xdf, FormKind::Uor2),
+    (true, 0x80, 0xc0, 0xdf, FormKind::Uor2),
+];
+
 #[test]
 fn each_first_octet(rt: HostRuntime) {
-    assert!(rt; have_format(false, 0x00, 0x00, 0x7f, FormKind::Uo0));
-    assert!(rt; have_format(true, 0x80, 0x00, 0x7f, FormKind::Uo0));
-    assert!(rt; have_format(false, 0x00, 0x80, 0x9f, FormKind::Uo1Id));
-    assert!(rt; have_format(false, 0x00, 0xa0, 0xbf, FormKind::Uo1Ts));
-    assert!(rt; have_format(true, 0x00, 0x80, 0xbf, FormKind::Uo1));
-    assert!(rt; have_format(false, 0x00, 0xc0, 0xdf, FormKind::Uor2Id));
-    assert!(rt; have_format(false, 0x80, 0xc0, 0xdf, FormKind::Uor2Ts));
-    assert!(rt; have_format(true, 0x00, 0xc0, 0xdf, FormKind::Uor2));
-    assert!(rt; have_format(true, 0x80, 0xc0, 0xdf, FormKind::Uor2));
+    for (rnd, second, low, high, expected) in FIRST_OCTETS {
+        assert!(rt; have_format(rnd, second, low, high, expected));
+    }
 }
