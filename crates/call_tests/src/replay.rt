@@ -12,8 +12,7 @@ use std::io::{self, Error, ErrorKind, Read, Write};
 use std::process::Abort;
 
 /// Links 1 to 3 of the worked examples.
-pub(crate) fn links_text() -> &'static str {
-    "version = 1
+pub(crate) const LINKS: &str = "version = 1
 [[link]]
 number = 1
 cid = \"small\"
@@ -56,34 +55,30 @@ static_nack_ms = 1000
 deliver_port = 6007
 feedback_port = 6008
 relay_port = 6009
-"
-}
+";
 
 /// Example *two calls and noise*, with an unfinished last line.
-fn script_text() -> &'static str {
+const SCRIPT: &str =
     "arrive 1 0 fd012b40110a0000010a0000021388138a00000001004000012000000090000001000000a0000980a0ab
 arrive 1 999999999999 e110ac
 arrive 2 5 fc812c00e6450102
 oops
 arrive 1 20 10ac
 arrive 1 20 e2fc008145aa
-arrive 1 40 d4c33ead"
-}
+arrive 1 40 d4c33ead";
 
 /// Its answers, line by line.
-fn answer_texts() -> [&'static str; 7] {
-    [
-        "1 0 ip 4500002900010000401166c10a0000010a0000021388138a0015000080000001000000a000000001ab
+const ANSWERS: [&str; 7] = [
+    "1 0 ip 4500002900010000401166c10a0000010a0000021388138a0015000080000001000000a000000001ab
 1 0 feedback f420011139
 ",
-        "1 1 refused NoContext\n",
-        "2 300 ip 450102\n2 300 feedback f3812c00\n",
-        "- - refused BadLine\n",
-        "1 0 ip 4500002900020000401166c00a0000010a0000021388138a00150000800000020000014000000001ac\n",
-        "1 2 ip 45aa\n1 2 feedback f2e200\n",
-        "1 0 ip 4500002900030000401166bf0a0000010a0000021388138a001500008080000300000c8000000001ad\n",
-    ]
-}
+    "1 1 refused NoContext\n",
+    "2 300 ip 450102\n2 300 feedback f3812c00\n",
+    "- - refused BadLine\n",
+    "1 0 ip 4500002900020000401166c00a0000010a0000021388138a00150000800000020000014000000001ac\n",
+    "1 2 ip 45aa\n1 2 feedback f2e200\n",
+    "1 0 ip 4500002900030000401166bf0a0000010a0000021388138a001500008080000300000c8000000001ad\n",
+];
 
 /// The concentrator with these links, without a record.
 fn concentrator(rt: &impl Abort, alloc: Global, links: &str) -> Concentrator {
@@ -94,7 +89,7 @@ fn concentrator(rt: &impl Abort, alloc: Global, links: &str) -> Concentrator {
 /// The answers of this many first lines of the script.
 fn first_answers(alloc: Global, lines: usize) -> Result<String, AllocError> {
     let mut text = String::new(alloc);
-    for answer in answer_texts().iter().take(lines) {
+    for answer in ANSWERS.iter().take(lines) {
         text.push_str(answer)?;
     }
     Ok(text)
@@ -195,7 +190,7 @@ fn compare_replay(
     wanted: Result<Tally, RunFault>,
     text: &str,
 ) {
-    let mut concentrator = concentrator(rt, alloc, links_text());
+    let mut concentrator = concentrator(rt, alloc, LINKS);
     let told = replay(alloc, &mut concentrator, reader, writer);
     compare(rt, told, writer.text.as_slice(), wanted, text);
 }
@@ -236,62 +231,61 @@ fn steady_reader(text: &[u8], size: usize) -> Pieces<'_> {
 /// many bad.
 type Example = (&'static str, &'static str, &'static str, u64, u64);
 
-fn examples() -> [Example; 10] {
-    [
-        (
-            "plain call",
-            "arrive 1 0 fc00b745aa\n",
-            "1 0 ip 45aa\n1 0 feedback f100\n",
-            1,
-            0,
-        ),
-        (
-            "plain call",
-            "arrive 1 0 fc00b7\n",
-            "1 0 stored\n1 0 feedback f100\n",
-            1,
-            0,
-        ),
-        (
-            "no context",
-            "arrive 1 0 10ac\narrive 1 0 fc00b845aa\narrive 1 0 10ac\n",
-            "1 0 refused NoContext\n1 0 refused Check\n1 0 refused NoContext\n",
-            3,
-            0,
-        ),
-        (
-            "no context",
-            "arrive 1 0 fc00b745aa\nreset 1\narrive 1 0 10ac\nreset 9\n",
-            "1 0 ip 45aa\n1 0 feedback f100\n1 0 refused NoContext\n9 - refused NoLink\n",
-            4,
-            0,
-        ),
-        (
-            "two calls and noise",
-            "arrive 1 999999999999 e110ac\narrive 2 5 fc812c00e6450102\noops\narrive 1 20 e2fc008145aa\narrive 1 0 e710ac\n",
-            "1 1 refused NoContext\n2 300 ip 450102\n2 300 feedback f3812c00\n- - refused BadLine\n1 2 ip 45aa\n1 2 feedback f2e200\n1 7 refused NoContext\n",
-            4,
-            1,
-        ),
-        ("script ends", "", "", 0, 0),
-        ("script ends", "\n", "- - refused BadLine\n", 0, 1),
-        (
-            "script ends",
-            "reset 01\narrive 1 0 FC\n",
-            "- - refused BadLine\n- - refused BadLine\n",
-            0,
-            2,
-        ),
-        ("script ends", "arrive 9 0 -", "9 - refused NoLink\n", 1, 0),
-        (
-            "fall to static",
-            "arrive 1 0 fd012b40110a0000010a0000021388138a00000001004000012000000090000001000000a0000980a0ab
+const EXAMPLES: [Example; 10] = [
+    (
+        "plain call",
+        "arrive 1 0 fc00b745aa\n",
+        "1 0 ip 45aa\n1 0 feedback f100\n",
+        1,
+        0,
+    ),
+    (
+        "plain call",
+        "arrive 1 0 fc00b7\n",
+        "1 0 stored\n1 0 feedback f100\n",
+        1,
+        0,
+    ),
+    (
+        "no context",
+        "arrive 1 0 10ac\narrive 1 0 fc00b845aa\narrive 1 0 10ac\n",
+        "1 0 refused NoContext\n1 0 refused Check\n1 0 refused NoContext\n",
+        3,
+        0,
+    ),
+    (
+        "no context",
+        "arrive 1 0 fc00b745aa\nreset 1\narrive 1 0 10ac\nreset 9\n",
+        "1 0 ip 45aa\n1 0 feedback f100\n1 0 refused NoContext\n9 - refused NoLink\n",
+        4,
+        0,
+    ),
+    (
+        "two calls and noise",
+        "arrive 1 999999999999 e110ac\narrive 2 5 fc812c00e6450102\noops\narrive 1 20 e2fc008145aa\narrive 1 0 e710ac\n",
+        "1 1 refused NoContext\n2 300 ip 450102\n2 300 feedback f3812c00\n- - refused BadLine\n1 2 ip 45aa\n1 2 feedback f2e200\n1 7 refused NoContext\n",
+        4,
+        1,
+    ),
+    ("script ends", "", "", 0, 0),
+    ("script ends", "\n", "- - refused BadLine\n", 0, 1),
+    (
+        "script ends",
+        "reset 01\narrive 1 0 FC\n",
+        "- - refused BadLine\n- - refused BadLine\n",
+        0,
+        2,
+    ),
+    ("script ends", "arrive 9 0 -", "9 - refused NoLink\n", 1, 0),
+    (
+        "fall to static",
+        "arrive 1 0 fd012b40110a0000010a0000021388138a00000001004000012000000090000001000000a0000980a0ab
 arrive 1 0 11ac
 arrive 1 0 11ac
 arrive 1 0 10ac
 arrive 1 0 d4c33ead
 ",
-            "1 0 ip 4500002900010000401166c10a0000010a0000021388138a0015000080000001000000a000000001ab
+        "1 0 ip 4500002900010000401166c10a0000010a0000021388138a0015000080000001000000a000000001ab
 1 0 feedback f420011139
 1 0 refused Check
 1 0 feedback f46001110d
@@ -300,58 +294,55 @@ arrive 1 0 d4c33ead
 1 0 ip 4500002900030000401166bf0a0000010a0000021388138a001500008080000300000c8000000001ad
 1 0 feedback f420031158
 ",
-            5,
-            0,
-        ),
-    ]
-}
+        5,
+        0,
+    ),
+];
 
-fn examples_of_framing() -> [Example; 6] {
-    [
-        (
-            "plain call behind Add-CID",
-            "arrive 1 0 e1fc003045aa\n",
-            "1 1 ip 45aa\n1 1 feedback f2e100\n",
-            1,
-            0,
-        ),
-        (
-            "plain call on a large identifier",
-            "arrive 2 0 fc812c00e6450102\narrive 2 0 45812c0102\n",
-            "2 300 ip 450102\n2 300 feedback f3812c00\n2 300 ip 450102\n",
-            2,
-            0,
-        ),
-        (
-            "relayed feedback",
-            "arrive 1 0 e0e0f22007fc00b745aa\n",
-            "1 - relay 2007\n1 0 ip 45aa\n1 0 feedback f100\n",
-            1,
-            0,
-        ),
-        (
-            "relayed feedback",
-            "arrive 1 0 f00901\narrive 1 0 f0\narrive 1 0 f000\narrive 1 0 e0\n",
-            "1 - refused FeedbackShort\n1 - refused FeedbackShort\n1 - relay -\n",
-            4,
-            0,
-        ),
-        (
-            "framing refusals",
-            "arrive 1 0 e1f100\narrive 1 0 ff00\narrive 1 0 f9\narrive 1 0 e1e0\narrive 1 0 e1\narrive 1 0 -\n",
-            "1 - refused AfterAddCid\n1 - refused Segment\n1 - refused ReservedType\n1 - refused ReservedType\n1 - refused NoHeader\n1 - refused Empty\n",
-            6,
-            0,
-        ),
-        (
-            "framing refusals",
-            "arrive 2 0 fcc0\narrive 2 0 e1fc\narrive 2 0 fc81\narrive 3 0 e410ac\narrive 1 0 e710ac\narrive 9 0 10ac\n",
-            "2 - refused LargeCid\n2 - refused AddCidOnLarge\n2 - refused NoHeader\n3 - refused CidRange\n1 7 refused NoContext\n9 - refused NoLink\n",
-            6,
-            0,
-        ),
-    ]
-}
+const EXAMPLES_OF_FRAMING: [Example; 6] = [
+    (
+        "plain call behind Add-CID",
+        "arrive 1 0 e1fc003045aa\n",
+        "1 1 ip 45aa\n1 1 feedback f2e100\n",
+        1,
+        0,
+    ),
+    (
+        "plain call on a large identifier",
+        "arrive 2 0 fc812c00e6450102\narrive 2 0 45812c0102\n",
+        "2 300 ip 450102\n2 300 feedback f3812c00\n2 300 ip 450102\n",
+        2,
+        0,
+    ),
+    (
+        "relayed feedback",
+        "arrive 1 0 e0e0f22007fc00b745aa\n",
+        "1 - relay 2007\n1 0 ip 45aa\n1 0 feedback f100\n",
+        1,
+        0,
+    ),
+    (
+        "relayed feedback",
+        "arrive 1 0 f00901\narrive 1 0 f0\narrive 1 0 f000\narrive 1 0 e0\n",
+        "1 - refused FeedbackShort\n1 - refused FeedbackShort\n1 - relay -\n",
+        4,
+        0,
+    ),
+    (
+        "framing refusals",
+        "arrive 1 0 e1f100\narrive 1 0 ff00\narrive 1 0 f9\narrive 1 0 e1e0\narrive 1 0 e1\narrive 1 0 -\n",
+        "1 - refused AfterAddCid\n1 - refused Segment\n1 - refused ReservedType\n1 - refused ReservedType\n1 - refused NoHeader\n1 - refused Empty\n",
+        6,
+        0,
+    ),
+    (
+        "framing refusals",
+        "arrive 2 0 fcc0\narrive 2 0 e1fc\narrive 2 0 fc81\narrive 3 0 e410ac\narrive 1 0 e710ac\narrive 9 0 10ac\n",
+        "2 - refused LargeCid\n2 - refused AddCidOnLarge\n2 - refused NoHeader\n3 - refused CidRange\n1 7 refused NoContext\n9 - refused NoLink\n",
+        6,
+        0,
+    ),
+];
 
 /// Runs each script, and compares its answers and its tally.
 fn agrees(rt: &impl Abort, alloc: Global, examples: &[Example]) {
@@ -380,12 +371,12 @@ fn compare_whole(
 
 #[test]
 fn worked_examples(rt: HostRuntime) {
-    agrees(&rt, rt.alloc(), &examples());
+    agrees(&rt, rt.alloc(), &EXAMPLES);
 }
 
 #[test]
 fn worked_examples_of_framing(rt: HostRuntime) {
-    agrees(&rt, rt.alloc(), &examples_of_framing());
+    agrees(&rt, rt.alloc(), &EXAMPLES_OF_FRAMING);
 }
 
 #[test]
@@ -424,13 +415,13 @@ fn long_script(alloc: Global, len: usize, behind: &str) -> Result<Vec<u8>, Alloc
 
 #[test]
 fn pieces_of_any_size(rt: HostRuntime) {
-    let whole = first_answers(rt.alloc(), answer_texts().len()).expect(&rt, "memory");
+    let whole = first_answers(rt.alloc(), ANSWERS.len()).expect(&rt, "memory");
     let tally = Tally { events: 6, bad: 1 };
     for size in [1, 2, 7, 131_200] {
         compare_whole(
             &rt,
             rt.alloc(),
-            script_text().as_bytes(),
+            SCRIPT.as_bytes(),
             size,
             tally,
             whole.as_str(),

@@ -3,7 +3,7 @@
 ghost use Rattle.std.specs.Prelude.{IfOk};
 ghost use Rattle.rohc_serve.specs.Datagram.{AreSettingsOf};
 
-use crate::replay::links_text;
+use crate::replay::LINKS;
 use rohc_concentrator::Concentrator;
 use rohc_replay::{Links, Ports, read_links};
 use rohc_serve::{Front, Sends, ServeTally, answer_datagram, serve};
@@ -56,7 +56,7 @@ fn is_kept(sent: &mut Vec<(u16, Vec<u8>)>, port: u16, octets: &[u8]) -> bool {
 fn made(alloc: Global) -> Result<(Links, Concentrator), Fail>
     ensures { IfOk result (λ made. AreSettingsOf made.1 made.0.settings) }
 {
-    let links = read_links(alloc, links_text())?;
+    let links = read_links(alloc, LINKS)?;
     let concentrator = Concentrator::new(alloc, links.settings())?;
     Ok((links, concentrator))
 }

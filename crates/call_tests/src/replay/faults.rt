@@ -1,7 +1,7 @@
 //! Reads and writes that fail.
 
 use super::{
-    Pieces, Taker, Tired, answer_texts, compare_replay, first_answers, script_text, steady_reader,
+    ANSWERS, Pieces, SCRIPT, Taker, Tired, compare_replay, first_answers, steady_reader,
     willing_writer,
 };
 use rohc_replay::RunFault;
@@ -11,14 +11,14 @@ use std::process::Abort;
 
 #[test]
 fn each_read_fails_in_turn(rt: HostRuntime) {
-    for calls in 0..=script_text().len().div_ceil(7) {
+    for calls in 0..=SCRIPT.len().div_ceil(7) {
         read_fails(&rt, rt.alloc(), calls);
     }
 }
 
 /// Replays the script in pieces of 7 octets, with a read that fails behind this many calls.
 fn read_fails(rt: &impl Abort, alloc: Global, calls: usize) {
-    let script = script_text().as_bytes();
+    let script = SCRIPT.as_bytes();
     let seen = &script[..calls.saturating_mul(7).min(script.len())];
     let finished = seen.iter().filter(|octet| **octet == b'\n').count();
     let want = first_answers(alloc, finished).expect(rt, "memory");
@@ -35,7 +35,7 @@ fn read_fails(rt: &impl Abort, alloc: Global, calls: usize) {
 
 #[test]
 fn each_write_fails_in_turn(rt: HostRuntime) {
-    let whole = first_answers(rt.alloc(), answer_texts().len()).expect(&rt, "memory");
+    let whole = first_answers(rt.alloc(), ANSWERS.len()).expect(&rt, "memory");
     let places = [0, 90, 114, 136, 152, 176, 196, 286, 298, 318];
     for tired in [Tired::Fails, Tired::TakesNone, Tired::TakesOneThenFails] {
         let more = usize::from(tired == Tired::TakesOneThenFails);
@@ -44,7 +44,7 @@ fn each_write_fails_in_turn(rt: HostRuntime) {
             let mut writer = willing_writer(rt.alloc());
             writer.calls_left = calls;
             writer.tired = tired;
-            stops_at(&rt, rt.alloc(), script_text(), &mut writer, text);
+            stops_at(&rt, rt.alloc(), SCRIPT, &mut writer, text);
         }
     }
 }
@@ -59,10 +59,10 @@ fn stops_at(rt: &impl Abort, alloc: Global, script: &str, writer: &mut Taker, te
 
 #[test]
 fn the_flush_fails(rt: HostRuntime) {
-    let whole = first_answers(rt.alloc(), answer_texts().len()).expect(&rt, "memory");
+    let whole = first_answers(rt.alloc(), ANSWERS.len()).expect(&rt, "memory");
     let mut writer = willing_writer(rt.alloc());
     writer.flushes = false;
-    stops_at(&rt, rt.alloc(), script_text(), &mut writer, whole.as_str());
+    stops_at(&rt, rt.alloc(), SCRIPT, &mut writer, whole.as_str());
 }
 
 /// Writers that take so many octets at a call and fail behind so many calls, each with what it has then taken.

@@ -17,8 +17,7 @@ enum Whose {
 
 /// Two links, of small and of large CIDs. Their records count as none from 5,000 milliseconds after their last
 /// accepted arrival on.
-fn links_text() -> &'static str {
-    "version = 2
+const LINKS: &str = "version = 2
 [[link]]
 number = 1
 cid = \"small\"
@@ -49,8 +48,7 @@ deliver_port = 6004
 feedback_port = 6005
 relay_port = 6006
 idle_ms = 5000
-"
-}
+";
 
 /// A placeholder for a line of 131,201 octets.
 const LONG: &str = "long";
@@ -70,48 +68,45 @@ const PAIRS: [(u16, u16); 9] = [
 
 /// Honest and damaged packets of these CIDs, resets, bad lines and a long one. CID 0 of link 1 has an arrival 5,000
 /// milliseconds after its last accepted one, and then one 4,999 milliseconds after that same accepted one.
-fn lines_of_pairs() -> [(Whose, &'static str); 34] {
-    [
-        (Whose::Call(1, 0), "arrive 1 0 fc00b745aa"),
-        (Whose::Call(1, 1), "arrive 1 999999999999 e110ac"),
-        (Whose::Call(2, 300), "arrive 2 5 fc812c00e6450102"),
-        (Whose::Nobody, "oops"),
-        (Whose::Call(1, 2), "arrive 1 7 e2fc008145aa"),
-        (Whose::Call(2, 0), "arrive 2 8 fc0000b17ad7ed17"),
-        (Whose::Call(1, 0), "arrive 1 20 45ab"),
-        (Whose::Call(1, 4), "arrive 1 21 e4fc00229087"),
-        (Whose::Call(2, 5), "arrive 2 22 fc0500a9eea2"),
-        (Whose::Nobody, LONG),
-        (Whose::Call(1, 5), "arrive 1 23 f22007e5fc00f276e975"),
-        (Whose::Call(1, 1), "arrive 1 24 e1fc0030beef"),
-        (Whose::Call(1, 0), "arrive 1 25 fc00b845aa"),
-        (Whose::Nobody, "arrive 1 26 ff00"),
-        (Whose::Call(2, 300), "arrive 2 30 45812c0102"),
-        (Whose::Call(1, 0), "arrive 1 5020 45ac"),
-        (Whose::Call(1, 7), "arrive 1 31 e710ac"),
-        (Whose::Nobody, "arrive 3 32 e410ac"),
-        (Whose::Nobody, ""),
-        (Whose::Call(1, 0), "arrive 1 5019 45ad"),
-        (Whose::Link(1), "reset 1"),
-        (Whose::Call(1, 0), "arrive 1 40 45ac"),
-        (Whose::Call(1, 2), "arrive 1 41 e245ac"),
-        (Whose::Call(1, 4), "arrive 1 42 e4fc0022"),
-        (Whose::Call(2, 5), "arrive 2 43 450545"),
-        (Whose::Call(2, 0), "arrive 2 44 450001"),
-        (Whose::Call(1, 0), "arrive 1 45 fc00b7"),
-        (Whose::Link(2), "reset 2"),
-        (Whose::Call(2, 300), "arrive 2 50 45812c0102"),
-        (Whose::Call(1, 5), "arrive 1 51 e545"),
-        (Whose::Call(1, 1), "arrive 1 52 e1fc0030"),
-        (Whose::Nobody, "reset 9"),
-        (Whose::Call(2, 0), "arrive 2 53 fc0000b1"),
-        (Whose::Nobody, "arrive 2 54 fcc0"),
-    ]
-}
+const LINES: [(Whose, &str); 34] = [
+    (Whose::Call(1, 0), "arrive 1 0 fc00b745aa"),
+    (Whose::Call(1, 1), "arrive 1 999999999999 e110ac"),
+    (Whose::Call(2, 300), "arrive 2 5 fc812c00e6450102"),
+    (Whose::Nobody, "oops"),
+    (Whose::Call(1, 2), "arrive 1 7 e2fc008145aa"),
+    (Whose::Call(2, 0), "arrive 2 8 fc0000b17ad7ed17"),
+    (Whose::Call(1, 0), "arrive 1 20 45ab"),
+    (Whose::Call(1, 4), "arrive 1 21 e4fc00229087"),
+    (Whose::Call(2, 5), "arrive 2 22 fc0500a9eea2"),
+    (Whose::Nobody, LONG),
+    (Whose::Call(1, 5), "arrive 1 23 f22007e5fc00f276e975"),
+    (Whose::Call(1, 1), "arrive 1 24 e1fc0030beef"),
+    (Whose::Call(1, 0), "arrive 1 25 fc00b845aa"),
+    (Whose::Nobody, "arrive 1 26 ff00"),
+    (Whose::Call(2, 300), "arrive 2 30 45812c0102"),
+    (Whose::Call(1, 0), "arrive 1 5020 45ac"),
+    (Whose::Call(1, 7), "arrive 1 31 e710ac"),
+    (Whose::Nobody, "arrive 3 32 e410ac"),
+    (Whose::Nobody, ""),
+    (Whose::Call(1, 0), "arrive 1 5019 45ad"),
+    (Whose::Link(1), "reset 1"),
+    (Whose::Call(1, 0), "arrive 1 40 45ac"),
+    (Whose::Call(1, 2), "arrive 1 41 e245ac"),
+    (Whose::Call(1, 4), "arrive 1 42 e4fc0022"),
+    (Whose::Call(2, 5), "arrive 2 43 450545"),
+    (Whose::Call(2, 0), "arrive 2 44 450001"),
+    (Whose::Call(1, 0), "arrive 1 45 fc00b7"),
+    (Whose::Link(2), "reset 2"),
+    (Whose::Call(2, 300), "arrive 2 50 45812c0102"),
+    (Whose::Call(1, 5), "arrive 1 51 e545"),
+    (Whose::Call(1, 1), "arrive 1 52 e1fc0030"),
+    (Whose::Nobody, "reset 9"),
+    (Whose::Call(2, 0), "arrive 2 53 fc0000b1"),
+    (Whose::Nobody, "arrive 2 54 fcc0"),
+];
 
 /// The answers for CID 0 of link 1. Its record was last accepted at 20.
-fn first_told() -> &'static str {
-    "1 0 ip 45aa
+const FIRST_TOLD: &str = "1 0 ip 45aa
 1 0 feedback f100
 1 0 ip 45ab
 1 0 refused Check
@@ -120,39 +115,36 @@ fn first_told() -> &'static str {
 1 0 refused NoContext
 1 0 stored
 1 0 feedback f100
-"
-}
+";
 
 /// Hostile lines: none has a CID of the script, and none is a reset. They make two records on each link, at the
 /// latest time and at the earliest.
-fn hostile_lines() -> [&'static str; 18] {
-    [
-        "arrive 1 18446744073709551615 e9fc00758f",
-        "arrive 1 0 e945",
-        "arrive 1 0 e9ffff",
-        "arrive 1 0 e9fc00768f",
-        "arrive 1 0 eefc0006de5b386a00",
-        "arrive 1 0 ee45",
-        "arrive 1 0 f00901",
-        "arrive 1 0 f3010203",
-        "arrive 1 0 e1e0",
-        "arrive 2 18446744073709551615 fc812d008b",
-        "arrive 2 0 45812d01",
-        "arrive 2 0 fcc0",
-        "arrive 2 0 e1fc",
-        "arrive 2 0 4580060000",
-        "arrive 1 0 -",
-        "arrive 9 0 10ac",
-        "1 0 ip 45aa",
-        "arrive 1 0 FC",
-    ]
-}
+const HOSTILE: [&str; 18] = [
+    "arrive 1 18446744073709551615 e9fc00758f",
+    "arrive 1 0 e945",
+    "arrive 1 0 e9ffff",
+    "arrive 1 0 e9fc00768f",
+    "arrive 1 0 eefc0006de5b386a00",
+    "arrive 1 0 ee45",
+    "arrive 1 0 f00901",
+    "arrive 1 0 f3010203",
+    "arrive 1 0 e1e0",
+    "arrive 2 18446744073709551615 fc812d008b",
+    "arrive 2 0 45812d01",
+    "arrive 2 0 fcc0",
+    "arrive 2 0 e1fc",
+    "arrive 2 0 4580060000",
+    "arrive 1 0 -",
+    "arrive 9 0 10ac",
+    "1 0 ip 45aa",
+    "arrive 1 0 FC",
+];
 
 /// Some of the answers to these lines.
 const HOSTILE_TOLD: [&str; 4] = ["1 9 ip 8f", "1 9 ip 45", "2 301 stored", "2 301 ip 4501"];
 
 /// How many hostile lines stand between two lines, so that they are 10,000 in all.
-const BETWEEN: usize = 10_000 / 34 + 1;
+const BETWEEN: usize = 10_000 / LINES.len() + 1;
 
 /// Whether the line belongs to the pair's own script.
 fn is_own(whose: Whose, link: u16, cid: u16) -> bool {
@@ -174,7 +166,7 @@ fn push_line(text: &mut String, line: &str) -> Result<(), AllocError> {
 /// The pair's own script.
 fn own_script(alloc: Global, link: u16, cid: u16) -> Result<String, AllocError> {
     let mut text = String::new(alloc);
-    for (whose, line) in lines_of_pairs().iter() {
+    for (whose, line) in LINES.iter() {
         if is_own(*whose, link, cid) {
             push_line(&mut text, line)?;
         }
@@ -185,7 +177,7 @@ fn own_script(alloc: Global, link: u16, cid: u16) -> Result<String, AllocError> 
 /// The whole script, with this many hostile lines after each line.
 fn whole_script(alloc: Global, hostile: usize) -> Result<String, AllocError> {
     let mut text = String::new(alloc);
-    for (_, line) in lines_of_pairs().iter() {
+    for (_, line) in LINES.iter() {
         push_line(&mut text, line)?;
         push_hostile(&mut text, hostile)?;
     }
@@ -194,7 +186,7 @@ fn whole_script(alloc: Global, hostile: usize) -> Result<String, AllocError> {
 
 /// Appends this many hostile lines, again from the first one after the last.
 fn push_hostile(text: &mut String, count: usize) -> Result<(), AllocError> {
-    for line in hostile_lines().iter().cycle().take(count) {
+    for line in HOSTILE.iter().cycle().take(count) {
         push_line(text, line)?;
     }
     Ok(())
@@ -202,7 +194,7 @@ fn push_hostile(text: &mut String, count: usize) -> Result<(), AllocError> {
 
 /// What a replay of the script writes.
 fn answers(rt: &impl Abort, alloc: Global, script: &str) -> String {
-    let (_, writer) = replayed(rt, alloc, links_text(), script, usize::MAX);
+    let (_, writer) = replayed(rt, alloc, LINKS, script, usize::MAX);
     String::from_utf8(writer.text).expect(rt, "text")
 }
 
@@ -246,7 +238,7 @@ fn each_pair_is_told_what_its_own_script_tells(rt: HostRuntime) {
         let alone = own_answers(&rt, rt.alloc(), link, cid);
         compare_pair(&rt, rt.alloc(), (whole.as_str(), alone.as_str()), link, cid);
     }
-    compare_pair(&rt, rt.alloc(), (whole.as_str(), first_told()), 1, 0);
+    compare_pair(&rt, rt.alloc(), (whole.as_str(), FIRST_TOLD), 1, 0);
 }
 
 #[test]
@@ -260,5 +252,5 @@ fn ten_thousand_hostile_lines_change_nothing(rt: HostRuntime) {
     for (link, cid) in PAIRS {
         compare_pair(&rt, rt.alloc(), (noisy.as_str(), quiet.as_str()), link, cid);
     }
-    compare_pair(&rt, rt.alloc(), (noisy.as_str(), first_told()), 1, 0);
+    compare_pair(&rt, rt.alloc(), (noisy.as_str(), FIRST_TOLD), 1, 0);
 }

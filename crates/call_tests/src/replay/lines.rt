@@ -2,7 +2,7 @@
 //!
 //! The answer to a line shows its words, and the concentrator shows the time of an arrival.
 
-use super::{compare_whole, links_text, replayed};
+use super::{LINKS, compare_whole, replayed};
 use rohc_replay::Tally;
 use std::alloc::{AllocError, Global};
 use std::process::Abort;
@@ -14,23 +14,21 @@ const GOOD: Tally = Tally { events: 1, bad: 0 };
 const BAD: Tally = Tally { events: 0, bad: 1 };
 
 /// Good lines, and their answers.
-fn events() -> [(&'static str, &'static str); 6] {
-    [
-        ("arrive 1 0 fc00b745aa", "1 0 ip 45aa\n1 0 feedback f100\n"),
-        ("arrive 1 999999999999 e110ac", "1 1 refused NoContext\n"),
-        (
-            "arrive 65535 18446744073709551615 -",
-            "65535 - refused NoLink\n",
-        ),
-        ("reset 0", "0 - refused NoLink\n"),
-        ("reset 9", "9 - refused NoLink\n"),
-        ("reset 65535", "65535 - refused NoLink\n"),
-    ]
-}
+const EVENTS: [(&str, &str); 6] = [
+    ("arrive 1 0 fc00b745aa", "1 0 ip 45aa\n1 0 feedback f100\n"),
+    ("arrive 1 999999999999 e110ac", "1 1 refused NoContext\n"),
+    (
+        "arrive 65535 18446744073709551615 -",
+        "65535 - refused NoLink\n",
+    ),
+    ("reset 0", "0 - refused NoLink\n"),
+    ("reset 9", "9 - refused NoLink\n"),
+    ("reset 65535", "65535 - refused NoLink\n"),
+];
 
 #[test]
 fn good_lines_are_events(rt: HostRuntime) {
-    for (line, answer) in events() {
+    for (line, answer) in EVENTS {
         compare_whole(&rt, rt.alloc(), line.as_bytes(), 4096, GOOD, answer);
     }
 }
@@ -51,49 +49,47 @@ fn times_are_read(rt: HostRuntime) {
 
 /// When CID 0 of link 1 has last accepted an arrival, after a replay of this line.
 fn accepted_by(rt: &impl Abort, alloc: Global, line: &str) -> Option<u64> {
-    let (concentrator, _) = replayed(rt, alloc, links_text(), line, usize::MAX);
+    let (concentrator, _) = replayed(rt, alloc, LINKS, line, usize::MAX);
     concentrator
         .context_at(1, 0)
         .map(|(_cid, context)| context.accepted())
 }
 
 /// Lines that are the text of no event.
-fn no_events() -> [&'static str; 28] {
-    [
-        "",
-        "oops",
-        "reset",
-        "reset ",
-        "reset 01",
-        "reset 00",
-        "reset +1",
-        "reset -",
-        "reset 65536",
-        "reset 1 ",
-        "reset 1\r",
-        "reset\t1",
-        "reset  1",
-        " reset 1",
-        "Reset 1",
-        "arrive 1 0 FC",
-        "arrive 1 0 fC",
-        "arrive 1 0 fc0",
-        "arrive 1 0 0g",
-        "arrive 1 0",
-        "arrive 1 0 ",
-        "arrive 1 0 - ",
-        "arrive 1  0 fc",
-        "arrive 1 00 fc",
-        "arrive 1 18446744073709551616 fc",
-        "arrive 65536 0 fc",
-        "arrive 1 0 fc fc",
-        "arrive 1 0 é",
-    ]
-}
+const NO_EVENTS: [&str; 28] = [
+    "",
+    "oops",
+    "reset",
+    "reset ",
+    "reset 01",
+    "reset 00",
+    "reset +1",
+    "reset -",
+    "reset 65536",
+    "reset 1 ",
+    "reset 1\r",
+    "reset\t1",
+    "reset  1",
+    " reset 1",
+    "Reset 1",
+    "arrive 1 0 FC",
+    "arrive 1 0 fC",
+    "arrive 1 0 fc0",
+    "arrive 1 0 0g",
+    "arrive 1 0",
+    "arrive 1 0 ",
+    "arrive 1 0 - ",
+    "arrive 1  0 fc",
+    "arrive 1 00 fc",
+    "arrive 1 18446744073709551616 fc",
+    "arrive 65536 0 fc",
+    "arrive 1 0 fc fc",
+    "arrive 1 0 é",
+];
 
 #[test]
 fn other_lines_are_bad(rt: HostRuntime) {
-    for line in no_events() {
+    for line in NO_EVENTS {
         let script = format!(in rt.alloc(); "{line}\n").expect(&rt, "memory");
         let answer = "- - refused BadLine\n";
         compare_whole(&rt, rt.alloc(), script.as_bytes(), 4096, BAD, answer);
@@ -135,8 +131,8 @@ fn a_short_line_is_one_write_and_a_long_one_goes_in_parts(rt: HostRuntime) {
 /// A payload of this size goes in this many writes, with this many octets in all.
 fn goes_in(rt: &impl Abort, alloc: Global, size: usize, written: (usize, usize)) {
     let line = line_with_payload(alloc, size).expect(rt, "memory");
-    let (_, whole) = replayed(rt, alloc, links_text(), line.as_str(), usize::MAX);
-    let (_, slow) = replayed(rt, alloc, links_text(), line.as_str(), 7);
+    let (_, whole) = replayed(rt, alloc, LINKS, line.as_str(), usize::MAX);
+    let (_, slow) = replayed(rt, alloc, LINKS, line.as_str(), 7);
     assert_eq!(rt; (usize::MAX - whole.calls_left, whole.text.len()), written);
     assert!(rt; whole.text.ends_with(b"5a5a5a\n"));
     assert_eq!(rt; whole.text.as_slice(), slow.text.as_slice());

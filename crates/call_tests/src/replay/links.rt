@@ -8,8 +8,7 @@ use std::alloc::{AllocError, Global};
 use std::fmt::InlineText;
 use std::process::Abort;
 
-fn first_version() -> &'static str {
-    "version = 1
+const FIRST: &str = "version = 1
 [[link]]
 number = 1
 cid = \"small\"
@@ -24,11 +23,9 @@ static_nack_ms = 1000
 deliver_port = 6001
 feedback_port = 6002
 relay_port = 6003
-"
-}
+";
 
-fn second_version() -> &'static str {
-    "version = 2
+const SECOND: &str = "version = 2
 [[link]]
 number = 4
 cid = \"large\"
@@ -45,8 +42,7 @@ feedback_port = 6002
 relay_port = 6003
 idle_ms = 5000
 range = [{ first = 4, last = 7, mode = \"U\" }]
-"
-}
+";
 
 /// The ports of both texts.
 const PORTS: Ports = Ports {
@@ -127,8 +123,8 @@ fn reads_both_versions(rt: HostRuntime) {
         mode: Mode::U,
     };
     for (text, link, settings, ranges) in [
-        (first_version(), 1, settings, [].as_slice()),
-        (second_version(), 4, wide, [range].as_slice()),
+        (FIRST, 1, settings, [].as_slice()),
+        (SECOND, 4, wide, [range].as_slice()),
     ] {
         compare_links(&rt, rt.alloc(), text, link, settings, ranges);
     }
@@ -201,19 +197,12 @@ fn wants_each_key(rt: HostRuntime) {
 
 /// The line of this key may have no other kind of value, and may be left out only if it is the ranges'.
 fn wants_key(rt: &impl Abort, alloc: Global, place: usize, key: Key) {
-    let line = second_version().lines().nth(place).expect(rt, "a line");
+    let line = SECOND.lines().nth(place).expect(rt, "a line");
     let (name, _) = line.split_once(" = ").expect(rt, "a key");
     let truth = format!(in alloc; "{name} = true").expect(rt, "memory");
-    compare_changed(
-        rt,
-        alloc,
-        second_version(),
-        place,
-        truth.as_str(),
-        Some(bad_key(key)),
-    );
+    compare_changed(rt, alloc, SECOND, place, truth.as_str(), Some(bad_key(key)));
     if key != Key::Range {
-        compare_changed(rt, alloc, second_version(), place, "", Some(bad_key(key)));
+        compare_changed(rt, alloc, SECOND, place, "", Some(bad_key(key)));
     }
 }
 
@@ -225,43 +214,36 @@ const UNKNOWN: [(usize, &str, usize); 3] = [
 ];
 
 /// Lines that take the place of one of a text, each with the key whose value is wrong by it.
-fn wrong_values() -> [(&'static str, usize, &'static str, Key); 11] {
-    [
-        (first_version(), 2, "number = 65536", Key::Number),
-        (first_version(), 2, "number = 1.0", Key::Number),
-        (first_version(), 2, "number = \"1\"", Key::Number),
-        (first_version(), 3, "cid = \"Small\"", Key::Cid),
-        (first_version(), 5, "mode = \"R\"", Key::Mode),
-        (first_version(), 6, "k1 = 256", Key::K1),
-        (first_version(), 10, "packet_ms = 4294967296", Key::PacketMs),
-        (first_version(), 12, "deliver_port = 0", Key::DeliverPort),
-        (first_version(), 14, "relay_port = 65536", Key::RelayPort),
-        (
-            second_version(),
-            16,
-            "range = [{ first = 4, last = 7 }]",
-            Key::Range,
-        ),
-        (
-            second_version(),
-            16,
-            "range = [{ first = 4, last = 7, mode = \"U\", cid = 5 }]",
-            Key::Range,
-        ),
-    ]
-}
+const WRONG: [(&str, usize, &str, Key); 11] = [
+    (FIRST, 2, "number = 65536", Key::Number),
+    (FIRST, 2, "number = 1.0", Key::Number),
+    (FIRST, 2, "number = \"1\"", Key::Number),
+    (FIRST, 3, "cid = \"Small\"", Key::Cid),
+    (FIRST, 5, "mode = \"R\"", Key::Mode),
+    (FIRST, 6, "k1 = 256", Key::K1),
+    (FIRST, 10, "packet_ms = 4294967296", Key::PacketMs),
+    (FIRST, 12, "deliver_port = 0", Key::DeliverPort),
+    (FIRST, 14, "relay_port = 65536", Key::RelayPort),
+    (SECOND, 16, "range = [{ first = 4, last = 7 }]", Key::Range),
+    (
+        SECOND,
+        16,
+        "range = [{ first = 4, last = 7, mode = \"U\", cid = 5 }]",
+        Key::Range,
+    ),
+];
 
 #[test]
 fn refuses_unknown_keys(rt: HostRuntime) {
     for (place, line, entry) in UNKNOWN {
         let fault = Some(LinksFault::UnknownKey { entry });
-        compare_changed(&rt, rt.alloc(), first_version(), place, line, fault);
+        compare_changed(&rt, rt.alloc(), FIRST, place, line, fault);
     }
 }
 
 #[test]
 fn refuses_wrong_values(rt: HostRuntime) {
-    for (text, place, line, key) in wrong_values() {
+    for (text, place, line, key) in WRONG {
         compare_changed(&rt, rt.alloc(), text, place, line, Some(bad_key(key)));
     }
 }
@@ -271,7 +253,7 @@ fn takes_eight_ranges(rt: HostRuntime) {
     let alloc = rt.alloc();
     for (count, fault) in [(8u8, None), (9, Some(bad_key(Key::Range)))] {
         let line = line_of_ranges(alloc, count).expect(&rt, "memory");
-        compare_changed(&rt, alloc, second_version(), 16, line.as_str(), fault);
+        compare_changed(&rt, alloc, SECOND, 16, line.as_str(), fault);
     }
 }
 
@@ -297,7 +279,7 @@ fn compare_overlap(rt: &impl Abort, alloc: Global, first: &str, fault: Option<Se
     let line = format!(in alloc;
         "range = [{{ first = 4, last = 7, mode = \"U\" }}, {{ first = {first}, last = 9, mode = \"U\" }}]"
     ).expect(rt, "memory");
-    let text = with_line(alloc, second_version(), 16, line.as_str()).expect(rt, "memory");
+    let text = with_line(alloc, SECOND, 16, line.as_str()).expect(rt, "memory");
     let links = read_links(alloc, text.as_str()).expect(rt, "links");
     let told = Concentrator::new(alloc, links.settings()).err();
     assert_eq!(rt; told, fault, "from {first} on");
