@@ -107,6 +107,18 @@ fn an_answer_overwrites_the_one_that_is_lent(rt: HostRuntime) {
     assert_eq!(rt; cid_and_outcome(&answer), Some((0, DELIVERED)));
 }
 
+#[test]
+fn a_packet_is_taken_at_once_or_later(rt: HostRuntime) {
+    let mut concentrator = made(&rt, rt.alloc(), link_1(0));
+    let mut answer = Answer::refusing(7, Refusal::NoContext);
+    assert!(rt; !concentrator.take_at_once(1, 0, honest::IR, &mut answer));
+    concentrator.arrive_longer(1, 0, honest::IR, &mut answer);
+    assert_eq!(rt; cid_and_outcome(&answer), Some((0, DELIVERED)));
+    answer = Answer::refusing(7, Refusal::NoContext);
+    assert!(rt; concentrator.take_at_once(1, 0, b"\x10\xac", &mut answer));
+    assert_eq!(rt; cid_and_outcome(&answer), Some((0, DELIVERED)));
+}
+
 /// Packets of two CIDs, of which the greater comes first.
 const OUT_OF_ORDER: [Arrival; 6] = [
     (0, b"\xe1\xfc\x00\x30\x45\xaa", DELIVERED),

@@ -1,4 +1,4 @@
-//! The tests of contexts, the concentrator, replays and the server.
+//! The tests of contexts, the concentrator, replays, the server and the program.
 //!
 //! They stand apart from these crates, so that each of those is proved once, and not again with its tests.
 #![tactic(auto)]
@@ -7,6 +7,8 @@
 mod concentrator;
 #[cfg(test)]
 mod context;
+#[cfg(test)]
+mod program;
 #[cfg(test)]
 mod replay;
 #[cfg(test)]

@@ -1,7 +1,6 @@
-//! Worked examples, long lines and pieces, through `replay`.
+//! Worked examples through `replay`, with their tallies.
 
 mod faults;
-mod isolation;
 mod lines;
 mod links;
 
@@ -231,33 +230,12 @@ fn steady_reader(text: &[u8], size: usize) -> Pieces<'_> {
 /// many bad.
 type Example = (&'static str, &'static str, &'static str, u64, u64);
 
-const EXAMPLES: [Example; 10] = [
+const EXAMPLES: [Example; 3] = [
     (
         "plain call",
         "arrive 1 0 fc00b745aa\n",
         "1 0 ip 45aa\n1 0 feedback f100\n",
         1,
-        0,
-    ),
-    (
-        "plain call",
-        "arrive 1 0 fc00b7\n",
-        "1 0 stored\n1 0 feedback f100\n",
-        1,
-        0,
-    ),
-    (
-        "no context",
-        "arrive 1 0 10ac\narrive 1 0 fc00b845aa\narrive 1 0 10ac\n",
-        "1 0 refused NoContext\n1 0 refused Check\n1 0 refused NoContext\n",
-        3,
-        0,
-    ),
-    (
-        "no context",
-        "arrive 1 0 fc00b745aa\nreset 1\narrive 1 0 10ac\nreset 9\n",
-        "1 0 ip 45aa\n1 0 feedback f100\n1 0 refused NoContext\n9 - refused NoLink\n",
-        4,
         0,
     ),
     (
@@ -267,164 +245,15 @@ const EXAMPLES: [Example; 10] = [
         4,
         1,
     ),
-    ("script ends", "", "", 0, 0),
-    ("script ends", "\n", "- - refused BadLine\n", 0, 1),
-    (
-        "script ends",
-        "reset 01\narrive 1 0 FC\n",
-        "- - refused BadLine\n- - refused BadLine\n",
-        0,
-        2,
-    ),
     ("script ends", "arrive 9 0 -", "9 - refused NoLink\n", 1, 0),
-    (
-        "fall to static",
-        "arrive 1 0 fd012b40110a0000010a0000021388138a00000001004000012000000090000001000000a0000980a0ab
-arrive 1 0 11ac
-arrive 1 0 11ac
-arrive 1 0 10ac
-arrive 1 0 d4c33ead
-",
-        "1 0 ip 4500002900010000401166c10a0000010a0000021388138a0015000080000001000000a000000001ab
-1 0 feedback f420011139
-1 0 refused Check
-1 0 feedback f46001110d
-1 0 refused Check
-1 0 refused StateTooLow
-1 0 ip 4500002900030000401166bf0a0000010a0000021388138a001500008080000300000c8000000001ad
-1 0 feedback f420031158
-",
-        5,
-        0,
-    ),
 ];
-
-const EXAMPLES_OF_FRAMING: [Example; 6] = [
-    (
-        "plain call behind Add-CID",
-        "arrive 1 0 e1fc003045aa\n",
-        "1 1 ip 45aa\n1 1 feedback f2e100\n",
-        1,
-        0,
-    ),
-    (
-        "plain call on a large identifier",
-        "arrive 2 0 fc812c00e6450102\narrive 2 0 45812c0102\n",
-        "2 300 ip 450102\n2 300 feedback f3812c00\n2 300 ip 450102\n",
-        2,
-        0,
-    ),
-    (
-        "relayed feedback",
-        "arrive 1 0 e0e0f22007fc00b745aa\n",
-        "1 - relay 2007\n1 0 ip 45aa\n1 0 feedback f100\n",
-        1,
-        0,
-    ),
-    (
-        "relayed feedback",
-        "arrive 1 0 f00901\narrive 1 0 f0\narrive 1 0 f000\narrive 1 0 e0\n",
-        "1 - refused FeedbackShort\n1 - refused FeedbackShort\n1 - relay -\n",
-        4,
-        0,
-    ),
-    (
-        "framing refusals",
-        "arrive 1 0 e1f100\narrive 1 0 ff00\narrive 1 0 f9\narrive 1 0 e1e0\narrive 1 0 e1\narrive 1 0 -\n",
-        "1 - refused AfterAddCid\n1 - refused Segment\n1 - refused ReservedType\n1 - refused ReservedType\n1 - refused NoHeader\n1 - refused Empty\n",
-        6,
-        0,
-    ),
-    (
-        "framing refusals",
-        "arrive 2 0 fcc0\narrive 2 0 e1fc\narrive 2 0 fc81\narrive 3 0 e410ac\narrive 1 0 e710ac\narrive 9 0 10ac\n",
-        "2 - refused LargeCid\n2 - refused AddCidOnLarge\n2 - refused NoHeader\n3 - refused CidRange\n1 7 refused NoContext\n9 - refused NoLink\n",
-        6,
-        0,
-    ),
-];
-
-/// Runs each script, and compares its answers and its tally.
-fn agrees(rt: &impl Abort, alloc: Global, examples: &[Example]) {
-    for (_, script, answers, events, bad) in examples {
-        let tally = Tally {
-            events: *events,
-            bad: *bad,
-        };
-        compare_whole(rt, alloc, script.as_bytes(), 4096, tally, answers);
-    }
-}
-
-/// Runs a script in pieces of this size without a fault, and compares its tally and its answers with these.
-fn compare_whole(
-    rt: &impl Abort,
-    alloc: Global,
-    script: &[u8],
-    size: usize,
-    tally: Tally,
-    text: &str,
-) {
-    let mut reader = steady_reader(script, size);
-    let mut writer = willing_writer(alloc);
-    compare_replay(rt, alloc, &mut reader, &mut writer, Ok(tally), text);
-}
 
 #[test]
 fn worked_examples(rt: HostRuntime) {
-    agrees(&rt, rt.alloc(), &EXAMPLES);
-}
-
-#[test]
-fn worked_examples_of_framing(rt: HostRuntime) {
-    agrees(&rt, rt.alloc(), &EXAMPLES_OF_FRAMING);
-}
-
-#[test]
-fn long_lines(rt: HostRuntime) {
-    let lines = [
-        (131_200, "", 0, "- - refused BadLine\n"),
-        (131_201, "", 0, "- - refused LongLine\n"),
-        (
-            200_000,
-            "\nreset 9",
-            1,
-            "- - refused LongLine\n9 - refused NoLink\n",
-        ),
-        (
-            131_200,
-            "\nreset 9\n",
-            1,
-            "- - refused BadLine\n9 - refused NoLink\n",
-        ),
-    ];
-    for (len, behind, events, answers) in lines {
-        let script = long_script(rt.alloc(), len, behind).expect(&rt, "memory");
-        let tally = Tally { events, bad: 1 };
-        for size in [7, 131_200, 200_000] {
-            compare_whole(&rt, rt.alloc(), script.as_slice(), size, tally, answers);
-        }
-    }
-}
-
-/// A line of this length, with this behind it.
-fn long_script(alloc: Global, len: usize, behind: &str) -> Result<Vec<u8>, AllocError> {
-    let mut script = vec![in alloc; b'x'; len]?;
-    script.extend_from_slice(behind.as_bytes())?;
-    Ok(script)
-}
-
-#[test]
-fn pieces_of_any_size(rt: HostRuntime) {
-    let whole = first_answers(rt.alloc(), ANSWERS.len()).expect(&rt, "memory");
-    let tally = Tally { events: 6, bad: 1 };
-    for size in [1, 2, 7, 131_200] {
-        compare_whole(
-            &rt,
-            rt.alloc(),
-            SCRIPT.as_bytes(),
-            size,
-            tally,
-            whole.as_str(),
-        );
+    for (_, script, answers, events, bad) in EXAMPLES {
+        let mut reader = steady_reader(script.as_bytes(), 4096);
+        let mut writer = willing_writer(rt.alloc());
+        let tally = Ok(Tally { events, bad });
+        compare_replay(&rt, rt.alloc(), &mut reader, &mut writer, tally, answers);
     }
 }

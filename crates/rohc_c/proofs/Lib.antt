@@ -3,3 +3,4 @@ pub mod HandleValues
 pub mod RelayLemmas
 pub mod SetupLemmas
 pub mod PacketLemmas
+pub mod PayloadLemmas

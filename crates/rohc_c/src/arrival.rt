@@ -1,12 +1,13 @@
 //! Writing an answer into the caller's struct and buffers.
 
-ghost use Rattle.std.specs.Prelude.{◌≡◌, ◌≤◌, ◌+◌, ◌-◌, ◌++◌, length, drop};
+ghost use Rattle.std.specs.Prelude.{◌≡◌, false, ℕ, ◌≤◌, ◌+◌, ◌-◌, List, [], ◌++◌, length, drop, None, IfSome};
 ghost use Rattle.rohc_frame.specs.Reading.{elements_of};
-ghost use Rattle.rohc_context.specs.Response.{response_of};
+ghost use Rattle.rohc_context.specs.Response.{response_of, delivered};
 ghost use Rattle.rohc_concentrator.specs.Report.{report_of, Arrived};
 ghost use Rattle.rohc_c.specs.Relay.{Fits};
 ghost use Rattle.rohc_c.specs.Written.{outcome_number, packet_octets, relayed_in, StandsIn, IsTold, IsWritten, IsPacketWithin, IsWithin};
 
+use crate::payload::put_payload;
 use crate::relay::{put_behind, put_elements};
 use crate::room::HEAD;
 use rohc_concentrator::Answer;
@@ -38,6 +39,7 @@ pub struct RohcArrival {
 }
 
 /// The number of an outcome.
+#[inline(always)]
 fn number(outcome: Outcome) -> u8
     ensures { result ≡ outcome_number outcome }
 {
@@ -48,34 +50,58 @@ fn number(outcome: Outcome) -> u8
     }
 }
 
-/// Writes a packet's head at the start of a buffer. The head of nearly every packet has 40 octets, and the compiler makes
-/// no call of a copy whose length it knows.
+/// Writes a packet's head at the start of a buffer. The head of nearly every packet has 40 octets, or one if it's a Normal
+/// packet.
 #[inline(always)]
 fn put_head(head: &[u8], place: &mut [u8])
     requires { length head.now ≤ length place.old }
     ensures { place.new ≡ head.entry.now ++ drop (length head.entry.now) place.old }
 {
-    if head.len() == HEAD {
-        place[..HEAD].copy_from_slice(head);
-    } else {
-        place[..head.len()].copy_from_slice(head);
+    match head {
+        [first] => place[0] = *first,
+        _ if head.len() == HEAD => put_long_head(head, place),
+        _ => place[..head.len()].copy_from_slice(head),
     }
 }
 
-/// Writes a packet into a buffer, and returns its length. The payload comes first, since the head was just written octet
-/// by octet, and reading it back at once in wider parts would wait for that.
-fn put_packet(delivered: &Delivered<'_>, place: &mut [u8]) -> usize
+/// Writes a packet into a buffer, and returns its length. The payload comes first, since the head was just written in
+/// parts of two to eight octets, and reading it back at once in wider parts would wait for that.
+#[inline(always)]
+pub(crate) fn put_packet(delivered: &Delivered<'_>, place: &mut [u8]) -> usize
     requires { 40 + length delivered.now.payload.now ≤ length place.old }
     ensures { StandsIn (delivered.now.head.items ++ delivered.now.payload.now) result place.new }
 {
     let head = delivered.head.as_slice();
-    let len = head.len() + delivered.payload.len();
-    place[head.len()..len].copy_from_slice(delivered.payload);
+    put_payload(place, head.len(), delivered.payload);
     put_head(head, place);
-    len
+    head.len() + delivered.payload.len()
+}
+
+/// Writes a head of 40 octets at the start of a buffer. The compiler makes no call of a copy whose length it knows.
+#[inline(always)]
+fn put_long_head(head: &[u8], place: &mut [u8])
+    requires long { length head.now ≡ 40 }
+    requires room { 40 ≤ length place.old }
+    ensures { place.new ≡ head.entry.now ++ drop (length head.entry.now) place.old }
+{
+    place[..HEAD].copy_from_slice(head);
+}
+
+/// Writes a packet whose head has 40 octets into a buffer, and returns its length.
+#[inline(always)]
+pub(crate) fn put_long(long: &Delivered<'_>, place: &mut [u8]) -> usize
+    requires long { length long.now.head.items ≡ 40 }
+    requires room { 40 + length long.now.payload.now ≤ length place.old }
+    ensures { StandsIn (long.now.head.items ++ long.now.payload.now) result place.new }
+{
+    let head = long.head.as_slice();
+    put_long_head(head, place);
+    put_payload(place, head.len(), long.payload);
+    head.len() + long.payload.len()
 }
 
 /// Writes a reply's packet into its buffer. Returns whether there is one, and its length.
+#[inline(always)]
 fn tell_packet(reply: &Reply<'_>, place: &mut [u8]) -> (bool, usize)
     requires head { 40 ≤ length place.old }
     requires within { IsPacketWithin (length place.old - 40) (response_of reply.now).packet }
@@ -88,6 +114,7 @@ fn tell_packet(reply: &Reply<'_>, place: &mut [u8]) -> (bool, usize)
 }
 
 /// Writes a reply's feedback into its buffer. Returns whether there is some, and its length.
+#[inline(always)]
 fn tell_feedback(reply: &Reply<'_>, place: &mut [u8]) -> (bool, usize)
     requires { 8 ≤ length place.old }
     ensures { IsTold (response_of reply.now).feedback place.new result.0 result.1 }
@@ -102,6 +129,7 @@ fn tell_feedback(reply: &Reply<'_>, place: &mut [u8]) -> (bool, usize)
 }
 
 /// Writes a context's answer, and the feedback that the packet relays, into the buffers.
+#[inline(always)]
 fn tell_reply(
     cid: u16,
     reply: &Reply<'_>,
@@ -134,6 +162,7 @@ fn tell_reply(
 }
 
 /// Writes an answer into the buffers.
+#[inline(always)]
 pub(crate) fn write(
     answer: &Answer<'_>,
     packet: &mut [u8],
@@ -167,5 +196,48 @@ pub(crate) fn write(
             outcome: refusal.number(),
             ..RohcArrival::default()
         },
+    }
+}
+
+/// The CID and the packet of an answer that delivers one, without feedback for the compressor. Nearly every answer does.
+#[inline(always)]
+pub(crate) fn packet_in<'b, 'a>(answer: &'b Answer<'a>) -> Option<(u16, &'b Delivered<'a>)>
+    ensures { IfSome result (λ p. report_of answer.now ≡
+        Arrived p.0 (delivered p.1.now.head.items p.1.now.payload.now None) (relayed_in (report_of answer.now))) }
+{
+    let Answer::Arrived { cid, reply, .. } = answer else {
+        return None;
+    };
+    if reply.outcome != Outcome::Delivered || reply.feedback.is_some() {
+        return None;
+    }
+    reply.packet.as_ref().map(|packet| (*cid, packet))
+}
+
+/// Whether an answer relays feedback.
+#[inline(always)]
+pub(crate) fn relays(answer: &Answer<'_>) -> bool
+    ensures { result ≡ false → relayed_in (report_of answer.now) ≡ [] }
+{
+    match answer {
+        Answer::Arrived { relayed, .. } | Answer::OnlyFront { relayed } => {
+            let mut elements = *relayed;
+            elements.next().is_some()
+        }
+        Answer::Refused(_) => false,
+    }
+}
+
+/// The struct for a packet of this length in its buffer, without feedback of either kind.
+#[inline(always)]
+pub(crate) fn tell_alone(cid: u16, packet_length: usize) -> RohcArrival
+    ensures { (head payload packet feedback relayed : List ℕ) → StandsIn (head ++ payload) packet_length packet →
+        IsWritten (Arrived cid (delivered head payload None) []) (record { packet = packet; feedback = feedback; relayed = relayed }) result }
+{
+    RohcArrival {
+        cid,
+        has_packet: true,
+        packet_length,
+        ..RohcArrival::default()
     }
 }

@@ -4,15 +4,14 @@ ghost use Rattle.std.specs.Prelude.{◌≡◌, ◌≢◌, ◌⊎◌, ◌↔◌, 
 ghost use Rattle.rohc_c.specs.Setup.{IsNew, IsNewFault, fault_number, fault_place};
 ghost use Rattle.rohc_c.specs.declared.setup.NewFault.{NewFault};
 
-use crate::arrival::{RohcArrival, write};
+use crate::arrival::RohcArrival;
 use crate::gateway::Gateway;
 use crate::link::RohcLink;
 use crate::names::{put_name, refusal_of};
 use crate::room::has_room;
 use crate::setup::build;
 use crate::standing::{RohcContextInfo, context_at};
-use rohc_concentrator::Answer;
-use rohc_context::Refusal;
+use crate::taking::take_packet;
 use std::alloc::Global;
 
 /// Makes a concentrator with these links, in this order and without a record, in place of what the gateway had.
@@ -36,7 +35,7 @@ pub extern "C" fn rohc_new(
     match build(alloc, links) {
         Ok(concentrator) => {
             rohc_free(alloc, gateway);
-            *gateway = Gateway::of(concentrator);
+            gateway.put(concentrator);
             *place = 0;
             0
         }
@@ -94,10 +93,17 @@ pub extern "C" fn rohc_arrive(
         return 2;
     }
     let mut concentrator = gateway.take(alloc);
-    let mut answer = Answer::refusing(0, Refusal::NoContext);
-    concentrator.arrive_into(link, moment, octets, &mut answer);
-    *arrival = write(&answer, packet, feedback, relayed);
-    *gateway = Gateway::of(concentrator);
+    take_packet(
+        &mut concentrator,
+        link,
+        moment,
+        octets,
+        packet,
+        feedback,
+        relayed,
+        arrival,
+    );
+    gateway.put(concentrator);
     0
 }
 
@@ -118,7 +124,7 @@ pub extern "C" fn rohc_reset(alloc: Global, gateway: &mut Gateway, link: u16) ->
     }
     let mut concentrator = gateway.take(alloc);
     let outcome = concentrator.reset(link);
-    *gateway = Gateway::of(concentrator);
+    gateway.put(concentrator);
     match outcome {
         Ok(()) => 0,
         Err(_) => 2,
@@ -142,7 +148,7 @@ pub extern "C" fn rohc_has_context(
     }
     let concentrator = gateway.take(alloc);
     let stands = concentrator.has_context(link, cid);
-    *gateway = Gateway::of(concentrator);
+    gateway.put(concentrator);
     stands
 }
 
@@ -167,7 +173,7 @@ pub extern "C" fn rohc_link_at(
     }
     let concentrator = gateway.take(alloc);
     let number = concentrator.link_at(place);
-    *gateway = Gateway::of(concentrator);
+    gateway.put(concentrator);
     let Some(number) = number else {
         return false;
     };
@@ -196,7 +202,7 @@ pub extern "C" fn rohc_context_at(
     }
     let concentrator = gateway.take(alloc);
     let shown = context_at(&concentrator, link, place);
-    *gateway = Gateway::of(concentrator);
+    gateway.put(concentrator);
     let Some(shown) = shown else {
         return false;
     };

@@ -20,24 +20,12 @@ pub struct Gateway {
 }
 
 impl Gateway {
-    /// A gateway without a concentrator.
-    pub(crate) fn none() -> Gateway
-        ensures { result.handle.concentrator ≡ None }
+    /// Puts a concentrator into the gateway.
+    pub(crate) fn put(&mut self, concentrator: Box<Concentrator>)
+        ensures { self.new.handle.concentrator ≡ Some concentrator.value }
     {
-        Gateway {
-            live: false,
-            handle: Handle::none(),
-        }
-    }
-
-    /// A gateway with this concentrator.
-    pub(crate) fn of(concentrator: Box<Concentrator>) -> Gateway
-        ensures { result.handle.concentrator ≡ Some concentrator.value }
-    {
-        Gateway {
-            live: true,
-            handle: Handle::of(Loose::of(concentrator)),
-        }
+        self.live = true;
+        self.handle = Handle::of(Loose::of(concentrator));
     }
 
     /// Takes the concentrator out of the gateway, and leaves none.
@@ -46,7 +34,8 @@ impl Gateway {
         ensures taken { self.old.handle.concentrator ≡ Some result.value }
         ensures none { self.new.handle.concentrator ≡ None }
     {
-        let Gateway { live: _, handle } = std::mem::replace(self, Gateway::none());
+        self.live = false;
+        let handle = std::mem::replace(&mut self.handle, Handle::none());
         handle.open(alloc).into_box()
     }
 }

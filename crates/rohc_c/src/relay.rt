@@ -8,6 +8,7 @@ ghost use Rattle.rohc_c.specs.Written.{StandsIn};
 use rohc_frame::Elements;
 
 /// Writes octets into a buffer after its first `at` octets.
+#[inline(always)]
 pub(crate) fn put_behind(place: &mut [u8], at: usize, octets: &[u8])
     requires { at + length octets.now ≤ length place.old }
     ensures len { length place.new ≡ length place.old }
@@ -26,6 +27,7 @@ pub(crate) struct Relayed {
 }
 
 /// Writes the data of each element into a buffer, after one octet that counts it.
+#[inline(always)]
 pub(crate) fn put_elements(elements: Elements<'_>, place: &mut [u8]) -> Relayed
     requires { Fits (elements_of elements) (length place.old) }
     ensures count { result.count ≡ length (elements_of elements.entry) }

@@ -14,8 +14,7 @@ pub(crate) fn has_room(octets: &[u8], packet: &[u8], feedback: &[u8], relayed: &
     ensures { IsTrue result ↔ HasRoom octets.now
         (record { packet = packet.now; feedback = feedback.now; relayed = relayed.now }) }
 {
-    packet.len() >= HEAD
-        && packet.len() - HEAD >= octets.len()
+    packet.len() >= octets.len() + HEAD
         && feedback.len() >= FEEDBACK
         && relayed.len() >= octets.len()
 }

@@ -1,6 +1,7 @@
 pub mod EventLemmas
 pub mod GoodLemmas
 pub mod HonestLemmas
+pub mod KeepLemmas
 pub mod LinkPlaceLemmas
 pub mod MarkedLemmas
 pub mod OrderLemmas

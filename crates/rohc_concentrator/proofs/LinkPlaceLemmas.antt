@@ -1,14 +1,18 @@
 -- What a write at a link's place does to a concentrator.
-use Rattle.std.proofs.Common.{◌≡◌, ◌≢◌, ℕ, zero, suc, List, [], ◌∷◌, ◌⊎◌, inl, inr, Bool, true, false, Option, Some, map, ap, sym, subst, refl, ◌∙◌, nat_eq, slice_get, unwrap_or, arith}
+use Rattle.std.proofs.Common.{◌≡◌, ◌≢◌, ℕ, zero, suc, List, [], ◌∷◌, ◌⊎◌, inl, inr, Bool, true, false, Option, Some, None, map, ap, sym, subst, refl, ◌∙◌, nat_eq, slice_get, unwrap_or, arith}
 use Rattle.std.proofs.lemmas.Bool.Decides.{nat_tests}
 use Rattle.std.specs.HashMap.{get, keys, IsUnique}
 use Rattle.std.specs.Option.{option_map, option_and_then}
 use Rattle.indexmap.specs.IndexMap.{with_value_at, set_value_at}
 use Rattle.rohc_concentrator.specs.declared.records.LinkRecords.{LinkRecords}
 use Rattle.rohc_concentrator.specs.declared.concentrator.Concentrator.{Concentrator}
-use Rattle.rohc_concentrator.specs.Tables.{setting_at, record_in, record_at, KeepsSettings, KeepsOthers, KeepsPlaces, KeepsOrder}
+use Rattle.rohc_concentrator.specs.Tables.{setting_at, record_in, record_at, identifiers_at, KeepsSettings, KeepsOthers, KeepsPlaces, KeepsOrder, KeepsAll}
+use Rattle.rohc_concentrator.specs.Taken.{Stays}
 use Rattle.rohc_concentrator.specs.Report.{Report, IsAnswered}
 use Rattle.rohc_concentrator.proofs.PlaceLemmas.{own_written, others_kept}
+
+None_not_Some : {X : Type 0} {x : X} → None ≢ Some x
+None_not_Some e = cc
 
 -- what holds of one number and of each other one holds of all
 by_number : (P : ℕ → Type 0) (one : ℕ) → P one → ((n : ℕ) → n ≢ one → P n) → (n : ℕ) → P n
@@ -66,6 +70,16 @@ module _ (k : Concentrator) (place link : ℕ) (before after : LinkRecords) (uni
         (subst (λ (y : Option LinkRecords). KeepsPlaces (keys before.contexts) (unwrap_or (option_map (λ (r : LinkRecords). keys r.contexts) y) []) borne (record_in before)) (sym own) h);
     elsewhere = λ l is. ap (λ (x : Option LinkRecords). unwrap_or (option_map (λ (r : LinkRecords). keys r.contexts) x) []) (others l is);
   }
+
+  -- if the link's records stay, all does
+  pub all_stays : Stays before after → KeepsAll k (record { links = with_value_at k.links place after })
+  all_stays s =
+      let order = order_stays None s.order in
+      record {
+        settings = settings_stay s.setting;
+        records = λ l cid. others_stay None (λ c is. s.records c) l cid (inr (λ e. absurd (None_not_Some e)));
+        order = by_number (λ l. identifiers_at written l ≡ identifiers_at k l) link order.here order.elsewhere;
+      }
 
   -- the answer by what was kept for the link is the answer by what the concentrator kept
   pub answer_by : (moment : ℕ) (octets : List ℕ) (report : Report) → IsAnswered (Some before.setting) (record_in before) moment octets report (record_in after)

@@ -1,5 +1,5 @@
 -- What a concentrator keeps. Words: setting_at k l, record_at k l i, identifiers_at k l; AreTables;
--- IsPlaceOf; Keeps, for what stays.
+-- IsPlaceOf; Keeps, for what stays; KeepsAll.
 use Rattle.std.specs.Prelude.{◌≡◌, ◌≢◌, ℕ, List, [], ◌∷◌, ◌++◌, ◌⊎◌, Option, Some, None, nat_eq, map, unwrap_or, ◌<◌, slice_get}
 use Rattle.std.specs.HashMap.{HashMap}
 use Rattle.std.specs.Option.{option_map, option_and_then}
@@ -73,3 +73,9 @@ KeepsPlaces old new (Some cid) before = KeepsPlace old new cid (before cid)
 pub record KeepsOrder (old new : Concentrator) (link : ℕ) (borne : Option ℕ) : Type 0 where
   pub here : KeepsPlaces (identifiers_at old link) (identifiers_at new link) borne (record_at old link)
   pub elsewhere : (l : ℕ) → l ≢ link → identifiers_at new l ≡ identifiers_at old l
+
+-- all settings and all records stay, in their order
+pub record KeepsAll (old new : Concentrator) : Type 0 where
+  pub settings : KeepsSettings old new
+  pub records : (l cid : ℕ) → record_at new l cid ≡ record_at old l cid
+  pub order : (l : ℕ) → identifiers_at new l ≡ identifiers_at old l

@@ -1,18 +1,36 @@
 //! The events of a concentrator, and what it shows.
 
+ghost use Rattle.std.specs.Prelude.{◌≡◌, None, IfSome, nat_eq};
+ghost use Rattle.indexmap.specs.IndexMap.{get};
+ghost use Rattle.rohc_concentrator.specs.Tables.{IsPlaceOf};
+
 use crate::answer::{Answer, NoLink};
 use crate::concentrator::Concentrator;
-use crate::link::arrive_on;
+use crate::link::{Start, arrive_longer_on, arrive_on, take_plain};
 use crate::place::{place_by_hash, stands_at};
 use crate::records::LinkRecords;
 use indexmap::IndexMap;
 use rohc_context::Refusal;
 
+/// The place of a link, if it is there.
+fn link_place(links: &IndexMap<u16, LinkRecords>, link: u16) -> Option<usize>
+    ensures there { IfSome result (λ place. IsPlaceOf links.now place link) }
+    ensures absent { result ≡ None → get nat_eq links.now link ≡ None }
+{
+    let likely = usize::from(link.wrapping_sub(1));
+    if stands_at(links, likely, link) {
+        return Some(likely);
+    }
+    place_by_hash(links, link)
+}
+
 impl Concentrator {
-    ghost use Rattle.std.specs.Prelude.{◌≡◌, [], ◌≢◌, ◌↔◌, ℕ, None, IsErr, is_some, nat_eq};
-    ghost use Rattle.rohc_concentrator.specs.Tables.{setting_at, record_at, identifiers_at, AreTables, KeepsSettings, KeepsOthers, KeepsOrder};
+    ghost use Rattle.std.specs.Prelude.{◌≡◌, [], ◌≢◌, ◌↔◌, ℕ, None, true, false, IsErr, is_some, nat_eq};
+    ghost use Rattle.rohc_concentrator.specs.Tables.{setting_at, record_at, identifiers_at, AreTables, KeepsSettings, KeepsOthers, KeepsOrder, KeepsAll};
     ghost use Rattle.rohc_concentrator.specs.Report.{report_of, IsAnswered};
+    ghost use Rattle.rohc_concentrator.specs.Events.{Arrives};
     ghost use Rattle.rohc_concentrator.specs.Bears.{borne};
+    ghost use Rattle.rohc_concentrator.specs.Taken.{IsFor};
 
     /// Takes one packet of a link, and returns the answer. `moment` is its arrival time in milliseconds.
     ///
@@ -59,6 +77,58 @@ impl Concentrator {
         };
         let (_, records) = self.links.pair_mut(place);
         arrive_on(records, moment, octets, answer);
+    }
+
+    /// Takes a packet as `arrive_into` does and returns true, if nothing stands before its header, it is a UO-0 of a call
+    /// of profile 0x0001, and its context takes it at once, as nearly every packet of a call is. Then the answer is that
+    /// of a CID's context, without relayed feedback. Otherwise it returns false: then all settings and records stay as
+    /// they were, what `answer` holds means nothing, and `arrive_longer` takes the packet.
+    ///
+    /// For a caller who copies the answer right away, and so lets the compiler write it where the copy goes.
+    #[inline(always)]
+    pub fn take_at_once<'a>(
+        &mut self,
+        link: u16,
+        moment: u64,
+        octets: &'a [u8],
+        answer: &mut Answer<'a>,
+    ) -> bool
+        ensures taken { result ≡ true → Arrives self.old link moment octets.entry.now (report_of answer.new) self.new }
+        ensures alone { result ≡ true → (cid : ℕ) × IsFor cid (report_of answer.new) }
+        ensures stays { result ≡ false → KeepsAll self.old self.new }
+    {
+        // As in `arrive_into`.
+        let likely = usize::from(link.wrapping_sub(1));
+        let place = if stands_at(&self.links, likely, link) {
+            likely
+        } else {
+            let Some(found) = place_by_hash(&self.links, link) else {
+                return false;
+            };
+            found
+        };
+        let (_, records) = self.links.pair_mut(place);
+        take_plain(records, moment, octets, Start::ShortRtp, answer)
+    }
+
+    /// Takes a packet as `arrive_into` does. It is for a packet that `take_at_once` didn't take, and doesn't try the
+    /// same again.
+    #[inline(always)]
+    pub fn arrive_longer<'a>(
+        &mut self,
+        link: u16,
+        moment: u64,
+        octets: &'a [u8],
+        answer: &mut Answer<'a>,
+    )
+        ensures { Arrives self.old link moment octets.entry.now (report_of answer.new) self.new }
+    {
+        let Some(place) = link_place(&self.links, link) else {
+            *answer = Answer::Refused(Refusal::NoLink);
+            return;
+        };
+        let (_, records) = self.links.pair_mut(place);
+        arrive_longer_on(records, moment, octets, answer);
     }
 
     /// Forgets every record of a link, and no other record. The error is `NoLink`.

@@ -1,9 +1,12 @@
 //! One arrival on one link.
 
-ghost use Rattle.std.specs.Prelude.{◌≡◌, ◌≢◌, ◌≤◌, ℕ, None, true, false, IfSome, nat_eq};
+ghost use Rattle.std.specs.Prelude.{◌≡◌, ◌≢◌, ◌≤◌, ℕ, Some, None, true, false, IfSome, nat_eq};
 ghost use Rattle.indexmap.specs.IndexMap.{get, keys};
 ghost use Rattle.rohc_frame.specs.Reading.{header_of};
 ghost use Rattle.rohc_context.specs.Response.{response_of};
+ghost use Rattle.rohc_context.specs.Record.{record_of};
+ghost use Rattle.rohc_context.specs.Step.{LoneStep};
+ghost use Rattle.rohc_context.specs.declared.settings.Settings.{Settings};
 ghost use Rattle.rohc_concentrator.specs.Setting.{settings_of};
 ghost use Rattle.rohc_concentrator.specs.Tables.{record_in, KeepsPlace, IsPlaceOf};
 ghost use Rattle.rohc_concentrator.specs.Report.{report_of, OwnStep};
@@ -14,7 +17,7 @@ use crate::place::{LastPlaces, stands_at};
 use crate::records::LinkRecords;
 use crate::setting::mode_in;
 use indexmap::IndexMap;
-use rohc_context::{Context, Refusal, Reply};
+use rohc_context::{Context, Profile, Refusal, Reply};
 use rohc_frame::{Elements, Forward, cut, plain_header};
 
 /// Takes an arrival on the link that has these records, and writes the answer over what `answer` held.
@@ -27,8 +30,22 @@ pub(crate) fn arrive_on<'a>(
 )
     ensures { Takes records.old moment octets.entry.now (report_of answer.new) records.new }
 {
-    if !take_plain(records, moment, octets, true, answer) {
+    if !take_plain(records, moment, octets, Start::Short, answer) {
         take_longer(records, moment, octets, answer);
+    }
+}
+
+/// Takes a packet as `arrive_on` does, but a UO-0 of a call of profile 0x0001 isn't tried at once.
+pub(crate) fn arrive_longer_on<'a>(
+    records: &mut LinkRecords,
+    moment: u64,
+    octets: &'a [u8],
+    answer: &mut Answer<'a>,
+)
+    ensures { Takes records.old moment octets.entry.now (report_of answer.new) records.new }
+{
+    if !take_plain(records, moment, octets, Start::Rest, answer) {
+        take_any(records, moment, octets, answer);
     }
 }
 
@@ -44,40 +61,76 @@ fn take_longer<'a>(
 )
     ensures { Takes records.old moment octets.entry.now (report_of answer.new) records.new }
 {
-    if !take_plain(records, moment, octets, false, answer) {
+    if !take_plain(records, moment, octets, Start::Other, answer) {
         take_any(records, moment, octets, answer);
+    }
+}
+
+/// The packets that one copy of the short path is for.
+#[derive(Clone, Copy, Debug, PartialEq, Eq)]
+pub(crate) enum Start {
+    /// The first octet of the header is that of a UO-0.
+    Short,
+    /// The same, and the context is of profile 0x0001.
+    ShortRtp,
+    /// All packets but those.
+    Rest,
+    /// The first octet of the header is another.
+    Other,
+}
+
+impl Start {
+    /// Whether a header with this first octet may be among them.
+    #[inline(always)]
+    fn may_have(self, first: u8) -> bool {
+        match self {
+            Start::Short | Start::ShortRtp => first < 0x80,
+            Start::Rest => true,
+            Start::Other => first >= 0x80,
+        }
+    }
+
+    /// Whether a header that may be among them is, if its context is of this profile.
+    #[inline(always)]
+    fn has(self, first: u8, profile: Profile) -> bool {
+        match self {
+            Start::Short | Start::Other => true,
+            Start::ShortRtp => profile == Profile::Rtp,
+            Start::Rest => first >= 0x80 || profile != Profile::Rtp,
+        }
     }
 }
 
 /// Takes a packet that its context takes at once, with nothing before its header, as nearly every packet is, and
 /// returns true. Otherwise it returns false: then the records stay as they were, and what `answer` holds means nothing.
 ///
-/// With `short` it takes only headers whose first octet is that of a UO-0, and else only others. So the compiler makes
-/// two of it, and that for a UO-0, as nearly every packet is, has nothing in it for other formats. Neither passes
-/// anything on to what follows, which reads the packet again. So what they read stays in registers.
+/// It takes only the packets that `start` says. So the compiler makes a copy of it for each, and that for a UO-0, as
+/// nearly every packet is, has nothing in it for other formats. None passes anything on to what follows, which reads
+/// the packet again. So what they read stays in registers.
 #[inline(always)]
-fn take_plain<'a>(
+pub(crate) fn take_plain<'a>(
     records: &mut LinkRecords,
     moment: u64,
     octets: &'a [u8],
-    short: bool,
+    start: Start,
     answer: &mut Answer<'a>,
 ) -> bool
     ensures taken { result ≡ true → Takes records.old moment octets.entry.now (report_of answer.new) records.new }
+    ensures alone { result ≡ true → (cid : ℕ) × IsFor cid (report_of answer.new) }
     ensures stays { result ≡ false → Stays records.old records.new }
 {
     let settings = &records.setting.settings;
     let Some(forward) = plain_header(settings.size, settings.max_cid, octets) else {
         return missed();
     };
-    if (forward.first < 0x80) != short {
+    if !start.may_have(forward.first) {
         return missed();
     }
     prepare(answer, forward.cid);
     let Answer::Arrived { reply, .. } = answer else {
         return missed();
     };
-    take_at(records, moment, &forward, reply)
+    take_at(records, moment, &forward, start, reply)
 }
 
 /// False: a packet isn't taken. The compiler takes the way to a cold function for a rare one, and inlines what is called
@@ -144,6 +197,7 @@ fn take_at<'a>(
     records: &mut LinkRecords,
     moment: u64,
     forward: &Forward<'a>,
+    start: Start,
     reply: &mut Reply<'a>,
 ) -> bool
     ensures own { result ≡ true → OwnStep (settings_of records.old.setting forward.now.cid) moment (header_of forward.now)
@@ -165,6 +219,27 @@ fn take_at<'a>(
     };
     let idle_ms = records.setting.settings.idle_ms;
     let (_, context) = records.contexts.pair_mut(place);
+    take_in(context, idle_ms, moment, forward, start, reply)
+}
+
+/// Takes a packet that `start` says at once by this context, if it does, and returns true. Otherwise it returns false:
+/// then the context stays as it was, and what `reply` holds means nothing.
+#[inline(always)]
+fn take_in<'a>(
+    context: &mut Context,
+    idle_ms: u32,
+    moment: u64,
+    forward: &Forward<'a>,
+    start: Start,
+    reply: &mut Reply<'a>,
+) -> bool
+    ensures taken { result ≡ true → (s : Settings) → s.idle_ms ≡ idle_ms → LoneStep (Some (record_of context.old)) s moment
+        (header_of forward.now) (response_of reply.new) (Some (record_of context.new)) }
+    ensures stays { result ≡ false → record_of context.new ≡ record_of context.old }
+{
+    if !start.has(forward.first, context.profile()) {
+        return false;
+    }
     context.take_at_once(idle_ms, moment, forward, reply)
 }
 

@@ -1,5 +1,5 @@
 -- The record after a step from good values is good.
-use Rattle.std.proofs.Common.{◌≡◌, ℕ, ◌-◌, ◌<◌, ◌^◌, List, [], ◌∷◌, ◌++◌, length, Bool, true, false, Option, Some, None, IfSome, inl, inr, refl, sym, subst, arith}
+use Rattle.std.proofs.Common.{◌≡◌, ℕ, ◌-◌, ◌<◌, ◌+◌, ◌*◌, ◌^◌, List, [], ◌∷◌, ◌++◌, length, Bool, true, false, Option, Some, None, IfSome, inl, inr, refl, sym, subst, arith}
 use Rattle.std.specs.Prelude.{All, Result, Ok, Err, IfOk, is_some, nat_lt, if◌then◌else◌, option_map}
 use Rattle.std.proofs.lemmas.List.{length-take}
 use Rattle.rohc_bits.specs.Bits.{IsOctet}
@@ -280,7 +280,7 @@ step_good before s m h good a x step = go h.kind refl (counting s m before) (cou
 
 kept_window : (w : Window) → IsGoodWindow (outcomes w)
 unfolding outcomes
-kept_window w = rw (length-bits w.length w.word) w.few
+kept_window w = rw (length-bits w.length (w.older * 2 ^ 32 + w.newer)) w.few
 
 kept_reference : (fixed : Static) (r : saved.Reference) → IsKept fixed r.moving r.saved → IsGoodReference (reference_of r)
 kept_reference fixed r kept = record { moving = kept.good; unmarked = kept.unmarked }

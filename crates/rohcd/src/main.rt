@@ -1,17 +1,7 @@
 //! rohcd: a ROHC decompressor for many links.
 #![tactic(auto)]
 
-mod command;
-mod end;
-mod links_file;
-mod program;
-#[cfg(test)]
-mod test_links;
-mod tied;
-mod udp;
-
-use end::End;
-use program::run;
+use rohc_program::{End, run};
 use std::process::ExitCode;
 use std::rt::Env;
 use std::{env, io};

@@ -62,8 +62,8 @@ fn put_head(head: &[u8], buffer: &mut [u8])
 }
 
 /// Puts a packet into a buffer, and returns the octets that stand there; none if the buffer is too short. The payload
-/// comes first, since the head was just written octet by octet, and reading it back at once in wider parts would wait
-/// for that.
+/// comes first, since the head was just written in parts of two to eight octets, and reading it back at once in wider
+/// parts would wait for that.
 #[inline(always)]
 fn put_packet<'b>(packet: &Delivered<'_>, buffer: &'b mut [u8]) -> &'b [u8] {
     let head = packet.head.as_slice();

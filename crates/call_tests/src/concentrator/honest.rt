@@ -9,7 +9,7 @@ use rohc_concentrator::{Answer, Concentrator};
 const STRIDE: u32 = 160;
 
 /// The IR with which a call begins: SN 1, timestamp 160, and the stride.
-const IR: &[u8] =
+pub(super) const IR: &[u8] =
     b"\xfd\x01\x2b\x40\x11\x0a\x00\x00\x01\x0a\x00\x00\x02\x13\x88\x13\x8a\x00\x00\x00\x01\x00\x40\x00\x01\x20\x00\x00\x00\x90\x00\x00\x01\x00\x00\x00\xa0\x00\x09\x80\xa0\xab";
 
 /// Hostile packets: on the call's own link, under other CIDs and without a CID.

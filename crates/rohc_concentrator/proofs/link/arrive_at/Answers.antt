@@ -1,4 +1,4 @@
-use Rattle.std.proofs.Common.{rules, ◌≡◌, ap, inl}
+use Rattle.std.proofs.Common.{rules, refl, ◌≡◌, ap, inl}
 use Rattle.std.specs.Option.{option_map}
 use Rattle.indexmap.proofs.CallerLemmas.{keys-with_value_at}
 use Rattle.rohc_context.specs.Record.{record_of}
@@ -26,3 +26,6 @@ pub returns-clause-order : goal.returns-clause-order
 returns-clause-order c =
     let s = c.in-Some.ensures.there in
     rw s.found (keys-with_value_at c.args.records.now.contexts c.in-Some.place c.step.new.self)
+
+pub returns-clause-setting : goal.returns-clause-setting
+returns-clause-setting c = refl

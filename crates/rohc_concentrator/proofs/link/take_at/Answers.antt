@@ -15,28 +15,28 @@ returns-clause-own c = λ test.
     let same : c.if-stands_at.records.1.1.0 ≡ c.args.records.now.contexts = elim c.if-stands_at.branch [ then-stands_at w ↦ ap (λ r. r.1.1.0) w.records-is | else-stands_at+in-Some w ↦ ap (λ r. r.1.1.0) w.records-is ] in
     let s : IsPlaceOf c.if-stands_at.records.1.1.0 c.if-stands_at.place c.args.forward.now.cid = elim c.if-stands_at.branch [ then-stands_at w ↦ at_place (ap (λ r. r.1.1.0) w.records-is) w.place-is (c.stands_at.ensures w.if-stands_at.true) | else-stands_at+in-Some w ↦ at_place (ap (λ r. r.1.1.0) w.records-is) w.place-is w.in-Some.ensures.there ] in
     let lent = c.pair_mut-context.ensures in
-    let written = own_written c.if-stands_at.records.1.1.0 c.if-stands_at.place c.args.forward.now.cid s.value c.take_at_once.new.self lent.unique s.entry in
+    let written = own_written c.if-stands_at.records.1.1.0 c.if-stands_at.place c.args.forward.now.cid s.value c.take_in.new.context lent.unique s.entry in
     let value = same_value _ _ _ _ _ s.entry lent.value in
     let found = ap (λ m. get nat_eq m c.args.forward.now.cid) (sym same) ∙ s.found in
-    rw (found, written, value) (inl (c.take_at_once.ensures.taken test (settings_of c.args.records.now.setting c.args.forward.now.cid) refl))
+    rw (found, written, value) (inl (c.take_in.ensures.taken test (settings_of c.args.records.now.setting c.args.forward.now.cid) refl))
 
 pub returns-clause-others : goal.returns-clause-others
 returns-clause-others c = λ other is.
     let same : c.if-stands_at.records.1.1.0 ≡ c.args.records.now.contexts = elim c.if-stands_at.branch [ then-stands_at w ↦ ap (λ r. r.1.1.0) w.records-is | else-stands_at+in-Some w ↦ ap (λ r. r.1.1.0) w.records-is ] in
     let s : IsPlaceOf c.if-stands_at.records.1.1.0 c.if-stands_at.place c.args.forward.now.cid = elim c.if-stands_at.branch [ then-stands_at w ↦ at_place (ap (λ r. r.1.1.0) w.records-is) w.place-is (c.stands_at.ensures w.if-stands_at.true) | else-stands_at+in-Some w ↦ at_place (ap (λ r. r.1.1.0) w.records-is) w.place-is w.in-Some.ensures.there ] in
-    ap (option_map record_of) (others_kept c.if-stands_at.records.1.1.0 c.if-stands_at.place c.args.forward.now.cid s.value c.take_at_once.new.self c.pair_mut-context.ensures.unique s.entry other is ∙ ap (λ m. get nat_eq m other) same)
+    ap (option_map record_of) (others_kept c.if-stands_at.records.1.1.0 c.if-stands_at.place c.args.forward.now.cid s.value c.take_in.new.context c.pair_mut-context.ensures.unique s.entry other is ∙ ap (λ m. get nat_eq m other) same)
 
 pub returns-clause-order : goal.returns-clause-order
 returns-clause-order c =
     let same : c.if-stands_at.records.1.1.0 ≡ c.args.records.now.contexts = elim c.if-stands_at.branch [ then-stands_at w ↦ ap (λ r. r.1.1.0) w.records-is | else-stands_at+in-Some w ↦ ap (λ r. r.1.1.0) w.records-is ] in
-    keys-with_value_at c.if-stands_at.records.1.1.0 c.if-stands_at.place c.take_at_once.new.self ∙ ap keys same
+    keys-with_value_at c.if-stands_at.records.1.1.0 c.if-stands_at.place c.take_in.new.context ∙ ap keys same
 
 pub returns-clause-stays : goal.returns-clause-stays
 returns-clause-stays c = λ test.
     let same : c.if-stands_at.records.1.1.0 ≡ c.args.records.now.contexts = elim c.if-stands_at.branch [ then-stands_at w ↦ ap (λ r. r.1.1.0) w.records-is | else-stands_at+in-Some w ↦ ap (λ r. r.1.1.0) w.records-is ] in
     let s : IsPlaceOf c.if-stands_at.records.1.1.0 c.if-stands_at.place c.args.forward.now.cid = elim c.if-stands_at.branch [ then-stands_at w ↦ at_place (ap (λ r. r.1.1.0) w.records-is) w.place-is (c.stands_at.ensures w.if-stands_at.true) | else-stands_at+in-Some w ↦ at_place (ap (λ r. r.1.1.0) w.records-is) w.place-is w.in-Some.ensures.there ] in
     let lent = c.pair_mut-context.ensures in
-    let written = own_written c.if-stands_at.records.1.1.0 c.if-stands_at.place c.args.forward.now.cid s.value c.take_at_once.new.self lent.unique s.entry in
+    let written = own_written c.if-stands_at.records.1.1.0 c.if-stands_at.place c.args.forward.now.cid s.value c.take_in.new.context lent.unique s.entry in
     let value = same_value _ _ _ _ _ s.entry lent.value in
     let found = ap (λ m. get nat_eq m c.args.forward.now.cid) (sym same) ∙ s.found in
-    rw (found, written, value, c.take_at_once.ensures.stays test) refl
+    rw (found, written, value, c.take_in.ensures.stays test) refl

@@ -1,4 +1,5 @@
-use Rattle.std.proofs.Common.{rules}
+use Rattle.std.proofs.Common.{arith}
+use Rattle.std.proofs.lemmas.Bool.Decides.{nat_tests}
 use Rattle.std.proofs.Common.{length}
 use Rattle.rohc_context.proofs.Registers.{octets_three, octets_seven}
 use Rattle.rohc_context.proofs.tries.attempt.Goals as goal
@@ -14,4 +15,4 @@ check_of-requires-clause-seven c =
     octets_seven c.args.fixed.now h.moving (length c.args.form.now.payload.now) h.header.octets h.saved c.requires.good c.explain-explained.ensures.explains.octets c.explain-explained.ensures.registers
 
 pub returns-clause-fits : goal.returns-clause-fits
-returns-clause-fits c = search rules
+returns-clause-fits c = record { explained = c.explain-explained.ensures.explains; checked = grind (arith, nat_tests) }

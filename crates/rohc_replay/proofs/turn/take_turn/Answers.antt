@@ -5,8 +5,8 @@ use Rattle.rohc_concentrator.specs.Report.{Refused, report_of}
 use Rattle.rohc_concentrator.specs.Tables.{setting_at}
 use Rattle.rohc_context.specs.declared.refusal.Refusal.TheVariants.{NoLink}
 use Rattle.rohc_concentrator.specs.Events.{Arrive, Reset}
-use Rattle.rohc_replay.specs.Script.{Good}
-use Rattle.rohc_replay.specs.AnswerLines.{report_lines, link_refusal}
+use Rattle.rohc_replay.specs.Script.{Good, Bad}
+use Rattle.rohc_replay.specs.AnswerLines.{report_lines, link_refusal, bad_line}
 use Rattle.rohc_replay.proofs.turn.take_turn.Goals as goal
 
 pub returns-in-Some-Arrive : goal.returns-in-Some-Arrive
@@ -46,3 +46,13 @@ returns-in-Err g c =
       tally = search rules;
       offers = c.offer_refusal.ensures;
     }
+
+pub returns-in-None : goal.returns-in-None
+returns-in-None g c = record {
+  line = Bad;
+  answers = bad_line ∷ [];
+  is_line = (search rules);
+  turns = (refl, refl);
+  tally = search rules;
+  offers = c.offer_text.ensures;
+}

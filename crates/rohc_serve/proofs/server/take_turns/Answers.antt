@@ -1,3 +1,4 @@
+use Rattle.std.proofs.Common.{rules}
 use Rattle.std.proofs.Common.{◌∙◌}
 use Rattle.rohc_serve.proofs.TurnLemmas.{serves_more}
 use Rattle.rohc_serve.proofs.server.take_turns.Goals as goal
@@ -8,3 +9,9 @@ loop-preserved g c = record {
   room = c.take_turn.auto.packet ∙ c.loop.invariant.room;
   served = serves_more _ _ _ _ _ _ _ _ _ _ c.loop.invariant.served c.take_turn.ensures.turn;
 }
+
+pub loop-init : goal.loop-init
+loop-init g c = search rules
+
+pub returns-clause-served : goal.returns-clause-served
+returns-clause-served g c = search rules

@@ -9,3 +9,7 @@ pub returns-in-Full : goal.returns-in-Full
 unfolding record_of
 returns-in-Full c =
     ap (λ (none : List Bool). Some (outcomes c.in-Full.context.window, none)) c.empty.ensures.none ∙ ap (λ s. windows_in (state_of s)) (sym c.in-Full.is)
+
+pub returns-in-Static : goal.returns-in-Static
+unfolding record_of
+returns-in-Static c = ap (λ s. windows_in (state_of s)) (sym c.in-Static.is)

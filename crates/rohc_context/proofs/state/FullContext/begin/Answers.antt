@@ -12,4 +12,11 @@ invariant_of-context-clause-kept c =
     c.registers.ensures.three c.registers.ensures.seven)
 
 pub returns : goal.returns
-returns c = search rules
+returns c = λ moment. (
+  c.unwrap-header.result.octets,
+  some_holds c.build.result c.unwrap-header.result _ c.unwrap-header.ensures c.build.ensures.header,
+  search rules,
+)
+
+pub invariant_of-context-clause-kept_before : goal.invariant_of-context-clause-kept_before
+invariant_of-context-clause-kept_before c = λ p e. cc

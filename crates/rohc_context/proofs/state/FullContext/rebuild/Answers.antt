@@ -1,3 +1,4 @@
+use Rattle.std.proofs.Common.{rules}
 use Rattle.std.proofs.Common.{length, sym, ap, ◌∙◌}
 use Rattle.rohc_checks.specs.Division.{check, poly3, poly7}
 use Rattle.rohc_header.specs.Check.{all_ones, static_octets}
@@ -15,3 +16,6 @@ check_of-requires-clause-seven c =
     let context = c.args.self.now in
     octets_seven context.fixed c.args.moving.now (length c.args.payload.now) c.put_header.new.octets.items context.reference.saved context.good c.put_header.ensures c.requires.registers
     ∙ ap (λ all. check poly7 (all_ones poly7) (static_octets all)) (sym c.as_slice.ensures.value)
+
+pub returns : goal.returns
+returns c = (c.put_header.new.octets.items, c.put_header.ensures, search rules, search rules, search rules)

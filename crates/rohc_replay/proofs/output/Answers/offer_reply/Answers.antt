@@ -1,3 +1,4 @@
+use Rattle.std.proofs.Common.{rules}
 use Rattle.rohc_replay.specs.AnswerLines.{packet_lines, stored_lines, feedback_lines, refused_lines}
 use Rattle.rohc_context.specs.Response.{response_of}
 use Rattle.rohc_replay.proofs.LineLemmas.{text-four}
@@ -18,3 +19,6 @@ returns g c =
     (feedback_lines c.args.link c.args.cid r.feedback) (refused_lines c.args.link c.args.cid r.outcome) in
     rw text (offers_more _ _ _ _ _ _ _ _ _ c.in_ok-offer_packet.ensures
     (rw (c.put_refused.ensures.text, c.put_feedback.ensures.text, c.put_stored.ensures.text, c.clear.ensures.text) at c.offer_line.ensures))
+
+pub returns-then-is_empty : goal.returns-then-is_empty
+returns-then-is_empty g c = search rules

@@ -1,0 +1,101 @@
+//! One arrival on the concentrator, answered in the caller's struct and buffers.
+
+ghost use Rattle.std.specs.Prelude.{◌≤◌, ◌-◌, length};
+ghost use Rattle.rohc_concentrator.specs.Report.{Report, report_of};
+ghost use Rattle.rohc_concentrator.specs.Events.{Arrives};
+ghost use Rattle.rohc_c.specs.Calls.{HasRoom};
+ghost use Rattle.rohc_c.specs.Relay.{Fits};
+ghost use Rattle.rohc_c.specs.Written.{relayed_in, IsWithin, IsWritten};
+
+use crate::arrival::{RohcArrival, packet_in, put_long, put_packet, relays, tell_alone, write};
+use crate::room::HEAD;
+use rohc_concentrator::{Answer, Concentrator};
+use rohc_context::Refusal;
+
+/// Takes one packet of a link, and writes the answer into the struct and the buffers.
+///
+/// Nearly every packet is taken at once, and its head has 40 octets. Then the answer is lent to no function that isn't
+/// inlined, and the compiler writes the head into the buffer part by part, as it is rebuilt.
+#[inline(always)]
+pub(crate) fn take_packet(
+    concentrator: &mut Concentrator,
+    link: u16,
+    moment: u64,
+    octets: &[u8],
+    packet: &mut [u8],
+    feedback: &mut [u8],
+    relayed: &mut [u8],
+    arrival: &mut RohcArrival,
+)
+    requires { HasRoom octets.now (record { packet = packet.old; feedback = feedback.old; relayed = relayed.old }) }
+    ensures { (report : Report) × Arrives concentrator.old link moment octets.now report concentrator.new
+        × IsWritten report (record { packet = packet.new; feedback = feedback.new; relayed = relayed.new }) arrival.new }
+{
+    let mut answer = Answer::refusing(0, Refusal::NoContext);
+    if !concentrator.take_at_once(link, moment, octets, &mut answer) {
+        take_longer(
+            concentrator,
+            link,
+            moment,
+            octets,
+            packet,
+            feedback,
+            relayed,
+            arrival,
+        );
+        return;
+    }
+    match packet_in(&answer) {
+        Some((cid, long)) if long.head.len() == HEAD => {
+            *arrival = tell_alone(cid, put_long(long, packet));
+        }
+        _ => write_other(answer, packet, feedback, relayed, arrival),
+    }
+}
+
+/// Writes an answer of another shape.
+#[cold]
+#[inline(never)]
+fn write_other(
+    answer: Answer<'_>,
+    packet: &mut [u8],
+    feedback: &mut [u8],
+    relayed: &mut [u8],
+    arrival: &mut RohcArrival,
+)
+    requires head { 40 ≤ length packet.old }
+    requires packet { IsWithin (length packet.old - 40) (report_of answer) }
+    requires feedback { 8 ≤ length feedback.old }
+    requires relayed { Fits (relayed_in (report_of answer)) (length relayed.old) }
+    ensures { IsWritten (report_of answer.entry)
+        (record { packet = packet.new; feedback = feedback.new; relayed = relayed.new }) arrival.new }
+{
+    *arrival = write(&answer, packet, feedback, relayed);
+}
+
+/// Takes one packet of a link that isn't taken at once, and writes the answer into the struct and the buffers.
+#[cold]
+#[inline(never)]
+fn take_longer(
+    concentrator: &mut Concentrator,
+    link: u16,
+    moment: u64,
+    octets: &[u8],
+    packet: &mut [u8],
+    feedback: &mut [u8],
+    relayed: &mut [u8],
+    arrival: &mut RohcArrival,
+)
+    requires { HasRoom octets.now (record { packet = packet.old; feedback = feedback.old; relayed = relayed.old }) }
+    ensures { (report : Report) × Arrives concentrator.old link moment octets.now report concentrator.new
+        × IsWritten report (record { packet = packet.new; feedback = feedback.new; relayed = relayed.new }) arrival.new }
+{
+    let mut answer = Answer::refusing(0, Refusal::NoContext);
+    concentrator.arrive_longer(link, moment, octets, &mut answer);
+    *arrival = match packet_in(&answer) {
+        Some((cid, delivered)) if !relays(&answer) => {
+            tell_alone(cid, put_packet(delivered, packet))
+        }
+        _ => write(&answer, packet, feedback, relayed),
+    };
+}

@@ -1,0 +1,15 @@
+//! The program `rohcd`, from the words of its command line to how it ends.
+//!
+//! It stands apart from `main`, so that tests can call it.
+#![tactic(auto)]
+
+mod command;
+pub mod end;
+mod links_file;
+pub mod program;
+mod tied;
+pub mod udp;
+
+pub use end::End;
+pub use program::run;
+pub use udp::UdpFront;

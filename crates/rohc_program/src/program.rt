@@ -1,0 +1,76 @@
+//! The program, from the words after its name to how it ends.
+
+use crate::command::{Request, read_request};
+use crate::end::End;
+use crate::links_file::links_of;
+use crate::tied::{TiedInput, TiedOutput};
+use crate::udp::UdpFront;
+use rohc_replay::{RunFault, replay};
+use rohc_serve::serve;
+use std::cell::RefCell;
+use std::io;
+use std::io::{BufWriter, Write};
+use std::net::Net;
+use std::rt::Files;
+use std::time::Clock;
+
+/// Runs the program with these words.
+pub fn run<R>(rt: &R, words: &[String]) -> End
+where
+    R: Files + Input + Print + Net + Clock + AllocGlobal,
+{
+    match requested(rt, words) {
+        Ok(()) => End::Done,
+        Err(end) => end,
+    }
+}
+
+/// Does what the words ask for.
+fn requested<R>(rt: &R, words: &[String]) -> Result<(), End>
+where
+    R: Files + Input + Print + Net + Clock + AllocGlobal,
+{
+    match read_request(rt.alloc(), words)? {
+        Request::Replay { links } => run_replay(rt, links),
+        Request::Serve { links, port, count } => run_serve(rt, links, port, count),
+    }
+}
+
+/// Runs the script on standard input, and writes its answers to standard output.
+///
+/// Answers are written out before the program waits for more input. After a failed read the buffered answers are
+/// flushed, and the end is still `Read`.
+fn run_replay<R: Files + Input + Print + AllocGlobal>(rt: &R, links: &str) -> Result<(), End> {
+    let (_, mut concentrator) = links_of(rt, links)?;
+    let Ok(buffered) = BufWriter::new(rt.alloc(), io::writer(rt)) else {
+        return Err(End::Memory);
+    };
+    let output = RefCell::new(buffered);
+    let mut reader = TiedInput {
+        input: rt.reader(),
+        output: &output,
+    };
+    let mut writer = TiedOutput { output: &output };
+    match replay(rt.alloc(), &mut concentrator, &mut reader, &mut writer) {
+        Ok(_) => Ok(()),
+        Err(RunFault::NoMemory) => Err(End::Memory),
+        Err(RunFault::Read { .. }) => {
+            let _ = writer.flush();
+            Err(End::Read)
+        }
+        Err(RunFault::Write { .. }) => Err(End::Write),
+    }
+}
+
+/// Serves `count` receives at the port, and prints the tally on standard output.
+fn run_serve<R>(rt: &R, links: &str, port: u16, count: u32) -> Result<(), End>
+where
+    R: Files + Print + Net + Clock + AllocGlobal,
+{
+    let (links, mut concentrator) = links_of(rt, links)?;
+    let mut front = UdpFront::open(rt, port).map_err(|_| End::Socket)?;
+    let tally = serve(rt.alloc(), &mut concentrator, &links, &mut front, count).map_err(
+        |_| End::Memory,
+    )?;
+    println!(rt; "{tally}").map_err(|_| End::Write)
+}
