@@ -4,7 +4,7 @@ mod honest;
 
 use arrayvec::ArrayVec;
 use rohc_concentrator::{
-    Answer, CidRange, Concentrator, LinkRecords, LinkSetting, NoLink, SetupFault,
+    Answer, CidRange, Concentrator, LinkRecords, LinkSetting, NoLink, SetupFault, Taken,
 };
 use rohc_context::{Mode, Outcome, Refusal, Settings};
 use rohc_frame::CidKind;
@@ -111,12 +111,31 @@ fn an_answer_overwrites_the_one_that_is_lent(rt: HostRuntime) {
 fn a_packet_is_taken_at_once_or_later(rt: HostRuntime) {
     let mut concentrator = made(&rt, rt.alloc(), link_1(0));
     let mut answer = Answer::refusing(7, Refusal::NoContext);
-    assert!(rt; !concentrator.take_at_once(1, 0, honest::IR, &mut answer));
+    assert_eq!(rt;
+        concentrator.take_at_once(1, 0, honest::IR, &mut answer),
+        None
+    );
     concentrator.arrive_longer(1, 0, honest::IR, &mut answer);
     assert_eq!(rt; cid_and_outcome(&answer), Some((0, DELIVERED)));
     answer = Answer::refusing(7, Refusal::NoContext);
-    assert!(rt; concentrator.take_at_once(1, 0, b"\x10\xac", &mut answer));
+    let taken = concentrator.take_at_once(1, 0, b"\x10\xac", &mut answer);
+    assert_eq!(rt; taken, Some(Taken::Rebuilt));
     assert_eq!(rt; cid_and_outcome(&answer), Some((0, DELIVERED)));
+}
+
+#[test]
+fn a_normal_packet_is_taken_as_it_is(rt: HostRuntime) {
+    let mut concentrator = made(&rt, rt.alloc(), link_1(0));
+    let mut answer = Answer::refusing(7, Refusal::NoContext);
+    concentrator.arrive_longer(1, 0, b"\xe1\xfc\x00\x30\x45\xaa", &mut answer);
+    assert_eq!(rt; cid_and_outcome(&answer), Some((1, DELIVERED)));
+    let taken = concentrator.take_at_once(1, 0, b"\xe1\x45\xab", &mut answer);
+    let normal = Taken::Normal {
+        cid: 1,
+        first: 0x45,
+        rest: &[0xab],
+    };
+    assert_eq!(rt; taken, Some(normal));
 }
 
 /// Packets of two CIDs, of which the greater comes first.

@@ -47,6 +47,9 @@ fn answer(context: &mut Context, packet: &[u8]) -> Option<(Outcome, Option<u8>, 
     Some((reply.outcome, sn, feedback))
 }
 
+/// A packet whose header was rebuilt at once.
+const REBUILT: Option<rohc_context::AtOnce> = Some(rohc_context::AtOnce::Rebuilt);
+
 const UNFIT: Outcome = Outcome::Refused(Refusal::Check);
 
 const FULL: ContextState = ContextState::FullContext;
@@ -129,15 +132,15 @@ fn an_answer_overwrites_the_one_that_is_lent(rt: HostRuntime) {
 // refuses it.
 #[test]
 fn packets_without_an_extension_are_taken_at_once(rt: HostRuntime) {
-    let packets: [(&[u8], bool, Outcome); 4] = [
-        (&[0xd4, 0xc3, 0x3e, 0xad], true, Outcome::Delivered),
-        (&[0x84, 0x1f, 0xad], true, Outcome::Delivered),
+    let packets: [(&[u8], Option<rohc_context::AtOnce>, Outcome); 4] = [
+        (&[0xd4, 0xc3, 0x3e, 0xad], REBUILT, Outcome::Delivered),
+        (&[0x84, 0x1f, 0xad], REBUILT, Outcome::Delivered),
         (
             &[0xc0, 0x0c, 0xfa, 0x63, 0x64, 0xad],
-            false,
+            None,
             Outcome::Delivered,
         ),
-        (&[0x11, 0xac], false, UNFIT),
+        (&[0x11, 0xac], None, UNFIT),
     ];
     for (packet, taken, outcome) in packets {
         let Some(mut context) = first(&WHOLE_IR) else {
@@ -150,14 +153,28 @@ fn packets_without_an_extension_are_taken_at_once(rt: HostRuntime) {
         ) else {
             panic!(rt; "no header");
         };
-        assert!(rt; context.take_at_once(0, 0, &uo_0, &mut reply));
+        assert_eq!(rt; context.take_at_once(0, 0, &uo_0, &mut reply), REBUILT);
         assert_eq!(rt; reply.outcome, Outcome::Delivered);
         assert_eq!(rt; context.take_at_once(0, 0, &forward, &mut reply), taken);
-        if !taken {
+        if taken.is_none() {
             context.step(&SETTINGS, 0, &forward, &mut reply);
         }
         assert_eq!(rt; reply.outcome, outcome);
     }
+}
+
+// RFC 3095 5.10.2.
+#[test]
+fn a_normal_packet_is_delivered_as_it_is(rt: HostRuntime) {
+    let mut reply = Reply::refused(Refusal::NoLink);
+    reply.deliver_normal(0x45, &[0xab]);
+    assert_eq!(rt; reply.outcome, Outcome::Delivered);
+    assert!(rt; reply.feedback.is_none());
+    let Some(packet) = &reply.packet else {
+        panic!(rt; "no packet");
+    };
+    assert_eq!(rt; packet.head.as_slice(), [0x45].as_slice());
+    assert_eq!(rt; packet.payload, [0xab].as_slice());
 }
 
 // In Full Context the second window is empty. The registers are those of headers with the reference's fields.

@@ -1,6 +1,6 @@
 //! Writing an answer into the caller's struct and buffers.
 
-ghost use Rattle.std.specs.Prelude.{◌≡◌, false, ℕ, ◌≤◌, ◌+◌, ◌-◌, List, [], ◌++◌, length, drop, None, IfSome};
+ghost use Rattle.std.specs.Prelude.{◌≡◌, false, ℕ, ◌≤◌, ◌+◌, ◌-◌, List, [], ◌++◌, ◌∷◌, length, drop, None, IfSome};
 ghost use Rattle.rohc_frame.specs.Reading.{elements_of};
 ghost use Rattle.rohc_context.specs.Response.{response_of, delivered};
 ghost use Rattle.rohc_concentrator.specs.Report.{report_of, Arrived};
@@ -98,6 +98,17 @@ pub(crate) fn put_long(long: &Delivered<'_>, place: &mut [u8]) -> usize
     put_long_head(head, place);
     put_payload(place, head.len(), long.payload);
     head.len() + long.payload.len()
+}
+
+/// Writes a Normal packet, its first octet and the rest, into a buffer, and returns its length.
+#[inline(always)]
+pub(crate) fn put_normal(first: u8, rest: &[u8], place: &mut [u8]) -> usize
+    requires { 1 + length rest.now ≤ length place.old }
+    ensures { StandsIn ((first ∷ []) ++ rest.now) result place.new }
+{
+    put_payload(place, 1, rest);
+    place[0] = first;
+    1 + rest.len()
 }
 
 /// Writes a reply's packet into its buffer. Returns whether there is one, and its length.

@@ -7,15 +7,17 @@ ghost use Rattle.rohc_c.specs.Calls.{HasRoom};
 ghost use Rattle.rohc_c.specs.Relay.{Fits};
 ghost use Rattle.rohc_c.specs.Written.{relayed_in, IsWithin, IsWritten};
 
-use crate::arrival::{RohcArrival, packet_in, put_long, put_packet, relays, tell_alone, write};
+use crate::arrival::{
+    RohcArrival, packet_in, put_long, put_normal, put_packet, relays, tell_alone, write,
+};
 use crate::room::HEAD;
-use rohc_concentrator::{Answer, Concentrator};
+use rohc_concentrator::{Answer, Concentrator, Taken};
 use rohc_context::Refusal;
 
 /// Takes one packet of a link, and writes the answer into the struct and the buffers.
 ///
-/// Nearly every packet is taken at once, and its head has 40 octets. Then the answer is lent to no function that isn't
-/// inlined, and the compiler writes the head into the buffer part by part, as it is rebuilt.
+/// Nearly every packet is taken at once. Then the answer is lent to no function that isn't inlined, and the compiler
+/// writes a header of 40 octets into the buffer part by part, as it is rebuilt.
 #[inline(always)]
 pub(crate) fn take_packet(
     concentrator: &mut Concentrator,
@@ -32,8 +34,17 @@ pub(crate) fn take_packet(
         × IsWritten report (record { packet = packet.new; feedback = feedback.new; relayed = relayed.new }) arrival.new }
 {
     let mut answer = Answer::refusing(0, Refusal::NoContext);
-    if !concentrator.take_at_once(link, moment, octets, &mut answer) {
-        take_longer(
+    match concentrator.take_at_once(link, moment, octets, &mut answer) {
+        Some(Taken::Rebuilt) => match packet_in(&answer) {
+            Some((cid, long)) if long.head.len() == HEAD => {
+                *arrival = tell_alone(cid, put_long(long, packet));
+            }
+            _ => write_other(answer, packet, feedback, relayed, arrival),
+        },
+        Some(Taken::Normal { cid, first, rest }) => {
+            *arrival = tell_alone(cid, put_normal(first, rest, packet));
+        }
+        None => take_longer(
             concentrator,
             link,
             moment,
@@ -42,14 +53,7 @@ pub(crate) fn take_packet(
             feedback,
             relayed,
             arrival,
-        );
-        return;
-    }
-    match packet_in(&answer) {
-        Some((cid, long)) if long.head.len() == HEAD => {
-            *arrival = tell_alone(cid, put_long(long, packet));
-        }
-        _ => write_other(answer, packet, feedback, relayed, arrival),
+        ),
     }
 }
 
@@ -90,7 +94,7 @@ fn take_longer(
     ensures { (report : Report) × Arrives concentrator.old link moment octets.now report concentrator.new
         × IsWritten report (record { packet = packet.new; feedback = feedback.new; relayed = relayed.new }) arrival.new }
 {
-    let mut answer = Answer::refusing(0, Refusal::NoContext);
+    let mut answer = Answer::Refused(Refusal::NoContext);
     concentrator.arrive_longer(link, moment, octets, &mut answer);
     *arrival = match packet_in(&answer) {
         Some((cid, delivered)) if !relays(&answer) => {

@@ -1,5 +1,6 @@
--- Where all stays, what happens next happens as before.
+-- Where all stays, what happens next happens as before; and what follows of a value, if there is one.
 use Rattle.std.proofs.Common.{◌≡◌, ℕ, List, Option, refl, ap, subst, ◌∙◌}
+use Rattle.std.specs.Prelude.{Some, None, IfSome}
 use Rattle.std.proofs.Math.Path.{fun_ext}
 use Rattle.rohc_context.specs.Record.{Record}
 use Rattle.rohc_concentrator.specs.declared.concentrator.Concentrator.{Concentrator}
@@ -7,6 +8,10 @@ use Rattle.rohc_concentrator.specs.Tables.{setting_at, record_at, identifiers_at
 use Rattle.rohc_concentrator.specs.Report.{Report, IsAnswered}
 use Rattle.rohc_concentrator.specs.Events.{Arrives}
 use Rattle.rohc_concentrator.specs.Bears.{borne}
+
+pub some_by : {T : Type 0} (o : Option T) {P Q : T → Type 0} → ((t : T) → P t → Q t) → IfSome o P → IfSome o Q
+some_by None f held = held
+some_by (Some t) f held = f t held
 
 pub keeps_itself : (k : Concentrator) → KeepsAll k k
 keeps_itself k = record {

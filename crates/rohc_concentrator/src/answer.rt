@@ -44,6 +44,22 @@ impl Answer<'_> {
     }
 }
 
+/// A packet that was taken at once.
+#[derive(Clone, Copy, Debug, PartialEq, Eq)]
+pub enum Taken<'a> {
+    /// Its header was rebuilt, and the answer stands in that of the caller.
+    Rebuilt,
+    /// It is a Normal packet of profile 0x0000 (RFC 3095 5.10.2). It is delivered as it is, without feedback. The answer
+    /// of the caller holds nothing of it.
+    Normal {
+        cid: u16,
+        /// The first octet after the CID octets.
+        first: u8,
+        /// The octets after the first.
+        rest: &'a [u8],
+    },
+}
+
 /// There is no such link.
 #[derive(Clone, Copy, Debug, PartialEq, Eq)]
 pub struct NoLink;

@@ -4,9 +4,9 @@ ghost use Rattle.std.specs.Prelude.{◌≡◌, None, IfSome, nat_eq};
 ghost use Rattle.indexmap.specs.IndexMap.{get};
 ghost use Rattle.rohc_concentrator.specs.Tables.{IsPlaceOf};
 
-use crate::answer::{Answer, NoLink};
+use crate::answer::{Answer, NoLink, Taken};
 use crate::concentrator::Concentrator;
-use crate::link::{Start, arrive_longer_on, arrive_on, take_plain};
+use crate::link::{Start, arrive_on, take_longer, take_plain};
 use crate::place::{place_by_hash, stands_at};
 use crate::records::LinkRecords;
 use indexmap::IndexMap;
@@ -25,9 +25,9 @@ fn link_place(links: &IndexMap<u16, LinkRecords>, link: u16) -> Option<usize>
 }
 
 impl Concentrator {
-    ghost use Rattle.std.specs.Prelude.{◌≡◌, [], ◌≢◌, ◌↔◌, ℕ, None, true, false, IsErr, is_some, nat_eq};
+    ghost use Rattle.std.specs.Prelude.{◌≡◌, [], ◌≢◌, ◌↔◌, ℕ, None, IfSome, IsErr, is_some, nat_eq};
     ghost use Rattle.rohc_concentrator.specs.Tables.{setting_at, record_at, identifiers_at, AreTables, KeepsSettings, KeepsOthers, KeepsOrder, KeepsAll};
-    ghost use Rattle.rohc_concentrator.specs.Report.{report_of, IsAnswered};
+    ghost use Rattle.rohc_concentrator.specs.Report.{report_of, report_taken, IsAnswered};
     ghost use Rattle.rohc_concentrator.specs.Events.{Arrives};
     ghost use Rattle.rohc_concentrator.specs.Bears.{borne};
     ghost use Rattle.rohc_concentrator.specs.Taken.{IsFor};
@@ -79,12 +79,12 @@ impl Concentrator {
         arrive_on(records, moment, octets, answer);
     }
 
-    /// Takes a packet as `arrive_into` does and returns true, if nothing stands before its header, it is a UO-0 of a call
-    /// of profile 0x0001, and its context takes it at once, as nearly every packet of a call is. Then the answer is that
-    /// of a CID's context, without relayed feedback. Otherwise it returns false: then all settings and records stay as
-    /// they were, what `answer` holds means nothing, and `arrive_longer` takes the packet.
+    /// Takes a packet as `arrive_into` does and returns how, if nothing stands before its header, its first octet is that
+    /// of a UO-0, and its context takes it at once, as nearly every packet of a call is. Then the answer is that of a
+    /// CID's context, without relayed feedback. Otherwise it returns `None`: then all settings and records stay as they
+    /// were, what `answer` holds means nothing, and `arrive_longer` takes the packet.
     ///
-    /// For a caller who copies the answer right away, and so lets the compiler write it where the copy goes.
+    /// For a caller who copies the packet right away, and so lets the compiler write its header where the copy goes.
     #[inline(always)]
     pub fn take_at_once<'a>(
         &mut self,
@@ -92,10 +92,10 @@ impl Concentrator {
         moment: u64,
         octets: &'a [u8],
         answer: &mut Answer<'a>,
-    ) -> bool
-        ensures taken { result ≡ true → Arrives self.old link moment octets.entry.now (report_of answer.new) self.new }
-        ensures alone { result ≡ true → (cid : ℕ) × IsFor cid (report_of answer.new) }
-        ensures stays { result ≡ false → KeepsAll self.old self.new }
+    ) -> Option<Taken<'a>>
+        ensures taken { IfSome result (λ taken. Arrives self.old link moment octets.entry.now (report_taken taken answer.new) self.new) }
+        ensures alone { IfSome result (λ taken. (cid : ℕ) × IsFor cid (report_taken taken answer.new)) }
+        ensures stays { result ≡ None → KeepsAll self.old self.new }
     {
         // As in `arrive_into`.
         let likely = usize::from(link.wrapping_sub(1));
@@ -103,12 +103,12 @@ impl Concentrator {
             likely
         } else {
             let Some(found) = place_by_hash(&self.links, link) else {
-                return false;
+                return None;
             };
             found
         };
         let (_, records) = self.links.pair_mut(place);
-        take_plain(records, moment, octets, Start::ShortRtp, answer)
+        take_plain(records, moment, octets, Start::Short, answer)
     }
 
     /// Takes a packet as `arrive_into` does. It is for a packet that `take_at_once` didn't take, and doesn't try the
@@ -128,7 +128,7 @@ impl Concentrator {
             return;
         };
         let (_, records) = self.links.pair_mut(place);
-        arrive_longer_on(records, moment, octets, answer);
+        take_longer(records, moment, octets, answer);
     }
 
     /// Forgets every record of a link, and no other record. The error is `NoLink`.

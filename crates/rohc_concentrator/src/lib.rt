@@ -13,7 +13,7 @@ pub mod setting;
 pub mod setup;
 mod standing;
 
-pub use answer::{Answer, NoLink};
+pub use answer::{Answer, NoLink, Taken};
 pub use concentrator::Concentrator;
 pub use records::LinkRecords;
 pub use setting::{CidRange, LinkSetting};

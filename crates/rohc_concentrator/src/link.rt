@@ -1,23 +1,21 @@
 //! One arrival on one link.
 
-ghost use Rattle.std.specs.Prelude.{◌≡◌, ◌≢◌, ◌≤◌, ℕ, Some, None, true, false, IfSome, nat_eq};
+ghost use Rattle.std.specs.Prelude.{◌≡◌, ◌≢◌, ◌≤◌, ℕ, None, IfSome, nat_eq};
 ghost use Rattle.indexmap.specs.IndexMap.{get, keys};
 ghost use Rattle.rohc_frame.specs.Reading.{header_of};
-ghost use Rattle.rohc_context.specs.Response.{response_of};
+ghost use Rattle.rohc_context.specs.Response.{response_of, response_taken};
 ghost use Rattle.rohc_context.specs.Record.{record_of};
-ghost use Rattle.rohc_context.specs.Step.{LoneStep};
-ghost use Rattle.rohc_context.specs.declared.settings.Settings.{Settings};
 ghost use Rattle.rohc_concentrator.specs.Setting.{settings_of};
 ghost use Rattle.rohc_concentrator.specs.Tables.{record_in, KeepsPlace, IsPlaceOf};
-ghost use Rattle.rohc_concentrator.specs.Report.{report_of, OwnStep};
+ghost use Rattle.rohc_concentrator.specs.Report.{report_of, report_taken, OwnStep};
 ghost use Rattle.rohc_concentrator.specs.Taken.{Takes, Stays, IsFor};
 
-use crate::answer::Answer;
+use crate::answer::{Answer, Taken};
 use crate::place::{LastPlaces, stands_at};
 use crate::records::LinkRecords;
 use crate::setting::mode_in;
 use indexmap::IndexMap;
-use rohc_context::{Context, Profile, Refusal, Reply};
+use rohc_context::{AtOnce, Context, Refusal, Reply};
 use rohc_frame::{Elements, Forward, cut, plain_header};
 
 /// Takes an arrival on the link that has these records, and writes the answer over what `answer` held.
@@ -30,22 +28,9 @@ pub(crate) fn arrive_on<'a>(
 )
     ensures { Takes records.old moment octets.entry.now (report_of answer.new) records.new }
 {
-    if !take_plain(records, moment, octets, Start::Short, answer) {
-        take_longer(records, moment, octets, answer);
-    }
-}
-
-/// Takes a packet as `arrive_on` does, but a UO-0 of a call of profile 0x0001 isn't tried at once.
-pub(crate) fn arrive_longer_on<'a>(
-    records: &mut LinkRecords,
-    moment: u64,
-    octets: &'a [u8],
-    answer: &mut Answer<'a>,
-)
-    ensures { Takes records.old moment octets.entry.now (report_of answer.new) records.new }
-{
-    if !take_plain(records, moment, octets, Start::Rest, answer) {
-        take_any(records, moment, octets, answer);
+    match take_plain(records, moment, octets, Start::Short, answer) {
+        Some(taken) => put_taken(taken, answer),
+        None => take_longer(records, moment, octets, answer),
     }
 }
 
@@ -53,7 +38,7 @@ pub(crate) fn arrive_longer_on<'a>(
 /// inlines less on a way that it takes for a rare one, and the way past this function isn't.
 #[cold]
 #[inline(never)]
-fn take_longer<'a>(
+pub(crate) fn take_longer<'a>(
     records: &mut LinkRecords,
     moment: u64,
     octets: &'a [u8],
@@ -61,52 +46,52 @@ fn take_longer<'a>(
 )
     ensures { Takes records.old moment octets.entry.now (report_of answer.new) records.new }
 {
-    if !take_plain(records, moment, octets, Start::Other, answer) {
-        take_any(records, moment, octets, answer);
+    match take_plain(records, moment, octets, Start::Other, answer) {
+        Some(taken) => put_taken(taken, answer),
+        None => take_any(records, moment, octets, answer),
     }
 }
 
-/// The packets that one copy of the short path is for.
+/// Writes the answer to a packet that was taken at once over what `answer` held, unless it stands there.
+#[inline(always)]
+fn put_taken<'a>(taken: Taken<'a>, answer: &mut Answer<'a>)
+    ensures { report_of answer.new ≡ report_taken taken.entry answer.old }
+{
+    let Taken::Normal { cid, first, rest } = taken else {
+        return;
+    };
+    prepare(answer, cid);
+    if let Answer::Arrived { reply, .. } = answer {
+        reply.deliver_normal(first, rest);
+    }
+}
+
+/// The packets that one copy of the short path is for, by the first octet of the header.
 #[derive(Clone, Copy, Debug, PartialEq, Eq)]
 pub(crate) enum Start {
-    /// The first octet of the header is that of a UO-0.
+    /// That of a UO-0.
     Short,
-    /// The same, and the context is of profile 0x0001.
-    ShortRtp,
-    /// All packets but those.
-    Rest,
-    /// The first octet of the header is another.
+    /// Another.
     Other,
 }
 
 impl Start {
-    /// Whether a header with this first octet may be among them.
+    /// Whether this octet is such a first octet.
     #[inline(always)]
-    fn may_have(self, first: u8) -> bool {
+    fn has(self, first: u8) -> bool {
         match self {
-            Start::Short | Start::ShortRtp => first < 0x80,
-            Start::Rest => true,
+            Start::Short => first < 0x80,
             Start::Other => first >= 0x80,
-        }
-    }
-
-    /// Whether a header that may be among them is, if its context is of this profile.
-    #[inline(always)]
-    fn has(self, first: u8, profile: Profile) -> bool {
-        match self {
-            Start::Short | Start::Other => true,
-            Start::ShortRtp => profile == Profile::Rtp,
-            Start::Rest => first >= 0x80 || profile != Profile::Rtp,
         }
     }
 }
 
 /// Takes a packet that its context takes at once, with nothing before its header, as nearly every packet is, and
-/// returns true. Otherwise it returns false: then the records stay as they were, and what `answer` holds means nothing.
+/// returns how. Otherwise it returns `None`: then the records stay as they were, and what `answer` holds means nothing.
 ///
-/// It takes only the packets that `start` says. So the compiler makes a copy of it for each, and that for a UO-0, as
-/// nearly every packet is, has nothing in it for other formats. None passes anything on to what follows, which reads
-/// the packet again. So what they read stays in registers.
+/// It takes only the packets that `start` says. So the compiler makes two copies of it, and that for a UO-0, as nearly
+/// every packet is, has nothing in it for other formats. Neither passes anything on to what follows, which reads the
+/// packet again. So what they read stays in registers.
 #[inline(always)]
 pub(crate) fn take_plain<'a>(
     records: &mut LinkRecords,
@@ -114,34 +99,40 @@ pub(crate) fn take_plain<'a>(
     octets: &'a [u8],
     start: Start,
     answer: &mut Answer<'a>,
-) -> bool
-    ensures taken { result ≡ true → Takes records.old moment octets.entry.now (report_of answer.new) records.new }
-    ensures alone { result ≡ true → (cid : ℕ) × IsFor cid (report_of answer.new) }
-    ensures stays { result ≡ false → Stays records.old records.new }
+) -> Option<Taken<'a>>
+    ensures taken { IfSome result (λ taken. Takes records.old moment octets.entry.now (report_taken taken answer.new) records.new) }
+    ensures alone { IfSome result (λ taken. (cid : ℕ) × IsFor cid (report_taken taken answer.new)) }
+    ensures stays { result ≡ None → Stays records.old records.new }
 {
     let settings = &records.setting.settings;
     let Some(forward) = plain_header(settings.size, settings.max_cid, octets) else {
-        return missed();
+        missed();
+        return None;
     };
-    if !start.may_have(forward.first) {
-        return missed();
+    if !start.has(forward.first) {
+        missed();
+        return None;
     }
     prepare(answer, forward.cid);
     let Answer::Arrived { reply, .. } = answer else {
-        return missed();
+        missed();
+        return None;
     };
-    take_at(records, moment, &forward, start, reply)
+    match take_at(records, moment, &forward, reply)? {
+        AtOnce::Rebuilt => Some(Taken::Rebuilt),
+        AtOnce::Normal => Some(Taken::Normal {
+            cid: forward.cid,
+            first: forward.first,
+            rest: forward.rest,
+        }),
+    }
 }
 
-/// False: a packet isn't taken. The compiler takes the way to a cold function for a rare one, and inlines what is called
-/// on the way past it.
+/// Does nothing, where a packet isn't taken. The compiler takes the way to a cold function for a rare one, and inlines what
+/// is called on the way past it.
 #[cold]
 #[inline(never)]
-fn missed() -> bool
-    ensures { result ≡ false }
-{
-    false
-}
+fn missed() {}
 
 /// Makes the answer one for this CID without relayed feedback. What its reply holds means nothing; a reply that
 /// stands there isn't written.
@@ -190,22 +181,21 @@ fn take_any<'a>(records: &mut LinkRecords, moment: u64, octets: &'a [u8], answer
     }
 }
 
-/// Takes a packet at once by the record of its CID, if there is one that does, and returns true. Otherwise it returns
-/// false: then the records stay as they were, and what `reply` holds means nothing.
+/// Takes a packet at once by the record of its CID, if there is one that does, and returns how. Otherwise it returns
+/// `None`: then the records stay as they were, and what `reply` holds means nothing.
 #[inline(always)]
 fn take_at<'a>(
     records: &mut LinkRecords,
     moment: u64,
     forward: &Forward<'a>,
-    start: Start,
     reply: &mut Reply<'a>,
-) -> bool
-    ensures own { result ≡ true → OwnStep (settings_of records.old.setting forward.now.cid) moment (header_of forward.now)
-        (record_in records.old forward.now.cid) (response_of reply.new) (record_in records.new forward.now.cid) }
+) -> Option<AtOnce>
+    ensures own { IfSome result (λ how. OwnStep (settings_of records.old.setting forward.now.cid) moment (header_of forward.now)
+        (record_in records.old forward.now.cid) (response_taken how (header_of forward.now) reply.new) (record_in records.new forward.now.cid)) }
     ensures others { (cid : ℕ) → cid ≢ forward.now.cid → record_in records.new cid ≡ record_in records.old cid }
     ensures setting { records.new.setting ≡ records.old.setting }
     ensures order { keys records.new.contexts ≡ keys records.old.contexts }
-    ensures stays { result ≡ false → record_in records.new forward.now.cid ≡ record_in records.old forward.now.cid }
+    ensures stays { result ≡ None → record_in records.new forward.now.cid ≡ record_in records.old forward.now.cid }
 {
     // Written out: an option of the place would be tested once more on the likely way.
     let likely = likely_place(forward.cid);
@@ -213,33 +203,12 @@ fn take_at<'a>(
         likely
     } else {
         let Some(found) = records.places.place_of(&records.contexts, forward.cid) else {
-            return false;
+            return None;
         };
         found
     };
     let idle_ms = records.setting.settings.idle_ms;
     let (_, context) = records.contexts.pair_mut(place);
-    take_in(context, idle_ms, moment, forward, start, reply)
-}
-
-/// Takes a packet that `start` says at once by this context, if it does, and returns true. Otherwise it returns false:
-/// then the context stays as it was, and what `reply` holds means nothing.
-#[inline(always)]
-fn take_in<'a>(
-    context: &mut Context,
-    idle_ms: u32,
-    moment: u64,
-    forward: &Forward<'a>,
-    start: Start,
-    reply: &mut Reply<'a>,
-) -> bool
-    ensures taken { result ≡ true → (s : Settings) → s.idle_ms ≡ idle_ms → LoneStep (Some (record_of context.old)) s moment
-        (header_of forward.now) (response_of reply.new) (Some (record_of context.new)) }
-    ensures stays { result ≡ false → record_of context.new ≡ record_of context.old }
-{
-    if !start.has(forward.first, context.profile()) {
-        return false;
-    }
     context.take_at_once(idle_ms, moment, forward, reply)
 }
 

@@ -1,8 +1,6 @@
 //! The first try of a packet without an extension 3. It rebuilds the packet in the reply in place, and writes
 //! only those fields of the reference that such a packet changes.
 
-ghost use Rattle.std.specs.Prelude.{◌≡◌, false};
-
 use crate::explain::meant;
 use crate::reference::Previous;
 use crate::reply::{Delivered, Outcome, Reply};
@@ -13,15 +11,11 @@ use rohc_forms::{Form, FormKind, read_unextended};
 use rohc_frame::Forward;
 use rohc_header::{Dynamic, LONGEST_PAYLOAD, put_header};
 
-/// False: a packet isn't taken. The compiler takes the way to a cold function for a rare one, and inlines what is called
-/// on the way past it.
+/// Does nothing, where a packet isn't taken. The compiler takes the way to a cold function for a rare one, and inlines what
+/// is called on the way past it.
 #[cold]
 #[inline(never)]
-pub(crate) fn missed() -> bool
-    ensures { result ≡ false }
-{
-    false
-}
+pub(crate) fn missed() {}
 
 impl FullContext {
     ghost use Rattle.std.specs.Prelude.{◌≡◌, ◌≢◌, ◌≤◌, ◌⊎◌, ℕ, List, length, Some, None, Ok, true, false};
@@ -134,10 +128,12 @@ impl FullContext {
     {
         let kept = &self.reference;
         let Some(form) = read_unextended(forward, kept.moving.rnd, kept.carries_sum) else {
-            return missed();
+            missed();
+            return false;
         };
         if form.payload.len() > LONGEST_PAYLOAD {
-            return missed();
+            missed();
+            return false;
         }
         self.take_first(&form, reply)
     }

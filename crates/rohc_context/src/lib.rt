@@ -3,7 +3,7 @@
 //! No function allocates memory; payloads are borrowed from the arrival.
 #![tactic(auto)]
 
-mod at_once;
+pub mod at_once;
 mod due;
 mod explain;
 mod failures;
@@ -26,6 +26,7 @@ mod step;
 mod tries;
 pub mod window;
 
+pub use at_once::AtOnce;
 pub use record::Context;
 pub use refusal::Refusal;
 pub use reply::{Delivered, Outcome, Reply};

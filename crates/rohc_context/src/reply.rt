@@ -37,7 +37,7 @@ pub struct Reply<'a> {
 }
 
 impl<'a> Reply<'a> {
-    ghost use Rattle.std.specs.Prelude.{◌≡◌};
+    ghost use Rattle.std.specs.Prelude.{◌≡◌, [], ◌∷◌, None};
     ghost use Rattle.rohc_feedback.specs.Element.{octets_of};
     ghost use Rattle.rohc_context.specs.Response.{response_of, delivered, stored, failed, refused};
 
@@ -53,6 +53,22 @@ impl<'a> Reply<'a> {
             packet: Some(Delivered { head, payload }),
             feedback,
             outcome: Outcome::Delivered,
+        }
+    }
+
+    /// Writes the answer to a Normal packet of profile 0x0000 over what the reply held: the packet is its first octet and
+    /// the rest, its octets without the CID octets (RFC 3095 5.10.2).
+    pub fn deliver_normal(&mut self, first: u8, rest: &'a [u8])
+        ensures { response_of self.new ≡ delivered (first ∷ []) rest.entry.now None }
+    {
+        self.packet = Some(Delivered {
+            head: ArrayVec::new(),
+            payload: rest,
+        });
+        self.feedback = None;
+        self.outcome = Outcome::Delivered;
+        if let Some(Delivered { head, .. }) = &mut self.packet {
+            head.push(first);
         }
     }
 

@@ -1,6 +1,6 @@
 //! One event of one context.
 
-use crate::at_once::deliver_normal;
+use crate::at_once::AtOnce;
 use crate::due::Due;
 use crate::failures::is_uor_2;
 use crate::fault::Fault;
@@ -97,8 +97,10 @@ impl Context {
         requires within { forward.now.cid ≤ settings.now.max_cid }
         ensures { LoneStep (Some (record_of self.old)) settings.now moment (header_of forward.now) (response_of reply.new) (Some (record_of self.new)) }
     {
-        if !self.take_at_once(settings.idle_ms, moment, forward, reply) {
-            self.step(settings, moment, forward, reply);
+        match self.take_at_once(settings.idle_ms, moment, forward, reply) {
+            Some(AtOnce::Rebuilt) => {}
+            Some(AtOnce::Normal) => reply.deliver_normal(forward.first, forward.rest),
+            None => self.step(settings, moment, forward, reply),
         }
     }
 
@@ -253,7 +255,7 @@ impl Context {
         let passed = moment.saturating_sub(self.accepted);
         match &mut self.state {
             State::Plain => {
-                deliver_normal(forward, reply);
+                reply.deliver_normal(forward.first, forward.rest);
                 self.accepted = moment;
             }
             State::NoContext(_) => *reply = self.refuse_low(settings, moment, forward),

@@ -9,7 +9,7 @@ pub returns : goal.returns
 returns c =
     let lent = c.pair_mut-records.ensures in
     let at = lent_at c.args.self.now.links c.in-Some.place c.args.link c.in-Some.ensures.there _ _ lent.value in
-    let takes = c.arrive_longer_on.ensures in
+    let takes = c.take_longer.ensures in
     let its : borne (setting_at c.args.self.now c.args.link) c.args.octets.now ≡ borne (Some c.pair_mut-records.result.1.now.setting) c.args.octets.now = rw at.1 refl in
     record {
       answer = answer_by c.args.self.now c.in-Some.place c.args.link _ _ lent.unique at c.args.moment c.args.octets.now _ takes.answer;
