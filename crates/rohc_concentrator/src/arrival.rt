@@ -6,7 +6,7 @@ ghost use Rattle.rohc_concentrator.specs.Tables.{IsPlaceOf};
 
 use crate::answer::{Answer, NoLink, Taken};
 use crate::concentrator::Concentrator;
-use crate::link::{Start, arrive_on, take_longer, take_plain};
+use crate::link::{arrive_on, take_longer, take_short};
 use crate::place::{place_by_hash, stands_at};
 use crate::records::LinkRecords;
 use indexmap::IndexMap;
@@ -108,7 +108,7 @@ impl Concentrator {
             found
         };
         let (_, records) = self.links.pair_mut(place);
-        take_plain(records, moment, octets, Start::Short, answer)
+        take_short(records, moment, octets, answer)
     }
 
     /// Takes a packet as `arrive_into` does. It is for a packet that `take_at_once` didn't take, and doesn't try the

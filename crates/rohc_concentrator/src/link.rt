@@ -1,6 +1,6 @@
 //! One arrival on one link.
 
-ghost use Rattle.std.specs.Prelude.{◌≡◌, ◌≢◌, ◌≤◌, ℕ, None, IfSome, nat_eq};
+ghost use Rattle.std.specs.Prelude.{◌≡◌, ◌≢◌, ◌≤◌, ℕ, None, true, false, IfSome, nat_eq};
 ghost use Rattle.indexmap.specs.IndexMap.{get, keys};
 ghost use Rattle.rohc_frame.specs.Reading.{header_of};
 ghost use Rattle.rohc_context.specs.Response.{response_of, response_taken};
@@ -28,9 +28,8 @@ pub(crate) fn arrive_on<'a>(
 )
     ensures { Takes records.old moment octets.entry.now (report_of answer.new) records.new }
 {
-    match take_plain(records, moment, octets, Start::Short, answer) {
-        Some(taken) => put_taken(taken, answer),
-        None => take_longer(records, moment, octets, answer),
+    if !take_plain(records, moment, octets, Start::Short, answer) {
+        take_longer(records, moment, octets, answer);
     }
 }
 
@@ -46,29 +45,55 @@ pub(crate) fn take_longer<'a>(
 )
     ensures { Takes records.old moment octets.entry.now (report_of answer.new) records.new }
 {
-    match take_plain(records, moment, octets, Start::Other, answer) {
-        Some(taken) => put_taken(taken, answer),
-        None => take_any(records, moment, octets, answer),
+    if !take_plain(records, moment, octets, Start::Other, answer) {
+        take_any(records, moment, octets, answer);
     }
 }
 
-/// Writes the answer to a packet that was taken at once over what `answer` held, unless it stands there.
+/// Takes a packet that its context takes at once, with nothing before its header, as nearly every packet is, and
+/// returns true. Otherwise it returns false: then the records stay as they were, and what `answer` holds means nothing.
+///
+/// It takes only the packets that `start` says. So the compiler makes two copies of it, and that for a UO-0, as nearly
+/// every packet is, has nothing in it for other formats. Neither passes anything on to what follows, which reads the
+/// packet again. So what they read stays in registers.
 #[inline(always)]
-fn put_taken<'a>(taken: Taken<'a>, answer: &mut Answer<'a>)
-    ensures { report_of answer.new ≡ report_taken taken.entry answer.old }
+fn take_plain<'a>(
+    records: &mut LinkRecords,
+    moment: u64,
+    octets: &'a [u8],
+    start: Start,
+    answer: &mut Answer<'a>,
+) -> bool
+    ensures taken { result ≡ true → Takes records.old moment octets.entry.now (report_of answer.new) records.new }
+    ensures stays { result ≡ false → Stays records.old records.new }
 {
-    let Taken::Normal { cid, first, rest } = taken else {
-        return;
+    let settings = &records.setting.settings;
+    let Some(forward) = plain_header(settings.size, settings.max_cid, octets) else {
+        missed();
+        return false;
     };
-    prepare(answer, cid);
-    if let Answer::Arrived { reply, .. } = answer {
-        reply.deliver_normal(first, rest);
+    if !start.has(forward.first) {
+        missed();
+        return false;
+    }
+    prepare(answer, forward.cid);
+    let Answer::Arrived { reply, .. } = answer else {
+        missed();
+        return false;
+    };
+    match take_at(records, moment, &forward, reply) {
+        Some(AtOnce::Rebuilt) => true,
+        Some(AtOnce::Normal) => {
+            reply.deliver_normal(forward.first, forward.rest);
+            true
+        }
+        None => false,
     }
 }
 
 /// The packets that one copy of the short path is for, by the first octet of the header.
 #[derive(Clone, Copy, Debug, PartialEq, Eq)]
-pub(crate) enum Start {
+enum Start {
     /// That of a UO-0.
     Short,
     /// Another.
@@ -86,18 +111,14 @@ impl Start {
     }
 }
 
-/// Takes a packet that its context takes at once, with nothing before its header, as nearly every packet is, and
-/// returns how. Otherwise it returns `None`: then the records stay as they were, and what `answer` holds means nothing.
-///
-/// It takes only the packets that `start` says. So the compiler makes two copies of it, and that for a UO-0, as nearly
-/// every packet is, has nothing in it for other formats. Neither passes anything on to what follows, which reads the
-/// packet again. So what they read stays in registers.
+/// Takes a packet as `take_plain` does, if the first octet of its header is that of a UO-0, and returns how. Otherwise it
+/// returns `None`: then the records stay as they were, and what `answer` holds means nothing. Of a Normal packet it writes
+/// no answer. So the compiler doesn't join that answer with the one to a rebuilt packet.
 #[inline(always)]
-pub(crate) fn take_plain<'a>(
+pub(crate) fn take_short<'a>(
     records: &mut LinkRecords,
     moment: u64,
     octets: &'a [u8],
-    start: Start,
     answer: &mut Answer<'a>,
 ) -> Option<Taken<'a>>
     ensures taken { IfSome result (λ taken. Takes records.old moment octets.entry.now (report_taken taken answer.new) records.new) }
@@ -109,7 +130,7 @@ pub(crate) fn take_plain<'a>(
         missed();
         return None;
     };
-    if !start.has(forward.first) {
+    if !Start::Short.has(forward.first) {
         missed();
         return None;
     }
