@@ -2,7 +2,8 @@
 
 mod udp;
 
-use rohc_program::{End, run};
+use rohc_end::End;
+use rohc_program::run;
 use std::alloc::{AllocError, Global};
 use std::fs;
 use std::net::{Ipv4Addr, Net, UdpSocket};

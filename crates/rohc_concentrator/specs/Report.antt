@@ -1,5 +1,5 @@
--- The answer to an arrival. Words: Report, the answer as plain data; report_taken; OwnStep, IsPoor (lack of memory),
--- IsAnswered.
+-- The answer to an arrival. Words: Report, the answer as plain data; report_taken; OwnStep; IsPoor (lack of
+-- memory); IsAnswered.
 use Rattle.std.specs.Prelude.{◌≡◌, ℕ, List, [], ◌∷◌, Bool, true, false, Option, Some, None, Result, Ok, Err, ◌⊎◌}
 use Rattle.rohc_frame.specs.Header.{Header}
 use Rattle.rohc_frame.specs.Reading.{Reading, elements_of}

@@ -1,7 +1,13 @@
--- What an arrival does to the records of its link. Words: Takes, Stays, IsFor.
-use Rattle.std.specs.Prelude.{◌≡◌, ◌≢◌, ℕ, List, [], Some}
+-- What an arrival does to the records of its link. Words: Takes, Stays, IsFor; MayBeTaken, IsMissed.
+use Rattle.std.specs.Prelude.{◌≡◌, ◌≢◌, ◌<◌, ℕ, List, [], Option, Some, IfSome, Ok}
 use Rattle.indexmap.specs.IndexMap.{keys}
+use Rattle.rohc_frame.specs.declared.header.HeadKind.TheVariants.{Other}
+use Rattle.rohc_frame.specs.Header.{Header}
+use Rattle.rohc_frame.specs.Parts.{header_parts}
+use Rattle.rohc_context.specs.Record.{Record}
 use Rattle.rohc_context.specs.Response.{Response}
+use Rattle.rohc_context.specs.AtOnce.{NeedsStep}
+use Rattle.rohc_concentrator.specs.declared.setting.LinkSetting.{LinkSetting}
 use Rattle.rohc_concentrator.specs.declared.records.LinkRecords.{LinkRecords}
 use Rattle.rohc_concentrator.specs.Tables.{record_in, KeepsPlaces}
 use Rattle.rohc_concentrator.specs.Report.{Report, Arrived, IsAnswered}
@@ -27,3 +33,14 @@ pub record Stays (old new : LinkRecords) : Type 0 where
 -- the answer is one of this CID's context, without relayed feedback
 abbrev pub IsFor : ℕ → Report → Type 0
 IsFor cid report = (response : Response) × (report ≡ Arrived cid response [])
+
+-- the packet is a header of kind Other with nothing before it, and begins as a UO-0 does (RFC 3095 5.7.1)
+pub record MayBeTaken (s : LinkSetting) (octets : List ℕ) (h : Header) : Type 0 where
+  pub header : header_parts s.settings.size s.settings.max_cid octets ≡ Ok (Some h)
+  pub kind : h.kind ≡ Other
+  pub first : h.first < 0x80
+
+-- The packet isn't taken at once: it is no such header, its CID has no record, or its record needs the whole step.
+abbrev pub IsMissed : LinkSetting → (ℕ → Option Record) → ℕ → List ℕ → Type 0
+IsMissed s before moment octets = (h : Header) → MayBeTaken s octets h →
+    IfSome (before h.cid) (λ r. NeedsStep s.settings.idle_ms moment r h)

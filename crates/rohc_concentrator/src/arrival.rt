@@ -30,7 +30,7 @@ impl Concentrator {
     ghost use Rattle.rohc_concentrator.specs.Report.{report_of, report_taken, IsAnswered};
     ghost use Rattle.rohc_concentrator.specs.Events.{Arrives};
     ghost use Rattle.rohc_concentrator.specs.Bears.{borne};
-    ghost use Rattle.rohc_concentrator.specs.Taken.{IsFor};
+    ghost use Rattle.rohc_concentrator.specs.Taken.{IsFor, IsMissed};
 
     /// Takes one packet of a link, and returns the answer. `moment` is its arrival time in milliseconds.
     ///
@@ -95,6 +95,7 @@ impl Concentrator {
     ) -> Option<Taken<'a>>
         ensures taken { IfSome result (λ taken. Arrives self.old link moment octets.entry.now (report_taken taken answer.new) self.new) }
         ensures alone { IfSome result (λ taken. (cid : ℕ) × IsFor cid (report_taken taken answer.new)) }
+        ensures missed { result ≡ None → IfSome (setting_at self.old link) (λ s. IsMissed s (record_at self.old link) moment octets.entry.now) }
         ensures stays { result ≡ None → KeepsAll self.old self.new }
     {
         // As in `arrive_into`.

@@ -1,14 +1,16 @@
 //! One arrival on one link.
 
-ghost use Rattle.std.specs.Prelude.{◌≡◌, ◌≢◌, ◌≤◌, ℕ, None, true, false, IfSome, nat_eq};
+ghost use Rattle.std.specs.Prelude.{◌≡◌, ◌≢◌, ◌≤◌, ℕ, None, true, false, IfSome, nat_eq, nat_lt};
 ghost use Rattle.indexmap.specs.IndexMap.{get, keys};
+ghost use Rattle.rohc_frame.specs.declared.header.HeadKind.TheVariants.{Other};
 ghost use Rattle.rohc_frame.specs.Reading.{header_of};
 ghost use Rattle.rohc_context.specs.Response.{response_of, response_taken};
 ghost use Rattle.rohc_context.specs.Record.{record_of};
+ghost use Rattle.rohc_context.specs.AtOnce.{NeedsStep};
 ghost use Rattle.rohc_concentrator.specs.Setting.{settings_of};
 ghost use Rattle.rohc_concentrator.specs.Tables.{record_in, KeepsPlace, IsPlaceOf};
 ghost use Rattle.rohc_concentrator.specs.Report.{report_of, report_taken, OwnStep};
-ghost use Rattle.rohc_concentrator.specs.Taken.{Takes, Stays, IsFor};
+ghost use Rattle.rohc_concentrator.specs.Taken.{Takes, Stays, IsFor, IsMissed};
 
 use crate::answer::{Answer, Taken};
 use crate::place::{LastPlaces, stands_at};
@@ -103,7 +105,9 @@ enum Start {
 impl Start {
     /// Whether this octet is such a first octet.
     #[inline(always)]
-    fn has(self, first: u8) -> bool {
+    fn has(self, first: u8) -> bool
+        ensures { self ≡ Start.Short → result ≡ nat_lt first 0x80 }
+    {
         match self {
             Start::Short => first < 0x80,
             Start::Other => first >= 0x80,
@@ -123,6 +127,7 @@ pub(crate) fn take_short<'a>(
 ) -> Option<Taken<'a>>
     ensures taken { IfSome result (λ taken. Takes records.old moment octets.entry.now (report_taken taken answer.new) records.new) }
     ensures alone { IfSome result (λ taken. (cid : ℕ) × IsFor cid (report_taken taken answer.new)) }
+    ensures missed { result ≡ None → IsMissed records.old.setting (record_in records.old) moment octets.entry.now }
     ensures stays { result ≡ None → Stays records.old records.new }
 {
     let settings = &records.setting.settings;
@@ -216,6 +221,8 @@ fn take_at<'a>(
     ensures others { (cid : ℕ) → cid ≢ forward.now.cid → record_in records.new cid ≡ record_in records.old cid }
     ensures setting { records.new.setting ≡ records.old.setting }
     ensures order { keys records.new.contexts ≡ keys records.old.contexts }
+    ensures missed { result ≡ None → forward.now.kind ≡ Other → IfSome (record_in records.old forward.now.cid)
+        (λ r. NeedsStep records.old.setting.settings.idle_ms moment r (header_of forward.now)) }
     ensures stays { result ≡ None → record_in records.new forward.now.cid ≡ record_in records.old forward.now.cid }
 {
     // Written out: an option of the place would be tested once more on the likely way.

@@ -1,12 +1,13 @@
--- A packet of kind Other that isn't taken at once. Words: MissesFirst, MissesAtOnce.
-use Rattle.std.specs.Prelude.{◌≡◌, ◌<◌, true, length, ◌⊎◌, Result, Ok, Err}
+-- A packet of kind Other that isn't taken at once. Words: MissesFirst, MissesAtOnce, NeedsStep.
+use Rattle.std.specs.Prelude.{◌≡◌, ◌<◌, ℕ, true, false, length, ◌⊎◌, Result, Ok, Err}
 use Rattle.rohc_frame.specs.Header.{Header}
 use Rattle.rohc_header.specs.declared.fields.Static.{Static}
 use Rattle.rohc_header.specs.Original.{longest_payload}
 use Rattle.rohc_forms.specs.declared.refusal.FormRefusal.{FormRefusal}
 use Rattle.rohc_forms.specs.Content.{Content}
 use Rattle.rohc_forms.specs.Packets.{is_extended}
-use Rattle.rohc_context.specs.Record.{Reference, State, Plain, NoContext, StaticContext, FullContext}
+use Rattle.rohc_context.specs.Record.{Record, Reference, State, Plain, NoContext, StaticContext, FullContext}
+use Rattle.rohc_context.specs.Step.{counts_within}
 use Rattle.rohc_context.specs.Tries.{unshifted, Misses}
 use Rattle.rohc_context.specs.Update.{said_under}
 
@@ -24,3 +25,7 @@ MissesAtOnce (NoContext nacked) h = Unit {0}
 MissesAtOnce (StaticContext fixed reference first second) h = Unit {0}
 MissesAtOnce (FullContext fixed reference previous window) h =
     (is_extended h reference.moving.rnd ≡ true) ⊎ MissesFirst fixed reference (said_under h reference)
+
+-- The record doesn't take the packet at once at this moment: it was idle too long, or the packet misses.
+unfoldable pub NeedsStep : ℕ → ℕ → Record → Header → Type 0
+NeedsStep idle_ms moment r h = (counts_within idle_ms moment r ≡ false) ⊎ MissesAtOnce r.state h

@@ -12,6 +12,7 @@ and_outcome failure window = take 64 (failure ∷ window)
 unfoldable pub is_filled : ℕ → ℕ → List Bool → Bool
 is_filled k n window = nat_le k (count_by (λ failure. failure) (take n window))
 
--- the outcomes that the two halves of a word and a length stand for: one bit for each, the newest in the lowest; 1 is a failure
+-- the outcomes that the two halves of a word and a length stand for: one bit for each, the newest in the
+-- lowest; 1 is a failure
 unfoldable pub outcomes : Window → List Bool
 outcomes w = bits w.length (w.older * 2 ^ 32 + w.newer)

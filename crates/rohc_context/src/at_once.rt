@@ -18,13 +18,13 @@ pub enum AtOnce {
 }
 
 impl Context {
-    ghost use Rattle.std.specs.Prelude.{◌≡◌, ◌≢◌, ◌⊎◌, Some, None, IfSome, false};
+    ghost use Rattle.std.specs.Prelude.{◌≡◌, ◌≢◌, ◌⊎◌, Some, None, IfSome};
     ghost use Rattle.rohc_frame.specs.Reading.{header_of};
     ghost use Rattle.rohc_context.specs.declared.settings.Settings.{Settings as Set};
     ghost use Rattle.rohc_context.specs.Record.{record_of};
     ghost use Rattle.rohc_context.specs.Response.{response_taken};
-    ghost use Rattle.rohc_context.specs.Step.{counts_within, LoneStep};
-    ghost use Rattle.rohc_context.specs.AtOnce.{MissesAtOnce};
+    ghost use Rattle.rohc_context.specs.Step.{LoneStep};
+    ghost use Rattle.rohc_context.specs.AtOnce.{NeedsStep};
 
     /// Takes a packet at once, if the record counts, and returns how: in profile 0x0000 a Normal packet, and in Full
     /// Context a packet without an extension that fits by the first try. This is the step of `arrive_into` under any
@@ -33,7 +33,7 @@ impl Context {
     ///
     /// `moment` is the arrival time in milliseconds.
     #[inline(always)]
-    #[tactic(auto, unfolding(crate::specs::Step::LoneStep, crate::specs::Record::record_of))]
+    #[tactic(auto, unfolding(crate::specs::Step::LoneStep, crate::specs::Record::record_of, crate::specs::AtOnce::NeedsStep))]
     pub fn take_at_once<'a>(
         &mut self,
         idle_ms: u32,
@@ -43,8 +43,7 @@ impl Context {
     ) -> Option<AtOnce>
         ensures taken { IfSome result (λ how. (s : Set) → s.idle_ms ≡ idle_ms → LoneStep (Some (record_of self.old)) s moment (header_of forward.now)
             (response_taken how (header_of forward.now) reply.new) (Some (record_of self.new))) }
-        ensures missed { result ≡ None → (forward.now.kind ≢ HeadKind.Other) ⊎ ((counts_within idle_ms moment (record_of self.old) ≡ false)
-            ⊎ MissesAtOnce (record_of self.old).state (header_of forward.now)) }
+        ensures missed { result ≡ None → (forward.now.kind ≢ HeadKind.Other) ⊎ NeedsStep idle_ms moment (record_of self.old) (header_of forward.now) }
         ensures stays { result ≡ None → self.new ≡ self.old }
     {
         if forward.kind != HeadKind::Other || !self.counts(idle_ms, moment) {

@@ -1,8 +1,8 @@
 //! The command line.
 
-use crate::end::End;
 use clap::error::ErrorKind;
 use clap::{Arg, ArgAction, ArgMatches, Command};
+use rohc_end::End;
 use std::alloc::{AllocError, Global};
 
 /// The greatest `--count`: how many receives `serve` may be asked for.

@@ -4,12 +4,10 @@
 #![tactic(auto)]
 
 mod command;
-pub mod end;
 mod links_file;
 pub mod program;
 mod tied;
 pub mod udp;
 
-pub use end::End;
 pub use program::run;
 pub use udp::UdpFront;

@@ -3,8 +3,8 @@
 ghost use Rattle.std.specs.Prelude.{IfOk};
 ghost use Rattle.rohc_serve.specs.Datagram.{AreSettingsOf};
 
-use crate::end::End;
 use rohc_concentrator::{Concentrator, SetupFault};
+use rohc_end::End;
 use rohc_replay::{Links, LinksFault, read_links};
 use std::io::Read;
 use std::rt::Files;

@@ -1,10 +1,10 @@
 //! The program, from the words after its name to how it ends.
 
 use crate::command::{Request, read_request};
-use crate::end::End;
 use crate::links_file::links_of;
 use crate::tied::{TiedInput, TiedOutput};
 use crate::udp::UdpFront;
+use rohc_end::End;
 use rohc_replay::{RunFault, replay};
 use rohc_serve::serve;
 use std::cell::RefCell;

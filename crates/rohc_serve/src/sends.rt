@@ -3,7 +3,7 @@
 use rohc_concentrator::Answer;
 use rohc_context::{Delivered, Outcome};
 use rohc_feedback::Element;
-use rohc_frame::{CidKind, Elements, cut};
+use rohc_frame::Elements;
 use rohc_replay::Ports;
 
 /// What is to be sent for a datagram: first the relayed feedback, then the packet, then the
@@ -22,19 +22,7 @@ pub struct Sends<'a> {
     pub refused: bool,
 }
 
-ghost use Rattle.std.specs.Prelude.{◌≡◌, []};
-ghost use Rattle.rohc_frame.specs.Reading.{elements_of};
-
-/// No feedback elements: those of a packet that is one padding octet.
-fn no_elements<'a>() -> Elements<'a>
-    ensures { elements_of result ≡ [] }
-{
-    match cut(CidKind::Small, 0, &[0xe0]) {
-        Ok(framed) => framed.feedback(),
-        Err(_) => unreachable!(),
-    }
-}
-
+ghost use Rattle.std.specs.Prelude.{◌≡◌};
 ghost use Rattle.rohc_concentrator.specs.Report.{is_refusal};
 
 /// Whether an outcome is a refusal.
@@ -58,7 +46,7 @@ impl<'a> Sends<'a> {
     {
         Sends {
             ports,
-            relayed: no_elements(),
+            relayed: Elements::none(),
             packet: None,
             feedback: None,
             refused: true,

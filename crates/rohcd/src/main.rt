@@ -1,7 +1,8 @@
 //! rohcd: a ROHC decompressor for many links.
 #![tactic(auto)]
 
-use rohc_program::{End, run};
+use rohc_end::End;
+use rohc_program::run;
 use std::process::ExitCode;
 use std::rt::Env;
 use std::{env, io};

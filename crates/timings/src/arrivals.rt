@@ -8,7 +8,7 @@ ghost use Rattle.std.specs.Prelude.{◌≤◌, length};
 
 use crate::input::{bad_text, read_text};
 use crate::script::{Arrival, Script};
-use rohc_concentrator::{Answer, Concentrator};
+use rohc_concentrator::{Answer, Concentrator, LinkSetting};
 use rohc_context::{Delivered, Refusal};
 use rohc_replay::read_links;
 use std::io;
@@ -132,6 +132,49 @@ fn run(
     sum
 }
 
+/// Times one turn, and prints its sums and its nanoseconds. It starts without contexts.
+fn time_turn<R>(
+    rt: &R,
+    settings: &[LinkSetting],
+    arrivals: &[Arrival<'_>],
+    target: Target,
+    buffer: &mut [u8],
+) -> io::Result<()>
+where
+    R: Print + Eprint + Clock + AllocGlobal,
+{
+    let Ok(mut concentrator) = Concentrator::new(rt.alloc(), settings) else {
+        return Err(bad_text());
+    };
+    let start = Instant::now(rt)?;
+    let sum = run(&mut concentrator, arrivals, target, buffer);
+    let nanos = start.elapsed(rt)?.as_nanos();
+    let packets = arrivals.len();
+    println!(rt;
+        "packets {packets} delivered {} octets {} lasts {}",
+        sum.delivered, sum.octets, sum.lasts
+    )?;
+    eprintln!(rt; "nanoseconds {nanos}")
+}
+
+/// Times so many turns of these arrivals.
+fn time_turns<R>(
+    rt: &R,
+    settings: &[LinkSetting],
+    arrivals: &[Arrival<'_>],
+    turns: u32,
+    target: Target,
+) -> io::Result<()>
+where
+    R: Print + Eprint + Clock + AllocGlobal,
+{
+    let mut buffer = vec![in rt.alloc(); 0u8; ROOM]?;
+    for _ in 0..turns {
+        time_turn(rt, settings, arrivals, target, &mut buffer)?;
+    }
+    Ok(())
+}
+
 /// Times so many turns of a script's arrivals.
 pub(crate) fn time<R>(
     rt: &R,
@@ -149,20 +192,5 @@ where
     };
     let script = Script::read(rt, script)?;
     let arrivals = script.arrivals(rt.alloc())?;
-    let mut buffer = vec![in rt.alloc(); 0u8; ROOM]?;
-    for _ in 0..turns {
-        let Ok(mut concentrator) = Concentrator::new(rt.alloc(), links.settings()) else {
-            return Err(bad_text());
-        };
-        let start = Instant::now(rt)?;
-        let sum = run(&mut concentrator, arrivals.as_slice(), target, &mut buffer);
-        let nanos = start.elapsed(rt)?.as_nanos();
-        let packets = arrivals.len();
-        println!(rt;
-            "packets {packets} delivered {} octets {} lasts {}",
-            sum.delivered, sum.octets, sum.lasts
-        )?;
-        eprintln!(rt; "nanoseconds {nanos}")?;
-    }
-    Ok(())
+    time_turns(rt, links.settings(), arrivals.as_slice(), turns, target)
 }

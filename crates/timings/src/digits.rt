@@ -106,6 +106,26 @@ fn run(packets: &[&[u8]], answers: &[&[u8]], buffers: &mut Buffers) -> Sum {
     sum
 }
 
+/// Times one turn, and prints its sums and its nanoseconds.
+fn time_turn<R>(
+    rt: &R,
+    packets: &[&[u8]],
+    answers: &[&[u8]],
+    buffers: &mut Buffers,
+) -> io::Result<()>
+where
+    R: Print + Eprint + Clock,
+{
+    let start = Instant::now(rt)?;
+    let sum = run(packets, answers, buffers);
+    let nanos = start.elapsed(rt)?.as_nanos();
+    println!(rt;
+        "calls {} octets {} lasts {}",
+        sum.calls, sum.octets, sum.lasts
+    )?;
+    eprintln!(rt; "nanoseconds {nanos}")
+}
+
 /// Times so many turns of the calls for a script and the answers to it.
 pub(crate) fn time<R>(rt: &R, script: &str, answers: &str, turns: u32) -> io::Result<()>
 where
@@ -118,14 +138,7 @@ where
     let answers = fourth_words(alloc, answers.as_str())?;
     let mut buffers = Buffers::new(alloc)?;
     for _ in 0..turns {
-        let start = Instant::now(rt)?;
-        let sum = run(packets.as_slice(), answers.as_slice(), &mut buffers);
-        let nanos = start.elapsed(rt)?.as_nanos();
-        println!(rt;
-            "calls {} octets {} lasts {}",
-            sum.calls, sum.octets, sum.lasts
-        )?;
-        eprintln!(rt; "nanoseconds {nanos}")?;
+        time_turn(rt, packets.as_slice(), answers.as_slice(), &mut buffers)?;
     }
     Ok(())
 }

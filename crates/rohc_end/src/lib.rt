@@ -1,4 +1,5 @@
-//! How a run of the program ends.
+//! How a run of the program `rohcd` ends: its exit status, and the line that it prints on standard error.
+#![tactic(auto)]
 
 use std::fmt;
 
@@ -23,7 +24,7 @@ pub enum End {
 
 impl End {
     ghost use Rattle.std.specs.Prelude.{◌≡◌};
-    ghost use Rattle.rohc_program.specs.End.{status_of};
+    ghost use Rattle.rohc_end.specs.End.{status_of};
 
     /// The exit status of the program.
     pub fn status(&self) -> u8

@@ -1,6 +1,6 @@
 use Rattle.std.specs.Prelude.{ℕ}
-use Rattle.rohc_program.specs.declared.end.End.{End}
-use Rattle.rohc_program.specs.declared.end.End.TheVariants.{Done, CommandLine, LinksFile, Read, Write, Socket, Memory}
+use Rattle.rohc_end.specs.declared.End.{End}
+use Rattle.rohc_end.specs.declared.End.TheVariants.{Done, CommandLine, LinksFile, Read, Write, Socket, Memory}
 
 -- the statuses that the program ends with
 abbrev pub status_of : End → ℕ
