@@ -1,4 +1,3 @@
-mod PaddingLemmas
 mod PlaceLemmas
 mod AbsentLemmas
 mod OfferLemmas
