@@ -40,7 +40,8 @@ pub record MayBeTaken (s : LinkSetting) (octets : List ℕ) (h : Header) : Type 
   pub kind : h.kind ≡ Other
   pub first : h.first < 0x80
 
--- The packet isn't taken at once: it is no such header, its CID has no record, or its record needs the whole step.
+-- The packet isn't taken at once: it is no such header, its CID has no record, or its record needs the whole
+-- step.
 abbrev pub IsMissed : LinkSetting → (ℕ → Option Record) → ℕ → List ℕ → Type 0
 IsMissed s before moment octets = (h : Header) → MayBeTaken s octets h →
     IfSome (before h.cid) (λ r. NeedsStep s.settings.idle_ms moment r h)
