@@ -17,6 +17,7 @@ use Rattle.rohc_context.specs.Tries.{Acceptance, full_tries}
 use Rattle.rohc_context.specs.Update.{said_under, Judges, updated}
 use Rattle.rohc_context.specs.Step.{counts, Turn, Steps, LoneStep}
 use Rattle.rohc_frame.specs.declared.header.HeadKind.TheVariants.{Other}
+use Rattle.rohc_context.proofs.ExplainLemmas.{means_fields}
 use Rattle.rohc_context.proofs.UpdateLemmas.{updated_is, delivers_silently}
 
 -- what is accepted
@@ -56,7 +57,7 @@ pub follows : (fixed : Static) (r : Reference) (c : Content) (moving : Dynamic) 
     ≡ updated fixed r window (accepted r c moving octets)
 follows fixed r c moving octets window none unmarked means =
     let next : Reference = record { moving = with_numbers r.moving moving; carries_sum = r.carries_sum } in
-    let others = means.others ∙ ap (λ v. record (in_force r.moving v) { sn = moving.sn; ts = moving.ts; id = moving.id; udp_sum = unwrap_or c.udp_sum 0; marker = c.marker }) none in
+    let others = means_fields r 0 c moving means ∙ ap (λ v. record (in_force r.moving v) { sn = moving.sn; ts = moving.ts; id = moving.id; udp_sum = unwrap_or c.udp_sum 0; marker = c.marker }) none in
     let once : counts_once c ≡ false = ap (λ v. is_uo1_id c.kind && is_some v) none ∙ and_false (is_uo1_id c.kind) in
     let numbers = numbers_are r.moving moving (unwrap_or c.udp_sum 0) c.marker unmarked others
     ∙ ap (λ b. if b then with_numbers r.moving moving else without_marker moving) (sym once) in

@@ -27,7 +27,7 @@ use Rattle.rohc_context.specs.Renewal.{Renews}
 use Rattle.rohc_context.specs.Tries.{Acceptance, static_tries, full_tries}
 use Rattle.rohc_context.specs.Update.{said_under, promoted, updated}
 use Rattle.rohc_context.specs.Step.{counts, counting, TakenBy, Turn, LoneStep}
-use Rattle.rohc_context.proofs.ExplainLemmas.{explains_some, explains_one}
+use Rattle.rohc_context.proofs.ExplainLemmas.{means_fields, explains_some, explains_one}
 use Rattle.rohc_context.proofs.UpdateLemmas.{judged}
 use Rattle.rohc_context.proofs.StepLemmas.{step_one}
 
@@ -57,7 +57,7 @@ honest accepted s m h r response next is counted p =
     subst (λ k. Turn s m h k (if counts s m r then Some r else None) (Some r) response next) (sym is)
     (subst (λ b. Turn s m h Other (if b then Some r else None) (Some r) response next) (sym counted) p)
 
-nothing_sent : (mode : Mode) (h : Header) → sent mode h dues.Nothing ≡ None
+pub nothing_sent : (mode : Mode) (h : Header) → sent mode h dues.Nothing ≡ None
 nothing_sent U h = refl
 nothing_sent O h = refl
 
@@ -112,7 +112,7 @@ next_is_held held p w =
     let given : Dynamic = p.header.moving in
     let plain : in_force kept p.content.values ≡ kept = ap (λ v. in_force kept v) w.no_values in
     let others : given ≡ record kept { sn = given.sn; ts = given.ts; id = given.id; udp_sum = unwrap_or p.content.udp_sum 0; marker = p.content.marker } =
-    w.fits.explained.fields.others ∙ ap (λ (d : Dynamic). record d { sn = given.sn; ts = given.ts; id = given.id; udp_sum = unwrap_or p.content.udp_sum 0; marker = p.content.marker }) plain in
+    means_fields held.reference 0 p.content given w.fits.explained.fields ∙ ap (λ (d : Dynamic). record d { sn = given.sn; ts = given.ts; id = given.id; udp_sum = unwrap_or p.content.udp_sum 0; marker = p.content.marker }) plain in
     let with : Bool → Bool → Option ℕ → Dynamic = λ rnd nbo stride. record (without_marker given) { rnd = rnd; nbo = nbo; stride = stride } in
     let numbered : without_marker given ≡ with kept.rnd kept.nbo kept.stride =
     ap (λ rnd. with rnd given.nbo given.stride) (ap (λ (d : Dynamic). d.rnd) others)

@@ -1,8 +1,8 @@
 -- The laws of a step, for the proofs of the crates above: each is its law's statement and nothing else.
-use Rattle.rohc_context.specs.Laws.{HasAnswer, HasNoOther, LeavesGood, BeginsByIr, LeavesNone, NeverPoor, KeepsGood, KeepsRefused, LendsPayload, ChecksChange, LowStatesChange, ComesToOne, MeansOne, TakesPlain, DeliversHonest, PromotesHonest, DeliversWritten, HasWritten}
+use Rattle.rohc_context.specs.Laws.{HasAnswer, HasNoOther, LeavesGood, BeginsByIr, LeavesNone, NeverPoor, KeepsGood, KeepsRefused, LendsPayload, ChecksChange, LowStatesChange, LowStatesRefuse, ComesToOne, MeansOne, TakesPlain, DeliversHonest, PromotesHonest, DeliversWritten, HasWritten}
 use Rattle.rohc_context.proofs.StepLemmas.{step_some, step_one, step_begins}
 use Rattle.rohc_context.proofs.GoodLemmas.{step_good, context_good}
-use Rattle.rohc_context.proofs.RefusalLemmas.{step_none, step_rich, step_keeps, step_checks, step_low}
+use Rattle.rohc_context.proofs.RefusalLemmas.{step_none, step_rich, step_keeps, step_checks, step_low, step_untaken}
 use Rattle.rohc_context.proofs.LentLemmas.{step_lends}
 use Rattle.rohc_context.proofs.TryLemmas.{verdict_one}
 use Rattle.rohc_context.proofs.WrittenExample.{call, packet, is_written}
@@ -33,7 +33,7 @@ pub keeps_refused : KeepsRefused
 keeps_refused before s moment h response next refusal step e check low = step_keeps before s moment h response next refusal step e check low
 
 pub lends_payload : LendsPayload
-lends_payload before s moment h response next all step = step_lends before s moment h response next all step
+lends_payload = step_lends
 
 pub means_one : MeansOne
 means_one = means_one_header
@@ -54,10 +54,13 @@ pub has_written : HasWritten
 has_written = (call, packet, is_written)
 
 pub checks_change : ChecksChange
-checks_change before s moment h response next step e = step_checks before s moment h response next step e
+checks_change = step_checks
 
 pub low_states_change : LowStatesChange
-low_states_change before s moment h response next step e = step_low before s moment h response next step e
+low_states_change = step_low
+
+pub low_states_refuse : LowStatesRefuse
+low_states_refuse = step_untaken
 
 pub comes_to_one : ComesToOne
 comes_to_one = verdict_one

@@ -1,15 +1,17 @@
 -- A step from good values has one answer and one record after it.
-use Rattle.std.proofs.Common.{◌≡◌, ◌≢◌, ℕ, ◌-◌, ◌≤◌, List, [], length, Bool, true, false, Option, Some, None, IfSome, refl, sym, ap, subst, ◌∙◌, ◌⊎◌, inl, inr, arith}
-use Rattle.std.specs.Prelude.{All, Result, Ok, Err, IfOk, is_some, if◌then◌else◌}
+use Rattle.std.proofs.Common.{◌≡◌, ℕ, ◌-◌, ◌≤◌, List, [], ◌∷◌, length, Bool, true, false, Option, Some, None, IfSome, refl, sym, ap, subst, ◌∙◌, ◌⊎◌, inl, inr, arith}
+use Rattle.std.specs.Prelude.{All, Result, Ok, Err, IfOk, is_some, ◌==◌, if◌then◌else◌}
 use Rattle.rohc_bits.specs.Bits.{IsOctet}
 use Rattle.rohc_frame.specs.declared.header.HeadKind.{HeadKind}
 use Rattle.rohc_frame.specs.declared.header.HeadKind.TheVariants.{Ir, IrDyn, Other}
 use Rattle.rohc_frame.specs.Header.{Header}
 use Rattle.rohc_header.specs.declared.fields.Static.{Static}
 use Rattle.rohc_header.specs.declared.fields.Dynamic.{Dynamic}
+use Rattle.rohc_bits.specs.Reading.{next_octet}
 use Rattle.rohc_chain.specs.declared.refusal.ChainRefusal.{ChainRefusal}
+use Rattle.rohc_chain.specs.declared.refusal.ChainRefusal.TheVariants as chains
 use Rattle.rohc_chain.specs.Good.{IsGoodStatic, IsGoodDynamic, IsGoodStride}
-use Rattle.rohc_chain.specs.Packets.{IrContent, IsIr, IsIrDyn, DynContent, kept_values, ir_at, ir_dyn_at, longest_payload}
+use Rattle.rohc_chain.specs.Packets.{IrContent, IsIr, IsIrDyn, DynContent, kept_values, ir_at, longest_payload}
 use Rattle.rohc_chain.specs.Packets as chain
 use Rattle.rohc_chain.specs.Good as chain_good
 use Rattle.rohc_chain.specs.Texts.{IsShort}
@@ -28,13 +30,14 @@ use Rattle.rohc_context.specs.declared.refusal.Refusal.TheVariants as refusals
 use Rattle.rohc_context.specs.declared.settings.Settings.{Settings}
 use Rattle.rohc_context.specs.Record.{Reference, State, Plain, NoContext, StaticContext, FullContext, Record}
 use Rattle.rohc_context.specs.Response.{Response, delivered, refused}
-use Rattle.rohc_context.specs.Good.{AreGoodValues, IsGoodRecord, IsGoodState}
+use Rattle.rohc_context.specs.Good.{AreGoodValues, IsGoodReference, IsGoodRecord, IsGoodState}
+use Rattle.rohc_context.specs.Window.{and_outcome}
 use Rattle.rohc_context.specs.Due.{sent}
 use Rattle.rohc_context.specs.Faults.{fault_of_chain}
 use Rattle.rohc_context.specs.Failures.{takes, after_low_state}
 use Rattle.rohc_context.specs.Outcomes.{refusal_of, Fails, Ends}
-use Rattle.rohc_context.specs.Renewal.{full_window, full_window_of, Delivers, Renewed, state_in, Renews}
-use Rattle.rohc_context.specs.Refresh.{profile_of, kept_by, kept_in, dyn_said, RefreshesBy}
+use Rattle.rohc_context.specs.Renewal.{full_window_of, Delivers, Renewed, state_in, Renews}
+use Rattle.rohc_context.specs.Refresh.{kept_by, dyn_said, PlainRefuses, RefreshesTo, RefreshesBy}
 use Rattle.rohc_context.specs.Tries.{Try, Acceptance, static_tries, full_tries}
 use Rattle.rohc_context.specs.Update.{said_under, Judges, Accepts, promoted, updated, acknowledged, silent, UpdatesBy}
 use Rattle.rohc_context.specs.Step.{counts, counting, TakenBy, Turn, LoneStep}
@@ -52,12 +55,12 @@ ir_reads h dynamic content e all read =
     (ir_good h content all text.0, text.1)
 
 -- the same of an IR-DYN
-pub dyn_reads : (h : Header) (kept : Bool × Option ℕ) (d : DynContent) → h.kind ≡ IrDyn → All IsOctet h.rest → IsGoodStride kept.1 → dyn_said h 1 kept ≡ Ok d
+pub dyn_reads : (h : Header) (reference : Option Reference) (d : DynContent) → h.kind ≡ IrDyn → All IsOctet h.rest → IsGoodStride (kept_by reference).1 → dyn_said h reference ≡ Ok d
     → IsGoodDynamic d.moving × (length d.payload ≤ longest_payload)
-dyn_reads h kept d e all good read =
+dyn_reads h reference d e all good read =
     let is : IsIrDyn h.kind = subst IsIrDyn (sym e) tt in
-    let text = dyn_text h 1 (kept_values kept.0 kept.1) d is (omega arith) all read in
-    ((dyn_good h 1 (kept_values kept.0 kept.1) d all good text.0).0, text.1)
+    let text = dyn_text h 1 (kept_values (kept_by reference).0 (kept_by reference).1) d is (omega arith) all read in
+    ((dyn_good h 1 (kept_values (kept_by reference).0 (kept_by reference).1) d all good text.0).0, text.1)
 
 -- and of a packet of kind Other
 pub form_reads : (h : Header) (r : Reference) → All IsOctet h.rest → IfOk (said_under h r) (IsGoodContent h.first r.carries_sum (is_some r.moving.stride))
@@ -66,12 +69,17 @@ form_reads h r all = go (said_under h r) refl where
   go (Err refusal) e = tt
   go (Ok c) e = says_good h r.moving.rnd r.carries_sum (is_some r.moving.stride) c all ((reads h r.moving.rnd r.carries_sum (is_some r.moving.stride) c).0 e)
 
--- an IR-DYN says nothing to profile 0x0000
-pub plain_refuses : (h : Header) (kept : Bool × Option ℕ) (d : DynContent) → h.kind ≡ IrDyn → All IsOctet h.rest → dyn_said h 0 kept ≢ Ok d
-plain_refuses h kept d e all read =
-    let is : IsIrDyn h.kind = subst IsIrDyn (sym e) tt in
-    let text = dyn_text h 0 (kept_values kept.0 kept.1) d is (omega arith) all read in
-    omega (arith, text.0.for_profile_1)
+-- profile 0x0000 refuses each IR-DYN
+plain_refuses : (h : Header) → (refusal : ChainRefusal) × PlainRefuses h refusal
+unfolding next_octet
+plain_refuses h = go h.rest refl where
+  judges : (octet : ℕ) (rest : List ℕ) (changes : Bool) → (octet == 1) ≡ changes → h.rest ≡ octet ∷ rest → (refusal : ChainRefusal) × PlainRefuses h refusal
+  judges octet rest true e f = (chains.ProfileChange, rw (f, e) refl)
+  judges octet rest false e f = (chains.Profile, rw (f, e) refl)
+
+  go : (text : List ℕ) → h.rest ≡ text → (refusal : ChainRefusal) × PlainRefuses h refusal
+  go [] e = (chains.Truncated, rw e refl)
+  go (octet ∷ rest) e = judges octet rest (octet == 1) refl e
 
 -- ---- Existence
 
@@ -100,17 +108,27 @@ renews_some : (s : Settings) (m : ℕ) (h : Header) (dynamic : Bool) (c before :
 renews_some s m h dynamic c before (Ok content) is all e = let good = ir_reads h dynamic content is all e in renewed_some s m h (state_in c) content good.0 good.1
 renews_some s m h dynamic c before (Err refusal) is all e = ends_some s m h c before (fault_of_chain refusal)
 
-refreshes_some : (s : Settings) (m : ℕ) (h : Header) (r : Record) (state : State) (read : Result DynContent ChainRefusal) → IsGoodState state → h.kind ≡ IrDyn → All IsOctet h.rest
-    → takes state IrDyn h.first ≡ true → dyn_said h (profile_of state) (kept_in state) ≡ read → Some1 (RefreshesBy s m h r state read)
-refreshes_some s m h r state (Err refusal) good is all taken e = ends_some s m h (Some r) (Some r) (fault_of_chain refusal)
-refreshes_some s m h r Plain (Ok d) good is all taken e = absurd (plain_refuses h (false, None) d is all e)
-refreshes_some s m h r (NoContext nacked) (Ok d) good is all taken e = absurd (let f : false ≡ true = taken in cc)
-refreshes_some s m h r (StaticContext fixed None f g) (Ok d) good is all taken e =
-    delivers_some s m h fixed d.moving d.payload [] good.0 (dyn_reads h (false, None) d is all tt e).1
-refreshes_some s m h r (StaticContext fixed (Some reference) f g) (Ok d) good is all taken e =
-    delivers_some s m h fixed d.moving d.payload [] good.0 (dyn_reads h (kept_by (Some reference)) d is all good.1.moving.stride e).1
-refreshes_some s m h r (FullContext fixed reference previous w) (Ok d) good is all taken e =
-    delivers_some s m h fixed d.moving d.payload (full_window r.state) good.0 (dyn_reads h (kept_by (Some reference)) d is all good.1.moving.stride e).1
+refreshed_some : (s : Settings) (m : ℕ) (h : Header) (r : Record) (fixed : Static) (reference : Option Reference) (window : List Bool) (read : Result DynContent ChainRefusal)
+    → IsGoodStatic fixed → h.kind ≡ IrDyn → All IsOctet h.rest → IsGoodStride (kept_by reference).1 → dyn_said h reference ≡ read → Some1 (RefreshesTo s m h r fixed window read)
+refreshed_some s m h r fixed reference window (Err refusal) good is all stride e = ends_some s m h (Some r) (Some r) (fault_of_chain refusal)
+refreshed_some s m h r fixed reference window (Ok d) good is all stride e = delivers_some s m h fixed d.moving d.payload window good (dyn_reads h reference d is all stride e).1
+
+-- the stride of a good reference, or of none
+pub stride_good : (reference : Option Reference) → IfSome reference IsGoodReference → IsGoodStride (kept_by reference).1
+stride_good None good = tt
+stride_good (Some r) good = good.moving.stride
+
+refreshes_some : (s : Settings) (m : ℕ) (h : Header) (r : Record) (state : State) → IsGoodState state → h.kind ≡ IrDyn → All IsOctet h.rest → takes state IrDyn h.first ≡ true
+    → Some1 (RefreshesBy s m h r state)
+refreshes_some s m h r Plain good is all taken =
+    let (refusal, refuses) = plain_refuses h in
+    let (response, next, ends) = ends_some s m h (Some r) (Some r) (fault_of_chain refusal) in
+    (response, next, (refusal, refuses, ends))
+refreshes_some s m h r (NoContext nacked) good is all taken = absurd (let f : false ≡ true = taken in cc)
+refreshes_some s m h r (StaticContext fixed reference f g) good is all taken =
+    refreshed_some s m h r fixed reference [] (dyn_said h reference) good.0 is all (stride_good reference good.1) refl
+refreshes_some s m h r (FullContext fixed reference previous w) good is all taken =
+    refreshed_some s m h r fixed (Some reference) (and_outcome false w) (dyn_said h (Some reference)) good.0 is all good.1.moving.stride refl
 
 accepts_some : (s : Settings) (m : ℕ) (h : Header) (r : Record) (state : Acceptance → State) (due : Acceptance → Due) (verdict : Result Acceptance Fault)
     → Some1 (Accepts s m h r state due verdict)
@@ -143,7 +161,7 @@ taken_some : (s : Settings) (m : ℕ) (h : Header) (kind : HeadKind) (r : Record
 taken_some s m h kind r false is which e good all = low_some s m h r
 taken_some s m h (Ir dynamic) r true is (inl f) e good all = absurd (let g : Ir dynamic ≡ IrDyn = f in cc)
 taken_some s m h (Ir dynamic) r true is (inr f) e good all = absurd (let g : Ir dynamic ≡ Other = f in cc)
-taken_some s m h IrDyn r true is which e good all = refreshes_some s m h r r.state _ good.state is all e refl
+taken_some s m h IrDyn r true is which e good all = refreshes_some s m h r r.state good.state is all e
 taken_some s m h Other r true is which e good all = updates_some s m h r r.state good.state all e
 
 turn_some : (s : Settings) (m : ℕ) (h : Header) (kind : HeadKind) (c before : Option Record) → h.kind ≡ kind → IfSome c IsGoodRecord → All IsOctet h.rest
@@ -168,6 +186,10 @@ step_some before s m h good = turn_some s m h h.kind (counting s m before) befor
 
 -- ---- Uniqueness
 
+-- two refusals of one text are one
+err_is : (a b : ChainRefusal) → (let x : Result (ℕ × List ℕ) ChainRefusal = Err a in x) ≡ Err b → a ≡ b
+err_is a b e = cc
+
 ends_one : (s : Settings) (m : ℕ) (h : Header) (c before : Option Record) (fault : Fault) (a b : Response) (x y : Option Record)
     → Ends s m h c before fault a x → Ends s m h c before fault b y → (a ≡ b) × (x ≡ y)
 ends_one s m h None before fault a b x y p q = (p.0 ∙ sym q.0, p.1 ∙ sym q.1)
@@ -191,13 +213,19 @@ renews_one : (s : Settings) (m : ℕ) (h : Header) (c before : Option Record) (r
 renews_one s m h c before (Ok content) a b x y p q = renewed_one s m h (state_in c) content a b x y p q
 renews_one s m h c before (Err refusal) a b x y p q = ends_one s m h c before (fault_of_chain refusal) a b x y p q
 
-refreshes_one : (s : Settings) (m : ℕ) (h : Header) (r : Record) (state : State) (read : Result DynContent ChainRefusal) (a b : Response) (x y : Option Record)
-    → RefreshesBy s m h r state read a x → RefreshesBy s m h r state read b y → (a ≡ b) × (x ≡ y)
-refreshes_one s m h r state (Err refusal) a b x y p q = ends_one s m h (Some r) (Some r) (fault_of_chain refusal) a b x y p q
-refreshes_one s m h r Plain (Ok d) a b x y p q = absurd p
-refreshes_one s m h r (NoContext nacked) (Ok d) a b x y p q = absurd p
-refreshes_one s m h r (StaticContext fixed reference f g) (Ok d) a b x y p q = delivers_one s m h fixed d.moving d.payload [] a b x y p q
-refreshes_one s m h r (FullContext fixed reference previous w) (Ok d) a b x y p q = delivers_one s m h fixed d.moving d.payload (full_window r.state) a b x y p q
+refreshed_one : (s : Settings) (m : ℕ) (h : Header) (r : Record) (fixed : Static) (window : List Bool) (read : Result DynContent ChainRefusal) (a b : Response) (x y : Option Record)
+    → RefreshesTo s m h r fixed window read a x → RefreshesTo s m h r fixed window read b y → (a ≡ b) × (x ≡ y)
+refreshed_one s m h r fixed window (Err refusal) a b x y p q = ends_one s m h (Some r) (Some r) (fault_of_chain refusal) a b x y p q
+refreshed_one s m h r fixed window (Ok d) a b x y p q = delivers_one s m h fixed d.moving d.payload window a b x y p q
+
+refreshes_one : (s : Settings) (m : ℕ) (h : Header) (r : Record) (state : State) (a b : Response) (x y : Option Record)
+    → RefreshesBy s m h r state a x → RefreshesBy s m h r state b y → (a ≡ b) × (x ≡ y)
+refreshes_one s m h r Plain a b x y (refusal, e, p) (other, f, q) =
+    let same : refusal ≡ other = err_is refusal other (sym e ∙ f) in
+    ends_one s m h (Some r) (Some r) (fault_of_chain other) a b x y (subst (λ k. Ends s m h (Some r) (Some r) (fault_of_chain k) a x) same p) q
+refreshes_one s m h r (NoContext nacked) a b x y p q = absurd p
+refreshes_one s m h r (StaticContext fixed reference f g) a b x y p q = refreshed_one s m h r fixed [] (dyn_said h reference) a b x y p q
+refreshes_one s m h r (FullContext fixed reference previous w) a b x y p q = refreshed_one s m h r fixed (and_outcome false w) (dyn_said h (Some reference)) a b x y p q
 
 accepts_one : (s : Settings) (m : ℕ) (h : Header) (r : Record) (state : Acceptance → State) (due : Acceptance → Due) (verdict : Result Acceptance Fault) (a b : Response) (x y : Option Record)
     → Accepts s m h r state due verdict a x → Accepts s m h r state due verdict b y → (a ≡ b) × (x ≡ y)
@@ -229,7 +257,7 @@ taken_one : (s : Settings) (m : ℕ) (h : Header) (kind : HeadKind) (r : Record)
     → TakenBy taken s m h kind r a x → TakenBy taken s m h kind r b y → (a ≡ b) × (x ≡ y)
 taken_one s m h kind r false a b x y all p q = (p.0 ∙ sym q.0, p.1 ∙ sym q.1)
 taken_one s m h (Ir dynamic) r true a b x y all p q = absurd p
-taken_one s m h IrDyn r true a b x y all p q = refreshes_one s m h r r.state (dyn_said h (profile_of r.state) (kept_in r.state)) a b x y p q
+taken_one s m h IrDyn r true a b x y all p q = refreshes_one s m h r r.state a b x y p q
 taken_one s m h Other r true a b x y all p q = updates_one s m h r r.state a b x y all p q
 
 turn_one : (s : Settings) (m : ℕ) (h : Header) (kind : HeadKind) (c before : Option Record) (a b : Response) (x y : Option Record) → All IsOctet h.rest
@@ -245,7 +273,7 @@ pub step_one : (before : Option Record) (s : Settings) (m : ℕ) (h : Header) (a
 unfolding LoneStep
 step_one before s m h a b x y all p q = turn_one s m h h.kind (counting s m before) before a b x y all p q
 
--- ---- From none, a record comes from an IR alone, and what is refused leaves none
+-- ---- From none a record comes from an IR alone
 
 pub step_begins : (s : Settings) (m : ℕ) (h : Header) (response : Response) (r : Record) → LoneStep None s m h response (Some r) → (dynamic : Bool) × (h.kind ≡ Ir dynamic)
 unfolding LoneStep

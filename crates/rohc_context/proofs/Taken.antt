@@ -15,7 +15,7 @@ use Rattle.rohc_context.specs.Window.{and_outcome, outcomes}
 use Rattle.rohc_context.specs.Faults.{fault_of_chain}
 use Rattle.rohc_context.specs.Failures.{takes}
 use Rattle.rohc_context.specs.Outcomes.{Ends}
-use Rattle.rohc_context.specs.Refresh.{kept_by, dyn_said, RefreshesBy}
+use Rattle.rohc_context.specs.Refresh.{dyn_said, RefreshesTo}
 use Rattle.rohc_context.specs.Step.{TakenBy}
 use Rattle.rohc_context.specs.declared.settings.Settings.{Settings}
 use Rattle.rohc_context.specs.Record.{Reference, State, reference_of, state_of, Record}
@@ -33,9 +33,9 @@ renews s m h false r counting content response next e read is =
 -- An IR-DYN against a state with this static part, reference and window, where the code reads it so.
 abbrev Settles : code.State → Static → Option Reference → List Bool → Type 0
 Settles st fixed reference window = (a m : ℕ) (s : Settings) (h : Header) (first : ℕ) (refreshed : Result (code.State × Reply) ChainRefusal) (response : Response) (next : Record)
-    → IfOk refreshed (λ x. (d : DynContent) × (dyn_said h 1 (kept_by reference) ≡ Ok d)
+    → IfOk refreshed (λ x. (d : DynContent) × (dyn_said h reference ≡ Ok d)
     × ((moment : ℕ) → Delivers s moment h fixed d.moving d.payload window (response_of x.1) (Some (record { accepted = moment; state = state_of x.0 }))))
-    → IfErr refreshed (λ e. dyn_said h 1 (kept_by reference) ≡ Err e)
+    → IfErr refreshed (λ e. dyn_said h reference ≡ Err e)
     → IfOk refreshed (λ x. response ≡ response_of x.1)
     → IfOk refreshed (λ x. next ≡ record { accepted = m; state = state_of x.0 })
     → IfErr refreshed (λ e. Ends s m h (Some (record { accepted = a; state = state_of st })) (Some (record { accepted = a; state = state_of st })) (fault_of_chain e) response (Some next))
@@ -49,24 +49,24 @@ delivers_as s m h fixed d window response x next y e f is =
 static_settles : (c : code_static.StaticContext) → Settles (states.Static c) c.fixed (option_map reference_of c.reference) []
 static_settles c a m s h first (Ok x) response next taken fault reply kept refused =
     let r : Record = record { accepted = a; state = state_of (states.Static c) } in
-    subst (λ read. RefreshesBy s m h r (state_of (states.Static c)) read response (Some next)) (sym taken.1)
+    subst (λ read. RefreshesTo s m h r c.fixed [] read response (Some next)) (sym taken.1)
     (delivers_as s m h c.fixed taken.0 [] response (response_of x.1) next (record { accepted = m; state = state_of x.0 }) reply kept (taken.2 m))
 static_settles c a m s h first (Err e) response next taken fault reply kept refused =
     let r : Record = record { accepted = a; state = state_of (states.Static c) } in
-    subst (λ read. RefreshesBy s m h r (state_of (states.Static c)) read response (Some next)) (sym fault) refused
+    subst (λ read. RefreshesTo s m h r c.fixed [] read response (Some next)) (sym fault) refused
 
-full_settles : (c : code_full.FullContext) → Settles (states.Full c) c.fixed (Some (reference_of c.reference)) (and_outcome false (outcomes c.window))
+full_settles : (c : code_full.FullContext) → Settles (states.Full c) c.fixed (Some (reference_of c.reference)) (and_outcome false (outcomes c.windows.0))
 full_settles c a m s h first (Ok x) response next taken fault reply kept refused =
     let r : Record = record { accepted = a; state = state_of (states.Full c) } in
-    subst (λ read. RefreshesBy s m h r (state_of (states.Full c)) read response (Some next)) (sym taken.1)
-    (delivers_as s m h c.fixed taken.0 (and_outcome false (outcomes c.window)) response (response_of x.1) next (record { accepted = m; state = state_of x.0 }) reply kept (taken.2 m))
+    subst (λ read. RefreshesTo s m h r c.fixed (and_outcome false (outcomes c.windows.0)) read response (Some next)) (sym taken.1)
+    (delivers_as s m h c.fixed taken.0 (and_outcome false (outcomes c.windows.0)) response (response_of x.1) next (record { accepted = m; state = state_of x.0 }) reply kept (taken.2 m))
 full_settles c a m s h first (Err e) response next taken fault reply kept refused =
     let r : Record = record { accepted = a; state = state_of (states.Full c) } in
-    subst (λ read. RefreshesBy s m h r (state_of (states.Full c)) read response (Some next)) (sym fault) refused
+    subst (λ read. RefreshesTo s m h r c.fixed (and_outcome false (outcomes c.windows.0)) read response (Some next)) (sym fault) refused
 
 pub settles_static : (st : code.State) (c : code_static.StaticContext) → st ≡ states.Static c → Settles st c.fixed (option_map reference_of c.reference) []
 settles_static st c e = subst (λ x. Settles x c.fixed (option_map reference_of c.reference) []) (sym e) (static_settles c)
 
 pub settles_full : (st : code.State) (c : code_full.FullContext) → st ≡ states.Full c
-    → Settles st c.fixed (Some (reference_of c.reference)) (and_outcome false (outcomes c.window))
-settles_full st c e = subst (λ x. Settles x c.fixed (Some (reference_of c.reference)) (and_outcome false (outcomes c.window))) (sym e) (full_settles c)
+    → Settles st c.fixed (Some (reference_of c.reference)) (and_outcome false (outcomes c.windows.0))
+settles_full st c e = subst (λ x. Settles x c.fixed (Some (reference_of c.reference)) (and_outcome false (outcomes c.windows.0))) (sym e) (full_settles c)

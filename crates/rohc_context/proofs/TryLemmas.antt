@@ -18,7 +18,7 @@ use Rattle.rohc_context.specs.Update.{VerdictUnless, Judges}
 use Rattle.rohc_context.proofs.ExplainLemmas.{explains_some, explains_one}
 
 -- what fits doesn't miss
-fit_or_miss : (first : ℕ) (udp_sum stride_known : Bool) (fixed : Static) (t : Try) (c : Content) (h : Explained)
+pub fit_or_miss : (first : ℕ) (udp_sum stride_known : Bool) (fixed : Static) (t : Try) (c : Content) (h : Explained)
     → IsGoodContent first udp_sum stride_known c → Fits fixed t c h → Misses fixed t c → ⊥
 fit_or_miss first udp_sum stride_known fixed t c h good fits misses =
     let same = explains_one first udp_sum stride_known fixed t.reference t.shift c misses.header h good misses.explained fits.explained in

@@ -126,14 +126,14 @@ pub after_first : (s : Settings) (passed : ℕ) (h : Header) (x y : code_full.Fu
     (Stays : Type 0) → y ≡ x → said_under h (reference_of x.reference) ≡ Ok c → length c.payload ≤ 65495 → Misses x.fixed (unshifted (reference_of x.reference)) c
     → Verdict y.fixed c (second_tries s passed (reference_of y.reference) c ++ third_tries (previous_of y) c) (verdict_of c found)
     → IfSome found (λ a. (result ≡ Ok tt) × (response ≡ delivered a.header.header.octets c.payload None)
-    × (left ≡ updated y.fixed (reference_of y.reference) (outcomes y.window) (acceptance_of c a)))
+    × (left ≡ updated y.fixed (reference_of y.reference) (outcomes y.windows.0) (acceptance_of c a)))
     → IfNone found ((result ≡ Err Unfit) × Stays)
-    → Updated x.fixed (full_tries s passed (reference_of x.reference) (previous_of x)) (said_under h (reference_of x.reference)) (reference_of x.reference) (outcomes x.window)
+    → Updated x.fixed (full_tries s passed (reference_of x.reference) (previous_of x)) (said_under h (reference_of x.reference)) (reference_of x.reference) (outcomes x.windows.0)
     result response left
 after_first s passed h x y c found result response left Stays same read few misses later some none =
     let decides = subst (λ (z : code_full.FullContext). Verdict z.fixed c (second_tries s passed (reference_of z.reference) c ++ third_tries (previous_of z) c) (verdict_of c found))
     same later in
     let leaves = subst (λ (z : code_full.FullContext). IfSome found (λ a. (result ≡ Ok tt) × (response ≡ delivered a.header.header.octets c.payload None)
-    × (left ≡ updated z.fixed (reference_of z.reference) (outcomes z.window) (acceptance_of c a)))) same some in
-    updated_or_unfit x.fixed (full_tries s passed (reference_of x.reference) (previous_of x)) (said_under h (reference_of x.reference)) (reference_of x.reference) (outcomes x.window)
+    × (left ≡ updated z.fixed (reference_of z.reference) (outcomes z.windows.0) (acceptance_of c a)))) same some in
+    updated_or_unfit x.fixed (full_tries s passed (reference_of x.reference) (previous_of x)) (said_under h (reference_of x.reference)) (reference_of x.reference) (outcomes x.windows.0)
     c found result response left Stays read few (inr (misses, decides)) leaves none

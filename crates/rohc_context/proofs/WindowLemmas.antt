@@ -72,25 +72,6 @@ pushed_fits l w x m b few small is long = ⊎_elim
     rw (is, e, half) (omega (arith, mod_below w (2 ^ 63) (omega arith), bool_small b)))
     (cases_lt l 64)
 
--- a word cut into halves
-rejoined : (x : ℕ) → x / 2 ^ 32 * 2 ^ 32 + x % 2 ^ 32 ≡ x
-rejoined x = omega arith
-
--- the same of the two halves of a word
-pub halves_pushed : (l older newer w x m : ℕ) (b : Bool) → w ≡ older * 2 ^ 32 + newer → l ≤ 64 → older * 2 ^ 32 + newer < 2 ^ l
-    → x ≡ bool_byte b → m ≡ min (l + 1) 64
-    → bits m (((w * 2) % 2 ^ 64 + x) / 2 ^ 32 * 2 ^ 32 + ((w * 2) % 2 ^ 64 + x) % 2 ^ 32) ≡ take 64 (b ∷ bits l (older * 2 ^ 32 + newer))
-halves_pushed l older newer w x m b whole few small is long =
-    let fits : w < 2 ^ l = rw whole small in
-    ap (bits m) (rejoined ((w * 2) % 2 ^ 64 + x)) ∙ pushed l w x m b few fits is long ∙ ap (λ n. take 64 (b ∷ bits l n)) whole
-
-pub halves_fit : (l older newer w x m : ℕ) (b : Bool) → w ≡ older * 2 ^ 32 + newer → l ≤ 64 → older * 2 ^ 32 + newer < 2 ^ l
-    → x ≡ bool_byte b → m ≡ min (l + 1) 64
-    → ((w * 2) % 2 ^ 64 + x) / 2 ^ 32 * 2 ^ 32 + ((w * 2) % 2 ^ 64 + x) % 2 ^ 32 < 2 ^ m
-halves_fit l older newer w x m b whole few small is long =
-    let fits : w < 2 ^ l = rw whole small in
-    subst (λ n. n < 2 ^ m) (sym (rejoined ((w * 2) % 2 ^ 64 + x))) (pushed_fits l w x m b few fits is long)
-
 -- the ones of a number are the outcomes that are failures
 ones_more : (b : Bool) (bs : List Bool) → count_ones (number (b ∷ bs)) ≡ cond b (1 + count_ones (number bs)) (count_ones (number bs))
 unfolding number

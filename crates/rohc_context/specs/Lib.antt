@@ -24,4 +24,7 @@ pub mod AtOnce
 pub mod Lent
 pub mod Step
 pub mod Honest
+pub mod Counts
+pub mod Waits
+pub mod Modes
 pub mod Laws

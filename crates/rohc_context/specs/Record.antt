@@ -49,7 +49,7 @@ state_of (states.NoContext c) = NoContext c.nacked
 state_of (states.Static c) =
     StaticContext c.fixed (option_map reference_of c.reference) (outcomes c.windows.0) (outcomes c.windows.1)
 state_of (states.Full c) =
-    FullContext c.fixed (reference_of c.reference) (previous_of c) (outcomes c.window)
+    FullContext c.fixed (reference_of c.reference) (previous_of c) (outcomes c.windows.0)
 
 abbrev pub is_static : code.State → Bool
 is_static states.Plain = false

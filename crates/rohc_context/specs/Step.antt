@@ -37,18 +37,27 @@ TakenBy true s moment h (Ir dynamic) r response next = ⊥
 TakenBy true s moment h IrDyn r response next = Refreshes s moment h r response next
 TakenBy true s moment h Other r response next = Updates s moment h r response next
 
--- An IR is taken in every state. Without a record that counts, every other packet is NoContext. Otherwise the
--- state first decides whether it takes the packet.
+-- An IR is taken in every state, whether a record counts or not.
+abbrev pub WithIr : Settings → (moment : ℕ) → Header → (counting before : Option Record) → Response →
+    Option Record → Type 0
+WithIr s moment h counting before response next = Renews s moment h counting before (ir_at h) response next
+
+-- If no record counts, every other packet is NoContext.
+abbrev pub WithoutRecord : (before : Option Record) → Response → Option Record → Type 0
+WithoutRecord before response next = Refuses NoContext before response next
+
+-- If a record counts, its state first decides whether it takes the packet.
+abbrev pub WithRecord : Settings → (moment : ℕ) → Header → HeadKind → Record → Response → Option Record → Type 0
+WithRecord s moment h kind r response next =
+    TakenBy (takes r.state kind h.first) s moment h kind r response next
+
 abbrev pub Turn : Settings → (moment : ℕ) → Header → HeadKind → (counting before : Option Record) →
     Response → Option Record → Type 0
-Turn s moment h (Ir dynamic) counting before response next =
-    Renews s moment h counting before (ir_at h) response next
-Turn s moment h IrDyn None before response next = Refuses NoContext before response next
-Turn s moment h Other None before response next = Refuses NoContext before response next
-Turn s moment h IrDyn (Some r) before response next =
-    TakenBy (takes r.state IrDyn h.first) s moment h IrDyn r response next
-Turn s moment h Other (Some r) before response next =
-    TakenBy (takes r.state Other h.first) s moment h Other r response next
+Turn s moment h (Ir dynamic) counting before response next = WithIr s moment h counting before response next
+Turn s moment h IrDyn None before response next = WithoutRecord before response next
+Turn s moment h Other None before response next = WithoutRecord before response next
+Turn s moment h IrDyn (Some r) before response next = WithRecord s moment h IrDyn r response next
+Turn s moment h Other (Some r) before response next = WithRecord s moment h Other r response next
 
 -- The record before, if there is one, the settings, the arrival time and the header, and then the answer and
 -- the record after. The crates above know this as `LoneStep` and don't look inside.

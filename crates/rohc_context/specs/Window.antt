@@ -1,6 +1,6 @@
 -- Recent outcomes. A window is the list of the outcomes since it was last empty, at most the last 64.
 -- Words: and_outcome, is_filled, outcomes.
-use Rattle.std.specs.Prelude.{ℕ, List, ◌∷◌, ◌+◌, ◌*◌, ◌^◌, take, Bool, count_by, nat_le}
+use Rattle.std.specs.Prelude.{ℕ, List, ◌∷◌, take, Bool, count_by, nat_le}
 use Rattle.rohc_checks.specs.Division.{bits}
 use Rattle.rohc_context.specs.declared.window.Window.{Window}
 
@@ -12,7 +12,6 @@ and_outcome failure window = take 64 (failure ∷ window)
 unfoldable pub is_filled : ℕ → ℕ → List Bool → Bool
 is_filled k n window = nat_le k (count_by (λ failure. failure) (take n window))
 
--- the outcomes that the two halves of a word and a length stand for: one bit for each, the newest in the
--- lowest; 1 is a failure
+-- the outcomes that a word and a length stand for: one bit for each, the newest in the lowest; 1 is a failure
 unfoldable pub outcomes : Window → List Bool
-outcomes w = bits w.length (w.older * 2 ^ 32 + w.newer)
+outcomes w = bits w.length w.word

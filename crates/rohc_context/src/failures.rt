@@ -141,7 +141,7 @@ impl FullContext {
         requires { AreGood settings.now }
         ensures { (moment : ℕ) → leads_to (state_of result.0) result.1 ≡ after_check settings.now moment (state_of (Level self.now)) }
     {
-        let window = self.window.and(true);
+        let window = self.windows.0.and(true);
         if window.is_filled(settings.k1, settings.n1) {
             let fallen = StaticContext {
                 fixed: self.fixed,
@@ -155,7 +155,7 @@ impl FullContext {
             fixed: self.fixed,
             reference: self.reference,
             previous: self.previous,
-            window,
+            windows: (window, self.windows.1),
         };
         (State::Full(stays), Due::Nothing)
     }

@@ -75,14 +75,14 @@ impl FullContext {
         requires { IsGoodDynamic moving.now }
         ensures { state_of (Level self.new) ≡ Left self.old.fixed
             (record { moving = with_numbers self.old.reference.moving moving.now; carries_sum = self.old.reference.carries_sum })
-            (Some (reference_of self.old.reference)) (and_outcome false (outcomes self.old.window)) }
+            (Some (reference_of self.old.reference)) (and_outcome false (outcomes self.old.windows.0)) }
     {
         self.previous = Some(Previous::of(&self.reference));
         self.reference.moving.sn = moving.sn;
         self.reference.moving.ts = moving.ts;
         self.reference.moving.id = moving.id;
         self.reference.moving.udp_sum = moving.udp_sum;
-        self.window.push(false);
+        self.windows.0.push(false);
     }
 
     /// Takes a packet without an extension 3 by the first try, and returns whether it fits. If it doesn't, the
@@ -96,7 +96,7 @@ impl FullContext {
         ensures taken { result ≡ true → (h : Explained)
             × Fits self.old.fixed (unshifted (reference_of self.old.reference)) (content form.now) h
             × (response_of reply.new ≡ delivered h.octets form.now.payload.now None)
-            × (state_of (Level self.new) ≡ updated self.old.fixed (reference_of self.old.reference) (outcomes self.old.window)
+            × (state_of (Level self.new) ≡ updated self.old.fixed (reference_of self.old.reference) (outcomes self.old.windows.0)
             (record { content = content form.now; reference = reference_of self.old.reference; header = h })) }
         ensures misses { result ≡ false → Misses self.old.fixed (unshifted (reference_of self.old.reference)) (content form.now) }
         ensures stays { result ≡ false → self.new ≡ self.old }
@@ -121,7 +121,7 @@ impl FullContext {
             × ((s : Set) (passed : ℕ) → Judges self.old.fixed (full_tries s passed (reference_of self.old.reference) (previous_of self.old))
             (said_under (header_of forward.now) (reference_of self.old.reference)) (Ok a))
             × (response_of reply.new ≡ delivered a.header.octets a.content.payload None)
-            × (state_of (Level self.new) ≡ updated self.old.fixed (reference_of self.old.reference) (outcomes self.old.window) a) }
+            × (state_of (Level self.new) ≡ updated self.old.fixed (reference_of self.old.reference) (outcomes self.old.windows.0) a) }
         ensures missed { result ≡ false → (is_extended (header_of forward.now) self.old.reference.moving.rnd ≡ true)
             ⊎ MissesFirst self.old.fixed (reference_of self.old.reference) (said_under (header_of forward.now) (reference_of self.old.reference)) }
         ensures stays { result ≡ false → self.new ≡ self.old }

@@ -43,7 +43,7 @@ impl FullContext {
             fixed,
             reference: first_reference(&moving, header.registers()),
             previous: None,
-            window,
+            windows: (window, Window::empty()),
         };
         let feedback = Due::Ack(moving.sn).feedback(settings.mode, forward);
         let head = ArrayVec::from(header.octets);

@@ -41,7 +41,7 @@ fn full_window(counting: Option<State>) -> Window
     ensures { outcomes result ≡ full_window_of (option_map state_of counting) }
 {
     match counting {
-        Some(State::Full(context)) => context.window.and(false),
+        Some(State::Full(context)) => context.windows.0.and(false),
         _ => Window::empty(),
     }
 }

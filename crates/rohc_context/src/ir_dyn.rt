@@ -1,6 +1,6 @@
 //! What an IR-DYN leads to (RFC 3095 5.7.7.2).
 
-ghost use Rattle.std.specs.Prelude.{◌≡◌, ℕ, false, IfOk, IfErr, Ok, Err, Some, None, option_map};
+ghost use Rattle.std.specs.Prelude.{◌≡◌, ℕ, IfOk, IfErr, Ok, Err, Some, option_map};
 ghost use Rattle.std.specs.Option.{ForSome};
 ghost use Rattle.rohc_frame.specs.Reading.{header_of};
 ghost use Rattle.rohc_chain.specs.Good.{IsGoodStatic};
@@ -10,7 +10,7 @@ ghost use Rattle.rohc_context.specs.Record.{reference_of, state_of};
 ghost use Rattle.rohc_context.specs.Response.{response_of};
 ghost use Rattle.rohc_context.specs.Saved.{IsKept};
 ghost use Rattle.rohc_context.specs.Renewal.{Delivers};
-ghost use Rattle.rohc_context.specs.Refresh.{kept_by, dyn_said};
+ghost use Rattle.rohc_context.specs.Refresh.{kept_by, dyn_said, PlainRefuses};
 
 use crate::reference::Reference;
 use crate::reply::Reply;
@@ -21,16 +21,15 @@ use rohc_chain::{ChainRefusal, read_ir_dyn};
 use rohc_frame::Forward;
 use rohc_header::Static;
 
-/// Why a context of profile 0x0000 refuses an IR-DYN: it takes none.
-///
-/// `forward` is the header of an IR-DYN.
+/// Why a context of profile 0x0000 refuses an IR-DYN: it takes none, whatever its Profile octet.
+#[tactic(auto, unfolding(rohc_bits::specs::Reading::next_octet))]
 pub(crate) fn plain_refusal(forward: &Forward<'_>) -> ChainRefusal
-    requires { IsIrDyn forward.now.kind }
-    ensures { dyn_said (header_of forward.now) 0 (false, None) ≡ Err result }
+    ensures { PlainRefuses (header_of forward.now) result }
 {
-    match read_ir_dyn(forward, 0, false, None) {
-        Err(refusal) => refusal,
-        Ok(_) => ChainRefusal::Profile,
+    match forward.rest {
+        [] => ChainRefusal::Truncated,
+        [0x01, ..] => ChainRefusal::ProfileChange,
+        [_, ..] => ChainRefusal::Profile,
     }
 }
 
@@ -60,10 +59,10 @@ pub(crate) fn refresh<'a>(
     requires fixed { IsGoodStatic fixed }
     requires kept { ForSome reference (λ r. IsKept fixed r.moving r.saved) }
     ensures taken { IfOk result (λ x. (d : DynContent)
-        × (dyn_said (header_of forward.now) 1 (kept_by (option_map reference_of reference)) ≡ Ok d)
+        × (dyn_said (header_of forward.now) (option_map reference_of reference) ≡ Ok d)
         × ((moment : ℕ) → Delivers settings.now moment (header_of forward.now) fixed d.moving d.payload (outcomes window)
         (response_of x.1) (Some (record { accepted = moment; state = state_of x.0 })))) }
-    ensures fault { IfErr result (λ e. dyn_said (header_of forward.now) 1 (kept_by (option_map reference_of reference)) ≡ Err e) }
+    ensures fault { IfErr result (λ e. dyn_said (header_of forward.now) (option_map reference_of reference) ≡ Err e) }
 {
     let (extension, stride) = kept(reference);
     let packet = read_ir_dyn(forward, 1, extension, stride)?;

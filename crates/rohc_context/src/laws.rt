@@ -1,6 +1,9 @@
 //! Laws of one step, as contracts of functions that do nothing. The crates above know a step by these laws alone.
 
-ghost use Rattle.rohc_context.specs.Laws.{HasAnswer, HasNoOther, LeavesGood, BeginsByIr, LeavesNone, NeverPoor, KeepsGood, KeepsRefused, LendsPayload, ChecksChange, LowStatesChange, ComesToOne, MeansOne, TakesPlain, DeliversHonest, PromotesHonest, DeliversWritten, HasWritten};
+ghost use Rattle.rohc_context.specs.Counts.{WindowsCount, FallsFromFull, FallsFromStatic};
+ghost use Rattle.rohc_context.specs.Modes.{IsSilentInU, KeepsPrevious, HasOneTry, PlainAtOnce, FitsAtOnce, SavesByReference, KeepsFlags, MeansOneUnrefused};
+ghost use Rattle.rohc_context.specs.Waits.{NacksAfterWait, WaitsToNack, IdleIsNone, CountsUntilIdle, TriesAfterWait, WaitsToTry};
+ghost use Rattle.rohc_context.specs.Laws.{HasAnswer, HasNoOther, LeavesGood, BeginsByIr, LeavesNone, NeverPoor, KeepsGood, KeepsRefused, LendsPayload, ChecksChange, LowStatesChange, LowStatesRefuse, ComesToOne, MeansOne, TakesPlain, DeliversHonest, PromotesHonest, DeliversWritten, HasWritten};
 
 /// A step from good values has exactly one answer, and exactly one record after it, or none.
 pub fn one_answer()
@@ -43,15 +46,17 @@ pub fn payload_is_lent()
     ensures { LendsPayload }
 {}
 
-/// A refusal `Check` changes nothing, or leads to the state that follows a failed check.
+/// A refusal `Check` changes nothing if no record counts. Otherwise it leads to the state that follows a failed check,
+/// and sends what is due.
 pub fn check_changes_the_state()
     ensures { ChecksChange }
 {}
 
-/// A refusal `StateTooLow` comes from a state that doesn't take the packet, and leads to the state that follows
-/// such a packet.
+/// A refusal `StateTooLow` comes from a record that counts, and whose state doesn't take the packet. It leads to the
+/// state that follows such a packet, and sends what is due. Each such packet is refused so.
 pub fn low_state_changes_the_state()
-    ensures { LowStatesChange }
+    ensures changes { LowStatesChange }
+    ensures refuses { LowStatesRefuse }
 {}
 
 /// The tries of a packet come to at most one verdict: one header, and the reference against which it was decoded.
@@ -59,9 +64,58 @@ pub fn one_verdict()
     ensures { ComesToOne }
 {}
 
-/// Against a reference and a shift, a packet that was read means exactly one header (RFC 3095 4.5).
+/// Against a reference and a shift, a packet that was read means exactly one header (RFC 3095 4.5). Every packet of
+/// kind Other that the state takes was read, unless its answer is a refusal below `Check`.
 pub fn one_meaning()
-    ensures { MeansOne }
+    ensures read { MeansOne }
+    ensures unrefused { MeansOneUnrefused }
+{}
+
+/// A window counts the outcomes of the answers since the last change of state or profile. Full Context falls exactly
+/// at k1 failures among the last n1 outcomes, and Static Context at k2 failures among the last n2 (RFC 3095 5.3.2.2.3).
+pub fn windows_count()
+    ensures count { WindowsCount }
+    ensures full { FallsFromFull }
+    ensures fixed { FallsFromStatic }
+{}
+
+/// What waits for a time happens at that time and not a millisecond before: a STATIC-NACK, a record that no longer
+/// counts, and the second try of a packet.
+pub fn waiting_times()
+    ensures nacks { NacksAfterWait }
+    ensures waits { WaitsToNack }
+    ensures idle { IdleIsNone }
+    ensures counts { CountsUntilIdle }
+    ensures tries { TriesAfterWait }
+    ensures waits_to_try { WaitsToTry }
+{}
+
+/// In U mode a step is what it is in O mode, without its feedback.
+pub fn silent_in_u()
+    ensures { IsSilentInU }
+{}
+
+/// A previous reference comes only from a packet of kind Other in Full Context. A UOR-2 is never decoded against it.
+pub fn previous_reference()
+    ensures keeps { KeepsPrevious }
+    ensures uor2 { HasOneTry }
+{}
+
+/// An IR-DYN without the octet of RTP's flags keeps the X and the stride of the held reference (RFC 3095 5.7.7.6).
+pub fn kept_flags()
+    ensures { KeepsFlags }
+{}
+
+/// What is always taken at once, if the record counts: in profile 0x0000 every packet of kind Other, and in Full Context
+/// one that has no extension, isn't too long and fits by the first try.
+pub fn taken_at_once()
+    ensures plain { PlainAtOnce }
+    ensures full { FitsAtOnce }
+{}
+
+/// A context keeps registers exactly if it has a reference.
+pub fn saved_by_reference()
+    ensures { SavesByReference }
 {}
 
 /// An IR of profile 0x0000 is taken in every state, and delivers its IP packet (RFC 3095 5.10.1).

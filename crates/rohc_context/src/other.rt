@@ -87,7 +87,7 @@ impl FullContext {
             × Judges self.old.fixed (full_tries settings.now passed (reference_of self.old.reference) (previous_of self.old))
             (said_under (header_of forward.now) (reference_of self.old.reference)) (Ok a)
             × (response_of reply.new ≡ delivered a.header.octets a.content.payload None)
-            × (state_of (Level self.new) ≡ updated self.old.fixed (reference_of self.old.reference) (outcomes self.old.window) a)) }
+            × (state_of (Level self.new) ≡ updated self.old.fixed (reference_of self.old.reference) (outcomes self.old.windows.0) a)) }
         ensures fault { IfErr result (λ e.
             Judges self.old.fixed (full_tries settings.now passed (reference_of self.old.reference) (previous_of self.old))
             (said_under (header_of forward.now) (reference_of self.old.reference)) (Err e)) }
@@ -117,7 +117,7 @@ impl FullContext {
         requires near { IfSome accepted (λ a. SharesNumbering self.now.reference.moving a.reference.moving) }
         ensures taken { IfSome accepted (λ a. (result ≡ Ok tt)
             × (response_of reply.new ≡ delivered a.header.header.octets form.now.payload.now None)
-            × (state_of (Level self.new) ≡ updated self.old.fixed (reference_of self.old.reference) (outcomes self.old.window) (acceptance_of (content form.now) a))) }
+            × (state_of (Level self.new) ≡ updated self.old.fixed (reference_of self.old.reference) (outcomes self.old.windows.0) (acceptance_of (content form.now) a))) }
         ensures unfit { IfNone accepted ((result ≡ Err Unfit) × (self.new ≡ self.old)) }
     {
         let Some(accepted) = accepted else {
@@ -126,7 +126,7 @@ impl FullContext {
         let next = next_reference(form, &accepted);
         self.previous = kept_previous(&self.reference, &next, &accepted);
         self.reference = next;
-        self.window.push(false);
+        self.windows.0.push(false);
         let packet = packet(&accepted, form);
         *reply = Reply::delivered(packet.head, packet.payload, None);
         Ok(())
@@ -170,7 +170,7 @@ impl StaticContext {
             fixed: self.fixed,
             reference: next_reference(&form, &accepted),
             previous: None,
-            window: Window::empty(),
+            windows: (Window::empty(), Window::empty()),
         };
         Ok((context, packet(&accepted, &form)))
     }

@@ -23,13 +23,13 @@ impl Context {
     /// The windows of recent outcomes, or `None` in No Context and for profile 0x0000. In Full Context the second
     /// window is empty.
     #[tactic(auto, unfolding(crate::specs::Record::record_of))]
-    pub fn windows(&self) -> Option<(Window, Window)>
-        ensures { option_map (λ w. (outcomes w.0, outcomes w.1)) result ≡ windows_in (record_of self.now).state }
+    pub fn windows(&self) -> Option<&(Window, Window)>
+        ensures { option_map (λ w. (outcomes w.now.0, outcomes w.now.1)) result ≡ windows_in (record_of self.now).state }
     {
         match &self.state {
             State::Plain | State::NoContext(_) => None,
-            State::Static(context) => Some(context.windows),
-            State::Full(context) => Some((context.window, Window::empty())),
+            State::Static(context) => Some(&context.windows),
+            State::Full(context) => Some(&context.windows),
         }
     }
 

@@ -41,11 +41,12 @@ pub(crate) struct FullContext {
     pub reference: Reference,
     /// The previous reference, if the last packet left RND, NBO and stride as they were.
     pub previous: Option<Previous>,
-    /// The outcomes that lead to Static Context.
-    pub window: Window,
+    /// The outcomes that lead to Static Context, and a window that stays empty.
+    pub windows: (Window, Window),
     ghost good: { IsGoodStatic fixed },
     ghost kept: { IsKept fixed reference.moving reference.saved } by { Prim.hlevel props },
     ghost kept_before: { ForSome previous (λ p. IsKept fixed (fields_by reference.moving p) p.saved) } by { Prim.hlevel props },
+    ghost one_window: { windows.1.length ≡ 0 },
 }
 
 /// The state of a context.

@@ -207,7 +207,7 @@ impl Context {
                     forward,
                     context.fixed,
                     Some(context.reference),
-                    context.window.and(false),
+                    context.windows.0.and(false),
                 );
                 self.settle(settings, moment, forward, refreshed)
             }

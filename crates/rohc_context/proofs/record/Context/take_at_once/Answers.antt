@@ -18,7 +18,7 @@ returns-clause-taken c = λ s is.
           let context = w.in-Full.context in
           let taken = w.take_unextended.ensures.taken w.if-not-take_unextended.false in
           rw (w.self-is, w.how-is, w.reply-is) (lone_unextended s c.args.moment header c.args.self.now.accepted before
-          context.fixed (reference_of context.reference) (previous_of context) (outcomes context.window) taken.0
+          context.fixed (reference_of context.reference) (previous_of context) (outcomes context.windows.0) taken.0
           (response_of w.take_unextended.new.reply) (state_of (Full w.take_unextended.new.self))
           (ap state_of w.in-Full.is) (search rules) (rw is (sym c.if-not-counts.ensures))
           (taken.1 s (c.args.moment - c.args.self.now.accepted)) taken.2 taken.3)

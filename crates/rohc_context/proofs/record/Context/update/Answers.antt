@@ -14,7 +14,7 @@ unfolding record_of
 returns-in-Ok c =
     let context = c.in-Full.context in
     let held = reference_of context.reference in
-    let window = outcomes context.window in
+    let window = outcomes context.windows.0 in
     let h = header_of c.args.forward.now in
     let t = c.in-Ok.ensures.taken in
     updates (state_of c.args.self.now.state) context.fixed held (previous_of context) window (ap state_of c.in-Full.is)
@@ -31,7 +31,7 @@ returns-in-Err c =
     let accepted = c.args.self.now.accepted in
     let same = ap Full c.in-Err.ensures.stays ∙ sym c.in-Full.is in
     let found = ap (λ st. Some (record { accepted = accepted; state = state_of st })) same in
-    updates (state_of c.args.self.now.state) context.fixed (reference_of context.reference) (previous_of context) (outcomes context.window) (ap state_of c.in-Full.is)
+    updates (state_of c.args.self.now.state) context.fixed (reference_of context.reference) (previous_of context) (outcomes context.windows.0) (ap state_of c.in-Full.is)
     accepted c.args.moment c.saturating_sub-passed.result c.args.settings.now h c.args.forward.now.first (Err c.in-Err.fault)
     (response_of c.end.result) (Some (record_of c.end.new.self))
     c.saturating_sub-passed.ensures c.in-Err.ensures.fault

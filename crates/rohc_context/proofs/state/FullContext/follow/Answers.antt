@@ -12,4 +12,5 @@ invariant_of-self c =
       kept = kept_next context.fixed context.reference.moving c.args.moving.now context.reference.saved context.kept c.requires;
       kept_before = λ p e. kept_by context.fixed context.reference.moving p context.reference c.of.result (ap (λ x. unwrap_or x c.of.result) e)
           c.of.ensures.fields c.of.ensures.saved context.kept;
+      one_window = context.one_window;
     }

@@ -29,6 +29,6 @@ returns-clause-taken c = λ _.
         checked = c.rebuild.ensures.3 c.if-not-rebuild.false;
       },
       c.rebuild.ensures.2,
-      c.follow.ensures ∙ follows context.fixed (reference_of context.reference) (content c.args.form.now) c.meant-moving.result c.rebuild.ensures.0 (outcomes context.window)
+      c.follow.ensures ∙ follows context.fixed (reference_of context.reference) (content c.args.form.now) c.meant-moving.result c.rebuild.ensures.0 (outcomes context.windows.0)
           (ap (option_map values_by) c.requires.plain) context.kept.unmarked means,
     )

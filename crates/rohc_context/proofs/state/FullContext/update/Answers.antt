@@ -13,7 +13,7 @@ use Rattle.rohc_context.proofs.state.FullContext.update.Goals as goal
 use Rattle.rohc_context.proofs.state.FullContext.update.Goals.{After-take, After-take-2}
 
 by_all_tries : (c : After-take) → Updated c.args.self.now.fixed (full_tries c.args.settings.now c.args.passed (reference_of c.args.self.now.reference) (previous_of c.args.self.now))
-    (said_under (header_of c.args.forward.now) (reference_of c.args.self.now.reference)) (reference_of c.args.self.now.reference) (outcomes c.args.self.now.window)
+    (said_under (header_of c.args.forward.now) (reference_of c.args.self.now.reference)) (reference_of c.args.self.now.reference) (outcomes c.args.self.now.windows.0)
     c.take.result (response_of c.take.new.reply) (state_of (Full c.take.new.self))
 by_all_tries c =
     let self = c.args.self.now in
@@ -21,7 +21,7 @@ by_all_tries c =
     let said = content c.in_ok-form.form in
     let tries = full_tries c.args.settings.now c.args.passed held (previous_of self) in
     let read = said_under (header_of c.args.forward.now) held in
-    updated_or_unfit self.fixed tries read held (outcomes self.window) said c.accepted-accepted.result c.take.result (response_of c.take.new.reply) (state_of (Full c.take.new.self)) _
+    updated_or_unfit self.fixed tries read held (outcomes self.windows.0) said c.accepted-accepted.result c.take.result (response_of c.take.new.reply) (state_of (Full c.take.new.self)) _
     c.in_ok-form.ensures.read c.in_ok-form.ensures.short c.accepted-accepted.ensures.verdict c.take.ensures.taken c.take.ensures.unfit
 
 pub returns-then-is_some-clause-taken : goal.returns-then-is_some-clause-taken
@@ -31,7 +31,7 @@ pub returns-then-is_some-clause-fault : goal.returns-then-is_some-clause-fault
 returns-then-is_some-clause-fault c = (by_all_tries c).1
 
 by_later_tries : (c : After-take-2) → Updated c.args.self.now.fixed (full_tries c.args.settings.now c.args.passed (reference_of c.args.self.now.reference) (previous_of c.args.self.now))
-    (said_under (header_of c.args.forward.now) (reference_of c.args.self.now.reference)) (reference_of c.args.self.now.reference) (outcomes c.args.self.now.window)
+    (said_under (header_of c.args.forward.now) (reference_of c.args.self.now.reference)) (reference_of c.args.self.now.reference) (outcomes c.args.self.now.windows.0)
     c.take-2.result (response_of c.take-2.new.reply) (state_of (Full c.take-2.new.self))
 by_later_tries c =
     after_first c.args.settings.now c.args.passed (header_of c.args.forward.now) c.args.self.now c.take_first.new.self (content c.in_ok-form.form) c.later_tries-accepted.result
