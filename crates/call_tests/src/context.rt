@@ -187,8 +187,8 @@ fn what_is_stored_is_lent(rt: HostRuntime) {
     let Some((window, none)) = context.windows() else {
         panic!(rt; "no windows");
     };
-    assert_eq!(rt; (window.newer, window.older, window.length), (1, 0, 1));
-    assert_eq!(rt; (none.newer, none.older, none.length), (0, 0, 0));
+    assert_eq!(rt; (window.word, window.length), (1, 1));
+    assert_eq!(rt; (none.word, none.length), (0, 0));
     assert!(rt; context.saved().is_some());
 }
 

@@ -1,6 +1,6 @@
 -- The fault for a refusal of a packet: a check that doesn't match is unfit, and any other refusal keeps its
 -- name.
--- Words: fault_of_chain, fault_of_form, read_chain, read_form.
+-- Words: fault_of_chain, fault_of_form.
 use Rattle.rohc_chain.specs.declared.refusal.ChainRefusal.{ChainRefusal}
 use Rattle.rohc_chain.specs.declared.refusal.ChainRefusal.TheVariants as chains
 use Rattle.rohc_forms.specs.declared.refusal.FormRefusal.{FormRefusal}
