@@ -36,28 +36,40 @@ def written_out(line):
     return " ".join(words[:3] + [octets.replace(" ", "")])
 
 
+def turn_of(line):
+    """A line of a script, its answers, which are none yet, and how often it stands there."""
+    times = re.search(r" \*(\d+)$", line)
+    return written_out(line[: times.start()] if times else line), "", int(times[1]) if times else 1
+
+
+def answered(turn, line):
+    """The turn with one more line of answers."""
+    script_line, answers, times = turn
+    return script_line, answers + (line if " refused " in line else written_out(line)) + "\n", times
+
+
 def read_examples(text):
-    """The lines of each example by its name, as pairs of a mark (script or not) and the line."""
+    """The turns of each example by its name: lines of the script, each with its answers and how often it comes."""
     examples = {}
     for line in text.splitlines():
         if not line or line.startswith("#"):
             continue
         if line.startswith("= "):
-            lines = examples[line[2:]] = []
+            turns = examples[line[2:]] = []
         elif line.startswith("+ "):
-            lines.extend(examples[line[2:]])
+            turns.extend(examples[line[2:]])
         elif line.startswith("> "):
-            lines.append((True, written_out(line[2:])))
+            turns.append(turn_of(line[2:]))
         else:
-            lines.append((False, line if " refused " in line else written_out(line)))
+            turns[-1] = answered(turns[-1], line)
     return examples
 
 
 def main():
     examples = read_examples((HERE / "worked_examples.txt").read_text())
-    for name, lines in examples.items():
-        script = "".join(line + "\n" for in_script, line in lines if in_script)
-        answers = "".join(line + "\n" for in_script, line in lines if not in_script)
+    for name, turns in examples.items():
+        script = "".join(f"{line}\n" * times for line, _, times in turns)
+        answers = "".join(told * times for _, told, times in turns)
         (TARGET / f"{name}.script").write_text(script.replace("$\n", ""))
         (TARGET / f"{name}.answers").write_text(answers)
 
