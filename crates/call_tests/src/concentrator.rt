@@ -218,6 +218,36 @@ fn places_keep_the_order_of_first_records(rt: HostRuntime) {
     }
 }
 
+/// Packets of examples *fall to Static* and *fall to No Context*, and how many outcomes the two windows hold after each.
+/// The outcome of a packet that changes the state is in neither window.
+const OUTCOMES: [(Arrival, (u8, u8)); 7] = [
+    ((0, honest::IR, DELIVERED), (0, 0)),
+    ((0, b"\x11\xac", UNFIT), (1, 0)),
+    // To Static Context.
+    ((0, b"\x11\xac", UNFIT), (0, 0)),
+    ((0, b"\xd4\xc3\x3f\xad", UNFIT), (1, 1)),
+    // To Full Context.
+    ((0, b"\xd4\xc3\x3e\xad", DELIVERED), (0, 0)),
+    ((0, b"\x11\xac", UNFIT), (1, 0)),
+    ((0, honest::IR, DELIVERED), (2, 0)),
+];
+
+/// How many outcomes the windows of the first record of link 1 hold.
+fn window_lengths(concentrator: &Concentrator) -> Option<(u8, u8)> {
+    let (_, context) = concentrator.context_at(1, 0)?;
+    let (first, second) = context.windows()?;
+    Some((first.length, second.length))
+}
+
+#[test]
+fn a_change_of_state_is_no_outcome(rt: HostRuntime) {
+    let mut concentrator = made(&rt, rt.alloc(), link_1(0));
+    for (arrival, wanted) in OUTCOMES {
+        compare_outcomes(&rt, &mut concentrator, &[arrival]);
+        assert_eq!(rt; window_lengths(&concentrator), Some(wanted), "of {arrival:?}");
+    }
+}
+
 /// Link 1 with a range of CIDs in U mode.
 fn link_1_with(range: CidRange) -> LinkSetting {
     let mut setting = link_1(0);
