@@ -26,7 +26,7 @@ use Rattle.rohc_concentrator.specs.Events.{Arrives, Resets}
 use Rattle.rohc_concentrator.specs.Bears.{borne, header_in, cid_in}
 use Rattle.rohc_concentrator.specs.Report.{Report, Arrived, OwnStep, IsArrival, IsCut, IsRead, IsAnswered, is_no_memory, wants_memory, is_refusal, is_refused, OnlyFront, Refused}
 use Rattle.rohc_concentrator.specs.LoneRun.{LoneEvent, Arrival, Forget, LoneRun}
-use Rattle.rohc_concentrator.specs.Laws.{TwoWorlds, NoTrace, WantIsRefusal, TakenHasALink, AreAlike}
+use Rattle.rohc_concentrator.specs.Laws.{TwoWorlds, NoTrace, WantIsRefusal, IsTakenUp, TakenUpOrRefused, TakenHasALink, AreAlike}
 use Rattle.rohc_concentrator.proofs.GoodLemmas.{good_arrival}
 
 -- no other outcome is want of memory
@@ -100,6 +100,11 @@ which_refusal (outcomes.Refused refusal) e = (refusal, refl)
 which_refusal outcomes.Delivered e = absurd (let f : false ≡ true = e in cc)
 which_refusal outcomes.Stored e = absurd (let f : false ≡ true = e in cc)
 
+taken_outcome : (o : Outcome) → is_refusal o ≡ false → (o ≡ outcomes.Delivered) ⊎ (o ≡ outcomes.Stored)
+taken_outcome (outcomes.Refused refusal) e = absurd (let f : true ≡ false = e in cc)
+taken_outcome outcomes.Delivered e = inl refl
+taken_outcome outcomes.Stored e = inr refl
+
 own_none : (s : Settings) (m : ℕ) (h : Header) (before : Option Record) (response : Response) (after : Option Record) → OwnStep s m h before response after → is_refusal response.outcome ≡ true → before ≡ None → after ≡ None
 own_none s m h before response after (inl step) refuses none =
     let refusal = which_refusal response.outcome refuses in
@@ -126,6 +131,19 @@ pub want_is_refusal : WantIsRefusal
 want_is_refusal (Arrived cid response relayed) wants = ap is_refusal (is_no_memory-only response.outcome wants)
 want_is_refusal (OnlyFront relayed) wants = absurd (let f : false ≡ true = wants in cc)
 want_is_refusal (Refused refusal) wants = refl
+
+taken_up : (report : Report) → is_refused report ≡ false → IsTakenUp report
+taken_up (Arrived cid response relayed) e = inr (cid, response, relayed, refl, taken_outcome response.outcome e)
+taken_up (OnlyFront relayed) e = inl (relayed, refl)
+taken_up (Refused refusal) e = absurd (let f : true ≡ false = e in cc)
+
+not_refused : (report : Report) → IsTakenUp report → is_refused report ≡ false
+not_refused report (inl (relayed, e)) = ap is_refused e
+not_refused report (inr (cid, response, relayed, e, inl delivered)) = ap is_refused e ∙ ap is_refusal delivered
+not_refused report (inr (cid, response, relayed, e, inr stored)) = ap is_refused e ∙ ap is_refusal stored
+
+pub taken_up_or_refused : TakenUpOrRefused
+taken_up_or_refused report = (taken_up report, not_refused report)
 
 taken_on : (set : Option LinkSetting) (m : ℕ) (octets : List ℕ) (before after : ℕ → Option Record) (report : Report) → IsAnswered set before m octets report after → is_refused report ≡ false → (s : LinkSetting) × (set ≡ Some s)
 taken_on (Some s) m octets before after report a taken = (s, refl)

@@ -5,6 +5,7 @@ use Rattle.std.specs.List.{AllByRecursion}
 use Rattle.rohc_frame.specs.Header.{Header}
 use Rattle.rohc_frame.specs.Laws.{IsOctet}
 use Rattle.rohc_frame.specs.declared.header.HeadKind.TheVariants.{Ir}
+use Rattle.rohc_context.specs.declared.reply.Outcome.TheVariants.{Delivered, Stored}
 use Rattle.rohc_context.specs.declared.settings.Settings.{Settings}
 use Rattle.rohc_context.specs.Good.{IsGoodRecord}
 use Rattle.rohc_context.specs.Record.{Record}
@@ -14,7 +15,7 @@ use Rattle.rohc_concentrator.specs.declared.concentrator.Concentrator.{Concentra
 use Rattle.rohc_concentrator.specs.declared.setting.LinkSetting.{LinkSetting}
 use Rattle.rohc_concentrator.specs.Setting.{settings_of}
 use Rattle.rohc_concentrator.specs.Tables.{setting_at, record_at}
-use Rattle.rohc_concentrator.specs.Report.{Report, wants_memory, is_refusal, is_refused}
+use Rattle.rohc_concentrator.specs.Report.{Report, Arrived, OnlyFront, wants_memory, is_refusal, is_refused}
 use Rattle.rohc_concentrator.specs.Bears.{borne}
 use Rattle.rohc_concentrator.specs.Events.{Arrives, Event, Arrive, Reset, RunsEvents}
 use Rattle.rohc_concentrator.specs.Isolation.{EventRun, own_events, own_replies, is_rich, IsIsolatedRun}
@@ -53,6 +54,17 @@ NoTrace = (old new : Concentrator) (l moment : ℕ) (octets : List ℕ) (report 
 -- An arrival that finds no memory is refused.
 abbrev pub WantIsRefusal : Type 0
 WantIsRefusal = (report : Report) → wants_memory report ≡ true → is_refused report ≡ true
+
+-- the packet is taken: padding and feedback alone, or a header whose packet is delivered or context stored
+abbrev pub IsTakenUp : Report → Type 0
+IsTakenUp report =
+    ((relayed : List (List ℕ)) × (report ≡ OnlyFront relayed))
+    ⊎ ((cid : ℕ) × (response : Response) × (relayed : List (List ℕ)) × (report ≡ Arrived cid response relayed)
+    × ((response.outcome ≡ Delivered) ⊎ (response.outcome ≡ Stored)))
+
+-- An arrival is refused exactly if it isn't taken up.
+abbrev pub TakenUpOrRefused : Type 0
+TakenUpOrRefused = (report : Report) → is_refused report ≡ false ↔ IsTakenUp report
 
 -- An arrival that isn't refused came on a link that is there.
 abbrev pub TakenHasALink : Type 0

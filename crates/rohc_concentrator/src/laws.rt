@@ -1,7 +1,7 @@
 //! Laws of the concentrator, as contracts of functions that do nothing.
 
 ghost use Rattle.rohc_context.specs.Laws.{HasAnswer, HasNoOther};
-ghost use Rattle.rohc_concentrator.specs.Laws.{TwoWorlds, NoTrace, WantIsRefusal, TakenHasALink, HoldsGoodRecords, FaultyIsNotFine, FineOrFaulty, HasOneFault, MarkedIsAcceptedIr, LoneRunIsUnmarked, IsolatedEvents, SameReplies};
+ghost use Rattle.rohc_concentrator.specs.Laws.{TwoWorlds, NoTrace, WantIsRefusal, TakenUpOrRefused, TakenHasALink, HoldsGoodRecords, FaultyIsNotFine, FineOrFaulty, HasOneFault, MarkedIsAcceptedIr, LoneRunIsUnmarked, IsolatedEvents, SameReplies};
 ghost use Rattle.rohc_concentrator.specs.Honest.{DeliversWhatWasSent, HasHonestRun, HasHonestSender};
 
 /// For good values, an arrival has exactly one answer, and exactly one record after it, or none.
@@ -23,9 +23,11 @@ pub fn no_trace()
     ensures { NoTrace }
 {}
 
-/// An arrival that finds no memory is refused. An arrival that isn't refused came on a link that is there.
+/// An arrival that finds no memory is refused. An arrival is refused exactly if it isn't taken up: as feedback alone,
+/// delivered or stored. An arrival that isn't refused came on a link that is there.
 pub fn refusals()
     ensures want { WantIsRefusal }
+    ensures exact { TakenUpOrRefused }
     ensures taken { TakenHasALink }
 {}
 
