@@ -9,4 +9,5 @@ pub mod PlaceLemmas
 pub mod SameLemmas
 pub mod SetupLaws
 pub mod SetupLemmas
+pub mod TableLemmas
 pub mod WorldLemmas

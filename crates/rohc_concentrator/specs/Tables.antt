@@ -1,5 +1,5 @@
 -- What a concentrator keeps. Words: setting_at k l, record_at k l i, identifiers_at k l; AreTables;
--- IsPlaceOf; Keeps, for what stays; KeepsAll.
+-- IsPlaceOf; Keeps, for what stays; KeepsAll, TellAll.
 use Rattle.std.specs.Prelude.{◌≡◌, ◌≢◌, ℕ, List, [], ◌∷◌, ◌++◌, ◌⊎◌, Option, Some, None, nat_eq, map, unwrap_or, ◌<◌, slice_get}
 use Rattle.std.specs.HashMap.{HashMap}
 use Rattle.std.specs.Option.{option_map, option_and_then}
@@ -79,3 +79,7 @@ pub record KeepsAll (old new : Concentrator) : Type 0 where
   pub settings : KeepsSettings old new
   pub records : (l cid : ℕ) → record_at new l cid ≡ record_at old l cid
   pub order : (l : ℕ) → identifiers_at new l ≡ identifiers_at old l
+
+-- the tables tell all: another concentrator with these tables keeps the same, in the same order
+abbrev pub TellAll : {S : Type 0} → Concentrator → HashMap ℕ LinkRecords S → Type 0
+TellAll k tables = (other : Concentrator) → AreTables other tables → KeepsAll k other

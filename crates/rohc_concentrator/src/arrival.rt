@@ -26,7 +26,7 @@ fn link_place(links: &IndexMap<u16, LinkRecords>, link: u16) -> Option<usize>
 
 impl Concentrator {
     ghost use Rattle.std.specs.Prelude.{◌≡◌, [], ◌≢◌, ◌↔◌, ℕ, None, IfSome, IsErr, is_some, nat_eq};
-    ghost use Rattle.rohc_concentrator.specs.Tables.{setting_at, record_at, identifiers_at, AreTables, KeepsSettings, KeepsOthers, KeepsOrder, KeepsAll};
+    ghost use Rattle.rohc_concentrator.specs.Tables.{setting_at, record_at, identifiers_at, AreTables, TellAll, KeepsSettings, KeepsOthers, KeepsOrder, KeepsAll};
     ghost use Rattle.rohc_concentrator.specs.Report.{report_of, report_taken, IsAnswered};
     ghost use Rattle.rohc_concentrator.specs.Events.{Arrives};
     ghost use Rattle.rohc_concentrator.specs.Bears.{borne};
@@ -160,7 +160,8 @@ impl Concentrator {
     ///
     /// The records of a link are in the order of their first IR. A record that is replaced keeps its place.
     pub fn tables(&self) -> &IndexMap<u16, LinkRecords>
-        ensures { AreTables self.now result.now }
+        ensures tables { AreTables self.now result.now }
+        ensures all { TellAll self.now result.now }
     {
         &self.links
     }
