@@ -1,6 +1,9 @@
 -- What is delivered was sent: a sender's packets, some of which are lost (RFC 3095 4.5.2).
--- Words: references, IsHonest; Arrived, Reaches, AreInTime; events_of, deliveries; Sender, IsHonestCall.
-use Rattle.std.specs.Prelude.{◌≡◌, ℕ, ◌<◌, ◌^◌, List, [], ◌∷◌, ◌++◌, map, length, All, Option, Some}
+-- Words: references, IsOrdinary, IsHonest; Arrived, Reaches, AreInTime; events_of, deliveries; Sender,
+-- IsHonestCall.
+use Rattle.std.specs.Prelude.{◌≡◌, ◌≢◌, ℕ, ◌+◌, ◌<◌, ◌≤◌, ◌^◌, List, [], ◌∷◌, ◌++◌, map, length, All, AllPairs, Option, Some, None, ◌⊎◌}
+use Rattle.rohc_frame.specs.declared.header.HeadKind.TheVariants.{Other}
+use Rattle.rohc_frame.specs.Laws.{IsOctet}
 use Rattle.rohc_context.specs.declared.settings.Settings.{Settings}
 use Rattle.rohc_context.specs.Good.{IsGoodRecord, IsGoodHeader}
 use Rattle.rohc_context.specs.Settings.{AreGood}
@@ -13,13 +16,22 @@ use Rattle.rohc_concentrator.specs.LoneRun.{LoneEvent, Arrival, LoneRun}
 abbrev pub references : (first : Held) → List Written → List Held
 references first written = first ∷ map (λ (p : Written). held_by first p.header) written
 
+-- what a packet is that arrives: of kind Other and without an extension 3, and rebuilt it has at most 65,535
+-- octets
+pub record IsOrdinary (p : Written) : Type 0 where
+  pub kind : p.packet.kind ≡ Other
+  pub octets : All IsOctet p.packet.rest
+  pub no_values : p.content.values ≡ None
+  pub few : 40 + length p.content.payload ≤ 65535
+
 -- Honest writing: each packet is written for its header against every one of the last w references before it.
--- Those are the references with fewer than w others between them and the packet.
+-- Those are the references with fewer than w others between them and the packet. A packet that isn't ordinary
+-- may be anything, as long as it is lost.
 abbrev pub IsHonest : (w : ℕ) → (first : Held) → List Written → Type 0
 IsHonest w first sent =
     (earlier later : List Written) (p : Written) (older newer : List Held) (held : Held) →
     sent ≡ earlier ++ p ∷ later → references first earlier ≡ older ++ held ∷ newer → length newer < w →
-    IsWrittenFor held p
+    IsOrdinary p → IsWrittenFor held p
 
 -- a packet and its arrival time
 pub record Arrived : Type 0 where
@@ -58,6 +70,7 @@ pub record IsHonestCall (sender : Sender) (s : Settings) (before : Record) (arri
     pub held : HoldsInFull sender.first before
     pub honest : IsHonest sender.w sender.first sender.sent
     pub reaches : Reaches sender.w sender.sent (map (λ (a : Arrived). a.written) arrivals)
+    pub ordinary : All (λ (a : Arrived). IsOrdinary a.written) arrivals
     pub in_time : AreInTime s before.accepted arrivals
 
 -- What is delivered was sent: the lone run over these arrivals delivers the headers and payloads that the
@@ -79,6 +92,20 @@ HasHonestRun = (s : Settings) (before : Record) (arrivals : List Arrived) →
     (replies : List Response) × (after : Option Record) ×
     LoneRun s (Some before) (events_of arrivals) replies after
 
--- The premise can be met: some sender writes a packet for each of the last 14 references.
+-- Nothing is asked of packets of another kind, with an extension 3 or too long: a sender of these alone is
+-- honest.
+abbrev pub AsksOrdinaryAlone : Type 0
+AsksOrdinaryAlone = (w : ℕ) (first : Held) (sent : List Written) →
+    All (λ (p : Written). (p.packet.kind ≢ Other) ⊎ (p.content.values ≢ None)
+    ⊎ (65535 < 40 + length p.content.payload)) sent → IsHonest w first sent
+
+-- The premise can be met by a call with a loss. Some sender writes three packets, each for the last 14
+-- references. The second is lost. The run over the other two, from a record in Full Context, delivers two
+-- headers, and the three headers differ.
 abbrev pub HasHonestSender : Type 0
-HasHonestSender = (first : Held) × (p : Written) × IsHonest 14 first (p ∷ [])
+HasHonestSender = (sender : Sender) × (s : Settings) × (before : Record) × (a : Arrived) × (lost : Written) ×
+    (b : Arrived) × (after : Option Record) ×
+    (sender.w ≡ 14) × (sender.sent ≡ a.written ∷ lost ∷ b.written ∷ []) ×
+    AllPairs (λ (p q : Written). p.header.octets ≢ q.header.octets) sender.sent ×
+    IsHonestCall sender s before (a ∷ b ∷ []) ×
+    LoneRun s (Some before) (events_of (a ∷ b ∷ [])) (delivery_of a.written ∷ delivery_of b.written ∷ []) after

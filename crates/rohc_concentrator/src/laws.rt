@@ -2,7 +2,7 @@
 
 ghost use Rattle.rohc_context.specs.Laws.{HasAnswer, HasNoOther};
 ghost use Rattle.rohc_concentrator.specs.Laws.{TwoWorlds, NoTrace, WantIsRefusal, TakenUpOrRefused, TakenHasALink, HoldsGoodRecords, FaultyIsNotFine, FineOrFaulty, HasOneFault, MarkedIsAcceptedIr, LoneRunIsUnmarked, IsolatedEvents, SameReplies};
-ghost use Rattle.rohc_concentrator.specs.Honest.{DeliversWhatWasSent, HasHonestRun, HasHonestSender};
+ghost use Rattle.rohc_concentrator.specs.Honest.{DeliversWhatWasSent, AsksOrdinaryAlone, HasHonestRun, HasHonestSender};
 
 /// For good values, an arrival has exactly one answer, and exactly one record after it, or none.
 pub fn one_answer()
@@ -66,10 +66,11 @@ pub fn same_replies()
 {}
 
 /// What is delivered was sent. Let a sender write each packet for each of the last w references, let fewer than w
-/// packets be lost in a row, and let none come too late. Then one context in Full Context delivers exactly the
-/// headers and payloads that the packets were written for (RFC 3095 4.5.2).
+/// packets be lost in a row, and let those that arrive be ordinary and none come too late. Then one context in Full
+/// Context delivers exactly the headers and payloads that the packets were written for (RFC 3095 4.5.2).
 pub fn honest_runs()
     ensures delivered { DeliversWhatWasSent }
+    ensures ordinary { AsksOrdinaryAlone }
     ensures exists { HasHonestRun }
     ensures sender { HasHonestSender }
 {}
