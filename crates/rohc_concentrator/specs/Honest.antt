@@ -108,4 +108,5 @@ HasHonestSender = (sender : Sender) × (s : Settings) × (before : Record) × (a
     (sender.w ≡ 14) × (sender.sent ≡ a.written ∷ lost ∷ b.written ∷ []) ×
     AllPairs (λ (p q : Written). p.header.octets ≢ q.header.octets) sender.sent ×
     IsHonestCall sender s before (a ∷ b ∷ []) ×
-    LoneRun s (Some before) (events_of (a ∷ b ∷ [])) (delivery_of a.written ∷ delivery_of b.written ∷ []) after
+    LoneRun s (Some before) (events_of (a ∷ b ∷ []))
+    (delivery_of a.written ∷ delivery_of b.written ∷ []) after
