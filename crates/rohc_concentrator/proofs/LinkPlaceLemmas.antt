@@ -34,7 +34,7 @@ in_order_kept (e ∷ es) (suc place) link before after at same = ap (λ ss. e.1.
 module _ (k : Concentrator) (place link : ℕ) (before after : LinkRecords) (unique : IsUnique nat_eq k.links)
     (at : (slice_get k.links.entries place ≡ Some (link, before)) × (get nat_eq k.links link ≡ Some before)) where
   abbrev written : Concentrator
-  written = record { links = with_value_at k.links place after }
+  written = record k { links = with_value_at k.links place after }
 
   own : get nat_eq written.links link ≡ Some after
   own = own_written k.links place link before after unique at.0
@@ -42,7 +42,7 @@ module _ (k : Concentrator) (place link : ℕ) (before after : LinkRecords) (uni
   others : (l : ℕ) → l ≢ link → get nat_eq written.links l ≡ get nat_eq k.links l
   others = others_kept k.links place link before after unique at.0
 
-  pub settings_stay : after.setting ≡ before.setting → KeepsSettings k (record { links = with_value_at k.links place after })
+  pub settings_stay : after.setting ≡ before.setting → KeepsSettings k (record k { links = with_value_at k.links place after })
   settings_stay same = record {
     each = by_number (λ l. setting_at written l ≡ setting_at k l) link
         (ap (option_map (λ (r : LinkRecords). r.setting)) own ∙ ap Some same ∙ sym (ap (option_map (λ (r : LinkRecords). r.setting)) at.1))
@@ -51,7 +51,7 @@ module _ (k : Concentrator) (place link : ℕ) (before after : LinkRecords) (uni
   }
 
   pub others_stay : (borne : Option ℕ) → ((cid : ℕ) → borne ≢ Some cid → record_in after cid ≡ record_in before cid)
-      → KeepsOthers k (record { links = with_value_at k.links place after }) link borne
+      → KeepsOthers k (record k { links = with_value_at k.links place after }) link borne
   others_stay borne kept l cid other =
       by_number (λ n. (n ≢ link) ⊎ (borne ≢ Some cid) → record_at written n cid ≡ record_at k n cid) link
       (λ either. here either)
@@ -63,7 +63,7 @@ module _ (k : Concentrator) (place link : ℕ) (before after : LinkRecords) (uni
           ap (option_and_then (λ (r : LinkRecords). record_in r cid)) own ∙ kept cid is ∙ sym (ap (option_and_then (λ (r : LinkRecords). record_in r cid)) at.1)
 
   pub order_stays : (borne : Option ℕ) → KeepsPlaces (keys before.contexts) (keys after.contexts) borne (record_in before)
-      → KeepsOrder k (record { links = with_value_at k.links place after }) link borne
+      → KeepsOrder k (record k { links = with_value_at k.links place after }) link borne
   order_stays borne h = record {
     here =
         subst (λ (x : Option LinkRecords). KeepsPlaces (unwrap_or (option_map (λ (r : LinkRecords). keys r.contexts) x) []) (unwrap_or (option_map (λ (r : LinkRecords). keys r.contexts) (get nat_eq written.links link)) []) borne (λ cid. option_and_then (λ (r : LinkRecords). record_in r cid) x)) (sym at.1)
@@ -72,7 +72,7 @@ module _ (k : Concentrator) (place link : ℕ) (before after : LinkRecords) (uni
   }
 
   -- if the link's records stay, all does
-  pub all_stays : Stays before after → KeepsAll k (record { links = with_value_at k.links place after })
+  pub all_stays : Stays before after → KeepsAll k (record k { links = with_value_at k.links place after })
   all_stays s =
       let order = order_stays None s.order in
       record {
@@ -83,7 +83,7 @@ module _ (k : Concentrator) (place link : ℕ) (before after : LinkRecords) (uni
 
   -- the answer by what was kept for the link is the answer by what the concentrator kept
   pub answer_by : (moment : ℕ) (octets : List ℕ) (report : Report) → IsAnswered (Some before.setting) (record_in before) moment octets report (record_in after)
-      → IsAnswered (setting_at k link) (record_at k link) moment octets report (record_at (record { links = with_value_at k.links place after }) link)
+      → IsAnswered (setting_at k link) (record_at k link) moment octets report (record_at (record k { links = with_value_at k.links place after }) link)
   answer_by moment octets report h =
       subst (λ (x : Option LinkRecords). IsAnswered (option_map (λ (r : LinkRecords). r.setting) x) (λ cid. option_and_then (λ (r : LinkRecords). record_in r cid) x) moment octets report (record_at written link)) (sym at.1)
       (subst (λ (y : Option LinkRecords). IsAnswered (Some before.setting) (record_in before) moment octets report (λ cid. option_and_then (λ (r : LinkRecords). record_in r cid) y)) (sym own) h)

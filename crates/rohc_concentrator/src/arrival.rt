@@ -7,19 +7,19 @@ ghost use Rattle.rohc_concentrator.specs.Tables.{IsPlaceOf};
 use crate::answer::{Answer, NoLink, Taken};
 use crate::concentrator::Concentrator;
 use crate::link::{arrive_on, take_longer, take_short};
-use crate::place::{place_by_hash, stands_at};
+use crate::place::{Places, place_by_hash, stands_at};
 use crate::records::LinkRecords;
 use indexmap::IndexMap;
 use rohc_context::Refusal;
 
 /// The place of a link, if it is there.
-fn link_place(links: &IndexMap<u16, LinkRecords>, link: u16) -> Option<usize>
+fn link_place(links: &IndexMap<u16, LinkRecords>, places: &Places, link: u16) -> Option<usize>
     ensures there { IfSome result (λ place. IsPlaceOf links.now place link) }
     ensures absent { result ≡ None → get nat_eq links.now link ≡ None }
 {
-    let likely = usize::from(link.wrapping_sub(1));
-    if stands_at(links, likely, link) {
-        return Some(likely);
+    let hint = places.hint(link);
+    if stands_at(links, hint, link) {
+        return Some(hint);
     }
     place_by_hash(links, link)
 }
@@ -64,10 +64,10 @@ impl Concentrator {
         ensures others { KeepsOthers self.old self.new link (borne (setting_at self.old link) octets.entry.now) }
         ensures order { KeepsOrder self.old self.new link (borne (setting_at self.old link) octets.entry.now) }
     {
-        // Most links are numbered from 1 on in their order. Written out as in `take_at`.
-        let likely = usize::from(link.wrapping_sub(1));
-        let place = if stands_at(&self.links, likely, link) {
-            likely
+        // Written out as in `take_at`.
+        let hint = self.places.hint(link);
+        let place = if stands_at(&self.links, hint, link) {
+            hint
         } else {
             let Some(found) = place_by_hash(&self.links, link) else {
                 *answer = Answer::Refused(Refusal::NoLink);
@@ -99,9 +99,9 @@ impl Concentrator {
         ensures stays { result ≡ None → KeepsAll self.old self.new }
     {
         // As in `arrive_into`.
-        let likely = usize::from(link.wrapping_sub(1));
-        let place = if stands_at(&self.links, likely, link) {
-            likely
+        let hint = self.places.hint(link);
+        let place = if stands_at(&self.links, hint, link) {
+            hint
         } else {
             let Some(found) = place_by_hash(&self.links, link) else {
                 return None;
@@ -124,7 +124,7 @@ impl Concentrator {
     )
         ensures { Arrives self.old link moment octets.entry.now (report_of answer.new) self.new }
     {
-        let Some(place) = link_place(&self.links, link) else {
+        let Some(place) = link_place(&self.links, &self.places, link) else {
             *answer = Answer::Refused(Refusal::NoLink);
             return;
         };

@@ -13,7 +13,7 @@ ghost use Rattle.rohc_concentrator.specs.Report.{report_of, report_taken, OwnSte
 ghost use Rattle.rohc_concentrator.specs.Taken.{Takes, Stays, IsFor, IsMissed};
 
 use crate::answer::{Answer, Taken};
-use crate::place::{LastPlaces, stands_at};
+use crate::place::{Places, place_by_hash, stands_at};
 use crate::records::LinkRecords;
 use crate::setting::mode_in;
 use indexmap::IndexMap;
@@ -226,14 +226,11 @@ fn take_at<'a>(
     ensures stays { result ≡ None → record_in records.new forward.now.cid ≡ record_in records.old forward.now.cid }
 {
     // Written out: an option of the place would be tested once more on the likely way.
-    let likely = likely_place(forward.cid);
-    let place = if stands_at(&records.contexts, likely, forward.cid) {
-        likely
+    let hint = records.places.hint(forward.cid);
+    let place = if stands_at(&records.contexts, hint, forward.cid) {
+        hint
     } else {
-        let Some(found) = records.places.place_of(&records.contexts, forward.cid) else {
-            return None;
-        };
-        found
+        place_by_hash(&records.contexts, forward.cid)?
     };
     let idle_ms = records.setting.settings.idle_ms;
     let (_, context) = records.contexts.pair_mut(place);
@@ -256,7 +253,7 @@ fn arrive_at<'a>(
     ensures setting { records.new.setting ≡ records.old.setting }
     ensures order { KeepsPlace (keys records.old.contexts) (keys records.new.contexts) forward.now.cid (record_in records.old forward.now.cid) }
 {
-    let Some(place) = record_place(&records.contexts, &mut records.places, forward.cid) else {
+    let Some(place) = record_place(&records.contexts, &records.places, forward.cid) else {
         return first_at(records, moment, forward, reply);
     };
     // Copied whole here, since `settings_of` writes them field by field.
@@ -268,28 +265,16 @@ fn arrive_at<'a>(
     context.step(&settings, moment, forward, reply);
 }
 
-/// The likely place of a CID's record among those of the link. If a sender gives each new call its least free CID, the
-/// places of the records are their CIDs.
-fn likely_place(cid: u16) -> usize
-    ensures { result ≡ cid }
-{
-    usize::from(cid)
-}
-
 /// The place of a CID's record among those of the link, if it has one.
-fn record_place(
-    contexts: &IndexMap<u16, Context>,
-    places: &mut LastPlaces,
-    cid: u16,
-) -> Option<usize>
+fn record_place(contexts: &IndexMap<u16, Context>, places: &Places, cid: u16) -> Option<usize>
     ensures there { IfSome result (λ place. IsPlaceOf contexts.now place cid) }
     ensures absent { result ≡ None → get nat_eq contexts.now cid ≡ None }
 {
-    let likely = likely_place(cid);
-    if stands_at(contexts, likely, cid) {
-        return Some(likely);
+    let hint = places.hint(cid);
+    if stands_at(contexts, hint, cid) {
+        return Some(hint);
     }
-    places.place_of(contexts, cid)
+    place_by_hash(contexts, cid)
 }
 
 /// Takes an arrival for a CID without a record, which a first IR makes. The answer overwrites what `reply` held.
@@ -318,7 +303,10 @@ fn first_at<'a>(
         }
     };
     match records.contexts.insert(forward.cid, context) {
-        Ok(_) => *reply = made,
+        Ok(_) => {
+            records.places.keep(forward.cid, records.contexts.len() - 1);
+            *reply = made;
+        }
         Err(_) => *reply = Reply::refused(Refusal::NoMemory),
     }
 }
