@@ -1,7 +1,7 @@
 #!/usr/bin/env python3
 """Cuts tables of test data to what the program `vectors` reads and must write.
 
-    tools/cut_vectors.py [DIR]
+usage: tools/cut_vectors.py [DIR]
 
 The questions go to crates/vectors/stdin, the wanted answers to crates/vectors/stdout. DIR holds checks.tsv,
 values.tsv, framing.tsv, fields.tsv, feedback.tsv, headers.tsv, chains.tsv and forms.tsv, whose first lines
@@ -88,7 +88,10 @@ def part_rows():
 
 
 def main():
-    if len(sys.argv) > 2 or sys.argv[1:2] == ["--help"]:
+    if sys.argv[1:] == ["--help"]:
+        print(__doc__.strip())
+        return
+    if len(sys.argv) > 2:
         sys.exit(__doc__)
     if len(sys.argv) == 2:
         tables = tables_from(pathlib.Path(sys.argv[1]))

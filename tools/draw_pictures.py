@@ -1,8 +1,8 @@
 #!/usr/bin/env python3
 """Draws the pictures of docs/pictures.
 
-    tools/draw_pictures.py            writes them
-    tools/draw_pictures.py --check    says which of them aren't what would be written
+usage: tools/draw_pictures.py            writes them
+       tools/draw_pictures.py --check    says which of them aren't what would be written
 
 Python's standard library is enough.
 """
@@ -202,6 +202,9 @@ def call():
 
 
 def main():
+    if sys.argv[1:] == ["--help"]:
+        print(__doc__.strip())
+        return
     words = sys.argv[1:]
     if words not in ([], ["--check"]):
         sys.exit(__doc__)

@@ -1,14 +1,15 @@
 #!/usr/bin/env python3
 """Writes the worked examples out as scripts and their answers.
 
-    tools/expand_examples.py
+usage: tools/expand_examples.py
 
-reads worked_examples.txt beside it, and writes examples/worked/NAME.script and NAME.answers. It knows the rows alone,
+It reads worked_examples.txt beside it, and writes examples/worked/NAME.script and NAME.answers. It knows the rows alone,
 and nothing of how a decompressor comes by an answer.
 """
 
 import pathlib
 import re
+import sys
 
 HERE = pathlib.Path(__file__).resolve().parent
 TARGET = HERE.parent / "examples" / "worked"
@@ -66,6 +67,9 @@ def read_examples(text):
 
 
 def main():
+    if sys.argv[1:] == ["--help"]:
+        print(__doc__.strip())
+        return
     examples = read_examples((HERE / "worked_examples.txt").read_text())
     for name, turns in examples.items():
         script = "".join(f"{line}\n" * times for line, _, times in turns)
@@ -74,4 +78,5 @@ def main():
         (TARGET / f"{name}.answers").write_text(answers)
 
 
-main()
+if __name__ == "__main__":
+    main()

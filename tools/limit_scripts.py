@@ -1,14 +1,14 @@
 #!/usr/bin/env python3
 """Writes scripts at the limits, each with the answers that belong to it.
 
-    tools/limit_scripts.py links NUMBER          a links file of so many links, small identifiers on the odd ones
-    tools/limit_scripts.py calls LINKS CIDS      a plain call on each of so many links and identifiers: its script
-    tools/limit_scripts.py told LINKS CIDS       and its answers
-    tools/limit_scripts.py flood LINES           the call of the examples with a flood of so many lines between
-    tools/limit_scripts.py honest LINES          2,000 packets of an honest sender, of which up to 13 in a row are lost,
-                                                 with a flood of so many lines between each two that arrive
-    tools/limit_scripts.py sent                  and the answers to the packets that arrive
-    tools/limit_scripts.py long TIMES            a packet of 65,535 octets so many times, behind its IR
+usage: tools/limit_scripts.py links NUMBER          a links file of so many links, small identifiers on the odd ones
+       tools/limit_scripts.py calls LINKS CIDS      a plain call on each of so many links and identifiers: its script
+       tools/limit_scripts.py told LINKS CIDS       and its answers
+       tools/limit_scripts.py flood LINES           the call of the examples with a flood of so many lines between
+       tools/limit_scripts.py honest LINES          2,000 packets of an honest sender, of which up to 13 in a row are lost,
+                                                    with a flood of so many lines between each two that arrive
+       tools/limit_scripts.py sent                  and the answers to the packets that arrive
+       tools/limit_scripts.py long TIMES            a packet of 65,535 octets so many times, behind its IR
 """
 
 import random
@@ -182,6 +182,9 @@ def long_packets(times):
 
 
 def main():
+    if sys.argv[1:] == ["--help"]:
+        print(__doc__.strip())
+        return
     words = sys.argv[1:]
     numbers = [int(word) for word in words[1:] if word.isdigit()]
     match words[:1], numbers:

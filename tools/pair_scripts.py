@@ -1,7 +1,7 @@
 #!/usr/bin/env python3
 """Shows isolation on a script: each pair's answer lines are those of that pair's own script.
 
-    tools/pair_scripts.py PROGRAM LINKS SCRIPT ANSWERS
+usage: tools/pair_scripts.py PROGRAM LINKS SCRIPT ANSWERS
 
 A pair's own script has the resets of its link and the arrivals there that bear its identifier, and nothing else. ANSWERS
 are those of the whole script. Link 1 has small identifiers, every other link large ones.
@@ -70,6 +70,9 @@ def own_scripts(lines):
 
 
 def main():
+    if sys.argv[1:] == ["--help"]:
+        print(__doc__.strip())
+        return
     if len(sys.argv) != 5:
         sys.exit(__doc__)
     program, links, script, answers = sys.argv[1:]

@@ -1,5 +1,7 @@
 #!/usr/bin/env python3
-"""Runs random scripts through the library for C under the sanitizers: tools/random_library.py [SCRIPTS [LINES]]
+"""Runs random scripts through the library for C under the sanitizers.
+
+usage: tools/random_library.py [SCRIPTS [LINES]]
 
 Each of SCRIPTS (10,000) is tools/random_script.py's, by its number, of LINES (200) lines, and goes through
 examples/gateway.c, built with the address and undefined behaviour sanitizers. Its answers are those of the proved rohcd, where
@@ -44,6 +46,9 @@ def run(words, script):
 
 
 def main():
+    if sys.argv[1:] == ["--help"]:
+        print(__doc__.strip())
+        return
     words = sys.argv[1:]
     if len(words) > 2 or not all(word.isdigit() for word in words):
         sys.exit(__doc__)

@@ -1,7 +1,7 @@
 #!/usr/bin/env python3
 """Writes a random script: calls of both profiles on two links, with losses, damage, noise and resets.
 
-    tools/random_script.py SEED LINES
+usage: tools/random_script.py SEED LINES
 
 The same seed gives the same script. It goes with the links of examples/two-links.toml: link 1 has small identifiers,
 link 2 large ones. Most packets are those of honest senders, in formats that RFC 3095 5.7 names; some lines are spoilt.
@@ -233,6 +233,9 @@ def lines(seed, count):
 
 
 def main():
+    if sys.argv[1:] == ["--help"]:
+        print(__doc__.strip())
+        return
     if len(sys.argv) != 3 or not all(word.isdigit() for word in sys.argv[1:]):
         sys.exit(__doc__)
     for line in lines(int(sys.argv[1]), int(sys.argv[2])):

@@ -1,7 +1,7 @@
 #!/usr/bin/env python3
 """Sends the arrivals of a script to `rohcd serve`, and compares what comes back with `rohcd replay`.
 
-    tools/serve_script.py PROGRAM LINKS SCRIPT...
+usage: tools/serve_script.py PROGRAM LINKS SCRIPT...
 
 Each arrival of a script is a datagram, so a script has no resets; its moments are not sent, so its answers must not
 hang on them. Each link's ports are sockets of this program, on free ports of 127.0.0.1. What each port gets must be
@@ -134,6 +134,11 @@ def ends(program, links, text, port, output):
 
 
 def main():
+    if sys.argv[1:] == ["--help"]:
+        print(__doc__.strip())
+        return
+    if len(sys.argv) < 4:
+        sys.exit(__doc__)
     program, links, *scripts = sys.argv[1:]
     with open(links, encoding="utf-8") as file:
         text = file.read()
@@ -156,4 +161,5 @@ def main():
     sys.exit(failed)
 
 
-main()
+if __name__ == "__main__":
+    main()

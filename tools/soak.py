@@ -1,7 +1,7 @@
 #!/usr/bin/env python3
 """An hour of 256 links with 64 calls each on average, through a built rohcd, and then twice as many packets.
 
-    tools/soak.py PROGRAM [PACKETS]
+usage: tools/soak.py PROGRAM [PACKETS]
 
 Packets are lost, spoilt and late, links are reset, and calls fall and are taken up again. Prints the packets a second and
 the peak of memory of each run. The second run has twice as many packets and may not take more memory than the first.
@@ -59,6 +59,9 @@ def run(program, folder, packets):
 
 
 def main():
+    if sys.argv[1:] == ["--help"]:
+        print(__doc__.strip())
+        return
     if len(sys.argv) not in (2, 3):
         sys.exit(__doc__)
     packets = int(sys.argv[2]) if len(sys.argv) == 3 else 1_000_000

@@ -1,5 +1,7 @@
 #!/usr/bin/env python3
-"""Sends a packet to examples/udp_gateway.c and looks at what comes back: tools/udp_gateway_test.py PROGRAM LINKS
+"""Sends a packet to examples/udp_gateway.c and looks at what comes back.
+
+usage: tools/udp_gateway_test.py PROGRAM LINKS
 
 LINKS is what tools/link_lines.py writes of examples/worked/links-1.toml. The packets are those of the worked examples.
 """
@@ -34,6 +36,9 @@ def free_ports(count):
 
 
 def main():
+    if sys.argv[1:] == ["--help"]:
+        print(__doc__.strip())
+        return
     if len(sys.argv) != 3:
         sys.exit(__doc__)
     deliver, relay, peer = local_socket(), local_socket(), local_socket()
