@@ -214,7 +214,7 @@ bool rohc_context_at(struct rohc_gateway *gateway, uint16_t link, size_t place, 
  * @param number the refusal's number, 1 to 30
  * @param name gets the name
  * @param room the buffer's length; #ROHC_NAME_ROOM is enough for each name
- * @return the name's length without the octet 0; 0 if there is no such refusal, or no room
+ * @return the name's length without the octet 0; 0 if there is no such refusal, or no room: then @p name stays as it was
  */
 size_t rohc_refusal_name(uint8_t number, uint8_t *name, size_t room);
 

@@ -245,8 +245,10 @@ static void names(void) {
     CHECK(rohc_refusal_name(16, name, sizeof name) == 13 && !strcmp((char *)name, "ExtensionList"));
     CHECK(rohc_refusal_name(30, name, sizeof name) == 8 && !strcmp((char *)name, "NoMemory"));
     CHECK(rohc_refusal_name(29, name, 7) == 6 && !strcmp((char *)name, "NoLink"));
+    memset(name, 0x55, sizeof name);
     CHECK(rohc_refusal_name(29, name, 6) == 0 && rohc_refusal_name(29, name, 0) == 0);
     CHECK(rohc_refusal_name(0, name, sizeof name) == 0 && rohc_refusal_name(31, name, sizeof name) == 0);
+    for (size_t i = 0; i < sizeof name; i++) CHECK(name[i] == 0x55);
 }
 
 /* Each request for memory of rohc_new is refused in turn, and then each of a first IR. Everything stays as it was. */

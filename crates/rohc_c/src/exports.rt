@@ -215,11 +215,13 @@ ghost use Rattle.rohc_c.specs.Names.{IsNamed, IsUnnamed};
 /// Writes the name of the refusal with this number into a buffer, followed by an octet 0, and returns its length
 /// without that octet.
 ///
-/// Returns 0 if no refusal has the number, or if there is no room. 16 octets are enough for each name.
+/// Returns 0 if no refusal has the number, or if there is no room; then the buffer stays as it was. 16 octets are enough
+/// for each name.
 #[unsafe(no_mangle)]
 pub extern "C" fn rohc_refusal_name(number: u8, name: &mut [u8]) -> usize
     ensures named { result ≢ 0 → IsNamed number result name.new }
     ensures unnamed { result ≡ 0 → IsUnnamed number name.old }
+    ensures kept { result ≡ 0 → name.new ≡ name.old }
 {
     let Some(refusal) = refusal_of(number) else {
         return 0;
