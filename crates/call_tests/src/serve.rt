@@ -197,17 +197,28 @@ fn what_names_no_link_is_refused(rt: HostRuntime) -> Result<(), Fail> {
 }
 
 /// The longest datagram of UDP over IPv4, in octets.
-const GREATEST: usize = 65_507;
+const LONGEST_OF_UDP: usize = 65_507;
+
+/// The longest datagram, in octets: a link's number and the longest packet.
+const LONGEST: usize = 65_537;
 
 #[test]
-fn the_greatest_datagram_is_served(rt: HostRuntime) -> Result<(), Fail> {
-    let mut datagram = Vec::new(rt.alloc());
-    datagram.extend_from_slice(b"\x00\x01\xfc\x00\xb7")?;
-    datagram.resize(GREATEST, 0x45)?;
-    let (tally, sent) = served(rt.alloc(), &[Some(datagram.as_slice())], 0)?;
-    assert_eq!(rt; tally.delivered, 1);
-    let packet = &datagram.as_slice()[5..];
-    were_sent(&rt, sent.as_slice(), &[(6001, packet), (6002, b"\xf1\x00")]);
+fn the_longest_packets_are_served_whole(rt: HostRuntime) -> Result<(), Fail> {
+    let first = b"\x00\x01\xfc\x00\xb7\x45\xaa";
+    let mut longest = Vec::new(rt.alloc());
+    longest.extend_from_slice(b"\x00\x01")?;
+    longest.resize(LONGEST, 0x45)?;
+    for size in LONGEST_OF_UDP..LONGEST + 1 {
+        let datagram = &longest.as_slice()[..size];
+        let (tally, sent) = served(rt.alloc(), &[Some(first), Some(datagram)], 0)?;
+        assert_eq!(rt; tally.delivered, 2);
+        let wanted: [(u16, &[u8]); 3] = [
+            (6001, b"\x45\xaa"),
+            (6002, b"\xf1\x00"),
+            (6001, &datagram[2..]),
+        ];
+        were_sent(&rt, sent.as_slice(), &wanted);
+    }
     Ok(())
 }
 

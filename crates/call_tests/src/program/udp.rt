@@ -5,7 +5,6 @@ use rohc_concentrator::Concentrator;
 use rohc_program::UdpFront;
 use rohc_replay::read_links;
 use rohc_serve::{ServeTally, serve};
-use std::alloc::{AllocError, Global};
 use std::io;
 use std::net::{Ipv4Addr, Net, UdpSocket};
 use std::process::Abort;
@@ -36,50 +35,66 @@ fn datagrams_go_to_their_ports(rt: HostRuntime) -> Result<(), Fail> {
     let links = format!(in rt.alloc();
         "{LINK_1}deliver_port = {deliver_port}\nfeedback_port = {feedback_port}\nrelay_port = {relay_port}\n"
     )?;
-    serves(&rt, links.as_str())?;
+    let datagrams: [&[u8]; 3] = [
+        b"\x00\x01\xfc\x00\xb7\x45\xaa",
+        b"\x00\x09\x10\xac",
+        b"\x00\x01\xf2\x20\x07",
+    ];
+    let tally = served(&rt, links.as_str(), &datagrams)?;
+    let line = format!(in rt.alloc(); "{tally}")?;
+    assert_eq!(rt;
+        line.as_str(),
+        "datagrams 3 delivered 1 feedback 1 relayed 1 refused 1 failed 0"
+    );
     gets(&rt, &deliver, b"\x45\xaa")?;
     gets(&rt, &feedback, b"\xf1\x00")?;
     gets(&rt, &relay, b"\x20\x07")?;
     Ok(())
 }
 
-/// Serves three datagrams with the links of this text, and compares the tally's line.
-fn serves<R: Net + Clock + AllocGlobal + Abort>(rt: &R, links: &str) -> Result<(), Fail> {
+/// The longest datagram of UDP over IPv4, in octets.
+const LONGEST: usize = 65_507;
+
+#[test]
+fn the_longest_datagram_is_served_whole(rt: HostRuntime) -> Result<(), Fail> {
+    let (socket, port) = bound(&rt)?;
+    let links = format!(in rt.alloc();
+        "{LINK_1}deliver_port = {port}\nfeedback_port = {port}\nrelay_port = {port}\n"
+    )?;
+    let mut datagram = Vec::new(rt.alloc());
+    datagram.extend_from_slice(b"\x00\x01\xfc\x00\xb7")?;
+    datagram.resize(LONGEST, 0x45)?;
+    let tally = served(&rt, links.as_str(), &[datagram.as_slice()])?;
+    assert_eq!(rt; (tally.delivered, tally.failed), (1, 0));
+    let mut packet = vec![in rt.alloc(); 0u8; LONGEST]?;
+    let (size, _) = socket.recv_from(packet.as_mut_slice())?;
+    assert_eq!(rt; &packet.as_slice()[..size], &datagram.as_slice()[5..]);
+    Ok(())
+}
+
+/// Serves these datagrams with the links of this text.
+fn served<R>(rt: &R, links: &str, datagrams: &[&[u8]]) -> Result<ServeTally, Fail>
+where
+    R: Net + Clock + AllocGlobal,
+{
     let links = read_links(rt.alloc(), links)?;
     let mut concentrator = Concentrator::new(rt.alloc(), links.settings())?;
-    let mut front = waiting_front(rt)?;
-    let tally = serve(rt.alloc(), &mut concentrator, &links, &mut front, 3)?;
-    shows(rt, rt.alloc(), tally)?;
-    Ok(())
+    let mut front = waiting_front(rt, datagrams)?;
+    let count = u32::try_from(datagrams.len()).unwrap_or(0);
+    let tally = serve(rt.alloc(), &mut concentrator, &links, &mut front, count)?;
+    Ok(tally)
 }
 
-/// Compares the line of a tally.
-fn shows(rt: &impl Abort, alloc: Global, tally: ServeTally) -> Result<(), AllocError> {
-    let line = format!(in alloc; "{tally}")?;
-    assert_eq!(rt;
-        line.as_str(),
-        "datagrams 3 delivered 1 feedback 1 relayed 1 refused 1 failed 0"
-    );
-    Ok(())
-}
-
-/// A front at which three datagrams wait. A receive waits for at most five seconds.
-fn waiting_front<R: Net + Clock>(rt: &R) -> io::Result<UdpFront<'_, R>> {
+/// A front at which these datagrams wait. A receive waits for at most five seconds.
+fn waiting_front<'a, R: Net + Clock>(
+    rt: &'a R,
+    datagrams: &[&[u8]],
+) -> io::Result<UdpFront<'a, R>> {
     let (socket, port) = bound(rt)?;
     let front = UdpFront::over(rt, socket)?;
-    send_three(rt, port)?;
-    Ok(front)
-}
-
-/// Sends three datagrams to the port.
-fn send_three<R: Net>(rt: &R, port: u16) -> io::Result<()> {
     let (sender, _) = bound(rt)?;
-    for octets in [
-        b"\x00\x01\xfc\x00\xb7\x45\xaa".as_slice(),
-        b"\x00\x09\x10\xac".as_slice(),
-        b"\x00\x01\xf2\x20\x07".as_slice(),
-    ] {
+    for octets in datagrams {
         sender.send_to(octets, (Ipv4Addr::LOCALHOST, port))?;
     }
-    Ok(())
+    Ok(front)
 }
