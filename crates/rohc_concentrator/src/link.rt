@@ -302,11 +302,13 @@ fn first_at<'a>(
             return;
         }
     };
+    let place = records.contexts.len();
+    if records.places.keep(forward.cid, place).is_err() {
+        *reply = Reply::refused(Refusal::NoMemory);
+        return;
+    }
     match records.contexts.insert(forward.cid, context) {
-        Ok(_) => {
-            records.places.keep(forward.cid, records.contexts.len() - 1);
-            *reply = made;
-        }
+        Ok(_) => *reply = made,
         Err(_) => *reply = Reply::refused(Refusal::NoMemory),
     }
 }

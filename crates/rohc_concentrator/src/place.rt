@@ -5,7 +5,7 @@ ghost use Rattle.indexmap.specs.IndexMap.{get};
 ghost use Rattle.rohc_concentrator.specs.Tables.{IsPlaceOf};
 
 use indexmap::IndexMap;
-use std::alloc::Global;
+use std::alloc::{AllocError, Global};
 
 /// Whether the entry at this place is this key's.
 #[inline(always)]
@@ -30,7 +30,7 @@ pub(crate) fn place_by_hash<V>(map: &IndexMap<u16, V>, key: u16) -> Option<usize
 }
 
 /// Where the entry of each key was put. A place is only a hint, since the map may have been emptied: the key that stands
-/// there is compared. So it is kept in 16 bits, and nothing is lost but time if there is no memory for it.
+/// there is compared. So it is kept in 16 bits.
 #[derive(Debug, Drop)]
 pub(crate) struct Places {
     hints: Vec<u16>,
@@ -53,14 +53,15 @@ impl Places {
         }
     }
 
-    /// Keeps where the key's entry was put.
-    pub(crate) fn keep(&mut self, key: u16, place: usize) {
+    /// Keeps where the key's entry is put.
+    pub(crate) fn keep(&mut self, key: u16, place: usize) -> Result<(), AllocError> {
         let index = usize::from(key);
-        if index >= self.hints.len() && self.hints.resize(index + 1, 0).is_err() {
-            return;
+        if index >= self.hints.len() {
+            self.hints.resize(index + 1, 0)?;
         }
         if let Some(hint) = self.hints.get_mut(index) {
             *hint = (place % 65_536) as u16;
         }
+        Ok(())
     }
 }

@@ -107,7 +107,7 @@ fn build(alloc: Global, settings: &[LinkSetting]) -> Result<Concentrator, AllocE
     let mut links = IndexMap::new(alloc);
     let mut places = Places::new(alloc);
     for setting in settings {
-        places.keep(setting.link, links.len());
+        places.keep(setting.link, links.len())?;
         let records = LinkRecords {
             setting: setting.clone()?,
             contexts: IndexMap::new(alloc),
