@@ -244,7 +244,11 @@ fn a_change_of_state_is_no_outcome(rt: HostRuntime) {
     let mut concentrator = made(&rt, rt.alloc(), link_1(0));
     for (arrival, wanted) in OUTCOMES {
         compare_outcomes(&rt, &mut concentrator, &[arrival]);
-        assert_eq!(rt; window_lengths(&concentrator), Some(wanted), "of {arrival:?}");
+        assert_eq!(rt;
+            window_lengths(&concentrator),
+            Some(wanted),
+            "of {arrival:?}"
+        );
     }
 }
 
