@@ -31,7 +31,8 @@ abbrev pub failures : ℕ → List Bool → ℕ
 failures n window = count_by (λ failure. failure) (take n window)
 
 -- The windows after an answer: of what was counted and what the answer adds, the last 64. The first window of
--- Static Context may be empty instead, if it is filled. After a change of state or profile all windows are empty.
+-- Static Context may be empty instead, if it is filled. After a change of state or profile all windows are
+-- empty.
 abbrev pub Adds : Settings → Outcome → (before after : State) → Type 0
 Adds s outcome (FullContext fixed reference previous window) (FullContext also held other left) =
     left ≡ take 64 (marks outcome ++ window)
@@ -46,8 +47,8 @@ WindowsCount = (r after : Record) (s : Settings) (moment : ℕ) (h : Header) (re
     IsGoodRecord r → AreGood s → counts s moment r ≡ true →
     LoneStep (Some r) s moment h response (Some after) → Adds s response.outcome r.state after.state
 
--- A failed check leads from Full Context to Static Context exactly if it is one of k1 failures among the last n1
--- outcomes.
+-- A failed check leads from Full Context to Static Context exactly if it is one of k1 failures among the last
+-- n1 outcomes.
 abbrev pub FallsFromFull : Type 0
 FallsFromFull = (r after : Record) (s : Settings) (moment : ℕ) (h : Header) (response : Response)
     (window : List Bool) → AreGood s → counts s moment r ≡ true →
@@ -55,8 +56,8 @@ FallsFromFull = (r after : Record) (s : Settings) (moment : ℕ) (h : Header) (r
     LoneStep (Some r) s moment h response (Some after) → response.outcome ≡ Refused Check →
     (context_state_of after.state ≡ states.StaticContext) ↔ (s.k1 ≤ failures s.n1 (true ∷ window))
 
--- It leads from Static Context to No Context exactly if it is one of k2 failures among the last n2 outcomes of the
--- second window.
+-- It leads from Static Context to No Context exactly if it is one of k2 failures among the last n2 outcomes
+-- of the second window.
 abbrev pub FallsFromStatic : Type 0
 FallsFromStatic = (r after : Record) (s : Settings) (moment : ℕ) (h : Header) (response : Response)
     (first second : List Bool) → AreGood s → counts s moment r ≡ true →

@@ -54,8 +54,8 @@ pub record AreInForce (given moving : Dynamic) : Type 0 where
   pub stride : moving.stride ≡ given.stride
 
 -- Against a reference whose SN is moved on by a shift, the packet means a header with these fields. The SN is
--- the one that its bits mean. The steps count from the reference's own SN. The UDP checksum and the marker are
--- the packet's. The other fields are those in force.
+-- the one that its bits mean. The steps count from the reference's own SN. The UDP checksum and the marker
+-- are the packet's. The other fields are those in force.
 pub record Means (reference : Reference) (shift : ℕ) (c : Content) (moving : Dynamic) : Type 0 where
   pub steps : ℤ
   pub sn : AgreesInSn reference.moving.sn shift c.sn moving.sn steps

@@ -87,8 +87,8 @@ LendsPayload =
     All IsOctet h.rest → LoneStep before s moment h response next →
     IfSome response.packet (λ (p : Packet). length p.payload ≤ length h.rest)
 
--- A refusal Check changes nothing if no record counts. Otherwise it is a failure of that record: it leads to the
--- state that follows a failed check, and sends what is due.
+-- A refusal Check changes nothing if no record counts. Otherwise it is a failure of that record: it leads to
+-- the state that follows a failed check, and sends what is due.
 abbrev pub ChecksChange : Type 0
 ChecksChange = (before : Option Record) (s : Settings) (moment : ℕ) (h : Header) (response : Response)
     (next : Option Record) → LoneStep before s moment h response next → response.outcome ≡ Refused Check →

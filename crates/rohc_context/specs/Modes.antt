@@ -31,8 +31,8 @@ IsSilentInU = (before : Option Record) (s : Settings) (moment : ℕ) (h : Header
     (next : Option Record) → LoneStep before s moment h response next →
     LoneStep before (record s { mode = U }) moment h (record response { feedback = None }) next
 
--- A record has a previous reference only if it was in Full Context before, and only by a packet of kind Other, or
--- because it had that one already.
+-- A record has a previous reference only if it was in Full Context before, and only by a packet of kind
+-- Other, or because it had that one already.
 abbrev pub KeepsPrevious : Type 0
 KeepsPrevious = (before : Option Record) (s : Settings) (moment : ℕ) (h : Header) (response : Response)
     (after : Record) (fixed : Static) (reference previous : Reference) (window : List Bool) →
@@ -77,8 +77,8 @@ Holds (NoContext nacked) fixed reference = ⊥
 Holds (StaticContext also held first second) fixed reference = (also ≡ fixed) × (held ≡ Some reference)
 Holds (FullContext also held previous window) fixed reference = (also ≡ fixed) × (held ≡ reference)
 
--- An IR-DYN without the octet of RTP's flags keeps the X and the stride of the held reference (RFC 3095 5.7.7.6).
--- Its RX is bit 4 of the eleventh octet after the first octet and a large CID.
+-- An IR-DYN without the octet of RTP's flags keeps the X and the stride of the held reference (RFC 3095
+-- 5.7.7.6). Its RX is bit 4 of the eleventh octet after the first octet and a large CID.
 abbrev pub KeepsFlags : Type 0
 KeepsFlags = (r after : Record) (fixed also : Static) (held reference : Reference)
     (previous : Option Reference) (window : List Bool) (s : Settings) (moment : ℕ) (h : Header)
@@ -91,7 +91,8 @@ KeepsFlags = (r after : Record) (fixed also : Static) (held reference : Referenc
 -- A packet of kind Other for which no refusal of 10 to 27 stands means exactly one header, by each shift.
 abbrev pub MeansOneUnrefused : Type 0
 MeansOneUnrefused = (r : Record) (fixed : Static) (reference : Reference) (s : Settings) (moment : ℕ)
-    (h : Header) (response : Response) (next : Option Record) → IsGoodRecord r → Holds r.state fixed reference →
+    (h : Header) (response : Response) (next : Option Record) → IsGoodRecord r →
+    Holds r.state fixed reference →
     counts s moment r ≡ true → h.kind ≡ Other → All IsOctet h.rest →
     LoneStep (Some r) s moment h response next →
     ((refusal : Refusal) → response.outcome ≡ Refused refusal → 27 < number_of refusal) →

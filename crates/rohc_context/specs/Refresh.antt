@@ -36,8 +36,8 @@ RefreshesTo s moment h r fixed window (Err refusal) response next =
 RefreshesTo s moment h r fixed window (Ok d) response next =
     Delivers s moment h fixed d.moving d.payload window response next
 
--- From Static Context the window of Full Context starts empty; that of Full Context gets a success. No Context
--- doesn't take an IR-DYN, so it doesn't get here.
+-- From Static Context the window of Full Context starts empty; that of Full Context gets a success. No
+-- Context doesn't take an IR-DYN, so it doesn't get here.
 abbrev pub RefreshesBy : Settings → (moment : ℕ) → Header → Record → State → Response → Option Record → Type 0
 RefreshesBy s moment h r Plain response next = (refusal : ChainRefusal) × PlainRefuses h refusal
     × Ends s moment h (Some r) (Some r) (fault_of_chain refusal) response next

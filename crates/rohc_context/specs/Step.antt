@@ -47,7 +47,8 @@ abbrev pub WithoutRecord : (before : Option Record) → Response → Option Reco
 WithoutRecord before response next = Refuses NoContext before response next
 
 -- If a record counts, its state first decides whether it takes the packet.
-abbrev pub WithRecord : Settings → (moment : ℕ) → Header → HeadKind → Record → Response → Option Record → Type 0
+abbrev pub WithRecord : Settings → (moment : ℕ) → Header → HeadKind → Record → Response →
+    Option Record → Type 0
 WithRecord s moment h kind r response next =
     TakenBy (takes r.state kind h.first) s moment h kind r response next
 

@@ -11,7 +11,8 @@ use Rattle.rohc_context.specs.Due.{sent}
 use Rattle.rohc_context.specs.Tries.{has_short_check, second_tries}
 use Rattle.rohc_context.specs.Step.{LoneStep, counts}
 
--- In No Context a packet that isn't an IR is answered by a STATIC-NACK from `static_nack_ms` after the last one on.
+-- In No Context a packet that isn't an IR is answered by a STATIC-NACK from `static_nack_ms` after the last
+-- one on.
 abbrev pub NacksAfterWait : Type 0
 NacksAfterWait = (r : Record) (nacked : ℕ) (s : Settings) (moment : ℕ) (h : Header) (response : Response)
     (next : Option Record) → r.state ≡ NoContext nacked → counts s moment r ≡ true → ¬ IsIr h.kind →
@@ -26,8 +27,8 @@ WaitsToNack = (r : Record) (nacked : ℕ) (s : Settings) (moment : ℕ) (h : Hea
     s.static_nack_ms ≢ 0 → moment < nacked + s.static_nack_ms → LoneStep (Some r) s moment h response next →
     (response ≡ refused StateTooLow) × (next ≡ Some r)
 
--- From `idle_ms` after its last accepted arrival on, a record is answered as none is. If the step without a record
--- leaves none, the record stays.
+-- From `idle_ms` after its last accepted arrival on, a record is answered as none is. If the step without a
+-- record leaves none, the record stays.
 abbrev pub IdleIsNone : Type 0
 IdleIsNone = (r : Record) (s : Settings) (moment : ℕ) (h : Header) (response : Response)
     (next : Option Record) → s.idle_ms ≢ 0 → r.accepted + s.idle_ms ≤ moment →
