@@ -1,5 +1,10 @@
-use Rattle.std.proofs.Common.{refl}
+use Rattle.std.proofs.Common.{refl, Some, ap, sym, ◌∙◌}
 use Rattle.rohc_c.proofs.exports.rohc_arrive.Goals as goal
 
 pub returns-then-not-has_room-clause-kept : goal.returns-then-not-has_room-clause-kept
 returns-then-not-has_room-clause-kept c = λ _. (refl, refl, refl, refl, refl)
+
+pub returns-clause-done : goal.returns-clause-done
+returns-clause-done c = λ _.
+    let t = c.take_packet.ensures in
+    (t.0, record { before = c.deref_mut.result.now; after = c.take_packet.new.concentrator; was = c.take-concentrator.ensures.taken ∙ ap Some (sym c.deref_mut.ensures.value); is = c.put.ensures; arrives = t.1 }, t.2)

@@ -1,14 +1,30 @@
-use Rattle.std.proofs.Common.{rules}
+use Rattle.std.proofs.Common.{rules, Some, ap, sym, ◌∙◌}
 use Rattle.rohc_c.proofs.exports.rohc_reset.Goals as goal
 
 pub returns-in-Ok-clause-done : goal.returns-in-Ok-clause-done
-returns-in-Ok-clause-done c = search rules
+returns-in-Ok-clause-done c = λ _.
+    let e = c.reset-outcome.ensures in
+    record {
+      before = c.deref_mut.result.now;
+      after = c.reset-outcome.new.self;
+      was = c.take-concentrator.ensures.taken ∙ ap Some (sym c.deref_mut.ensures.value);
+      is = c.put.ensures;
+      resets = record { forgotten = e.forgotten; settings = e.settings; others = e.others; emptied = e.emptied; order = e.order };
+    }
 
 pub returns-in-Ok-clause-known : goal.returns-in-Ok-clause-known
 returns-in-Ok-clause-known c = search rules
 
 pub returns-in-Err-clause-done : goal.returns-in-Err-clause-done
-returns-in-Err-clause-done c = search rules
+returns-in-Err-clause-done c = λ _.
+    let e = c.reset-outcome.ensures in
+    record {
+      before = c.deref_mut.result.now;
+      after = c.reset-outcome.new.self;
+      was = c.take-concentrator.ensures.taken ∙ ap Some (sym c.deref_mut.ensures.value);
+      is = c.put.ensures;
+      resets = record { forgotten = e.forgotten; settings = e.settings; others = e.others; emptied = e.emptied; order = e.order };
+    }
 
 pub returns-in-Err-clause-known : goal.returns-in-Err-clause-known
 returns-in-Err-clause-known c = search rules
