@@ -1,0 +1,159 @@
+//! A whole run: packets in, a script and what must come out of it.
+
+use std::collections::{BTreeMap, HashMap};
+use std::fmt::Write;
+use std::rc::Rc;
+
+use crate::feedback::{Feedback, Said};
+use crate::flow::{Link, Routed, Table};
+use crate::pcap::Packet;
+use crate::random::Random;
+use crate::sender::{Sent, Settings};
+
+/// Octets as a script has them.
+pub fn hex(octets: &[u8]) -> String {
+    octets.iter().fold(String::new(), |mut text, octet| {
+        let _ = write!(text, "{octet:02x}");
+        text
+    })
+}
+
+/// The octets that a script means.
+pub fn octets(text: &str) -> Option<Vec<u8>> {
+    let digits: Option<Vec<u8>> = text.chars().map(|digit| digit.to_digit(16).map(|value| value as u8)).collect();
+    let digits = digits.filter(|digits| digits.len() % 2 == 0)?;
+    Some(digits.chunks(2).map(|pair| pair[0] << 4 | pair[1]).collect())
+}
+
+/// What a run does.
+pub struct Plan {
+    pub link: Link,
+    pub settings: Settings,
+    pub others: bool,
+    /// Packets of a hundred that are lost, and how many of a context may be lost in a row.
+    pub lose: u64,
+    pub burst: usize,
+    pub feedback: Vec<Feedback>,
+}
+
+/// What a run wrote.
+#[derive(Default)]
+pub struct Written {
+    pub script: String,
+    pub expected: String,
+    pub report: Report,
+}
+
+/// The counts of a run.
+#[derive(Debug, Default)]
+pub struct Report {
+    pub packets: u64,
+    pub arrived: u64,
+    pub lost: u64,
+    pub expected: u64,
+    pub acted_on: u64,
+    pub left_out: BTreeMap<&'static str, u64>,
+    /// The packets of each name, the octets before their payloads, and the octets of the original headers.
+    pub formats: BTreeMap<String, (u64, u64)>,
+}
+
+impl Report {
+    fn count(&mut self, sent: &Sent) {
+        let entry = self.formats.entry(sent.name.clone()).or_default();
+        entry.0 += 1;
+        entry.1 += sent.header as u64;
+    }
+
+    /// The octets before a payload in the mean, of the packets of profile 0x0001.
+    pub fn mean_header(&self) -> f64 {
+        let of_rtp = self.formats.iter().filter(|(name, _)| !matches!(&name[..], "ir-uncompressed" | "normal"));
+        let (packets, octets) = of_rtp.fold((0, 0), |sum, (_, entry)| (sum.0 + entry.0, sum.1 + entry.1));
+        octets as f64 / packets.max(1) as f64
+    }
+
+    pub fn text(&self) -> String {
+        let Report { packets, arrived, lost, expected, acted_on, .. } = self;
+        let mut text =
+            format!("packets {packets} arrived {arrived} lost {lost} expected {expected} feedback {acted_on}\n");
+        for (cause, count) in &self.left_out {
+            let _ = writeln!(text, "left out, {cause}: {count}");
+        }
+        for (name, (count, octets)) in &self.formats {
+            let _ = writeln!(text, "{name}: {count}, header octets {:.2}", *octets as f64 / *count as f64);
+        }
+        let _ = writeln!(text, "header octets in the mean: {:.2}", self.mean_header());
+        text
+    }
+}
+
+/// Which packets are lost on the way.
+struct Loss {
+    percent: u64,
+    burst: usize,
+    random: Random,
+    in_row: HashMap<u16, usize>,
+}
+
+impl Loss {
+    fn loses(&mut self, cid: u16) -> bool {
+        let in_row = self.in_row.entry(cid).or_default();
+        let lost = self.random.below(100) < self.percent && *in_row < self.burst;
+        *in_row = if lost { *in_row + 1 } else { 0 };
+        lost
+    }
+}
+
+/// Sends the packets, in this order.
+pub fn run(plan: &Plan, packets: &[Packet]) -> Written {
+    let mut table = Table::new(plan.link, Rc::new(plan.settings.clone()), plan.others);
+    let random = Random::new(plan.settings.seed);
+    let mut loss = Loss { percent: plan.lose, burst: plan.burst, random, in_row: HashMap::new() };
+    let mut written = Written::default();
+    let start = packets.first().map_or(0, |packet| packet.time);
+    for packet in packets {
+        written.report.packets += 1;
+        match table.send(&packet.octets) {
+            Routed::LeftOut(cause) => *written.report.left_out.entry(cause).or_default() += 1,
+            Routed::Sent(cid, sent) => {
+                let moment = packet.time.saturating_sub(start) / 1_000_000;
+                for one in sent {
+                    written.report.count(&one);
+                    if loss.loses(cid) {
+                        written.report.lost += 1;
+                        continue;
+                    }
+                    written.arrive(plan, moment, cid, &one, packet);
+                    listen(plan, &mut table, &mut written.report, cid, &one);
+                }
+            }
+        }
+    }
+    written
+}
+
+/// Acts on what the decompressor said to the last packet that arrived.
+fn listen(plan: &Plan, table: &mut Table, report: &mut Report, cid: u16, sent: &Sent) {
+    let event = report.arrived - 1;
+    for feedback in plan.feedback.iter().filter(|feedback| feedback.event == event && feedback.cid == cid) {
+        report.acted_on += 1;
+        match (feedback.said, table.sender(cid)) {
+            (Said::First, _) => table.sure(cid),
+            (Said::Ack(_), Some(sender)) if sent.name.starts_with("ir") => sender.acknowledged(sent.serial),
+            (Said::Nack, Some(sender)) => sender.asked(false),
+            (Said::StaticNack, Some(sender)) => sender.asked(true),
+            _ => report.acted_on -= 1,
+        }
+    }
+}
+
+impl Written {
+    fn arrive(&mut self, plan: &Plan, moment: u64, cid: u16, sent: &Sent, packet: &Packet) {
+        let link = plan.link.number;
+        self.report.arrived += 1;
+        let _ = writeln!(self.script, "arrive {link} {moment} {}", hex(&sent.octets));
+        if sent.carries {
+            self.report.expected += 1;
+            let _ = writeln!(self.expected, "{link} {cid} {}", hex(&packet.octets));
+        }
+    }
+}

@@ -1,0 +1,281 @@
+//! The command line.
+
+use crate::fault::Fault;
+use crate::flow::Link;
+use crate::generate::KINDS;
+use crate::pcap::Framing;
+use crate::sender::Settings;
+
+pub const HELP: &str = "\
+usage: compressor script [OPTION..] CAPTURE..
+           writes a script for `rohcd replay` on standard output, and counts on standard error
+       compressor check EXPECT ANSWERS
+           compares the packets in rohcd's answers with those that must come out
+       compressor generate KIND FILE [--packets N] [--seed N] [--framing ethernet|vlan|cooked|raw] [--big] [--nano]
+           writes a capture of a kind
+       compressor --help | --version
+
+options of script:
+  --expect FILE        writes the packets that must come out
+  --links FILE         writes a links file
+  --feedback FILE      reads the answers of an earlier run, and acts on their feedback (O mode)
+  --link N             link number (1)
+  --cid small|large    identifiers (small)
+  --max-cid N          greatest identifier (15 or 16383)
+  --mode U|O           mode (O)
+  --w N                references of W-LSB, 1 to 64 (4)
+  --optimistic N       how often a change is sent, 1 to 64 (3)
+  --refresh-ir N       packets from IR to IR, 0 for none (U: 500, O: 0)
+  --refresh-dyn N      packets from IR-DYN to IR-DYN, 0 for none (U: 100, O: 0)
+  --stride N           TS stride before one is learned
+  --others send|leave  what isn't RTP goes by profile 0x0000, or is left out (send)
+  --static-first       begins with IRs with D=0 and IR-DYNs
+  --announce ext3|ir-dyn   how changes are sent (ext3)
+  --passing            sends a change first as one that passes, in a UO-1-ID
+  --pick smallest|any  any packet that means the header, not the smallest alone (smallest)
+  --without NAME,..    packets that aren't sent, by their names in the counts
+  --lose PERCENT       loses packets, 0 to 100 (0)
+  --burst N            how many in a row at most, below --w and --optimistic (the greatest)
+  --seed N             of what is lost and picked (1)";
+
+/// What is to be done.
+pub enum Order {
+    Help,
+    Version,
+    Script(Box<Script>),
+    Check { expected: String, answers: String },
+    Generate { kind: String, file: String, making: Making },
+}
+
+/// The words of `script`.
+pub struct Script {
+    pub captures: Vec<String>,
+    pub expect: Option<String>,
+    pub links: Option<String>,
+    pub feedback: Option<String>,
+    pub link: Link,
+    pub settings: Settings,
+    pub others: bool,
+    pub lose: u64,
+    pub burst: usize,
+}
+
+/// The options of `generate`.
+pub struct Making {
+    pub packets: u64,
+    pub seed: u64,
+    pub framing: Framing,
+    pub big: bool,
+    pub nanoseconds: bool,
+}
+
+/// The options of a command, taken from its words, and the words that are none.
+struct Options {
+    given: Vec<(String, String)>,
+    rest: Vec<String>,
+}
+
+fn words<T>(said: String) -> Result<T, Fault> {
+    Err(Fault::Words(said))
+}
+
+impl Options {
+    fn of(said: &[String], valued: &[&str], flags: &[&str]) -> Result<Options, Fault> {
+        let mut options = Options { given: Vec::new(), rest: Vec::new() };
+        let mut said = said.iter();
+        while let Some(word) = said.next() {
+            if options.given.iter().any(|(name, _)| name == word) {
+                return words(format!("{word} twice"));
+            } else if flags.contains(&&word[..]) {
+                options.given.push((word.clone(), String::new()));
+            } else if valued.contains(&&word[..]) {
+                let Some(value) = said.next() else {
+                    return words(format!("{word} without a value"));
+                };
+                options.given.push((word.clone(), value.clone()));
+            } else if word.starts_with('-') {
+                return words(format!("unknown option {word}"));
+            } else {
+                options.rest.push(word.clone());
+            }
+        }
+        Ok(options)
+    }
+
+    fn text(&self, name: &str) -> Option<String> {
+        self.given.iter().find(|(given, _)| given == name).map(|(_, value)| value.clone())
+    }
+
+    fn flag(&self, name: &str) -> bool {
+        self.text(name).is_some()
+    }
+
+    fn number(&self, name: &str, least: u64, most: u64, absent: u64) -> Result<u64, Fault> {
+        let Some(text) = self.text(name) else {
+            return Ok(absent);
+        };
+        let number = text.bytes().all(|digit| digit.is_ascii_digit()).then(|| text.parse().ok()).flatten();
+        match number {
+            Some(number) if (least..=most).contains(&number) => Ok(number),
+            _ => words(format!("{name} {text} is no number from {least} to {most}")),
+        }
+    }
+
+    /// The place of the value among those that may be; 0 if the option isn't there.
+    fn choice(&self, name: &str, all: &[&str]) -> Result<usize, Fault> {
+        let Some(text) = self.text(name) else {
+            return Ok(0);
+        };
+        match all.iter().position(|one| *one == text) {
+            Some(place) => Ok(place),
+            None => words(format!("{name} {text} is none of {}", all.join(", "))),
+        }
+    }
+}
+
+const VALUED: [&str; 18] = [
+    "--expect",
+    "--links",
+    "--feedback",
+    "--link",
+    "--cid",
+    "--max-cid",
+    "--mode",
+    "--w",
+    "--optimistic",
+    "--refresh-ir",
+    "--refresh-dyn",
+    "--stride",
+    "--others",
+    "--announce",
+    "--pick",
+    "--without",
+    "--lose",
+    "--seed",
+];
+
+fn link(options: &Options) -> Result<Link, Fault> {
+    let large = options.choice("--cid", &["small", "large"])? == 1;
+    let most = if large { 16_383 } else { 15 };
+    let max_cid = options.number("--max-cid", 0, most, most)? as u16;
+    let number = options.number("--link", 0, 65_535, 1)? as u16;
+    Ok(Link { number, large, max_cid, o_mode: options.choice("--mode", &["O", "U"])? == 0 })
+}
+
+fn settings(options: &Options, o_mode: bool) -> Result<Settings, Fault> {
+    let (ir, dynamic) = if o_mode { (0, 0) } else { (500, 100) };
+    let stride = options.number("--stride", 1, (1 << 29) - 1, 0)? as u32;
+    let without = options.text("--without").unwrap_or_default();
+    Ok(Settings {
+        window: options.number("--w", 1, 64, 4)? as usize,
+        repeats: options.number("--optimistic", 1, 64, 3)? as usize,
+        refresh_ir: options.number("--refresh-ir", 0, u64::MAX, ir)?,
+        refresh_dyn: options.number("--refresh-dyn", 0, u64::MAX, dynamic)?,
+        mode: if o_mode { 2 } else { 1 },
+        stride: (stride > 0).then_some(stride),
+        static_first: options.flag("--static-first"),
+        announce_by_ir_dyn: options.choice("--announce", &["ext3", "ir-dyn"])? == 1,
+        passing: options.flag("--passing"),
+        any: options.choice("--pick", &["smallest", "any"])? == 1,
+        without: without.split(',').map(str::to_string).collect(),
+        seed: options.number("--seed", 0, u64::MAX, 1)?,
+    })
+}
+
+fn script(said: &[String]) -> Result<Order, Fault> {
+    let valued = [&VALUED[..], &["--burst"]].concat();
+    let options = Options::of(said, &valued, &["--static-first", "--passing"])?;
+    let link = link(&options)?;
+    let settings = settings(&options, link.o_mode)?;
+    if options.rest.is_empty() {
+        return words("no capture".to_string());
+    }
+    // One of the states that the sender reckons with must have arrived.
+    let most = settings.window.min(settings.repeats) as u64 - 1;
+    Ok(Order::Script(Box::new(Script {
+        expect: options.text("--expect"),
+        links: options.text("--links"),
+        feedback: options.text("--feedback"),
+        others: options.choice("--others", &["send", "leave"])? == 0,
+        lose: options.number("--lose", 0, 100, 0)?,
+        burst: options.number("--burst", 0, most, most)? as usize,
+        captures: options.rest,
+        link,
+        settings,
+    })))
+}
+
+fn generate(said: &[String]) -> Result<Order, Fault> {
+    let options = Options::of(said, &["--packets", "--seed", "--framing"], &["--big", "--nano"])?;
+    let [kind, file] = &options.rest[..] else {
+        return words("generate wants a kind and a file".to_string());
+    };
+    if !KINDS.contains(&&kind[..]) {
+        return words(format!("{kind} is none of {}", KINDS.join(", ")));
+    }
+    let all = [Framing::Ethernet, Framing::Vlan, Framing::Cooked, Framing::Raw];
+    let making = Making {
+        packets: options.number("--packets", 0, 1_000_000, 1000)?,
+        seed: options.number("--seed", 0, u64::MAX, 1)?,
+        framing: all[options.choice("--framing", &["ethernet", "vlan", "cooked", "raw"])?],
+        big: options.flag("--big"),
+        nanoseconds: options.flag("--nano"),
+    };
+    Ok(Order::Generate { kind: kind.clone(), file: file.clone(), making })
+}
+
+/// What the words after the program's name order.
+pub fn order(said: &[String]) -> Result<Order, Fault> {
+    let Some((first, rest)) = said.split_first() else {
+        return words("no command; see --help".to_string());
+    };
+    match (&first[..], rest) {
+        ("--help", []) => Ok(Order::Help),
+        ("--version", []) => Ok(Order::Version),
+        ("script", _) => script(rest),
+        ("generate", _) => generate(rest),
+        ("check", [expected, answers]) => Ok(Order::Check { expected: expected.clone(), answers: answers.clone() }),
+        ("check", _) => words("check wants two files".to_string()),
+        _ => words(format!("unknown command {first}; see --help")),
+    }
+}
+
+#[cfg(test)]
+mod tests {
+    use super::*;
+
+    fn fault(text: &str) -> String {
+        let said: Vec<String> = text.split(' ').filter(|word| !word.is_empty()).map(str::to_string).collect();
+        order(&said).err().map_or("none".to_string(), |fault| fault.to_string())
+    }
+
+    #[test]
+    fn good_words() {
+        for text in ["--help", "--version", "script a b --w 8 --cid large", "check a b", "generate g711 a --big"] {
+            assert_eq!(fault(text), "none", "{text}");
+        }
+    }
+
+    #[test]
+    fn bad_words() {
+        let all = [
+            ("", "no command; see --help"),
+            ("go", "unknown command go; see --help"),
+            ("script", "no capture"),
+            ("script --w", "--w without a value"),
+            ("script --w 0 a", "--w 0 is no number from 1 to 64"),
+            ("script --w +5 a", "--w +5 is no number from 1 to 64"),
+            ("script --w 5 --w 5 a", "--w twice"),
+            ("script --burst 3 a", "--burst 3 is no number from 0 to 2"),
+            ("script --max-cid 16 a", "--max-cid 16 is no number from 0 to 15"),
+            ("script --mode R a", "--mode R is none of O, U"),
+            ("script --fast a", "unknown option --fast"),
+            ("check a", "check wants two files"),
+            ("generate g711", "generate wants a kind and a file"),
+        ];
+        for (text, said) in all {
+            assert_eq!(fault(text), format!("command line: {said}"));
+        }
+        assert!(fault("generate tune a").starts_with("command line: tune is none of g711, opus"));
+    }
+}
