@@ -18,7 +18,8 @@ pub struct Link {
 }
 
 impl Link {
-    fn cid(&self, number: u16) -> Cid {
+    /// The identifier with this number.
+    pub fn cid(&self, number: u16) -> Cid {
         if self.large {
             Cid::Large(number)
         } else {

@@ -51,11 +51,11 @@ fn call(number: u16, seed: u64) -> Call {
         x: false,
         m: false,
         pt: 0,
-        sn: random.next() as u16,
-        ts: random.next() as u32,
-        ssrc: random.next() as u32,
+        sn: random.draw() as u16,
+        ts: random.draw() as u32,
+        ssrc: random.draw() as u32,
     };
-    let identification = random.next() as u16;
+    let identification = random.draw() as u16;
     Call {
         header,
         stride: 160,
@@ -92,13 +92,13 @@ impl Call {
     fn vary(&mut self, kind: &str, at: u64, count: u64) {
         let header = &mut self.header;
         match kind {
-            "random-id" => header.identification = self.random.next() as u16,
+            "random-id" => header.identification = self.random.draw() as u16,
             "swapped-id" => header.identification = self.identification.swap_bytes(),
             "zero-id" => (header.identification, header.df) = (0, true),
-            "checksum" => header.checksum = self.random.next() as u16 | 1,
+            "checksum" => header.checksum = self.random.draw() as u16 | 1,
             "checksum-off" => {
                 let carried = (at * 4 / count).is_multiple_of(2);
-                header.checksum = if carried { self.random.next() as u16 | 1 } else { 0 };
+                header.checksum = if carried { self.random.draw() as u16 | 1 } else { 0 };
             }
             "tos" => {
                 header.tos = if at < count / 2 || at == count / 4 * 3 { 0 } else { 0x88 };

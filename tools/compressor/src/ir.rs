@@ -29,6 +29,12 @@ impl Cid {
         }
     }
 
+    /// The octets that an identifier adds to a packet.
+    pub fn added(self) -> usize {
+        let (before, after) = self.octets();
+        before.len() + after.len()
+    }
+
     /// The octets of a packet with its identifier.
     pub fn frame(self, octets: &[u8]) -> Vec<u8> {
         let (before, after) = self.octets();
@@ -79,7 +85,7 @@ fn dynamic_chain(reference: &Reference, kind: Kind, mode: u8) -> Vec<u8> {
 /// A packet from its octets with the check octet as 00, which stands at this place before the identifier is added.
 fn checked(cid: Cid, octets: &[u8], covered: usize) -> Vec<u8> {
     let mut packet = cid.frame(octets);
-    let added = packet.len() - octets.len();
+    let added = cid.added();
     let check = crc8(&packet[..covered + added]);
     packet[2 + added] = check;
     packet

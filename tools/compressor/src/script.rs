@@ -33,6 +33,8 @@ pub struct Plan {
     /// Packets of a hundred that are lost, and how many of a context may be lost in a row.
     pub lose: u64,
     pub burst: usize,
+    /// Packets of a hundred whose check is damaged, among those with a check of 7 or 8 bits.
+    pub damage: u64,
     pub feedback: Vec<Feedback>,
 }
 
@@ -50,6 +52,7 @@ pub struct Report {
     pub packets: u64,
     pub arrived: u64,
     pub lost: u64,
+    pub damaged: u64,
     pub expected: u64,
     pub acted_on: u64,
     pub left_out: BTreeMap<&'static str, u64>,
@@ -72,9 +75,9 @@ impl Report {
     }
 
     pub fn text(&self) -> String {
-        let Report { packets, arrived, lost, expected, acted_on, .. } = self;
-        let mut text =
-            format!("packets {packets} arrived {arrived} lost {lost} expected {expected} feedback {acted_on}\n");
+        let Report { packets, arrived, lost, damaged, expected, acted_on, .. } = self;
+        let mut text = format!("packets {packets} arrived {arrived} lost {lost} damaged {damaged} ");
+        let _ = writeln!(text, "expected {expected} feedback {acted_on}");
         for (cause, count) in &self.left_out {
             let _ = writeln!(text, "left out, {cause}: {count}");
         }
@@ -86,20 +89,35 @@ impl Report {
     }
 }
 
-/// Which packets are lost on the way.
-struct Loss {
-    percent: u64,
+/// What happens to packets on the way. So many of a context in a row are lost or damaged at most.
+struct Way {
+    lose: u64,
+    damage: u64,
     burst: usize,
     random: Random,
     in_row: HashMap<u16, usize>,
 }
 
-impl Loss {
-    fn loses(&mut self, cid: u16) -> bool {
+#[derive(Clone, Copy, PartialEq, Eq)]
+enum Fate {
+    Whole,
+    Lost,
+    Damaged,
+}
+
+impl Way {
+    fn fate(&mut self, cid: u16, sent: &Sent) -> Fate {
         let in_row = self.in_row.entry(cid).or_default();
-        let lost = self.random.below(100) < self.percent && *in_row < self.burst;
-        *in_row = if lost { *in_row + 1 } else { 0 };
-        lost
+        let (lost, damaged) = (self.random.below(100) < self.lose, self.random.below(100) < self.damage);
+        // A longer check with a wrong bit is never right, whatever is tried.
+        let long_check = sent.name.starts_with("uor-2") || matches!(&sent.name[..], "ir" | "ir-static" | "ir-dyn");
+        let fate = match (*in_row < self.burst, lost, damaged && long_check) {
+            (true, true, _) => Fate::Lost,
+            (true, false, true) => Fate::Damaged,
+            _ => Fate::Whole,
+        };
+        *in_row = if fate == Fate::Whole { 0 } else { *in_row + 1 };
+        fate
     }
 }
 
@@ -107,7 +125,8 @@ impl Loss {
 pub fn run(plan: &Plan, packets: &[Packet]) -> Written {
     let mut table = Table::new(plan.link, Rc::new(plan.settings.clone()), plan.others);
     let random = Random::new(plan.settings.seed);
-    let mut loss = Loss { percent: plan.lose, burst: plan.burst, random, in_row: HashMap::new() };
+    let Plan { lose, damage, burst, .. } = *plan;
+    let mut way = Way { lose, damage, burst, random, in_row: HashMap::new() };
     let mut written = Written::default();
     let start = packets.first().map_or(0, |packet| packet.time);
     for packet in packets {
@@ -118,12 +137,10 @@ pub fn run(plan: &Plan, packets: &[Packet]) -> Written {
                 let moment = packet.time.saturating_sub(start) / 1_000_000;
                 for one in sent {
                     written.report.count(&one);
-                    if loss.loses(cid) {
-                        written.report.lost += 1;
-                        continue;
+                    let fate = way.fate(cid, &one);
+                    if written.arrive(plan, moment, cid, &one, fate, packet) {
+                        listen(plan, &mut table, &mut written.report, cid, &one);
                     }
-                    written.arrive(plan, moment, cid, &one, packet);
-                    listen(plan, &mut table, &mut written.report, cid, &one);
                 }
             }
         }
@@ -147,13 +164,27 @@ fn listen(plan: &Plan, table: &mut Table, report: &mut Report, cid: u16, sent: &
 }
 
 impl Written {
-    fn arrive(&mut self, plan: &Plan, moment: u64, cid: u16, sent: &Sent, packet: &Packet) {
+    /// Writes an arrival, unless the packet is lost.
+    fn arrive(&mut self, plan: &Plan, moment: u64, cid: u16, sent: &Sent, fate: Fate, packet: &Packet) -> bool {
         let link = plan.link.number;
-        self.report.arrived += 1;
-        let _ = writeln!(self.script, "arrive {link} {moment} {}", hex(&sent.octets));
-        if sent.carries {
-            self.report.expected += 1;
-            let _ = writeln!(self.expected, "{link} {cid} {}", hex(&packet.octets));
+        let mut octets = sent.octets.clone();
+        match fate {
+            Fate::Lost => {
+                self.report.lost += 1;
+                return false;
+            }
+            Fate::Damaged => {
+                self.report.damaged += 1;
+                octets[plan.link.cid(cid).added() + 2] ^= 1;
+            }
+            Fate::Whole if sent.carries => {
+                self.report.expected += 1;
+                let _ = writeln!(self.expected, "{link} {cid} {}", hex(&packet.octets));
+            }
+            Fate::Whole => {}
         }
+        self.report.arrived += 1;
+        let _ = writeln!(self.script, "arrive {link} {moment} {}", hex(&octets));
+        true
     }
 }

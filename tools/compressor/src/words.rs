@@ -35,6 +35,7 @@ options of script:
   --pick smallest|any  any packet that means the header, not the smallest alone (smallest)
   --without NAME,..    packets that aren't sent, by their names in the counts
   --lose PERCENT       loses packets, 0 to 100 (0)
+  --damage PERCENT     damages packets with a check of 7 or 8 bits, 0 to 100 (0)
   --burst N            how many in a row at most, below --w and --optimistic (the greatest)
   --seed N             of what is lost and picked (1)";
 
@@ -58,6 +59,7 @@ pub struct Script {
     pub others: bool,
     pub lose: u64,
     pub burst: usize,
+    pub damage: u64,
 }
 
 /// The options of `generate`.
@@ -183,7 +185,7 @@ fn settings(options: &Options, o_mode: bool) -> Result<Settings, Fault> {
 }
 
 fn script(said: &[String]) -> Result<Order, Fault> {
-    let valued = [&VALUED[..], &["--burst"]].concat();
+    let valued = [&VALUED[..], &["--burst", "--damage"]].concat();
     let options = Options::of(said, &valued, &["--static-first", "--passing"])?;
     let link = link(&options)?;
     let settings = settings(&options, link.o_mode)?;
@@ -198,6 +200,7 @@ fn script(said: &[String]) -> Result<Order, Fault> {
         feedback: options.text("--feedback"),
         others: options.choice("--others", &["send", "leave"])? == 0,
         lose: options.number("--lose", 0, 100, 0)?,
+        damage: options.number("--damage", 0, 100, 0)?,
         burst: options.number("--burst", 0, most, most)? as usize,
         captures: options.rest,
         link,
