@@ -1,0 +1,161 @@
+#!/usr/bin/env bash
+# Sends calls of many kinds from tools/compressor, a sender written apart from the crates, through a built program, and
+# compares what comes out with what went in, octet for octet: with both sizes of CIDs, without loss and with as much in
+# a row as the sender reckons with, with the smallest packet that means a header and with any; in U mode with
+# refreshes; and in O mode with damaged packets, until the sender has heard all feedback.
+#
+# usage: tests/compressor.sh ROHCD
+set -u
+. "$(dirname "$(realpath "$0")")/../bin/usage.sh"
+[ "$#" -eq 1 ] && [ -x "$1" ] && [ -f "$1" ] || usage
+rohcd=$(realpath "$1")
+cd "$(dirname "$(realpath "$0")")/.." || exit 2
+source=$PWD/tools/compressor
+scratch=$(mktemp -d)
+trap 'rm -rf "$scratch"' EXIT
+exec </dev/null
+failed=0
+runs=0
+came=0
+
+wrong() {
+    echo "compressor: $1"
+    failed=1
+}
+
+build() {
+    if command -v cargo >/dev/null; then
+        RUSTFLAGS='-D warnings' cargo build --quiet --release --locked --offline --target-dir "$scratch/target" \
+            --manifest-path "$source/Cargo.toml" && compressor=$scratch/target/release/compressor
+    elif command -v rustc >/dev/null; then
+        local common=(--edition 2021 -O -D warnings --out-dir "$scratch")
+        rustc "${common[@]}" --crate-type rlib --crate-name compressor "$source/src/lib.rs" &&
+            CARGO_PKG_VERSION=0 rustc "${common[@]}" --extern "compressor=$scratch/libcompressor.rlib" \
+                --crate-name compress "$source/src/main.rs" && compressor=$scratch/compress
+    else
+        echo "left out: cargo isn't installed, so no packets of the test compressor were tried"
+        exit 0
+    fi
+}
+
+# Writes a script and what must come out, and answers the script: send OPTION..
+send() {
+    "$compressor" script capture --expect expected --links links.toml "$@" >script 2>counts || return 1
+    timeout 120 "$rohcd" replay --links links.toml <script >answers 2>error
+}
+
+# All that must come out came, and nothing else: compare KIND OPTION..
+compare() {
+    local said
+    runs=$((runs + 1))
+    if ! said=$("$compressor" check expected answers); then
+        wrong "$*: ${said:0:400}"
+        return
+    fi
+    said=${said#expected }
+    came=$((came + ${said%% *}))
+}
+
+# One run: try KIND OPTION..
+try() {
+    if send "${@:2}"; then compare "$@"; else wrong "$*: $(head -c 400 counts error)"; fi
+}
+
+# Sends again with the feedback of the run before, until nothing changes: hear KIND OPTION..
+hear() {
+    local before=0
+    : >answers
+    for _ in {1..60}; do
+        cp answers heard
+        if ! send "${@:2}" --feedback heard; then
+            wrong "$*: $(head -c 400 counts error)"
+            return
+        fi
+        if [ "$before" -eq 1 ] && cmp -s script script.before; then
+            compare "$@"
+            return
+        fi
+        cp script script.before
+        before=1
+    done
+    wrong "$*: the feedback still changes"
+}
+
+# The comparison must see each of these: a packet that doesn't come, a wrong octet, and one packet more.
+see_differences() {
+    send || wrong "$(head -c 400 counts error)"
+    cp answers good
+    local edit
+    for edit in '7d' '7s/0$/1/;7t;7s/.$/0/' '7p'; do
+        sed "$edit" good >answers
+        "$compressor" check expected answers >said
+        [ "$?" -eq 1 ] || wrong "answers with $edit are taken for right"
+    done
+    # A bit of a check, in the script.
+    sed '9s/^\(arrive [0-9]* [0-9]* .\)./\1f/' script >bent
+    cmp -s script bent && wrong 'no script was bent'
+    "$rohcd" replay --links links.toml <bent >answers
+    "$compressor" check expected answers >said
+    [ "$?" -eq 1 ] || wrong 'a bent packet is taken for right'
+}
+
+# A command of the compressor ends so: ends STATUS TEXT WORD..
+ends() {
+    local wanted=$1 text=$2 status
+    shift 2
+    "$compressor" "$@" >output 2>said
+    status=$?
+    if [ "$status" -ne "$wanted" ] || [ "$(cat said)" != "$text" ]; then
+        wrong "$*: status $status, $(cat said); wanted $wanted, $text"
+    fi
+}
+
+compressor=
+build || {
+    wrong "it isn't built"
+    exit 1
+}
+cd "$scratch" || exit 2
+
+seed=0
+for kind in g711 opus random-id swapped-id zero-id checksum checksum-off tos flags stride two many wrap video late \
+    jumps mixed no-rtp; do
+    seed=$((seed + 1))
+    framing=$((seed % 4))
+    framings=(ethernet vlan cooked raw)
+    forms=(--big --nano)
+    "$compressor" generate "$kind" capture --packets 300 --seed "$seed" --framing "${framings[$framing]}" \
+        "${forms[$((seed % 2))]}" || wrong "$kind isn't made"
+    for cid in small large; do
+        for lose in 0 40; do
+            for pick in smallest any; do
+                # Up to three in a row are lost.
+                try "$kind" --cid "$cid" --lose "$lose" --w 4 --optimistic 4 --pick "$pick" --seed "$seed"
+            done
+        done
+        try "$kind" --cid "$cid" --mode U --refresh-ir 50 --refresh-dyn 11 --passing --lose 20 --burst 2
+        try "$kind" --cid "$cid" --w 12 --optimistic 3 --announce ir-dyn --static-first --max-cid 3
+    done
+done
+for kind in g711 two swapped-id zero-id stride jumps; do
+    "$compressor" generate "$kind" capture --packets 150 || wrong "$kind isn't made"
+    for cid in small large; do
+        hear "$kind" --cid "$cid" --damage 40 --lose 10 --w 6 --optimistic 6 \
+            --without uo-0,uo-1,uo-1-id,uo-1-ts
+        hear "$kind" --cid "$cid" --damage 40 --lose 10 --w 6 --optimistic 6 --static-first
+    done
+done
+
+"$compressor" generate g711 capture --packets 100
+see_differences
+head -c 100 capture >short
+ends 4 'compressor: short: octet 24: CutRecord' script short
+ends 4 'compressor: missing: whole file: Unreadable' script missing
+ends 4 'compressor: script: octet 0: NotPcap' script script
+ends 4 'compressor: script: line 1: BadLine' check script answers
+ends 4 'compressor: missing/file: NotWritten' generate g711 missing/file
+ends 2 'compressor: command line: no command; see --help'
+ends 0 '' --help
+
+[ "$failed" -eq 0 ] || exit 1
+echo "compressor: $runs runs, $came packets came out as they went in"
