@@ -119,7 +119,7 @@ cd "$scratch" || exit 2
 
 seed=0
 for kind in g711 opus random-id swapped-id zero-id checksum checksum-off tos flags stride two many wrap video late \
-    jumps mixed no-rtp; do
+    jumps mixed no-rtp crowd sizes; do
     seed=$((seed + 1))
     framing=$((seed % 4))
     framings=(ethernet vlan cooked raw)

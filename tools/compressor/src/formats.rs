@@ -266,7 +266,7 @@ impl Three {
 
     fn rtp_octets(&self, to: &Reference) -> Vec<u8> {
         let header = &to.header;
-        // The first mode bit alone: Mode 2 where there is feedback, which has no effect.
+        // Mode 2, in U mode too: the Mode of an extension has no effect.
         let mut octets = vec![flags([true, false, self.pt, header.m, header.x, false, self.tss, false])];
         octets.extend(self.pt.then_some(u8::from(header.p) << 7 | header.pt));
         if self.tss {
@@ -331,28 +331,39 @@ pub fn shapes(to: &Reference, changes: &Changes, tried: Tried) -> Vec<Shape> {
     shapes.filter(|shape| shape.format.stands(to.rnd)).collect()
 }
 
+/// Each extension with each of the values.
+fn each<T: Copy>(all: Vec<Three>, values: &[T], set: fn(&mut Three, T)) -> Vec<Three> {
+    let with = |three: &Three| {
+        let three = *three;
+        values.iter().map(move |value| {
+            let mut three = three;
+            set(&mut three, *value);
+            three
+        })
+    };
+    all.iter().flat_map(with).collect()
+}
+
+/// The values of a flag that must be set, may be, or neither.
+fn flag_values(must: bool, may: bool) -> &'static [bool] {
+    match (must, may) {
+        (true, _) => &[true],
+        (_, true) => &[false, true],
+        _ => &[false],
+    }
+}
+
 /// The extensions 3 that give all changes.
 fn threes(to: &Reference, changes: &Changes, idle_octets: bool) -> Vec<Three> {
-    let both = |asked: bool, possible: bool| -> Vec<bool> {
-        [false, true].into_iter().filter(|flag| (*flag || !asked) && (!*flag || asked || possible)).collect()
-    };
-    let mut all = Vec::new();
-    for s in [false, true] {
-        for ts in [0, 7, 14, 21, 29] {
-            for tsc in both(false, to.stride.is_some()) {
-                for i in both(false, !to.rnd) {
-                    for ip in both(changes.ip, idle_octets) {
-                        // The rtp octet of a marker is no change.
-                        for rtp in both(changes.rtp, idle_octets || to.header.m) {
-                            let Changes { tos, ttl, pt, tss, .. } = *changes;
-                            all.push(Three { s, ts, tsc, i, ip, tos, ttl, rtp, pt, tss });
-                        }
-                    }
-                }
-            }
-        }
-    }
-    all
+    let Changes { ip, tos, ttl, rtp, pt, tss } = *changes;
+    let all = vec![Three { s: false, ts: 0, tsc: false, i: false, ip, tos, ttl, rtp, pt, tss }];
+    let all = each(all, &[false, true], |three, s| three.s = s);
+    let all = each(all, &[0, 7, 14, 21, 29], |three, ts| three.ts = ts);
+    let all = each(all, flag_values(false, to.stride.is_some()), |three, tsc| three.tsc = tsc);
+    let all = each(all, flag_values(false, !to.rnd), |three, i| three.i = i);
+    let all = each(all, flag_values(ip, idle_octets), |three, ip| three.ip = ip);
+    // The rtp octet of a marker is no change.
+    each(all, flag_values(rtp, idle_octets || to.header.m), |three, rtp| three.rtp = rtp)
 }
 
 #[cfg(test)]

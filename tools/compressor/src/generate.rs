@@ -5,7 +5,7 @@ use crate::pcap::Packet;
 use crate::random::Random;
 
 /// All kinds, in the order of the help.
-pub const KINDS: [&str; 18] = [
+pub const KINDS: [&str; 20] = [
     "g711",
     "opus",
     "random-id",
@@ -24,6 +24,8 @@ pub const KINDS: [&str; 18] = [
     "jumps",
     "mixed",
     "no-rtp",
+    "crowd",
+    "sizes",
 ];
 
 /// A call that goes on.
@@ -156,8 +158,12 @@ fn voice(kind: &str, mut call: Call, count: u64) -> Vec<Packet> {
             call.silence(if at == 0 { 0 } else { strides });
         }
         call.vary(kind, at, count);
-        let length = if kind == "opus" { 20 + call.random.below(80) as usize } else { 160 };
-        packets.push(call.packet(length));
+        let length = match kind {
+            "opus" => 20 + call.random.below(80),
+            "sizes" => [0, 1, 0, 1400, call.random.below(65_440)][(at % 5) as usize],
+            _ => 160,
+        };
+        packets.push(call.packet(length as usize));
     }
     packets
 }
@@ -225,6 +231,7 @@ pub fn packets(kind: &str, count: u64, seed: u64) -> Option<Vec<Packet>> {
     let mut packets = match kind {
         "two" => calls(2),
         "many" => calls(12),
+        "crowd" => calls(200),
         "video" => video(call(0, seed), count),
         "late" => late(voice(kind, call(0, seed), count), seed),
         "mixed" => [voice("g711", call(0, seed), count / 2), no_rtp(count / 2, seed)].concat(),
