@@ -99,6 +99,23 @@ see_differences() {
     [ "$?" -eq 1 ] || wrong 'a bent packet is taken for right'
 }
 
+# The source is formatted and has no warnings, and its own tests pass.
+check_source() {
+    command -v cargo >/dev/null || return
+    local call=(--quiet --locked --offline --manifest-path "$source/Cargo.toml" --target-dir "$scratch/target")
+    if command -v rustfmt >/dev/null; then
+        cargo fmt --check --manifest-path "$source/Cargo.toml" >said 2>&1 || wrong "cargo fmt: $(head -c 400 said)"
+    else
+        echo "left out: rustfmt isn't installed, the test compressor's layout was not checked"
+    fi
+    if command -v cargo-clippy >/dev/null; then
+        cargo clippy "${call[@]}" --all-targets -- -D warnings >said 2>&1 || wrong "cargo clippy: $(head -c 800 said)"
+    else
+        echo "left out: clippy isn't installed, it was not asked about the test compressor"
+    fi
+    cargo test "${call[@]}" >said 2>&1 || wrong "cargo test: $(tail -c 800 said)"
+}
+
 # A command of the compressor ends so: ends STATUS TEXT WORD..
 ends() {
     local wanted=$1 text=$2 status
@@ -116,15 +133,22 @@ build || {
     exit 1
 }
 cd "$scratch" || exit 2
+check_source
 
 seed=0
+packets=300
 for kind in g711 opus random-id swapped-id zero-id checksum checksum-off tos flags stride two many wrap video late \
     jumps mixed no-rtp crowd sizes; do
     seed=$((seed + 1))
+    # Some packets for each of 200 calls, and few of the longest.
+    case $kind in
+    crowd) packets=1200 ;;
+    sizes) packets=100 ;;
+    esac
     framing=$((seed % 4))
     framings=(ethernet vlan cooked raw)
     forms=(--big --nano)
-    "$compressor" generate "$kind" capture --packets 300 --seed "$seed" --framing "${framings[$framing]}" \
+    "$compressor" generate "$kind" capture --packets "$packets" --seed "$seed" --framing "${framings[$framing]}" \
         "${forms[$((seed % 2))]}" || wrong "$kind isn't made"
     for cid in small large; do
         for lose in 0 40; do
