@@ -21,7 +21,7 @@ impl Link {
     /// The identifier with this number.
     pub fn cid(&self, number: u16) -> Cid {
         if self.large {
-            Cid::Large(number)
+            Cid::Large(number, false)
         } else {
             Cid::Small(number as u8)
         }
@@ -198,7 +198,7 @@ impl Table {
         let octets = if ir { [&uncompressed(cid), packet].concat() } else { cid.frame(packet) };
         let name = if ir { "ir-uncompressed" } else { "normal" }.to_string();
         let header = octets.len() - packet.len();
-        Routed::Sent(number, vec![Sent { serial: *serial, octets, name, header, carries: true }])
+        Routed::Sent(number, vec![Sent { serial: *serial, octets, name, header, check: 0, carries: true }])
     }
 
     /// The sender of an identifier, if it is one of profile 0x0001.

@@ -1,7 +1,7 @@
 //! The packets of kind Other: which there are, which of them mean a header, and their octets (RFC 3095 5.7.1 to 5.7.5).
 
 use crate::crc::{crc3, crc7};
-use crate::lsb::{mask, offset_bits, shortest, sn_steps, spelled, ts_by_steps, ts_scaled, ts_unscaled};
+use crate::lsb::{longer, mask, offset_bits, sn_steps, spelled, ts_by_steps, ts_scaled, ts_unscaled};
 use crate::reference::Reference;
 
 #[derive(Clone, Copy, Debug, PartialEq, Eq)]
@@ -18,7 +18,7 @@ pub enum Format {
 use Format::{Uo0, Uo1, Uo1Id, Uo1Ts, Uor2, Uor2Id, Uor2Ts};
 
 /// The flags of an extension 3 that aren't values, and the value bits of its timestamp, 0 for none.
-#[derive(Clone, Copy, Debug, PartialEq, Eq)]
+#[derive(Clone, Copy, Debug, Default, PartialEq, Eq)]
 pub struct Three {
     pub s: bool,
     pub ts: u8,
@@ -30,6 +30,11 @@ pub struct Three {
     pub rtp: bool,
     pub pt: bool,
     pub tss: bool,
+    /// What has no effect: the protocol, the Mode, a TIME_STRIDE, a longer spelling of the stride.
+    pub pr: bool,
+    pub mode: u8,
+    pub tis: bool,
+    pub wide: bool,
 }
 
 /// An extension 0, 1 or 2 by its number, or an extension 3.
@@ -245,7 +250,7 @@ impl Three {
         let header = &to.header;
         let mut octets = vec![flags([true, true, self.s, self.ts > 0, self.tsc, self.i, self.ip, self.rtp])];
         if self.ip {
-            octets.push(flags([self.tos, self.ttl, header.df, false, false, to.nbo, to.rnd, false]));
+            octets.push(flags([self.tos, self.ttl, header.df, self.pr, false, to.nbo, to.rnd, false]));
         }
         if self.s {
             octets.push(values.sn as u8);
@@ -255,6 +260,7 @@ impl Three {
         }
         octets.extend(self.tos.then_some(header.tos));
         octets.extend(self.ttl.then_some(header.ttl));
+        octets.extend(self.pr.then_some(17));
         if self.i {
             octets.extend((values.id as u16).to_be_bytes());
         }
@@ -266,13 +272,30 @@ impl Three {
 
     fn rtp_octets(&self, to: &Reference) -> Vec<u8> {
         let header = &to.header;
-        // Mode 2, in U mode too: the Mode of an extension has no effect.
-        let mut octets = vec![flags([true, false, self.pt, header.m, header.x, false, self.tss, false])];
+        let rtp = flags([false, false, self.pt, header.m, header.x, false, self.tss, self.tis]);
+        let mut octets = vec![self.mode << 6 | rtp];
         octets.extend(self.pt.then_some(u8::from(header.p) << 7 | header.pt));
         if self.tss {
-            octets.extend(to.stride.map(shortest).unwrap_or_default());
+            octets.extend(to.stride.map(|stride| longer(stride, self.wide)).unwrap_or_default());
         }
+        octets.extend(self.tis.then_some(100));
         octets
+    }
+
+    /// The same extension with more that has no effect, or says what all references have, as these bits ask.
+    pub fn with_more(self, to: &Reference, bits: u64) -> Three {
+        let bit = |place: u8| bits >> place & 1 == 1;
+        Three {
+            tos: self.tos || (self.ip && bit(0)),
+            ttl: self.ttl || (self.ip && bit(1)),
+            pr: self.ip && bit(2),
+            pt: self.pt || (self.rtp && bit(3)),
+            tss: self.tss || (self.rtp && bit(4) && to.stride.is_some()),
+            tis: self.rtp && bit(5),
+            wide: bit(6),
+            mode: (bits >> 7 & 0xff) as u8 % 3,
+            ..self
+        }
     }
 }
 
@@ -356,7 +379,8 @@ fn flag_values(must: bool, may: bool) -> &'static [bool] {
 /// The extensions 3 that give all changes.
 fn threes(to: &Reference, changes: &Changes, idle_octets: bool) -> Vec<Three> {
     let Changes { ip, tos, ttl, rtp, pt, tss } = *changes;
-    let all = vec![Three { s: false, ts: 0, tsc: false, i: false, ip, tos, ttl, rtp, pt, tss }];
+    let base = Three { ip, tos, ttl, rtp, pt, tss, mode: 2, ..Three::default() };
+    let all = vec![base];
     let all = each(all, &[false, true], |three, s| three.s = s);
     let all = each(all, &[0, 7, 14, 21, 29], |three, ts| three.ts = ts);
     let all = each(all, flag_values(false, to.stride.is_some()), |three, tsc| three.tsc = tsc);

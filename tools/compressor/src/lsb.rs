@@ -74,6 +74,14 @@ pub fn shortest(value: u32) -> Vec<u8> {
     spelled(value, bits.unwrap_or(29))
 }
 
+/// A self-describing value in the shortest spelling, or in the next longer one that there is.
+pub fn longer(value: u32, wide: bool) -> Vec<u8> {
+    match (wide, shortest(value).len()) {
+        (false, _) => shortest(value),
+        (true, octets) => spelled(value, [14, 21, 29, 29][octets - 1]),
+    }
+}
+
 #[cfg(test)]
 mod tests {
     use super::*;
@@ -93,6 +101,9 @@ mod tests {
             assert_eq!(shortest(value), octets);
         }
         assert_eq!(spelled(5, 14), [0x80, 0x05]);
+        assert_eq!(longer(5, true), [0x80, 0x05]);
+        assert_eq!(longer(128, true), [0xc0, 0x00, 0x80]);
+        assert_eq!(longer(5, false), [0x05]);
     }
 
     /// Four bits, reference 100: p is 1, so the interval is 99 to 114.

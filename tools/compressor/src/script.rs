@@ -175,7 +175,7 @@ impl Written {
             }
             Fate::Damaged => {
                 self.report.damaged += 1;
-                octets[plan.link.cid(cid).added() + 2] ^= 1;
+                octets[sent.check] ^= 1;
             }
             Fate::Whole if sent.carries => {
                 self.report.expected += 1;

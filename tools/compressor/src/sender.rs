@@ -5,7 +5,7 @@ use std::rc::Rc;
 
 use crate::formats::{shapes, Changes, Extension, Format, Shape, Tried, Values};
 use crate::header::Header;
-use crate::ir::{refresh, Cid, Kind};
+use crate::ir::{refresh, Cid, Kind, Style};
 use crate::learn::{Behaviour, Learner};
 use crate::random::Random;
 use crate::reference::{Held, Reference};
@@ -41,6 +41,8 @@ pub struct Sent {
     pub name: String,
     /// The octets before the payload.
     pub header: usize,
+    /// The place of its check, if it has one of 7 or 8 bits.
+    pub check: usize,
     /// It carries the packet that was to be sent.
     pub carries: bool,
 }
@@ -84,6 +86,9 @@ impl Sender {
         self.learner.see(header);
         let to = self.target(header);
         let mut sent = Vec::new();
+        if self.settings.any {
+            sent.extend(self.loosened(&to));
+        }
         if self.settings.static_first && self.recent().any(|held| held == Held::Nothing) {
             for _ in 0..self.settings.repeats {
                 sent.push(self.refreshed(Kind::IrStatic, &to, &[]));
@@ -189,17 +194,60 @@ impl Sender {
         if !self.settings.any {
             return fitting.min_by_key(|(shape, values)| shape.write(to, *values, 0).len());
         }
-        let mut fitting: Vec<_> = fitting.collect();
+        let fitting: Vec<_> = fitting.collect();
         // Extensions 3 have many spellings; three of four times something else is sent, if it can be.
         let plain = fitting.iter().filter(|(shape, _)| !matches!(shape.extension, Extension::Three(_))).count();
         let bound = if plain > 0 && self.random.below(4) > 0 { plain } else { fitting.len() };
-        (bound > 0).then(|| fitting.swap_remove(self.random.below(bound as u64) as usize))
+        let (mut shape, values) = *fitting.get(self.random.below(bound.max(1) as u64) as usize)?;
+        if let Extension::Three(three) = &mut shape.extension {
+            *three = three.with_more(to, self.random.draw());
+        }
+        Some((shape, values))
+    }
+
+    /// Spells the identifier anew, and seldom sends an IR with D=0 that nothing asks for; an IR-DYN then follows.
+    fn loosened(&mut self, to: &Reference) -> Option<Sent> {
+        if let Cid::Large(_, wide) = &mut self.cid {
+            *wide = self.random.below(4) == 0;
+        }
+        let known = self.recent().all(|held| held != Held::Nothing);
+        (known && self.random.below(100) == 0).then(|| self.refreshed(Kind::IrStatic, to, &[]))
+    }
+
+    /// How the chains of an IR or IR-DYN are spelled.
+    fn style(&mut self, kind: Kind, to: &Reference) -> Style {
+        let plain = Style::plain(kind, to, self.settings.mode);
+        if !self.settings.any {
+            return plain;
+        }
+        // What an IR-DYN doesn't give is kept from the reference, if there is one.
+        let full = self.recent().all(|held| matches!(held, Held::Full(_)));
+        let alike = |from: &&Reference| (from.header.x, from.stride) == (to.header.x, to.stride);
+        let kept = kind == Kind::IrDyn && full && self.held_references().iter().all(alike);
+        let bits = self.random.draw();
+        let bit = |place: u8| bits >> place & 1 == 1;
+        Style {
+            mode: (bits >> 8 & 0xff) as u8 % 3,
+            rx: (plain.rx && !kept) || bit(0),
+            tss: (plain.tss && !kept) || (bit(1) && to.stride.is_some()),
+            time_stride: bit(2).then_some((bits >> 16) as u32 & 0xffff),
+            wide: bit(3),
+            ignored: (bits >> 32) as u8,
+        }
+    }
+
+    fn held_references(&self) -> Vec<&Reference> {
+        self.held
+            .iter()
+            .filter_map(|held| if let Held::Full(reference) = &held.1 { Some(reference) } else { None })
+            .collect()
     }
 
     fn refreshed(&mut self, kind: Kind, to: &Reference, payload: &[u8]) -> Sent {
         // The checksum of the chain itself says whether packets carry one.
         let to = Reference { checksum: to.header.checksum != 0, ..*to };
-        let header = refresh(kind, self.cid, &to, self.settings.mode);
+        let style = self.style(kind, &to);
+        let header = refresh(kind, self.cid, &to, &style);
         let name = match kind {
             Kind::Ir => "ir",
             Kind::IrStatic => "ir-static",
@@ -230,7 +278,7 @@ impl Sender {
             self.held.pop_front();
         }
         let octets = [&header[..], payload].concat();
-        Sent { serial: self.serial, octets, name, header: header.len(), carries }
+        Sent { serial: self.serial, octets, name, header: header.len(), check: self.cid.added() + 2, carries }
     }
 }
 

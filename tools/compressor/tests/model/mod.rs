@@ -113,7 +113,7 @@ impl Model {
             let held = self.contexts[&cid];
             (header, stride) = (held.header, held.stride);
         } else {
-            assert_eq!((octets.octet(), octets.octet()), (0x40, 17));
+            assert_eq!((octets.octet() & 0xf0, octets.octet()), (0x40, 17));
             (header.source, header.destination) = (octets.four(), octets.four());
             (header.source_port, header.destination_port) = (octets.number(2) as u16, octets.number(2) as u16);
             header.ssrc = octets.number(4) as u32;
@@ -158,7 +158,7 @@ fn dynamic(context: &mut Context, octets: &mut Octets) {
     context.checksum = header.checksum != 0;
     let (first, second) = (octets.octet(), octets.octet());
     assert_eq!(first & 0xcf, 0x80);
-    (header.p, header.x) = (flag(first, 5), false);
+    header.p = flag(first, 5);
     (header.m, header.pt) = (flag(second, 7), second & 0x7f);
     (header.sn, header.ts) = (octets.number(2) as u16, octets.number(4) as u32);
     assert_eq!(octets.octet(), 0);
@@ -167,6 +167,9 @@ fn dynamic(context: &mut Context, octets: &mut Octets) {
         header.x = flag(more, 4);
         if flag(more, 0) {
             context.stride = Some(octets.value().0 as i64);
+        }
+        if flag(more, 1) {
+            octets.value();
         }
     }
 }
@@ -266,7 +269,7 @@ fn extension_three(first: u8, read: &mut Reading, octets: &mut Octets) {
     let header = &mut read.to.header;
     let ip = if flag(first, 1) { octets.octet() } else { 0 };
     if flag(first, 1) {
-        assert_eq!(ip & 0x19, 0);
+        assert_eq!(ip & 0x09, 0);
         (header.df, read.to.nbo, read.to.rnd) = (flag(ip, 5), flag(ip, 2), flag(ip, 1));
     }
     if flag(first, 5) {
@@ -278,13 +281,16 @@ fn extension_three(first: u8, read: &mut Reading, octets: &mut Octets) {
     }
     header.tos = if flag(ip, 7) { octets.octet() } else { header.tos };
     header.ttl = if flag(ip, 6) { octets.octet() } else { header.ttl };
+    if flag(ip, 4) {
+        assert_eq!(octets.octet(), 17);
+    }
     if flag(first, 2) {
         assert!(!read.to.rnd);
         (read.id, read.whole_id) = (Bits(octets.number(2), 16), true);
     }
     if flag(first, 0) {
         let rtp = octets.octet();
-        assert_eq!(rtp & 0x05, 0);
+        assert!(rtp & 0x04 == 0 && rtp < 0xc0);
         (header.m, header.x) = (flag(rtp, 4), flag(rtp, 3));
         if flag(rtp, 5) {
             let kind = octets.octet();
@@ -292,6 +298,9 @@ fn extension_three(first: u8, read: &mut Reading, octets: &mut Octets) {
         }
         if flag(rtp, 1) {
             read.to.stride = Some(octets.value().0 as i64);
+        }
+        if flag(rtp, 0) {
+            octets.value();
         }
     }
     read.scaled = flag(first, 3);
