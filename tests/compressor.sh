@@ -53,6 +53,7 @@ compare() {
         return
     fi
     said=${said#expected }
+    [ "${said%% *}" -gt 0 ] || wrong "$*: nothing was compared"
     came=$((came + ${said%% *}))
 }
 
@@ -157,7 +158,7 @@ for kind in g711 opus random-id swapped-id zero-id checksum checksum-off tos fla
                 try "$kind" --cid "$cid" --lose "$lose" --w 4 --optimistic 4 --pick "$pick" --seed "$seed"
             done
         done
-        try "$kind" --cid "$cid" --mode U --refresh-ir 50 --refresh-dyn 11 --passing --lose 20 --burst 2
+        try "$kind" --cid "$cid" --mode U --refresh-ir 50 --refresh-dyn 11 --passing --lose 20 --burst 2 --front
         try "$kind" --cid "$cid" --w 12 --optimistic 3 --announce ir-dyn --static-first --max-cid 3
     done
 done
@@ -182,4 +183,4 @@ ends 2 'compressor: command line: no command; see --help'
 ends 0 '' --help
 
 [ "$failed" -eq 0 ] || exit 1
-echo "compressor: $runs runs, $came packets came out as they went in"
+echo "compressor: $runs runs, $came packets and feedback elements came out as they went in"

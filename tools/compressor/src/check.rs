@@ -1,4 +1,4 @@
-//! Compares the packets that came out with those that must.
+//! Compares the packets that came out with those that must, and the feedback that was handed on.
 
 use crate::fault::Fault;
 
@@ -28,7 +28,9 @@ fn answers<'a>(file: &str, lines: &'a [String]) -> Result<Vec<Line<'a>>, Fault> 
     for (at, line) in lines.iter().enumerate() {
         match line.split(' ').collect::<Vec<_>>()[..] {
             [link, cid, "ip", packet] => all.push((link, cid, packet)),
-            [_, _, "relay" | "feedback" | "refused", _] | [_, _, "stored"] => {}
+            // Feedback that is handed on has no context.
+            [link, "-", "relay", data] => all.push((link, "-", data)),
+            [_, _, "feedback" | "refused", _] | [_, _, "stored"] => {}
             _ => return Err(Fault::input(file, format!("line {}", at + 1), "BadLine")),
         }
     }
@@ -83,9 +85,9 @@ mod tests {
 
     #[test]
     fn equal_packets() {
-        let answered = "1 0 ip aa\n1 0 feedback f100\n1 0 stored\n1 0 refused Check\n1 1 ip bb\n";
-        let right = Found { expected: 2, came: 2, right: 2, first: None };
-        assert_eq!(found("1 0 aa\n1 1 bb\n", answered), right);
+        let answered = "1 - relay 77\n1 0 ip aa\n1 0 feedback f100\n1 0 stored\n1 0 refused Check\n1 1 ip bb\n";
+        let right = Found { expected: 3, came: 3, right: 3, first: None };
+        assert_eq!(found("1 - 77\n1 0 aa\n1 1 bb\n", answered), right);
     }
 
     #[test]

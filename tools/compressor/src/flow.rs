@@ -98,8 +98,8 @@ pub struct Table {
     packets: u64,
 }
 
-/// A longer packet might not fit in a line of a script with its IR.
-const LONGEST: usize = 65_480;
+/// A longer packet might not fit in a line of a script with its IR and what stands before it.
+const LONGEST: usize = 65_400;
 
 impl Table {
     pub fn new(link: Link, settings: Rc<Settings>, others: bool) -> Table {

@@ -299,6 +299,21 @@ impl Three {
     }
 }
 
+/// The names of all packets of kind Other.
+pub fn names() -> Vec<String> {
+    let low = [0, 1, 2].map(Extension::Low);
+    let extensions = [&[Extension::None][..], &low, &[Extension::Three(Three::default())]].concat();
+    let names = |format: Format| {
+        let extended = matches!(format, Uo1Id | Uor2 | Uor2Id | Uor2Ts);
+        let count = if extended { extensions.len() } else { 1 };
+        extensions[..count]
+            .iter()
+            .map(move |extension| Shape { format, extension: *extension }.name())
+            .collect::<Vec<_>>()
+    };
+    [Uo0, Uo1, Uo1Id, Uo1Ts, Uor2, Uor2Id, Uor2Ts].into_iter().flat_map(names).collect()
+}
+
 /// What an extension 3 must give, since not all references have it.
 #[derive(Clone, Copy, Debug, Default, PartialEq, Eq)]
 pub struct Changes {
@@ -438,6 +453,14 @@ mod tests {
         let changes = Changes::between(&to, &[&first]);
         let three = threes(&to, &changes, false).into_iter().next().unwrap();
         assert_eq!(spelling(Uo1Id, Extension::Three(three), &to, &first).as_deref(), Some("8095c284b8"));
+    }
+
+    /// Three formats have no extension, four have any of four.
+    #[test]
+    fn all_names() {
+        let names = names();
+        assert_eq!(names.len(), 3 + 4 * 5);
+        assert_eq!((&names[0][..], &names[22][..]), ("uo-0", "uor-2-ts+ext3"));
     }
 
     #[test]

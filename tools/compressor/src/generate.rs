@@ -160,7 +160,7 @@ fn voice(kind: &str, mut call: Call, count: u64) -> Vec<Packet> {
         call.vary(kind, at, count);
         let length = match kind {
             "opus" => 20 + call.random.below(80),
-            "sizes" => [0, 1, 0, 1400, call.random.below(65_440)][(at % 5) as usize],
+            "sizes" => [0, 1, 0, 1400, call.random.below(65_361)][(at % 5) as usize],
             _ => 160,
         };
         packets.push(call.packet(length as usize));

@@ -16,8 +16,8 @@ fn script(words: Script) -> Result<u8, Fault> {
         Some(file) => feedback(file, &lines(file)?, words.link.number, words.link.large)?,
         None => Vec::new(),
     };
-    let Script { link, settings, others, lose, burst, damage, .. } = words;
-    let plan = Plan { link, settings, others, lose, burst, damage, feedback };
+    let Script { link, settings, others, lose, burst, damage, front, .. } = words;
+    let plan = Plan { link, settings, others, lose, burst, damage, front, feedback };
     let mut done = run(&plan, &capture.packets);
     let causes = [("no IP packet", capture.no_ip), ("cut off in the capture", capture.cut_off)];
     done.report.left_out.extend(causes.into_iter().filter(|cause| cause.1 > 0));

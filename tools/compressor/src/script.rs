@@ -35,6 +35,8 @@ pub struct Plan {
     pub burst: usize,
     /// Packets of a hundred whose check is damaged, among those with a check of 7 or 8 bits.
     pub damage: u64,
+    /// Padding and feedback for the other direction stand before headers.
+    pub front: bool,
     pub feedback: Vec<Feedback>,
 }
 
@@ -119,6 +121,43 @@ impl Way {
         *in_row = if fate == Fate::Whole { 0 } else { *in_row + 1 };
         fate
     }
+
+    /// Up to three items before a header (RFC 3095 5.2; RFC 5795 5.2.4).
+    fn front(&mut self) -> Front {
+        let mut front = Front::default();
+        for _ in 0..self.random.below(4) {
+            let size = self.random.below(12) as usize;
+            let data = self.random.octets(size);
+            match (self.random.below(3), size) {
+                (0, _) => {
+                    front.items.push(0xe0);
+                    continue;
+                }
+                (1, 1..=7) => front.items.push(0xf0 | size as u8),
+                _ => front.items.extend([0xf0, size as u8]),
+            }
+            front.items.extend(&data);
+            front.relayed.push(data);
+        }
+        front
+    }
+}
+
+/// What stands before a header, and what of it is handed on.
+#[derive(Default)]
+struct Front {
+    items: Vec<u8>,
+    relayed: Vec<Vec<u8>>,
+}
+
+/// A packet on its way.
+struct Passage<'a> {
+    moment: u64,
+    cid: u16,
+    sent: &'a Sent,
+    packet: &'a Packet,
+    fate: Fate,
+    front: Front,
 }
 
 /// Sends the packets, in this order.
@@ -138,7 +177,8 @@ pub fn run(plan: &Plan, packets: &[Packet]) -> Written {
                 for one in sent {
                     written.report.count(&one);
                     let fate = way.fate(cid, &one);
-                    if written.arrive(plan, moment, cid, &one, fate, packet) {
+                    let front = if plan.front { way.front() } else { Front::default() };
+                    if written.arrive(plan, &Passage { moment, cid, sent: &one, packet, fate, front }) {
                         listen(plan, &mut table, &mut written.report, cid, &one);
                     }
                 }
@@ -165,23 +205,24 @@ fn listen(plan: &Plan, table: &mut Table, report: &mut Report, cid: u16, sent: &
 
 impl Written {
     /// Writes an arrival, unless the packet is lost.
-    fn arrive(&mut self, plan: &Plan, moment: u64, cid: u16, sent: &Sent, fate: Fate, packet: &Packet) -> bool {
+    fn arrive(&mut self, plan: &Plan, passage: &Passage) -> bool {
         let link = plan.link.number;
-        let mut octets = sent.octets.clone();
-        match fate {
-            Fate::Lost => {
-                self.report.lost += 1;
-                return false;
-            }
-            Fate::Damaged => {
-                self.report.damaged += 1;
-                octets[sent.check] ^= 1;
-            }
-            Fate::Whole if sent.carries => {
-                self.report.expected += 1;
-                let _ = writeln!(self.expected, "{link} {cid} {}", hex(&packet.octets));
-            }
-            Fate::Whole => {}
+        let Passage { moment, cid, sent, packet, fate, front } = passage;
+        if *fate == Fate::Lost {
+            self.report.lost += 1;
+            return false;
+        }
+        for data in &front.relayed {
+            let data = if data.is_empty() { "-".to_string() } else { hex(data) };
+            let _ = writeln!(self.expected, "{link} - {data}");
+        }
+        let mut octets = [&front.items[..], &sent.octets].concat();
+        if *fate == Fate::Damaged {
+            self.report.damaged += 1;
+            octets[front.items.len() + sent.check] ^= 1;
+        } else if sent.carries {
+            self.report.expected += 1;
+            let _ = writeln!(self.expected, "{link} {cid} {}", hex(&packet.octets));
         }
         self.report.arrived += 1;
         let _ = writeln!(self.script, "arrive {link} {moment} {}", hex(&octets));

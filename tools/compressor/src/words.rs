@@ -2,6 +2,7 @@
 
 use crate::fault::Fault;
 use crate::flow::Link;
+use crate::formats::names;
 use crate::generate::KINDS;
 use crate::pcap::Framing;
 use crate::sender::Settings;
@@ -36,6 +37,7 @@ options of script:
   --without NAME,..    packets that aren't sent, by their names in the counts
   --lose PERCENT       loses packets, 0 to 100 (0)
   --damage PERCENT     damages packets with a check of 7 or 8 bits, 0 to 100 (0)
+  --front              padding and feedback for the other direction before headers
   --burst N            how many in a row at most, below --w and --optimistic (the greatest)
   --seed N             of what is lost and picked (1)";
 
@@ -60,6 +62,7 @@ pub struct Script {
     pub lose: u64,
     pub burst: usize,
     pub damage: u64,
+    pub front: bool,
 }
 
 /// The options of `generate`.
@@ -164,10 +167,21 @@ fn link(options: &Options) -> Result<Link, Fault> {
     Ok(Link { number, large, max_cid, o_mode: options.choice("--mode", &["O", "U"])? == 0 })
 }
 
+/// The names of packets that aren't sent.
+fn without(options: &Options) -> Result<Vec<String>, Fault> {
+    let Some(text) = options.text("--without") else {
+        return Ok(Vec::new());
+    };
+    let (given, all): (Vec<String>, _) = (text.split(',').map(str::to_string).collect(), names());
+    match given.iter().find(|name| !all.contains(name)) {
+        Some(name) => words(format!("--without {name} is none of {}", all.join(", "))),
+        None => Ok(given),
+    }
+}
+
 fn settings(options: &Options, o_mode: bool) -> Result<Settings, Fault> {
     let (ir, dynamic) = if o_mode { (0, 0) } else { (500, 100) };
     let stride = options.number("--stride", 1, (1 << 29) - 1, 0)? as u32;
-    let without = options.text("--without").unwrap_or_default();
     Ok(Settings {
         window: options.number("--w", 1, 64, 4)? as usize,
         repeats: options.number("--optimistic", 1, 64, 3)? as usize,
@@ -179,14 +193,14 @@ fn settings(options: &Options, o_mode: bool) -> Result<Settings, Fault> {
         announce_by_ir_dyn: options.choice("--announce", &["ext3", "ir-dyn"])? == 1,
         passing: options.flag("--passing"),
         any: options.choice("--pick", &["smallest", "any"])? == 1,
-        without: without.split(',').map(str::to_string).collect(),
+        without: without(options)?,
         seed: options.number("--seed", 0, u64::MAX, 1)?,
     })
 }
 
 fn script(said: &[String]) -> Result<Order, Fault> {
     let valued = [&VALUED[..], &["--burst", "--damage"]].concat();
-    let options = Options::of(said, &valued, &["--static-first", "--passing"])?;
+    let options = Options::of(said, &valued, &["--static-first", "--passing", "--front"])?;
     let link = link(&options)?;
     let settings = settings(&options, link.o_mode)?;
     if options.rest.is_empty() {
@@ -200,6 +214,7 @@ fn script(said: &[String]) -> Result<Order, Fault> {
         feedback: options.text("--feedback"),
         others: options.choice("--others", &["send", "leave"])? == 0,
         lose: options.number("--lose", 0, 100, 0)?,
+        front: options.flag("--front"),
         damage: options.number("--damage", 0, 100, 0)?,
         burst: options.number("--burst", 0, most, most)? as usize,
         captures: options.rest,
@@ -279,6 +294,7 @@ mod tests {
         for (text, said) in all {
             assert_eq!(fault(text), format!("command line: {said}"));
         }
+        assert!(fault("script a --without uo-9").starts_with("command line: --without uo-9 is none of uo-0, uo-1, "));
         assert!(fault("generate tune a").starts_with("command line: tune is none of g711, opus"));
     }
 }

@@ -30,7 +30,7 @@ fn settings() -> Settings {
 fn plan(settings: Settings, large: bool, lose: u64) -> Plan {
     let link = Link { number: 1, large, max_cid: 15, o_mode: true };
     let burst = settings.window.min(settings.repeats) - 1;
-    Plan { link, settings, others: false, lose, burst, damage: 0, feedback: Vec::new() }
+    Plan { link, settings, others: false, lose, burst, damage: 0, front: false, feedback: Vec::new() }
 }
 
 /// All packets of the script, received in order, are what must come out.
@@ -169,4 +169,23 @@ fn identifiers() {
     let written = run(&two, &calls);
     assert!(written.expected.lines().all(|line| line.starts_with("1 0 ")));
     comes_out(&written, false, "two");
+}
+
+/// A capture with wrong octets is refused or read, and what is read is sent and comes out.
+#[test]
+fn damaged_captures() {
+    use compressor::pcap::{written, Capture, Framing};
+    let mut random = compressor::random::Random::new(3);
+    let good = written(&packets("mixed", 30, 1).unwrap(), Framing::Vlan, false, true);
+    for _ in 0..2000 {
+        let mut octets = good.clone();
+        for _ in 0..1 + random.below(8) {
+            let at = random.below(octets.len() as u64) as usize;
+            octets[at] = random.draw() as u8;
+        }
+        octets.truncate(octets.len() - random.below(20) as usize);
+        if let Ok(capture) = Capture::of(&octets) {
+            comes_out(&run(&plan(settings(), false, 0), &capture.packets), false, "damaged");
+        }
+    }
 }
