@@ -121,7 +121,7 @@ fn worked_call() {
     assert_eq!(send(worked(2, false, 2, 320)), "10ac");
 }
 
-/// After the second packet alone, 20 in five bits is within the interval, and UO-1-TS is smaller than the worked UOR-2-TS.
+/// The scaled value 20 is within five bits, so that a UO-1-TS means the jump too and is smaller than the worked packet.
 #[test]
 fn worked_jump() {
     let without = vec!["uo-1-ts".to_string()];

@@ -289,21 +289,25 @@ fn extension_three(first: u8, read: &mut Reading, octets: &mut Octets) {
         (read.id, read.whole_id) = (Bits(octets.number(2), 16), true);
     }
     if flag(first, 0) {
-        let rtp = octets.octet();
-        assert!(rtp & 0x04 == 0 && rtp < 0xc0);
-        (header.m, header.x) = (flag(rtp, 4), flag(rtp, 3));
-        if flag(rtp, 5) {
-            let kind = octets.octet();
-            (header.p, header.pt) = (flag(kind, 7), kind & 0x7f);
-        }
-        if flag(rtp, 1) {
-            read.to.stride = Some(octets.value().0 as i64);
-        }
-        if flag(rtp, 0) {
-            octets.value();
-        }
+        rtp_octets(&mut read.to, octets);
     }
     read.scaled = flag(first, 3);
+}
+
+fn rtp_octets(to: &mut Context, octets: &mut Octets) {
+    let rtp = octets.octet();
+    assert!(rtp & 0x04 == 0 && rtp < 0xc0);
+    (to.header.m, to.header.x) = (flag(rtp, 4), flag(rtp, 3));
+    if flag(rtp, 5) {
+        let kind = octets.octet();
+        (to.header.p, to.header.pt) = (flag(kind, 7), kind & 0x7f);
+    }
+    if flag(rtp, 1) {
+        to.stride = Some(octets.value().0 as i64);
+    }
+    if flag(rtp, 0) {
+        octets.value();
+    }
 }
 
 /// The header from its bits and the reference.
