@@ -189,3 +189,36 @@ fn damaged_captures() {
         }
     }
 }
+
+/// TOS for one packet in the worked call: after it the reference has the old one, and after a second change the new one.
+#[test]
+fn worked_passing_change() {
+    let settings = Settings { window: 1, repeats: 1, stride: Some(160), passing: true, ..settings() };
+    let mut sender = Sender::new(Cid::Small(0), settings.into());
+    let mut send = |tos: u8, sn: u16| {
+        let (header, payload) = worked(sn, false, sn, 160 * u32::from(sn));
+        sender.send(&Header { tos, ..header }, &payload).remove(0)
+    };
+    assert_eq!(send(0, 1).name, "ir");
+    assert_eq!(hex(&send(0xb8, 2).octets), "8095c284b8ac");
+    assert_eq!(hex(&send(0, 3).octets), "1cad");
+    let names = [4, 5, 6].map(|sn| send(0xb8, sn).name);
+    assert_eq!(names, ["uo-1-id+ext3", "uor-2-id+ext3", "uo-0"]);
+}
+
+/// From IR to IR 30 packets, from an IR or IR-DYN to the next IR-DYN 7.
+#[test]
+fn refreshes() {
+    let settings = Settings { refresh_ir: 30, refresh_dyn: 7, stride: Some(160), ..settings() };
+    let mut sender = Sender::new(Cid::Small(0), settings.into());
+    let names: Vec<(u16, String)> = (1..=48)
+        .map(|sn| {
+            let (header, payload) = worked(sn, false, sn, 160 * u32::from(sn));
+            (sn, sender.send(&header, &payload).remove(0).name)
+        })
+        .collect();
+    let at = |wanted: &str| names.iter().filter(|name| name.1 == wanted).map(|name| name.0).collect::<Vec<_>>();
+    assert_eq!(at("ir"), [1, 2, 3, 4, 34]);
+    assert_eq!(at("ir-dyn"), [11, 18, 25, 32, 41, 48]);
+    assert_eq!(at("uo-0").len(), 48 - 11);
+}
