@@ -2,7 +2,8 @@
 # Sends calls of many kinds from tools/compressor, a sender written apart from the crates, through a built program, and
 # compares what comes out with what went in, octet for octet: with both sizes of CIDs, without loss and with as much in
 # a row as the sender reckons with, with the smallest packet that means a header and with any; in U mode with
-# refreshes; and in O mode with damaged packets, until the sender has heard all feedback.
+# refreshes; in O mode with damaged packets, until the sender has heard all feedback; and with losses so long that the
+# decompressor has to repair its reference.
 #
 # usage: tests/compressor.sh ROHCD
 set -u
@@ -163,6 +164,14 @@ for kind in g711 opus random-id swapped-id zero-id checksum checksum-off tos fla
         done
         try "$kind" --cid "$cid" --mode U --refresh-ir 50 --refresh-dyn 11 --passing --lose 20 --burst 2 --front
         try "$kind" --cid "$cid" --w 12 --optimistic 3 --announce ir-dyn --static-first --max-cid 3
+    done
+done
+for seed in 1 2; do
+    "$compressor" generate opus capture --packets 6000 --seed "$seed" || wrong "opus isn't made"
+    for cid in small large; do
+        for mode in U O; do
+            try opus --gaps --cid "$cid" --mode "$mode" --refresh-ir 0 --refresh-dyn 0 --seed "$seed"
+        done
     done
 done
 for kind in g711 two swapped-id zero-id stride jumps; do

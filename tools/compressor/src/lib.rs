@@ -6,6 +6,7 @@ pub mod fault;
 pub mod feedback;
 pub mod flow;
 pub mod formats;
+pub mod gap;
 pub mod generate;
 pub mod header;
 pub mod ir;

@@ -5,6 +5,7 @@ use std::process::ExitCode;
 use compressor::check::compare;
 use compressor::fault::{lines, write, Fault};
 use compressor::feedback::feedback;
+use compressor::gap;
 use compressor::generate::packets;
 use compressor::pcap::{written, Capture};
 use compressor::script::{run, Plan};
@@ -18,7 +19,7 @@ fn script(words: Script) -> Result<u8, Fault> {
     };
     let Script { link, settings, others, lose, burst, damage, front, .. } = words;
     let plan = Plan { link, settings, others, lose, burst, damage, front, feedback };
-    let mut done = run(&plan, &capture.packets);
+    let mut done = if words.gaps { gap::run(&plan, &capture.packets) } else { run(&plan, &capture.packets) };
     let causes = [("no IP packet", capture.no_ip), ("cut off in the capture", capture.cut_off)];
     done.report.left_out.extend(causes.into_iter().filter(|cause| cause.1 > 0));
     if let Some(file) = &words.links {

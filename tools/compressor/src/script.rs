@@ -63,7 +63,7 @@ pub struct Report {
 }
 
 impl Report {
-    fn count(&mut self, sent: &Sent) {
+    pub fn count(&mut self, sent: &Sent) {
         let entry = self.formats.entry(sent.name.clone()).or_default();
         entry.0 += 1;
         entry.1 += sent.header as u64;

@@ -37,6 +37,7 @@ options of script:
   --without NAME,..    packets that aren't sent, by their names in the counts
   --lose PERCENT       loses packets, 0 to 100 (0)
   --damage PERCENT     damages packets with a check of 7 or 8 bits, 0 to 100 (0)
+  --gaps               one steady call (opus) with long losses, and what repair makes of them
   --front              padding and feedback for the other direction before headers
   --burst N            how many in a row at most, below --w and --optimistic (the greatest)
   --seed N             of what is lost and picked (1)";
@@ -63,6 +64,7 @@ pub struct Script {
     pub burst: usize,
     pub damage: u64,
     pub front: bool,
+    pub gaps: bool,
 }
 
 /// The options of `generate`.
@@ -200,7 +202,7 @@ fn settings(options: &Options, o_mode: bool) -> Result<Settings, Fault> {
 
 fn script(said: &[String]) -> Result<Order, Fault> {
     let valued = [&VALUED[..], &["--burst", "--damage"]].concat();
-    let options = Options::of(said, &valued, &["--static-first", "--passing", "--front"])?;
+    let options = Options::of(said, &valued, &["--static-first", "--passing", "--front", "--gaps"])?;
     let link = link(&options)?;
     let settings = settings(&options, link.o_mode)?;
     if options.rest.is_empty() {
@@ -215,6 +217,7 @@ fn script(said: &[String]) -> Result<Order, Fault> {
         others: options.choice("--others", &["send", "leave"])? == 0,
         lose: options.number("--lose", 0, 100, 0)?,
         front: options.flag("--front"),
+        gaps: options.flag("--gaps"),
         damage: options.number("--damage", 0, 100, 0)?,
         burst: options.number("--burst", 0, most, most)? as usize,
         captures: options.rest,
