@@ -36,7 +36,7 @@ def on_program(name: str, shows: str, script: str = "") -> Check:
     return Check(name, Needs.PROGRAM, f"{script or f'bin/check_{name}'} {PROGRAM}", shows)
 
 
-SHELL_SCRIPTS = "grep -d skip -lE '^#!.*bash|^# shellcheck shell=bash' bin/* bench/* tools/* .ci/* completion/*"
+SHELL_SCRIPTS = "grep -d skip -lE '^#!.*bash|^# shellcheck shell=bash' bin/* bench/* tools/* tests/* .ci/* completion/*"
 
 # In the order in which they are told.
 CHECKS = (
