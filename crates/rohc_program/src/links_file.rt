@@ -5,7 +5,7 @@ ghost use Rattle.rohc_serve.specs.Datagram.{AreSettingsOf};
 
 use rohc_concentrator::{Concentrator, SetupFault};
 use rohc_end::End;
-use rohc_replay::{Links, LinksFault, read_links};
+use rohc_links::{Links, LinksFault, read_links};
 use std::io::Read;
 use std::rt::Files;
 use std::{fs, io};

@@ -3,9 +3,6 @@ pub mod FaultLemmas
 pub mod EventLemmas
 pub mod ToldLemmas
 pub mod LineLemmas
-pub mod LinksEntries
-pub mod LinksFields
-pub mod LinksRanges
 pub mod NameLemmas
 pub mod NewlineLemmas
 pub mod NumberLemmas

@@ -11,7 +11,8 @@ use Rattle.rohc_replay.specs.declared.output.Stopped.{Stopped}
 use Rattle.rohc_replay.specs.declared.tally.Tally.{Tally}
 use Rattle.rohc_replay.specs.Script.{Line, Good, Bad, Long, IsLine, AreLines, longest_line, lines_of}
 use Rattle.rohc_replay.specs.AnswerLines.{text_of, long_line}
-use Rattle.rohc_replay.specs.Offers.{TakesAll, TakesPart, counted}
+use Rattle.rohc_links.specs.Limits.{counted}
+use Rattle.rohc_replay.specs.Offers.{TakesAll, TakesPart}
 use Rattle.rohc_replay.specs.Run.{change, RunsLine, Runs, IsTally, Replays, Stops, is_good_line}
 use Rattle.rohc_replay.specs.Turn.{with_line, TakesTurn, TakesLongTurn}
 use Rattle.rohc_replay.specs.Stream.{Stands, Ends, IsKept, StopsAt}

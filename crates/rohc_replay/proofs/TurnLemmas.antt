@@ -1,7 +1,7 @@
 use Rattle.std.proofs.Common.{◌≡◌, ◌≢◌, ℕ, ◌<◌, ◌^◌, Option, Some, None, arith, refl}
 use Rattle.rohc_concentrator.specs.declared.setting.LinkSetting.{LinkSetting}
 use Rattle.rohc_concentrator.specs.Events.{reset_report}
-use Rattle.rohc_replay.specs.Offers.{counted}
+use Rattle.rohc_links.specs.Limits.{counted}
 
 -- a reset of a link that is there answers nothing
 pub reset_silent : (o : Option LinkSetting) → o ≢ None → None ≡ reset_report o

@@ -4,7 +4,8 @@ use Rattle.std.proofs.lemmas.List.{nil_from_length}
 use Rattle.std.specs.Io.KnownBytes.{Appends}
 use Rattle.hex.specs.Hex.{encode_with, encode_lower}
 use Rattle.rohc_replay.specs.Script.{hex_text}
-use Rattle.rohc_replay.specs.Offers.{TakesAll, TakesPart, Offers, counted}
+use Rattle.rohc_links.specs.Limits.{counted}
+use Rattle.rohc_replay.specs.Offers.{TakesAll, TakesPart, Offers}
 use Rattle.rohc_replay.specs.declared.output.Stopped.{Stopped}
 use Rattle.rohc_replay.proofs.DigitLemmas.{encode-append}
 use Rattle.rohc_replay.proofs.OfferLemmas.{appends_none, appends_more}

@@ -2,11 +2,6 @@ pub mod AnswerLines
 pub mod Isolation
 pub mod LineText
 pub mod Lines
-pub mod Links
-pub mod LinksEntry
-pub mod LinksFields
-pub mod LinksKeys
-pub mod LinksRanges
 pub mod LowerCase
 pub mod Numeral
 pub mod Offers

@@ -1,11 +1,8 @@
--- How much of a text a writer took. Words: counted; TakesAll, TakesPart; Offers.
-use Rattle.std.specs.Prelude.{◌≡◌, ℕ, ◌+◌, ◌-◌, ◌^◌, ◌<◌, List, ◌++◌, length, min, Option, Result, Ok, Err}
+-- How much of a text a writer took. Words: TakesAll, TakesPart; Offers.
+use Rattle.std.specs.Prelude.{◌≡◌, ℕ, ◌<◌, List, ◌++◌, length, Option, Result, Ok, Err}
 use Rattle.std.specs.Io.KnownBytes.{Appends}
+use Rattle.rohc_links.specs.Limits.{counted}
 use Rattle.rohc_replay.specs.declared.output.Stopped.{Stopped}
-
--- a count that stays at the greatest `u64`
-abbrev pub counted : ℕ → ℕ → ℕ
-counted before more = min (before + more) (2 ^ 64 - 1)
 
 -- all of the text was taken
 abbrev pub TakesAll : Option (List ℕ) → Option (List ℕ) → ℕ → ℕ → List ℕ → Type 0

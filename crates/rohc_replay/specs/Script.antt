@@ -4,10 +4,7 @@ use Rattle.std.specs.Fmt.{decimal}
 use Rattle.hex.specs.Hex.{encode_lower}
 use Rattle.rohc_frame.specs.Laws.{IsOctet}
 use Rattle.rohc_concentrator.specs.Events.{Event, Arrive, Reset}
-
--- the longest packet, in octets
-abbrev pub longest_packet : ℕ
-longest_packet = 65535
+use Rattle.rohc_links.specs.Limits.{longest_packet}
 
 -- every number of the event fits its field, and a packet isn't longer than the longest
 abbrev pub IsEvent : Event → Type 0

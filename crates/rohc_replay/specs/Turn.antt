@@ -5,7 +5,8 @@ use Rattle.rohc_replay.specs.declared.tally.Tally.{Tally}
 use Rattle.rohc_replay.specs.declared.counts.Counts.{Counts}
 use Rattle.rohc_replay.specs.Script.{Line, Good, Bad, Long, IsLine}
 use Rattle.rohc_replay.specs.AnswerLines.{text_of, long_line}
-use Rattle.rohc_replay.specs.Offers.{Offers, counted}
+use Rattle.rohc_links.specs.Limits.{counted}
+use Rattle.rohc_replay.specs.Offers.{Offers}
 use Rattle.rohc_replay.specs.Run.{RunsLine, Change}
 
 -- the tally with one more line

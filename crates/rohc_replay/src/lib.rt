@@ -1,4 +1,4 @@
-//! Scripts, which are read line by line and answered in lines; and the links file.
+//! Scripts, which are read line by line and answered in lines.
 #![tactic(auto)]
 
 mod counts;
@@ -6,7 +6,6 @@ pub mod fault;
 mod hex_octets;
 pub mod laws;
 mod line_text;
-pub mod links;
 mod numeral;
 mod output;
 pub mod run;
@@ -16,6 +15,6 @@ mod turn;
 mod words;
 
 pub use fault::RunFault;
-pub use links::{Key, Links, LinksFault, Ports, read_links};
-pub use run::{LONGEST_PACKET, replay};
+pub use rohc_links::{Key, LONGEST_PACKET, Links, LinksFault, Ports, read_links};
+pub use run::replay;
 pub use tally::Tally;

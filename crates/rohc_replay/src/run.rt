@@ -4,7 +4,8 @@ ghost use Rattle.std.specs.Prelude.{◌≡◌, ◌≢◌, ℕ, List, Option, ◌
 ghost use Rattle.std.specs.List.{slice_range};
 ghost use Rattle.std.specs.Io.KnownBytes.{Consumes, IsAtEnd, Keeps};
 ghost use Rattle.rohc_concentrator.specs.declared.concentrator.Concentrator.{Concentrator as State};
-ghost use Rattle.rohc_replay.specs.Script.{longest_line, longest_packet};
+ghost use Rattle.rohc_links.specs.Limits.{longest_packet};
+ghost use Rattle.rohc_replay.specs.Script.{longest_line};
 ghost use Rattle.rohc_replay.specs.Isolation.{Isolates};
 ghost use Rattle.rohc_replay.specs.Run.{change, Replays, WriteFault, Fails};
 ghost use Rattle.rohc_replay.specs.Stream.{Stands};
@@ -15,12 +16,10 @@ use crate::output::Stopped;
 use crate::stream::{LONGEST_LINE, LineFront, end_script, run_lines};
 use crate::tally::Tally;
 use rohc_concentrator::Concentrator;
-use std::alloc::{AllocError, Global};
+use rohc_links::{LONGEST_PACKET, zeros};
+use std::alloc::Global;
 use std::io;
 use std::io::{Read, Write};
-
-/// The longest packet in a script, in octets.
-pub const LONGEST_PACKET: usize = 65_535;
 
 /// The read call that counts as a fault, whatever it returns.
 const LAST_READ: u64 = 1 << 40;
@@ -66,13 +65,6 @@ pub fn replay<R: Read, W: Write>(
         line.as_mut_slice(),
         packet.as_mut_slice(),
     )
-}
-
-/// A buffer of `len` octets.
-fn zeros(alloc: Global, len: usize) -> Result<Vec<u8>, AllocError>
-    ensures { IfOk result (λ v. length v.items ≡ len) }
-{
-    vec![in alloc; 0u8; len]
 }
 
 /// Runs a script with these two buffers.

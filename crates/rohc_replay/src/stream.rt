@@ -2,7 +2,8 @@
 
 ghost use Rattle.std.specs.Prelude.{◌≡◌, ◌≤◌, ◌<◌, ◌+◌, ◌-◌, ℕ, List, [], ◌∷◌, ◌++◌, length, take, drop, Option, false, slice_index, IfOk, IfErr, IfSome, IfNone};
 ghost use Rattle.rohc_concentrator.specs.declared.concentrator.Concentrator.{Concentrator as State};
-ghost use Rattle.rohc_replay.specs.Script.{longest_line, longest_packet, lines_of};
+ghost use Rattle.rohc_links.specs.Limits.{longest_packet};
+ghost use Rattle.rohc_replay.specs.Script.{longest_line, lines_of};
 ghost use Rattle.rohc_replay.specs.Stream.{Stands, Ends, StopsAt, StopsWithin};
 ghost use Rattle.rohc_replay.specs.Run.{change, Stops};
 ghost use Rattle.rohc_replay.specs.Lines.{has_newline};

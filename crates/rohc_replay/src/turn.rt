@@ -1,7 +1,8 @@
 //! One line of a script: its event is run, and its answers are offered to the writer.
 
 ghost use Rattle.std.specs.Prelude.{◌≡◌, ◌≤◌, ℕ, List, length};
-ghost use Rattle.rohc_replay.specs.Script.{longest_line, longest_packet};
+ghost use Rattle.rohc_links.specs.Limits.{longest_packet};
+ghost use Rattle.rohc_replay.specs.Script.{longest_line};
 ghost use Rattle.rohc_replay.specs.Run.{change};
 ghost use Rattle.rohc_replay.specs.Turn.{TakesTurn, TakesLongTurn};
 

@@ -7,7 +7,8 @@ ghost use Rattle.hex.specs.Hex.{encode_lower};
 ghost use Rattle.rohc_frame.specs.Laws.{IsOctet};
 ghost use Rattle.rohc_replay.specs.Numeral.{IsNumberAt};
 ghost use Rattle.rohc_concentrator.specs.Events.{Event};
-ghost use Rattle.rohc_replay.specs.Script.{IsEvent, spelling, hex_text, longest_packet};
+ghost use Rattle.rohc_links.specs.Limits.{longest_packet};
+ghost use Rattle.rohc_replay.specs.Script.{IsEvent, spelling, hex_text};
 ghost use Rattle.rohc_replay.specs.Words.{event_in, size_in};
 
 use crate::hex_octets::decode;

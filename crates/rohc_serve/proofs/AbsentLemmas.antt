@@ -7,7 +7,7 @@ use Rattle.rohc_concentrator.specs.Tables.{setting_at}
 use Rattle.rohc_concentrator.specs.Setup.{entry_of}
 use Rattle.rohc_concentrator.specs.Report.{Refused}
 use Rattle.rohc_concentrator.specs.Events.{Arrives}
-use Rattle.rohc_replay.specs.Links.{Lists}
+use Rattle.rohc_links.specs.Links.{Lists}
 use Rattle.rohc_serve.specs.Outgoing.{Outgoing, refused_for}
 use Rattle.rohc_serve.specs.Datagram.{AreSettingsOf, link_of, datagram_packet, ports_of, Answers}
 

@@ -3,9 +3,9 @@ use Rattle.std.proofs.Common.{◌≡◌, ℕ, ◌+◌, ◌<◌, ◌^◌, List, [
 use Rattle.std.specs.Prelude.{Option, Some, None}
 use Rattle.std.proofs.lemmas.List.{map-append}
 use Rattle.std.proofs.lemmas.List.Sums.{sum_by-append}
-use Rattle.rohc_replay.specs.Offers.{counted}
+use Rattle.rohc_links.specs.Limits.{counted}
 use Rattle.rohc_serve.specs.Acts.{Attempt, Act, Sent, Adds}
-use Rattle.rohc_replay.specs.declared.links.Ports.{Ports}
+use Rattle.rohc_links.specs.declared.ports.Ports.{Ports}
 use Rattle.rohc_serve.specs.Outgoing.{Outgoing}
 use Rattle.rohc_serve.specs.Sending.{Send, send, packet_sends, feedback_sends, too_long, sends_in, unsent, Offers, offered, failures}
 use Rattle.rohc_serve.specs.Tally.{one_if}

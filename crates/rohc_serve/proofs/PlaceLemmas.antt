@@ -6,8 +6,8 @@ use Rattle.std.proofs.lemmas.List.Folds.{find_at}
 use Rattle.std.proofs.lemmas.Option.{slice_get_cases, slice_get-get_or}
 use Rattle.rohc_concentrator.specs.declared.setting.LinkSetting.{LinkSetting}
 use Rattle.rohc_concentrator.specs.Setup.{entry_of}
-use Rattle.rohc_replay.specs.declared.links.Ports.{Ports}
-use Rattle.rohc_replay.specs.Links.{Lists}
+use Rattle.rohc_links.specs.declared.ports.Ports.{Ports}
+use Rattle.rohc_links.specs.Links.{Lists}
 use Rattle.rohc_serve.specs.Datagram.{place_of, ports_of}
 
 unplaced : {X : Type 0} (p : X → Bool) (xs : List X) → position p xs ≡ None →

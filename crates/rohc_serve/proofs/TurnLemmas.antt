@@ -5,8 +5,8 @@ use Rattle.std.specs.List.{flat_map, sum_by}
 use Rattle.std.proofs.lemmas.List.Sums.{sum_by-append}
 use Rattle.std.proofs.lemmas.Grind.{flat_map-append}
 use Rattle.rohc_concentrator.specs.declared.concentrator.Concentrator.{Concentrator}
-use Rattle.rohc_replay.specs.Links.{Lists}
-use Rattle.rohc_replay.specs.Offers.{counted}
+use Rattle.rohc_links.specs.Links.{Lists}
+use Rattle.rohc_links.specs.Limits.{counted}
 use Rattle.rohc_serve.specs.declared.tally.ServeTally.{ServeTally}
 use Rattle.rohc_serve.specs.Acts.{Act, Received, Adds}
 use Rattle.rohc_serve.specs.Outgoing.{Outgoing}

@@ -8,8 +8,8 @@ use Rattle.rohc_concentrator.specs.Tables.{setting_at, settings_in_order}
 use Rattle.rohc_concentrator.specs.Setup.{entry_of}
 use Rattle.rohc_concentrator.specs.Report.{Report}
 use Rattle.rohc_concentrator.specs.Events.{Arrives}
-use Rattle.rohc_replay.specs.declared.links.Ports.{Ports}
-use Rattle.rohc_replay.specs.Links.{Lists}
+use Rattle.rohc_links.specs.declared.ports.Ports.{Ports}
+use Rattle.rohc_links.specs.Links.{Lists}
 use Rattle.rohc_serve.specs.Outgoing.{Outgoing, refused_for, sends_of}
 
 -- these are the settings of the concentrator's links, in their order

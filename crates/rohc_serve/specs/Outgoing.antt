@@ -4,7 +4,7 @@ use Rattle.rohc_frame.specs.Reading.{elements_of}
 use Rattle.rohc_feedback.specs.Element.{octets_of}
 use Rattle.rohc_context.specs.Response.{Packet, packet_in}
 use Rattle.rohc_concentrator.specs.Report.{Report, Arrived, OnlyFront, Refused, is_refused}
-use Rattle.rohc_replay.specs.declared.links.Ports.{Ports}
+use Rattle.rohc_links.specs.declared.ports.Ports.{Ports}
 use Rattle.rohc_serve.specs.declared.sends.Sends.{Sends}
 
 -- What is to be sent, apart from where its octets lie in memory.

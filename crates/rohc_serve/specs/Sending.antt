@@ -2,9 +2,9 @@
 use Rattle.std.specs.Prelude.{◌≡◌, ℕ, List, [], ◌∷◌, ◌++◌, length, map, not, nat_le, count_by, Option, Some, None, if◌then◌else◌}
 use Rattle.rohc_context.specs.declared.reply.Delivered.{Delivered}
 use Rattle.rohc_context.specs.Response.{Packet}
-use Rattle.rohc_replay.specs.declared.links.Ports.{Ports}
-use Rattle.rohc_replay.specs.Script.{longest_packet}
-use Rattle.rohc_replay.specs.Offers.{counted}
+use Rattle.rohc_links.specs.declared.ports.Ports.{Ports}
+use Rattle.rohc_links.specs.Limits.{longest_packet}
+use Rattle.rohc_links.specs.Limits.{counted}
 use Rattle.rohc_serve.specs.Acts.{Attempt, Act, Sent, Adds}
 use Rattle.rohc_serve.specs.Outgoing.{Outgoing}
 

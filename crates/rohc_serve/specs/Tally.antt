@@ -1,6 +1,6 @@
 -- What is counted. Words: counts_of a datagram; added, which stays at the greatest u64.
 use Rattle.std.specs.Prelude.{ℕ, length, Bool, is_some, if◌then◌else◌}
-use Rattle.rohc_replay.specs.Offers.{counted}
+use Rattle.rohc_links.specs.Limits.{counted}
 use Rattle.rohc_serve.specs.declared.tally.ServeTally.{ServeTally}
 use Rattle.rohc_serve.specs.Outgoing.{Outgoing}
 

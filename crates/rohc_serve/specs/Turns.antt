@@ -3,8 +3,8 @@
 use Rattle.std.specs.Prelude.{◌≡◌, ℕ, ◌+◌, List, [], ◌∷◌, length, map, Option, Some, None}
 use Rattle.std.specs.List.{flat_map, sum_by}
 use Rattle.rohc_concentrator.specs.declared.concentrator.Concentrator.{Concentrator}
-use Rattle.rohc_replay.specs.Links.{Lists}
-use Rattle.rohc_replay.specs.Offers.{counted}
+use Rattle.rohc_links.specs.Links.{Lists}
+use Rattle.rohc_links.specs.Limits.{counted}
 use Rattle.rohc_serve.specs.declared.tally.ServeTally.{ServeTally}
 use Rattle.rohc_serve.specs.Outgoing.{Outgoing}
 use Rattle.rohc_serve.specs.Datagram.{Answers}

@@ -7,7 +7,7 @@ ghost use Rattle.rohc_serve.specs.Datagram.{AreSettingsOf, link_of, datagram_pac
 
 use crate::sends::Sends;
 use rohc_concentrator::{Concentrator, LinkSetting};
-use rohc_replay::{Links, Ports};
+use rohc_links::{Links, Ports};
 
 /// The index of the link's first entry, if it has one.
 fn place_of(settings: &[LinkSetting], link: u16) -> Option<usize>

@@ -2,7 +2,7 @@
 
 ghost use Rattle.std.specs.Prelude.{◌≡◌, ◌≤◌, ◌<◌, ◌+◌, [], ◌∷◌, ◌++◌, length, map, take, IfSome, IfNone};
 ghost use Rattle.rohc_frame.specs.Reading.{elements_of};
-ghost use Rattle.rohc_replay.specs.Script.{longest_packet};
+ghost use Rattle.rohc_links.specs.Limits.{longest_packet};
 ghost use Rattle.rohc_serve.specs.Outgoing.{outgoing_of};
 ghost use Rattle.rohc_serve.specs.Sending.{Offers, send, delivered_packet, packet_octets, packet_sends, too_long, feedback_sends, sends_in, unsent};
 
@@ -11,7 +11,7 @@ use crate::sends::Sends;
 use crate::tally::counted_if;
 use rohc_context::Delivered;
 use rohc_frame::Elements;
-use rohc_replay::LONGEST_PACKET;
+use rohc_links::LONGEST_PACKET;
 
 /// Writes octets into the buffer after its first `at` octets.
 fn put_behind(buffer: &mut [u8], at: usize, octets: &[u8])

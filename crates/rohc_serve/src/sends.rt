@@ -4,7 +4,7 @@ use rohc_concentrator::Answer;
 use rohc_context::{Delivered, Outcome};
 use rohc_feedback::Element;
 use rohc_frame::Elements;
-use rohc_replay::Ports;
+use rohc_links::Ports;
 
 /// What is to be sent for a datagram: first the relayed feedback, then the packet, then the
 /// feedback for the peer.

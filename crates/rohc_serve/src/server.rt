@@ -2,7 +2,7 @@
 
 ghost use Rattle.std.specs.Prelude.{◌≡◌, length, IfOk, OnErr};
 ghost use Rattle.rohc_serve.specs.Datagram.{AreSettingsOf};
-ghost use Rattle.rohc_replay.specs.Script.{longest_packet};
+ghost use Rattle.rohc_links.specs.Limits.{longest_packet};
 ghost use Rattle.rohc_serve.specs.Turns.{service, Serves, TakesOne};
 
 use crate::datagram::answer_datagram;
@@ -10,7 +10,7 @@ use crate::front::Front;
 use crate::sending::send_all;
 use crate::tally::ServeTally;
 use rohc_concentrator::Concentrator;
-use rohc_replay::{LONGEST_PACKET, Links};
+use rohc_links::{LONGEST_PACKET, Links, zeros};
 use std::alloc::{AllocError, Global};
 
 /// The longest datagram, in octets: a link's number and a packet.
@@ -45,13 +45,6 @@ pub fn serve<F: Front>(
         packet.as_mut_slice(),
         count,
     ))
-}
-
-/// A buffer of `len` octets.
-fn zeros(alloc: Global, len: usize) -> Result<Vec<u8>, AllocError>
-    ensures { IfOk result (λ v. length v.items ≡ len) }
-{
-    vec![in alloc; 0u8; len]
 }
 
 /// Serves `count` turns with these two buffers, and counts them.

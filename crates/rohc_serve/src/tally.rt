@@ -26,7 +26,7 @@ pub struct ServeTally {
 
 impl ServeTally {
     ghost use Rattle.std.specs.Prelude.{◌≡◌};
-    ghost use Rattle.rohc_replay.specs.Offers.{counted};
+    ghost use Rattle.rohc_links.specs.Limits.{counted};
 
     /// Counts a datagram, by what was to be sent for it and how many of its sends failed.
     pub fn add(&mut self, sends: &Sends<'_>, failed: u64)
@@ -55,7 +55,7 @@ impl ServeTally {
 
 ghost use Rattle.std.specs.Prelude.{◌≡◌, length};
 ghost use Rattle.rohc_frame.specs.Reading.{elements_of};
-ghost use Rattle.rohc_replay.specs.Offers.{counted};
+ghost use Rattle.rohc_links.specs.Limits.{counted};
 
 /// The count plus one if `holds`, up to the greatest `u64`.
 pub(crate) fn counted_if(count: u64, holds: bool) -> u64

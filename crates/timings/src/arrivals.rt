@@ -10,7 +10,7 @@ use crate::input::{bad_text, read_text};
 use crate::script::{Arrival, Script};
 use rohc_concentrator::{Answer, Concentrator, LinkSetting};
 use rohc_context::{Delivered, Refusal};
-use rohc_replay::read_links;
+use rohc_links::read_links;
 use std::io;
 use std::rt::{Clock, Files};
 use std::time::Instant;

@@ -1,6 +1,6 @@
 use Rattle.std.proofs.Common.{◌≡◌, length}
 use Rattle.rohc_serve.specs.Datagram.{AreSettingsOf}
-use Rattle.rohc_replay.specs.Script.{longest_packet}
+use Rattle.rohc_links.specs.Limits.{longest_packet}
 use Rattle.rohc_serve.specs.Turns.{service, Serves}
 use Rattle.rohc_serve.proofs.server.take_turns.Given as goal
 

@@ -1,6 +1,6 @@
 use Rattle.std.proofs.Common.{◌≡◌, ◌<◌, ◌^◌, length}
 use Rattle.rohc_frame.specs.Reading.{elements_of}
-use Rattle.rohc_replay.specs.Offers.{counted}
+use Rattle.rohc_links.specs.Limits.{counted}
 use Rattle.rohc_serve.proofs.tally.counted_on.Given as goal
 
 -- the elements that are left are still to be counted

@@ -1,0 +1,10 @@
+//! The versions of a links file.
+
+/// The version of a links file.
+#[derive(Clone, Copy)]
+pub(crate) enum Version {
+    /// Thirteen keys in each entry.
+    One,
+    /// Two more: `idle_ms` and `range`.
+    Two,
+}

@@ -1,9 +1,0 @@
-use Rattle.std.proofs.Common.{◌≡◌, map}
-use Rattle.toml.specs.View.{members_view, table_view}
-use Rattle.rohc_replay.specs.LinksKeys.{name_of}
-use Rattle.rohc_replay.specs.LinksFields.{has_only}
-use Rattle.rohc_replay.specs.LinksEntry.{keys}
-use Rattle.rohc_replay.proofs.links.entry.has_known_keys.Given as goal
-
-abbrev pub invariant-loop-name : goal.invariant-loop-name
-invariant-loop-name l = has_only (map name_of (keys l.version)) (members_view l.name-iterator) ≡ has_only (map name_of (keys l.version)) (table_view l.table)

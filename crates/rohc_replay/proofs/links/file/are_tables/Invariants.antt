@@ -1,8 +1,0 @@
-use Rattle.std.proofs.Common.{◌≡◌, drop, is_some}
-use Rattle.toml.specs.Data.{as_table}
-use Rattle.toml.specs.View.{items_view}
-use Rattle.rohc_replay.specs.LinksRanges.{read_each}
-use Rattle.rohc_replay.proofs.links.file.are_tables.Given as goal
-
-abbrev pub invariant-loop-value : goal.invariant-loop-value
-invariant-loop-value l = is_some (read_each as_table (items_view (drop l.value-index l.values))) ≡ is_some (read_each as_table (items_view l.values))

@@ -1,5 +1,0 @@
-use Rattle.std.proofs.Common.{rules}
-use Rattle.rohc_replay.proofs.links.lists.Links.settings.Goals as goal
-
-pub returns : goal.returns
-returns c = search rules
