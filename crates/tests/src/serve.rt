@@ -3,9 +3,9 @@
 ghost use Rattle.std.specs.Prelude.{IfOk};
 ghost use Rattle.rohc_serve.specs.Datagram.{AreSettingsOf};
 
-use crate::replay::LINKS;
+use crate::examples::{LINKS, WHOLE_IR};
 use rohc_concentrator::Concentrator;
-use rohc_replay::{Links, Ports, read_links};
+use rohc_links::{Links, Ports, read_links};
 use rohc_serve::{Front, Sends, ServeTally, answer_datagram, serve};
 use std::alloc::Global;
 use std::process::Abort;
@@ -244,11 +244,7 @@ fn counts_stay_at_the_greatest(rt: HostRuntime) -> Result<(), Fail> {
 }
 
 /// Whole IR, first UO-0 and UOR-2-TS jump, under CID 0 of link 1.
-const CALL: [&[u8]; 3] = [
-    b"\x00\x01\xfd\x01\x2b\x40\x11\x0a\x00\x00\x01\x0a\x00\x00\x02\x13\x88\x13\x8a\x00\x00\x00\x01\x00\x40\x00\x01\x20\x00\x00\x00\x90\x00\x00\x01\x00\x00\x00\xa0\x00\x09\x80\xa0\xab",
-    b"\x00\x01\x10\xac",
-    b"\x00\x01\xd4\xc3\x3e\xad",
-];
+const CALL: [&[u8]; 3] = [WHOLE_IR, b"\x10\xac", b"\xd4\xc3\x3e\xad"];
 
 /// The length of the packets of the call, in octets.
 const LENGTH: usize = 41;
@@ -309,24 +305,26 @@ struct Flood {
 }
 
 impl Flood {
-    /// The next datagram.
-    fn datagram(&self) -> &'static [u8] {
+    /// The next datagram in two parts: link 1 and a packet of the call, or nothing and a hostile one.
+    fn datagram(&self) -> (&'static [u8], &'static [u8]) {
         let place = (self.taken / (BETWEEN + 1)) as usize;
         if self.taken % (BETWEEN + 1) == BETWEEN && place < CALL.len() {
-            CALL[place]
+            (b"\x00\x01", CALL[place])
         } else {
-            HOSTILE[self.taken as usize % HOSTILE.len()]
+            (b"", HOSTILE[self.taken as usize % HOSTILE.len()])
         }
     }
 }
 
 impl Front for Flood {
     fn receive(&mut self, buffer: &mut [u8]) -> Option<(usize, u64)> {
-        let datagram = self.datagram();
+        let (link, packet) = self.datagram();
         self.taken = self.taken.wrapping_add(1);
-        let room = buffer.get_mut(..datagram.len())?;
-        room.copy_from_slice(datagram);
-        Some((datagram.len(), 0))
+        let size = link.len() + packet.len();
+        let (front, behind) = buffer.get_mut(..size)?.split_at_mut(link.len());
+        front.copy_from_slice(link);
+        behind.copy_from_slice(packet);
+        Some((size, 0))
     }
 
     fn send(&mut self, port: u16, octets: &[u8]) -> bool {

@@ -2,8 +2,8 @@
 
 use super::LINK_1;
 use rohc_concentrator::Concentrator;
+use rohc_links::read_links;
 use rohc_program::UdpFront;
-use rohc_replay::read_links;
 use rohc_serve::{ServeTally, serve};
 use std::io;
 use std::net::{Ipv4Addr, Net, UdpSocket};

@@ -1,6 +1,7 @@
 //! In how many writes an answer goes.
 
-use super::{LINKS, replayed};
+use super::replayed;
+use crate::examples::LINKS;
 use std::alloc::{AllocError, Global};
 use std::process::Abort;
 

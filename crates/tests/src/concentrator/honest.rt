@@ -2,15 +2,12 @@
 //! between its own.
 
 use super::{link_1, made};
+use crate::examples::WHOLE_IR;
 use arrayvec::ArrayVec;
 use rohc_concentrator::{Answer, Concentrator};
 
 /// How much the timestamp grows from packet to packet.
 const STRIDE: u32 = 160;
-
-/// The IR with which a call begins: SN 1, timestamp 160, and the stride.
-pub(super) const IR: &[u8] =
-    b"\xfd\x01\x2b\x40\x11\x0a\x00\x00\x01\x0a\x00\x00\x02\x13\x88\x13\x8a\x00\x00\x00\x01\x00\x40\x00\x01\x20\x00\x00\x00\x90\x00\x00\x01\x00\x00\x00\xa0\x00\x09\x80\xa0\xab";
 
 /// Hostile packets: on the call's own link, under other CIDs and without a CID.
 const HOSTILE: [&[u8]; 8] = [
@@ -155,7 +152,7 @@ fn is_delivered(concentrator: &mut Concentrator, moment: u64, sent: Sent) -> boo
 #[test]
 fn what_is_delivered_was_sent(rt: HostRuntime) {
     let mut concentrator = made(&rt, rt.alloc(), link_1(0));
-    let _ = concentrator.arrive(1, 0, IR);
+    let _ = concentrator.arrive(1, 0, WHOLE_IR);
     let mut sent = Sent {
         sn: 1,
         ts: 160,

@@ -2,6 +2,7 @@
 
 mod honest;
 
+use crate::examples::WHOLE_IR;
 use arrayvec::ArrayVec;
 use rohc_concentrator::{
     Answer, CidRange, Concentrator, LinkRecords, LinkSetting, NoLink, SetupFault, Taken,
@@ -112,10 +113,10 @@ fn a_packet_is_taken_at_once_or_later(rt: HostRuntime) {
     let mut concentrator = made(&rt, rt.alloc(), link_1(0));
     let mut answer = Answer::refusing(7, Refusal::NoContext);
     assert_eq!(rt;
-        concentrator.take_at_once(1, 0, honest::IR, &mut answer),
+        concentrator.take_at_once(1, 0, WHOLE_IR, &mut answer),
         None
     );
-    concentrator.arrive_longer(1, 0, honest::IR, &mut answer);
+    concentrator.arrive_longer(1, 0, WHOLE_IR, &mut answer);
     assert_eq!(rt; cid_and_outcome(&answer), Some((0, DELIVERED)));
     answer = Answer::refusing(7, Refusal::NoContext);
     let taken = concentrator.take_at_once(1, 0, b"\x10\xac", &mut answer);
@@ -221,7 +222,7 @@ fn places_keep_the_order_of_first_records(rt: HostRuntime) {
 /// Packets of examples *fall to Static* and *fall to No Context*, and how many outcomes the two windows hold after each.
 /// The outcome of a packet that changes the state is in neither window.
 const OUTCOMES: [(Arrival, (u8, u8)); 7] = [
-    ((0, honest::IR, DELIVERED), (0, 0)),
+    ((0, WHOLE_IR, DELIVERED), (0, 0)),
     ((0, b"\x11\xac", UNFIT), (1, 0)),
     // To Static Context.
     ((0, b"\x11\xac", UNFIT), (0, 0)),
@@ -229,7 +230,7 @@ const OUTCOMES: [(Arrival, (u8, u8)); 7] = [
     // To Full Context.
     ((0, b"\xd4\xc3\x3e\xad", DELIVERED), (0, 0)),
     ((0, b"\x11\xac", UNFIT), (1, 0)),
-    ((0, honest::IR, DELIVERED), (2, 0)),
+    ((0, WHOLE_IR, DELIVERED), (2, 0)),
 ];
 
 /// How many outcomes the windows of the first record of link 1 hold.

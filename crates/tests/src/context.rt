@@ -1,5 +1,6 @@
 //! Arrivals of one context, from the worked examples; settings and refusals.
 
+use crate::examples::WHOLE_IR;
 use rohc_context::{Context, ContextState, Mode, Outcome, Profile, Refusal, Reply, Settings};
 use rohc_frame::{CidKind, cut, plain_header};
 use std::fmt::InlineText;
@@ -16,13 +17,6 @@ const SETTINGS: Settings = Settings {
     static_nack_ms: 1000,
     idle_ms: 0,
 };
-
-// Example whole IR.
-const WHOLE_IR: [u8; 42] = [
-    0xfd, 0x01, 0x2b, 0x40, 0x11, 0x0a, 0x00, 0x00, 0x01, 0x0a, 0x00, 0x00, 0x02, 0x13, 0x88, 0x13,
-    0x8a, 0x00, 0x00, 0x00, 0x01, 0x00, 0x40, 0x00, 0x01, 0x20, 0x00, 0x00, 0x00, 0x90, 0x00, 0x00,
-    0x01, 0x00, 0x00, 0x00, 0xa0, 0x00, 0x09, 0x80, 0xa0, 0xab,
-];
 
 // The context after a first packet.
 fn first(packet: &[u8]) -> Option<Context> {
@@ -61,7 +55,7 @@ const LOW: Outcome = Outcome::Refused(Refusal::StateTooLow);
 // Examples first UO-0, fall to Static and UOR-2-TS jump.
 #[test]
 fn a_call_falls_and_is_taken_up_again(rt: HostRuntime) {
-    let Some(mut context) = first(&WHOLE_IR) else {
+    let Some(mut context) = first(WHOLE_IR) else {
         panic!(rt; "refused");
     };
     let answers: [(&[u8], Outcome, Option<u8>, Option<u8>, ContextState); 7] = [
@@ -77,7 +71,7 @@ fn a_call_falls_and_is_taken_up_again(rt: HostRuntime) {
             Some(0xf4),
             FULL,
         ),
-        (&WHOLE_IR, Outcome::Delivered, Some(1), Some(0xf4), FULL),
+        (WHOLE_IR, Outcome::Delivered, Some(1), Some(0xf4), FULL),
     ];
     assert_eq!(rt; context.profile(), Profile::Rtp);
     for (packet, outcome, sn, feedback, state) in answers {
@@ -95,7 +89,7 @@ fn packets_without_an_extension_3(rt: HostRuntime) {
         (&[0xc0, 0x0c, 0xfa, 0x63, 0x64, 0xad], 100),
     ];
     for (packet, sn) in packets {
-        let Some(mut context) = first(&WHOLE_IR) else {
+        let Some(mut context) = first(WHOLE_IR) else {
             panic!(rt; "refused");
         };
         assert!(rt; answer(&mut context, &[0x10, 0xac]).is_some());
@@ -107,7 +101,7 @@ fn packets_without_an_extension_3(rt: HostRuntime) {
 // Example first UO-0, whose answer is written over a refusal.
 #[test]
 fn an_answer_overwrites_the_one_that_is_lent(rt: HostRuntime) {
-    let Some(mut context) = first(&WHOLE_IR) else {
+    let Some(mut context) = first(WHOLE_IR) else {
         panic!(rt; "refused");
     };
     let packet = [0x10, 0xac];
@@ -143,7 +137,7 @@ fn packets_without_an_extension_are_taken_at_once(rt: HostRuntime) {
         (&[0x11, 0xac], None, UNFIT),
     ];
     for (packet, taken, outcome) in packets {
-        let Some(mut context) = first(&WHOLE_IR) else {
+        let Some(mut context) = first(WHOLE_IR) else {
             panic!(rt; "refused");
         };
         let mut reply = Reply::refused(Refusal::NoLink);
@@ -180,7 +174,7 @@ fn a_normal_packet_is_delivered_as_it_is(rt: HostRuntime) {
 // In Full Context the second window is empty. The registers are those of headers with the reference's fields.
 #[test]
 fn what_is_stored_is_lent(rt: HostRuntime) {
-    let Some(mut context) = first(&WHOLE_IR) else {
+    let Some(mut context) = first(WHOLE_IR) else {
         panic!(rt; "refused");
     };
     assert!(rt; answer(&mut context, &[0x11, 0xac]).is_some());

@@ -1,27 +1,20 @@
 //! IRs and IR-DYNs of the worked examples, cut off at each octet, and the longest IRs.
 
+use crate::examples::WHOLE_IR;
 use rohc_chain::{ChainRefusal, Ir, read_ir, read_ir_dyn};
 use rohc_frame::{CidKind, Forward, HeadKind, cut};
 use std::alloc::{AllocError, Global};
 use std::test::Fail;
 
-// A packet by its parts.
-type Parts = [&'static [u8]; 3];
-
-// The chains of example whole IR.
-const STATIC: &[u8] = &[
-    0x40, 0x11, 0x0a, 0, 0, 0x01, 0x0a, 0, 0, 0x02, 0x13, 0x88, 0x13, 0x8a, 0, 0, 0, 0x01,
-];
-
-const MOVING: &[u8] = &[
-    0, 0x40, 0, 0x01, 0x20, 0, 0, 0, 0x90, 0, 0, 0x01, 0, 0, 0, 0xa0, 0, 0x09, 0x80, 0xa0,
-];
+// A packet: its first octets, and from where to where octets of example whole IR follow. There the static chain stands
+// at 3 to 21, and the dynamic chain at 21 to 41.
+type Parts = (&'static [u8], usize, usize);
 
 fn octets_of(alloc: Global, parts: Parts) -> Result<Vec<u8>, AllocError> {
+    let (first, from, to) = parts;
     let mut octets = Vec::new(alloc);
-    for part in parts {
-        octets.extend_from_slice(part)?;
-    }
+    octets.extend_from_slice(first)?;
+    octets.extend_from_slice(WHOLE_IR.get(from..to).unwrap_or(&[]))?;
     Ok(octets)
 }
 
@@ -65,26 +58,11 @@ fn is_read_at_each_cut(size: CidKind, packet: &[u8], framed: usize, header: usiz
 
 // The CID kind, a packet, how many octets its first octet and CID have, and how many its header has.
 const CUT: [(CidKind, Parts, usize, usize); 5] = [
-    (
-        CidKind::Small,
-        [&[0xe1, 0xfc, 0, 0x30, 0x45, 0xaa], &[], &[]],
-        2,
-        4,
-    ),
-    (
-        CidKind::Large,
-        [&[0xfc, 0x81, 0x2c, 0, 0xe6, 0x45], &[], &[]],
-        3,
-        5,
-    ),
-    (CidKind::Small, [&[0xfc, 0x01, 0xde], STATIC, &[]], 1, 21),
-    (
-        CidKind::Small,
-        [&[0xf8, 0x01, 0x0e], MOVING, &[0xab]],
-        1,
-        23,
-    ),
-    (CidKind::Small, [&[0xfd, 0x01, 0x2b], STATIC, MOVING], 1, 41),
+    (CidKind::Small, (b"\xe1\xfc\x00\x30\x45\xaa", 0, 0), 2, 4),
+    (CidKind::Large, (b"\xfc\x81\x2c\x00\xe6\x45", 0, 0), 3, 5),
+    (CidKind::Small, (b"\xfc\x01\xde", 3, 21), 1, 21),
+    (CidKind::Small, (b"\xf8\x01\x0e", 21, 42), 1, 23),
+    (CidKind::Small, (b"", 0, 41), 1, 41),
 ];
 
 #[test]
@@ -117,7 +95,7 @@ const LONG: [(u8, usize, Option<ChainRefusal>); 4] = [
 #[test]
 fn long_packets(rt: HostRuntime) -> Result<(), Fail> {
     for (check, length, refusal) in LONG {
-        let mut packet = octets_of(rt.alloc(), [&[0xfd, 0x01, 0x2b], STATIC, MOVING])?;
+        let mut packet = octets_of(rt.alloc(), (b"", 0, 41))?;
         let header = packet.len();
         packet.resize(header + length, 0)?;
         if let Some(place) = packet.get_mut(2) {

@@ -2,59 +2,14 @@
 
 mod faults;
 mod lines;
-mod links;
 
+use crate::examples::LINKS;
 use rohc_concentrator::Concentrator;
-use rohc_replay::{RunFault, Tally, read_links, replay};
+use rohc_links::read_links;
+use rohc_replay::{RunFault, Tally, replay};
 use std::alloc::{AllocError, Global};
 use std::io::{self, Error, ErrorKind, Read, Write};
 use std::process::Abort;
-
-/// Links 1 to 3 of the worked examples.
-pub(crate) const LINKS: &str = "version = 1
-[[link]]
-number = 1
-cid = \"small\"
-max_cid = 15
-mode = \"O\"
-k1 = 2
-n1 = 3
-k2 = 2
-n2 = 3
-packet_ms = 20
-static_nack_ms = 1000
-deliver_port = 6001
-feedback_port = 6002
-relay_port = 6003
-[[link]]
-number = 2
-cid = \"large\"
-max_cid = 16383
-mode = \"O\"
-k1 = 2
-n1 = 3
-k2 = 2
-n2 = 3
-packet_ms = 20
-static_nack_ms = 1000
-deliver_port = 6004
-feedback_port = 6005
-relay_port = 6006
-[[link]]
-number = 3
-cid = \"small\"
-max_cid = 3
-mode = \"U\"
-k1 = 2
-n1 = 3
-k2 = 2
-n2 = 3
-packet_ms = 20
-static_nack_ms = 1000
-deliver_port = 6007
-feedback_port = 6008
-relay_port = 6009
-";
 
 /// Example *two calls and noise*, with an unfinished last line.
 const SCRIPT: &str =

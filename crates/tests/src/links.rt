@@ -3,7 +3,7 @@
 use rohc_concentrator::CidRange;
 use rohc_context::{Mode, Settings};
 use rohc_frame::CidKind;
-use rohc_replay::{Key, LinksFault, Ports, read_links};
+use rohc_links::{Key, LinksFault, Ports, read_links};
 use std::alloc::Global;
 use std::fmt::InlineText;
 use std::process::Abort;

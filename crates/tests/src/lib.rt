@@ -1,0 +1,34 @@
+//! The tests of all crates: of the parts what no row of test data can say, of contexts, the concentrator, links files,
+//! replays, the server and the program.
+//!
+//! They stand apart from these crates, so that each of those is proved once, and not again with its tests.
+#![tactic(auto)]
+
+#[cfg(test)]
+mod bits;
+#[cfg(test)]
+mod chain;
+#[cfg(test)]
+mod checks;
+#[cfg(test)]
+mod concentrator;
+#[cfg(test)]
+mod context;
+#[cfg(test)]
+mod examples;
+#[cfg(test)]
+mod forms;
+#[cfg(test)]
+mod frame;
+#[cfg(test)]
+mod header;
+#[cfg(test)]
+mod links;
+#[cfg(test)]
+mod program;
+#[cfg(test)]
+mod replay;
+#[cfg(test)]
+mod serve;
+#[cfg(test)]
+mod together;
