@@ -9,6 +9,9 @@ pub mod Response
 pub mod Good
 pub mod Saved
 pub mod Previous
+pub mod SavedText
+pub mod SavedReading
+pub mod SavedLaws
 pub mod InForce
 pub mod Explains
 pub mod Tries

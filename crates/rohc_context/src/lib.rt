@@ -4,6 +4,7 @@
 #![tactic(auto)]
 
 pub mod at_once;
+pub mod context_fault;
 mod due;
 mod explain;
 mod failures;
@@ -19,6 +20,8 @@ pub mod record;
 mod reference;
 pub mod refusal;
 pub mod reply;
+mod restoring;
+mod saving;
 pub mod settings;
 pub mod standing;
 mod state;
@@ -27,6 +30,7 @@ mod tries;
 pub mod window;
 
 pub use at_once::AtOnce;
+pub use context_fault::ContextFault;
 pub use record::Context;
 pub use refusal::Refusal;
 pub use reply::{Delivered, Outcome, Reply};

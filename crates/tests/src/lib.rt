@@ -29,6 +29,8 @@ mod program;
 #[cfg(test)]
 mod replay;
 #[cfg(test)]
+mod saved;
+#[cfg(test)]
 mod serve;
 #[cfg(test)]
 mod together;
