@@ -1,3 +1,4 @@
+pub mod CutLemmas
 pub mod EventLemmas
 pub mod GoodLemmas
 pub mod HonestLemmas
@@ -6,6 +7,7 @@ pub mod LinkPlaceLemmas
 pub mod MarkedLemmas
 pub mod OrderLemmas
 pub mod PlaceLemmas
+pub mod PuttingLemmas
 pub mod SameLemmas
 pub mod SetupLaws
 pub mod SetupLemmas

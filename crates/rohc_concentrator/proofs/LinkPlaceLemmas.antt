@@ -15,7 +15,7 @@ None_not_Some : {X : Type 0} {x : X} → None ≢ Some x
 None_not_Some e = cc
 
 -- what holds of one number and of each other one holds of all
-by_number : (P : ℕ → Type 0) (one : ℕ) → P one → ((n : ℕ) → n ≢ one → P n) → (n : ℕ) → P n
+pub by_number : (P : ℕ → Type 0) (one : ℕ) → P one → ((n : ℕ) → n ≢ one → P n) → (n : ℕ) → P n
 by_number P one here elsewhere n = by (nat_eq n one) refl
   where
     by : (b : Bool) → nat_eq n one ≡ b → P n

@@ -10,7 +10,7 @@ use Rattle.rohc_concentrator.specs.declared.records.LinkRecords.{LinkRecords}
 use Rattle.rohc_concentrator.specs.Tables.{KeepsPlace}
 
 -- one more entry at the end has its key at the end
-keys_of-append : {V : Type 0} (es : List (ℕ × V)) (k : ℕ) (v : V) → keys_of (es ++ (k, v) ∷ []) ≡ keys_of es ++ k ∷ []
+pub keys_of-append : {V : Type 0} (es : List (ℕ × V)) (k : ℕ) (v : V) → keys_of (es ++ (k, v) ∷ []) ≡ keys_of es ++ k ∷ []
 keys_of-append [] k v = refl
 keys_of-append (e ∷ es) k v = ap (λ ks. e.0 ∷ ks) (keys_of-append es k v)
 

@@ -3,9 +3,11 @@ pub mod Tables
 pub mod Bears
 pub mod Report
 pub mod Taken
+pub mod Putting
 pub mod Setup
 pub mod Events
 pub mod LoneRun
 pub mod Isolation
 pub mod Honest
 pub mod Laws
+pub mod Cut

@@ -2,6 +2,7 @@
 
 ghost use Rattle.rohc_context.specs.Laws.{HasAnswer, HasNoOther};
 ghost use Rattle.rohc_concentrator.specs.Laws.{TwoWorlds, NoTrace, WantIsRefusal, TakenUpOrRefused, TakenHasALink, HoldsGoodRecords, FaultyIsNotFine, FineOrFaulty, HasOneFault, MarkedIsAcceptedIr, LoneRunIsUnmarked, IsolatedEvents, SameReplies};
+ghost use Rattle.rohc_concentrator.specs.Cut.{CutRun};
 ghost use Rattle.rohc_concentrator.specs.Honest.{DeliversWhatWasSent, AsksOrdinaryAlone, HasHonestRun, HasHonestSender};
 
 /// For good values, an arrival has exactly one answer, and exactly one record after it, or none.
@@ -63,6 +64,12 @@ pub fn isolated_events()
 /// both answer it alike and leave it equal records, lack of memory aside, whatever else they hold.
 pub fn same_replies()
     ensures { SameReplies }
+{}
+
+/// A run is cut anywhere, and another concentrator goes on that agrees on a CID of a link with what was kept at the cut.
+/// Then the CID gets the replies of the whole run, and has the record that the whole run leaves, lack of memory aside.
+pub fn cut_run()
+    ensures { CutRun }
 {}
 
 /// What is delivered was sent. Let a sender write each packet for each of the last w references, let fewer than w

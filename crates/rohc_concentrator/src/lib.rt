@@ -8,6 +8,7 @@ pub mod concentrator;
 pub mod laws;
 mod link;
 mod place;
+pub mod putting;
 pub mod records;
 pub mod setting;
 pub mod setup;
@@ -15,6 +16,7 @@ mod standing;
 
 pub use answer::{Answer, NoLink, Taken};
 pub use concentrator::Concentrator;
+pub use putting::PutFault;
 pub use records::LinkRecords;
 pub use setting::{CidRange, LinkSetting};
 pub use setup::SetupFault;

@@ -1,8 +1,12 @@
 //! Saved contexts: the octets as docs/FORMATS.md has them, each state and back, and octets that are no context.
 
 use crate::examples::WHOLE_IR;
+use arrayvec::ArrayVec;
+use rohc_concentrator::{Answer, Concentrator, LinkSetting, PutFault};
 use rohc_context::{Context, ContextFault, ContextState, Mode, Outcome, Settings};
 use rohc_frame::{CidKind, cut};
+use std::alloc::Global;
+use std::process::Abort;
 
 const SETTINGS: Settings = Settings {
     size: CidKind::Small,
@@ -51,7 +55,7 @@ fn answer(context: &mut Context, packet: &[u8]) -> Option<(Outcome, Option<u8>)>
 
 #[test]
 fn a_context_is_saved_as_documented(rt: HostRuntime) {
-    let Some(context) = first(0x0102_0304_0506_0708, &WHOLE_IR) else {
+    let Some(context) = first(0x0102_0304_0506_0708, WHOLE_IR) else {
         panic!(rt; "refused");
     };
     assert_eq!(rt; context.save().as_slice(), &SAVED[..]);
@@ -60,7 +64,7 @@ fn a_context_is_saved_as_documented(rt: HostRuntime) {
 // A call that goes through all states, and its answers where before each packet the context is saved and restored.
 #[test]
 fn a_call_goes_on_after_each_state(rt: HostRuntime) {
-    let Some(mut context) = first(0, &WHOLE_IR) else {
+    let Some(mut context) = first(0, WHOLE_IR) else {
         panic!(rt; "refused");
     };
     let packets: [(&[u8], usize, ContextState); 8] = [
@@ -71,7 +75,7 @@ fn a_call_goes_on_after_each_state(rt: HostRuntime) {
         (&[0xc0, 0x00, 0x00], 68, ContextState::StaticContext),
         (&[0xc0, 0x00, 0x00], 68, ContextState::StaticContext),
         (&[0x10, 0xac], 17, ContextState::NoContext),
-        (&WHOLE_IR, 17, ContextState::NoContext),
+        (WHOLE_IR, 17, ContextState::NoContext),
     ];
     for (packet, length, state) in packets {
         assert_eq!(rt; context.state(), state);
@@ -135,5 +139,45 @@ fn any_octets_are_safe(rt: HostRuntime) {
                 assert_eq!(rt; context.save().as_slice(), &octets[..]);
             }
         }
+    }
+}
+
+// The outcome of a packet on link 1, if it has a CID.
+fn outcome(concentrator: &mut Concentrator, packet: &[u8]) -> Option<Outcome> {
+    match concentrator.arrive(1, 0, packet) {
+        Answer::Arrived { reply, .. } => Some(reply.outcome),
+        Answer::OnlyFront { .. } | Answer::Refused(_) => None,
+    }
+}
+
+// The concentrator with link 1 alone.
+fn made(rt: &impl Abort, alloc: Global) -> Concentrator {
+    let setting = LinkSetting {
+        link: 1,
+        settings: SETTINGS,
+        ranges: ArrayVec::new(),
+    };
+    Concentrator::new(alloc, &[setting]).expect(rt, "a concentrator")
+}
+
+// Example first UO-0, cut behind its IR.
+#[test]
+fn a_restored_context_goes_on_in_another_concentrator(rt: HostRuntime) {
+    let mut before = made(&rt, rt.alloc());
+    let mut after = made(&rt, rt.alloc());
+    assert_eq!(rt; outcome(&mut before, WHOLE_IR), Some(Outcome::Delivered));
+    let Some((cid, context)) = before.context_at(1, 0) else {
+        panic!(rt; "no record");
+    };
+    let Ok(restored) = Context::restore(context.save().as_slice()) else {
+        panic!(rt; "not restored");
+    };
+    assert_eq!(rt; after.put(9, cid, restored), Err(PutFault::NoLink));
+    assert_eq!(rt; after.put(1, 16, restored), Err(PutFault::CidRange));
+    assert_eq!(rt; after.put(1, cid, restored), Ok(()));
+    assert_eq!(rt; after.put(1, cid, restored), Err(PutFault::HasRecord));
+    assert!(rt; after.has_context(1, 0));
+    for packet in [[0x10, 0xac], [0x11, 0xac], [0x11, 0xac], [0x10, 0xac]] {
+        assert_eq!(rt; outcome(&mut after, &packet), outcome(&mut before, &packet));
     }
 }
