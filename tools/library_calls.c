@@ -1,6 +1,6 @@
 /*
  * Calls the library for C at its limits: no gateway, each fault, buffers of exactly the bound and one less, lack of memory.
- * bin/check_library links it with --wrap=malloc and --wrap=realloc. The octets are those of docs/EXAMPLES.md.
+ * bin/check library links it with --wrap=malloc and --wrap=realloc. The octets are those of docs/EXAMPLES.md.
  */
 #include <stdio.h>
 #include <stdlib.h>

@@ -1,6 +1,7 @@
 /*
  * Counts the memory of the library for C: what its calls ask for and don't need any more must be given back. No contract can say
- * so. bin/check_library links it with --wrap for malloc, calloc, realloc and free. The octets are those of docs/EXAMPLES.md.
+ * so. bin/check library links it with --wrap for malloc, calloc, realloc and free. The octets are those of
+ * docs/EXAMPLES.md.
  */
 #include <stdio.h>
 #include <stdlib.h>

@@ -1,20 +1,30 @@
 """Runs the checks of the repository; bin/check says how it is called."""
 
 import sys
+from inspect import cleandoc, getdoc
+from os import X_OK, access
+from pathlib import Path
 
-sys.dont_write_bytecode = True
-
-from registry import CHECKS, PROGRAM, Needs
-from run import run_checks
+from registry import CHECKS, PROGRAM, TOP, Check, Needs
+from run import Order, run_checks
 from table import faults, page
 
+BY_NAME = {check.name: check for check in CHECKS}
 
-def show_list() -> None:
+
+def refuse(text: str) -> int:
+    """Says what is wrong with the words."""
+    print(f"bin/check: {text}", file=sys.stderr)
+    return 2
+
+
+def show_list() -> int:
     """Prints each check with what it needs and what it shows."""
     print(f"{'name':16}{'needs':11}shows")
     for check in CHECKS:
         print(f"{check.name:16}{check.needs.value:11}{check.shows}")
     print(f"\n{Needs.PROGRAM.value}: {PROGRAM}, as the gate left it, proved from these sources")
+    return 0
 
 
 def show_table() -> int:
@@ -26,20 +36,50 @@ def show_table() -> int:
     return int(bool(found))
 
 
+def show_help(check: Check) -> int:
+    """Prints what a check says of itself."""
+    module = sys.modules[check.function.__module__]
+    text = getdoc(check.function if module.__name__ == "registry" else module) or ""
+    print(f"bin/check {check.name}: {check.shows}.\n\n{cleandoc(text)}")
+    return 0
+
+
+def read(words: list[str]) -> dict[str, tuple[str, ...]] | str:
+    """The names of checks, each with the words behind it, or what is wrong."""
+    chosen: dict[str, tuple[str, ...]] = {}
+    last = ""
+    for word in words:
+        if word in BY_NAME:
+            last = word
+            chosen.setdefault(word, ())
+        elif last and BY_NAME[last].knows(TOP, word):
+            chosen[last] += (word,)
+        else:
+            what = f"{last} has no part {word}, and " if last else ""
+            return f"{what}there is no check {word}; there are {', '.join(BY_NAME)}"
+    return chosen
+
+
 def main(words: list[str]) -> int:
     """Does what the words say, and returns the status."""
     if words == ["--list"]:
-        show_list()
-        return 0
+        return show_list()
     if words == ["--table"]:
         return show_table()
-    names = [check.name for check in CHECKS]
-    for word in words:
-        if word not in names:
-            print(f"bin/check: there is no check {word}; there are {', '.join(names)}", file=sys.stderr)
-            return 2
-    sys.stdout.reconfigure(errors="replace")
-    return run_checks([check for check in CHECKS if check.name in (words or names)])
+    if len(words) == 2 and words[0] in BY_NAME and words[1] == "--help":
+        return show_help(BY_NAME[words[0]])
+    is_given = words[:1] == ["--program"]
+    program = Path(words[1] if is_given and len(words) > 1 else TOP / PROGRAM).resolve()
+    if is_given and not (program.is_file() and access(program, X_OK)):
+        return refuse(f"no program at {program}")
+    chosen = read(words[2:] if is_given else words)
+    if isinstance(chosen, str):
+        return refuse(chosen)
+    names = chosen or {name: () for name in BY_NAME}
+    checks = [check for check in CHECKS if check.name in names]
+    sys.stdout.reconfigure(errors="replace")  # type: ignore[union-attr]
+    return run_checks(checks, Order(names, program, is_given, not chosen))
 
 
-sys.exit(main(sys.argv[1:]))
+if __name__ == "__main__":
+    sys.exit(main(sys.argv[1:]))

@@ -1,8 +1,26 @@
 """The table of checks, and the table of what they test."""
 
+from collections.abc import Callable
 from dataclasses import dataclass
 from enum import Enum
 from pathlib import Path
+
+import bodies
+import closed
+import closed_test
+import documents
+import documents_test
+import ends
+import examples
+import installation
+import launcher
+import library
+import limits
+import lines
+import lint
+import poverty
+import random_scripts
+from trial import Trial
 
 TOP = Path(__file__).resolve().parent.parent.parent
 PROGRAM = "crates/rohcd/out/rohcd"
@@ -16,75 +34,130 @@ class Needs(Enum):
     PROGRAM = "program"
 
 
+def knows_none(top: Path, word: str) -> bool:
+    """Whether a check without parts takes a word: no."""
+    return False
+
+
+def gate(trial: Trial) -> None:
+    """Runs `rt ci`. What it says is shown as it says it, and the program is recorded as proved from these sources."""
+    digest = trial.ran("bin/sources", "digest").text.strip()
+    status = trial.shown_live("rt", "ci")
+    if trial.demand(status == 0, f"gate: status {status}"):
+        recorded = trial.ran("bin/sources", "record", digest).status == 0
+        trial.demand(recorded, "gate: a source changed during the gate, or it left no program")
+
+
 @dataclass(frozen=True)
 class Check:
-    """A check: its command is a line of bash, which runs at the top of the repository.
+    """A check, its function, and what it shows. Words behind its name are names of its parts, which it must know.
 
-    Without the tool that it names it is left out.
+    Without the tool that it names it is left out. One that can do without the program runs without it if it is asked for.
     """
 
     name: str
     needs: Needs
-    command: str
+    function: Callable[[Trial], None]
     shows: str
     tool: str = ""
     without_tool: str = ""
+    knows: Callable[[Path, str], bool] = knows_none
+    can_do_without: bool = False
 
 
-def on_program(name: str, shows: str, script: str = "") -> Check:
-    """A check whose script takes the program."""
-    return Check(name, Needs.PROGRAM, f"{script or f'bin/check_{name}'} {PROGRAM}", shows)
-
-
-SHELL_SCRIPTS = "grep -d skip -lE '^#!.*bash|^# shellcheck shell=bash' bin/* bench/* tools/* tests/* .ci/* completion/*"
+NOTHING, TOOLCHAIN, ON_PROGRAM = Needs
 
 # In the order in which they are told.
 CHECKS = (
     # The step of one context is a closed box: no crate above rohc_context may open it.
-    Check("closed", Needs.NOTHING, "bin/check_closed", "no crate above rohc_context looks inside the step of a context"),
-    Check("closed_test", Needs.NOTHING, "bin/check_closed_test", "closed refuses each known way round it"),
+    Check("closed", NOTHING, closed.check, "no crate above rohc_context looks inside the step of a context"),
+    Check("closed_test", NOTHING, closed_test.check, "closed refuses each known way round it"),
     # The wrong bodies that the gate does not try must fit their files, so that they can be tried at any time.
-    Check("bodies", Needs.NOTHING, "bin/check_bodies --apply", "each wrong body fits its file; nothing is proved"),
+    Check(
+        "bodies",
+        NOTHING,
+        bodies.check,
+        "each wrong body fits its file and is named by its function; nothing is proved",
+        knows=bodies.is_crate,
+    ),
     Check(
         "shell",
-        Needs.NOTHING,
-        f"{SHELL_SCRIPTS} | xargs shellcheck --severity=warning",
+        NOTHING,
+        lint.check_shell,
         "the scripts in bash have no warning of shellcheck",
         "shellcheck",
         "the scripts were not linted",
     ),
     Check(
         "manual",
-        Needs.NOTHING,
-        "mandoc -T lint -W warning man/*.1 man/*.5",
+        NOTHING,
+        lint.check_manual,
         "the manual pages have no warning of mandoc",
         "mandoc",
         "the manual pages were not linted",
     ),
-    Check("python", Needs.NOTHING, "python3 tools/check/lint.py", "the scripts in Python compile without a warning"),
+    Check("python", NOTHING, lint.check_python, "the scripts in Python compile without a warning"),
     Check(
         "words",
-        Needs.NOTHING,
-        "bin/check_documents --words",
+        NOTHING,
+        documents.check_words,
         "links, paths, names, counts, examples and pictures of the documents; each script's --help",
     ),
     Check(
         "gate",
-        Needs.TOOLCHAIN,
-        "rt ci",
+        TOOLCHAIN,
+        gate,
         "all proofs, the tests in the crates, the wrong bodies of must-fail; it leaves the program",
     ),
-    on_program("library", "the library from C and Python; proves rohc_c once more, unless the gate ran just before"),
-    on_program("program", "the statuses, the faults of the links file, an open pipe, calls over sockets"),
-    on_program("examples", "the worked examples, whole and with each packet cut at every octet, and the whole scripts"),
-    on_program("lines", "good, bad and long lines, pieces of any size, times, each call among hostile lines"),
-    on_program("random", "random scripts, in pieces of any size and each call by itself"),
-    on_program("limits", "256 links, all CIDs, 2^20 reads, 2^32 octets; a call and an honest sender in a flood"),
-    on_program("poverty", "each request for memory refused in turn", "bin/poverty"),
-    on_program("launcher", "bin/rohcd with a proved program and without one"),
-    on_program("install", "bin/install, the completion, tools/link_lines.py on faulty files"),
-    on_program("documents", "the commands and answers that documents show, and what words shows"),
-    on_program("documents_test", "documents finds each fault that is put into a copy"),
+    Check(
+        "library",
+        ON_PROGRAM,
+        library.check,
+        "the library from C and Python; proves rohc_c once more, unless the gate ran just before",
+        can_do_without=True,
+    ),
+    Check(
+        "program", ON_PROGRAM, ends.check, "the statuses, the faults of the links file, an open pipe, calls over sockets"
+    ),
+    Check(
+        "examples",
+        ON_PROGRAM,
+        examples.check,
+        "the worked examples, whole and with each packet cut at every octet, and the whole scripts",
+        knows=examples.is_example,
+    ),
+    Check(
+        "lines",
+        ON_PROGRAM,
+        lines.check,
+        "good, bad and long lines, pieces of any size, times, each call among hostile lines",
+        knows=lines.is_part,
+    ),
+    Check(
+        "random",
+        ON_PROGRAM,
+        random_scripts.check,
+        "random scripts, in pieces of any size and each call by itself",
+        knows=random_scripts.is_number,
+    ),
+    Check(
+        "limits",
+        ON_PROGRAM,
+        limits.check,
+        "256 links, all CIDs, 2^20 reads, 2^32 octets; a call and an honest sender in a flood",
+        knows=limits.is_part,
+    ),
+    Check("poverty", ON_PROGRAM, poverty.check, "each request for memory refused in turn"),
+    Check("launcher", ON_PROGRAM, launcher.check, "bin/rohcd with a proved program and without one"),
+    Check("install", ON_PROGRAM, installation.check, "bin/install, the completion, tools/link_lines.py on faulty files"),
+    Check(
+        "documents",
+        ON_PROGRAM,
+        documents.check,
+        "the commands and answers that documents show, and what words shows",
+        knows=documents.is_document,
+    ),
+    Check("documents_test", ON_PROGRAM, documents_test.check, "documents finds each fault that is put into a copy"),
 )
 
 

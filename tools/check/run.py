@@ -1,17 +1,18 @@
 """Runs checks, tells what each said, and ends with a table."""
 
-import os
 import shutil
 import subprocess
+import tempfile
 import time
-from collections.abc import Iterable, Iterator
-from concurrent.futures import ThreadPoolExecutor
-from dataclasses import dataclass, field
-from functools import partial
+import traceback
+from collections.abc import Iterable, Iterator, Mapping
+from concurrent.futures import ProcessPoolExecutor
+from dataclasses import dataclass, field, replace
+from pathlib import Path
 
 from registry import PROGRAM, TOP, Check, Needs
+from trial import LEFT_OUT, Trial
 
-LEFT_OUT = "left out: "
 NO_PROGRAM = f"needs the program, and no {PROGRAM} stands that was proved from these sources: `bin/check gate` makes it"
 
 
@@ -23,9 +24,11 @@ class Result:
     outcome: str
     seconds: int
     lines: list[str] = field(default_factory=list)
+    last: str = ""
 
     @property
     def failed(self) -> bool:
+        """Whether it didn't pass."""
         return self.outcome.startswith("NOT ")
 
     @property
@@ -34,19 +37,23 @@ class Result:
         return [line for line in self.lines if line.startswith(LEFT_OUT)]
 
 
+@dataclass(frozen=True)
+class Order:
+    """What is to be run: checks with the words behind their names, on a program.
+
+    The program may be given. Otherwise it must be the one that was proved. The names may be all that there are.
+    """
+
+    words: Mapping[str, tuple[str, ...]]
+    program: Path
+    is_given: bool
+    is_all: bool
+    over_gate: bool = False
+
+
 def say(text: str) -> None:
     """Prints a line at once."""
     print(text, flush=True)
-
-
-def bash(command: str) -> list[str]:
-    """The words that run a line of bash. It fails if a part of a pipe does."""
-    return ["bash", "-eu", "-o", "pipefail", "-c", command]
-
-
-def outcome_of(status: int) -> str:
-    """A status in words."""
-    return "passed" if status == 0 else f"NOT passed, status {status}"
 
 
 def seconds_since(start: float) -> int:
@@ -54,22 +61,27 @@ def seconds_since(start: float) -> int:
     return round(time.monotonic() - start)
 
 
-def run_one(check: Check, environment: dict[str, str]) -> Result:
-    """Runs a check. What it writes is kept."""
+def faults_of(wrongs: int) -> str:
+    """How many faults, in words."""
+    return "passed" if wrongs == 0 else f"NOT passed, {wrongs} fault{'s' * (wrongs != 1)}"
+
+
+def run_one(check: Check, order: Order) -> Result:
+    """Runs a check. What it says is kept, and its folder if it fails."""
     if check.tool and not shutil.which(check.tool):
         return Result(check.name, "left out", 0, [f"{LEFT_OUT}{check.tool} is not installed, {check.without_tool}"])
     start = time.monotonic()
-    run = subprocess.run(
-        bash(check.command),
-        cwd=TOP,
-        env={**os.environ, **environment},
-        stdin=subprocess.DEVNULL,
-        stdout=subprocess.PIPE,
-        stderr=subprocess.STDOUT,
-        encoding="utf-8",
-        errors="replace",
-    )
-    return Result(check.name, outcome_of(run.returncode), seconds_since(start), run.stdout.splitlines())
+    scratch = Path(tempfile.mkdtemp(prefix=f"rohc-{check.name}-"))
+    trial = Trial(TOP, order.program, scratch, order.words[check.name], order.over_gate)
+    try:
+        check.function(trial)
+    except Exception:
+        trial.wrong(f"{check.name}: {traceback.format_exc()}")
+    if trial.wrongs:
+        trial.say(f"{check.name}: its files stay in {scratch}")
+    else:
+        shutil.rmtree(scratch, ignore_errors=True)
+    return Result(check.name, faults_of(trial.wrongs), seconds_since(start), trial.lines, trial.last)
 
 
 def tell(result: Result) -> Result:
@@ -81,40 +93,25 @@ def tell(result: Result) -> Result:
     return result
 
 
-def run_side_by_side(checks: list[Check], environment: dict[str, str]) -> Iterator[Result]:
+def run_side_by_side(checks: list[Check], order: Order) -> Iterator[Result]:
     """Runs checks side by side. They are told in their order, each as soon as those before it have ended."""
-    with ThreadPoolExecutor(max(1, len(checks))) as pool:
-        yield from map(tell, pool.map(partial(run_one, environment=environment), checks))
+    with ProcessPoolExecutor(max(1, len(checks))) as pool:
+        yield from map(tell, pool.map(run_one, checks, [order] * len(checks)))
 
 
-def run_gate(gate: Check) -> Result:
-    """Runs the gate, shows what it says as it says it, and records the program if the gate passed."""
-    start = time.monotonic()
-    digest = subprocess.run(["bin/sources", "digest"], cwd=TOP, stdout=subprocess.PIPE, text=True).stdout.strip()
-    last = ""
-    with subprocess.Popen(
-        bash(gate.command), cwd=TOP, stdout=subprocess.PIPE, stderr=subprocess.STDOUT, encoding="utf-8", errors="replace"
-    ) as run:
-        for line in run.stdout or ():
-            last = line.rstrip("\n")
-            say(last)
-    outcome = outcome_of(run.returncode)
-    if run.returncode == 0 and subprocess.run(["bin/sources", "record", digest], cwd=TOP).returncode != 0:
-        outcome = "NOT passed, a source changed during the gate, or it left no program"
-    say(f"{gate.name}: {outcome}, {seconds_since(start)} seconds")
-    return Result(gate.name, outcome, seconds_since(start), [last])
-
-
-def run_on_program(checks: list[Check], over_gate: bool) -> Iterator[Result]:
-    """Runs checks on the program that was proved from these sources, if it stands.
+def run_on_program(checks: list[Check], order: Order) -> Iterator[Result]:
+    """Runs checks on the program that is given, or on the one that was proved from these sources, if it stands.
 
     Right after a gate that passed, bin/lib takes the crates below rohc_c as the gate has just left them
     (ROHC_OVER_GATE). At any other time they may be older than their sources, and it proves them.
     """
-    if not checks or subprocess.run(["bin/sources", "stands"], cwd=TOP).returncode == 0:
-        yield from run_side_by_side(checks, {"ROHC_OVER_GATE": "1" if over_gate else ""})
-    else:
-        yield from (tell(Result(check.name, "NOT run", 0, [f"bin/check: {check.name} {NO_PROGRAM}"])) for check in checks)
+    stands = not checks or order.is_given or subprocess.run(["bin/sources", "stands"], cwd=TOP).returncode == 0
+    ready = [check for check in checks if stands or (check.can_do_without and not order.is_all)]
+    if ready:
+        yield from run_side_by_side(ready, order)
+    for check in checks:
+        if check not in ready:
+            yield tell(Result(check.name, "NOT run", 0, [f"bin/check: {check.name} {NO_PROGRAM}"]))
 
 
 def tell_table(results: Iterable[Result]) -> None:
@@ -127,17 +124,17 @@ def tell_table(results: Iterable[Result]) -> None:
         say(line)
 
 
-def run_checks(checks: list[Check]) -> int:
+def run_checks(checks: list[Check], order: Order) -> int:
     """Runs checks: those that need nothing, the gate, and those on the program. The status is 1 if one didn't pass."""
     by_needs = {needs: [check for check in checks if check.needs is needs] for needs in Needs}
-    results = list(run_side_by_side(by_needs[Needs.NOTHING], {}))
+    results = list(run_side_by_side(by_needs[Needs.NOTHING], order))
     early = [result.name for result in results if result.failed]
     if early and len(checks) > len(results):
         say(f"bin/check: NOT passed so far: {', '.join(early)}. The rest runs all the same.")
-    gates = [run_gate(gate) for gate in by_needs[Needs.TOOLCHAIN]]
+    gates = [tell(run_one(gate, order)) for gate in by_needs[Needs.TOOLCHAIN]]
     over_gate = any(not gate.failed for gate in gates)
-    results += [*gates, *run_on_program(by_needs[Needs.PROGRAM], over_gate)]
+    results += [*gates, *run_on_program(by_needs[Needs.PROGRAM], replace(order, over_gate=over_gate))]
     tell_table(results)
     for gate in gates:
-        say(gate.lines[-1])
+        say(gate.last)
     return int(any(result.failed for result in results))

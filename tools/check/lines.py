@@ -1,7 +1,4 @@
-#!/usr/bin/env python3
-"""Runs a built rohcd on single lines, long lines, small pieces and hostile lines.
-
-usage: bin/check_lines PROGRAM
+"""Runs the program on single lines, long lines, small pieces and hostile lines.
 
 - Each line here has the answer that stands beside it, and so has each long line in pieces of several sizes.
 - The time of an arrival is read whole: a record counts as none from its link's idle_ms after its last accepted arrival.
@@ -10,18 +7,17 @@ usage: bin/check_lines PROGRAM
   them change none. Among these are the packets of worked example refused-extensions and one that is TooLong, for living
   contexts on both links.
 
-All answers here were computed by hand from the definitions, independently of this program.
+All answers here were computed by hand from the definitions, independently of this program. Words behind `lines` run
+these parts alone: single, long, times, pieces, pairs.
 """
 
-import os
-import subprocess
-import sys
-import tempfile
+from collections.abc import Callable, Sequence
 from itertools import cycle, islice
 from pathlib import Path
 
-TOP = Path(__file__).resolve().parent.parent
-WORKED = TOP / "examples/worked"
+from program import Ended
+from trial import Trial
+
 BAD = "- - refused BadLine\n"
 LONG = "- - refused LongLine\n"
 
@@ -181,17 +177,17 @@ EXTENSIONS = {
 TOO_LONG = "10" + "00" * 65_496
 
 
-def under_10(octets):
+def under_10(octets: str) -> str:
     """A line for CID 10 of link 1, which stands before the packet's first octet."""
     return f"arrive 1 0 ea{octets}"
 
 
-def under_302(octets):
+def under_302(octets: str) -> str:
     """A line for CID 302 of link 2, which stands behind the packet's first octet."""
     return f"arrive 2 0 {octets[:2]}812e{octets[2:]}"
 
 
-def for_live_context(under, check, other_check):
+def for_live_context(under: Callable[[str], str], check: str, other_check: str) -> list[str]:
     """Lines for a CID: an IR, packets that its context refuses, a fall to Static Context, and an IR without a stride."""
     packets = [f"fd01{check}{STATIC}{STRIDE}", *EXTENSIONS, "11ac", "11ac", "11ac"]
     return [under(packet) for packet in [*packets, f"fd01{other_check}{STATIC}{NO_STRIDE}", "c00380c8"]]
@@ -232,135 +228,114 @@ for refusal in *EXTENSIONS.values(), "NoStride", "TooLong", "Check", "StateTooLo
 BETWEEN = 10_000 // len(LINES) + 1
 
 
-class Runner:
-    """Runs the program, and counts what it answered as wanted and what not."""
-
-    def __init__(self, program, folder):
-        self.program = program
-        self.short = f"{folder}/short.so"
-        self.two_links = f"{folder}/links.toml"
-        compiler = ["cc", "-shared", "-fPIC", "-O1", "-o", self.short, TOP / "tools/short_reads.c"]
-        if subprocess.run(compiler).returncode != 0:
-            sys.exit(2)
-        Path(self.two_links).write_text(two_links())
-        self.right = 0
-        self.wrong = 0
-
-    def answers(self, links, script, piece=None):
-        """The answers to a script, which is read in pieces of this size. What goes wrong otherwise is added to them."""
-        given = {**os.environ, "LD_PRELOAD": self.short, "OCTETS_A_READ": str(piece)} if piece else None
-        words = [self.program, "replay", "--links", links]
-        run = subprocess.run(words, input=script.encode(), capture_output=True, env=given, timeout=60)
-        answers = run.stdout.decode(errors="replace")
-        if run.returncode != 0 or run.stderr:
-            answers += f"status {run.returncode}, {run.stderr.decode(errors='replace')}"
-        return answers
-
-    def compare(self, name, answered, wanted):
-        """Compares answers with the wanted ones, and shows the first line in which they differ."""
-        if answered == wanted:
-            self.right += 1
-            return
-        self.wrong += 1
-        answered, wanted = answered.splitlines(), wanted.splitlines()
-        short = min(len(answered), len(wanted))
-        at = next((i for i in range(short) if answered[i] != wanted[i]), short)
-        print(f"{name}: NOT as wanted")
-        print(f"    line {at + 1}, wanted:   {(wanted[at : at + 1] or [''])[0][:200]}")
-        print(f"    line {at + 1}, answered: {(answered[at : at + 1] or [''])[0][:200]}")
-
-    def runs(self, name, script, wanted, piece=None, links=WORKED / "links-1.toml"):
-        """The script must have these answers."""
-        self.compare(name, self.answers(links, script, piece), wanted)
+def links_of(trial: Trial, version: int = 1) -> Path:
+    """The links of the worked examples."""
+    return trial.top / f"examples/worked/links-{version}.toml"
 
 
-def two_links():
+def two_links(trial: Trial) -> Path:
     """Links 1 and 2 of the worked examples. Records count as none from 5,000 ms after their last accepted arrival."""
-    entries = (WORKED / "links-1.toml").read_text().split("[[link]]\n")[1:3]
-    return "version = 2\n" + "".join(f"[[link]]\n{entry.strip()}\nidle_ms = 5000\n" for entry in entries)
+    entries = links_of(trial).read_text().split("[[link]]\n")[1:3]
+    text = "".join(f"[[link]]\n{entry.strip()}\nidle_ms = 5000\n" for entry in entries)
+    return trial.write("links.toml", "version = 2\n" + text)
 
 
-def check_single_lines(runner):
+def answered(trial: Trial, links: Path, script: str, piece: int = 0) -> Ended:
+    """How a script is answered, which is read in pieces of this size."""
+    return trial.program.replay(links, script.encode(), trial.in_pieces(piece) if piece else None, seconds=60)
+
+
+def told(ended: Ended) -> str:
+    """The answers. What goes wrong otherwise is added to them."""
+    return ended.text if ended.is_good else f"{ended.text}{ended.end()}"
+
+
+def runs(trial: Trial, name: str, script: str, wanted: str, piece: int = 0, version: int = 1) -> bool:
+    """The script must have these answers."""
+    ended = answered(trial, links_of(trial, version), script, piece)
+    return trial.same(name, wanted, told(ended), ended.call)
+
+
+def check_single(trial: Trial) -> None:
+    """Good and bad lines, each by itself, and short scripts."""
     for line, wanted in GOOD_LINES:
-        runner.runs(f"line {line!r}", line, wanted)
+        runs(trial, f"line {line!r}", line, wanted)
     for line in BAD_LINES:
-        runner.runs(f"line {line!r}", line + "\n", BAD)
+        runs(trial, f"line {line!r}", line + "\n", BAD)
     for script, wanted in SCRIPTS:
-        runner.runs(f"script {script!r}", script, wanted)
+        runs(trial, f"script {script!r}", script, wanted)
 
 
-def check_long_lines(runner):
+def check_long(trial: Trial) -> None:
+    """Long lines, in pieces of several sizes."""
     for line, wanted in LONG_LINES:
         for piece in *PIECES, 4096, 200_000:
-            runner.runs(f"{len(line)} octets, {line[:12]}.., in pieces of {piece}", line, wanted, piece)
+            runs(trial, f"{len(line)} octets, {line[:12]}.., in pieces of {piece}", line, wanted, piece)
 
 
-def check_times(runner):
-    links = WORKED / "links-2.toml"
+def check_times(trial: Trial) -> None:
+    """Records that are idle for long."""
     made = "4 0 ip 45aa\n4 0 feedback f100\n"
     for moment, gone in TIMES:
         lines = [f"arrive 4 {moment} fc00b745aa", *(f"arrive 4 {later} 45ab" for later in [*gone, gone[0] - 1])]
         wanted = made + "4 0 refused NoContext\n" * len(gone) + "4 0 ip 45ab\n"
-        runner.runs(f"a record of {moment}", "\n".join(lines), wanted, links=links)
+        runs(trial, f"a record of {moment}", "\n".join(lines), wanted, version=2)
 
 
-def check_pieces(runner):
+def check_pieces(trial: Trial) -> None:
     """Worked examples, of which the last line has no newline, and the one of a line of 200,000 octets with others behind."""
+    worked = trial.top / "examples/worked"
     texts = {}
     for name in "two-calls-and-noise", "empty-script", "script-ends":
-        texts[name] = [(WORKED / f"{name}.{kind}").read_text() for kind in ("script", "answers")]
+        texts[name] = ((worked / f"{name}.script").read_text(), (worked / f"{name}.answers").read_text())
     script, wanted = texts["script-ends"]
-    texts["long-line"] = ["0" * 200_000 + "\n" + script, LONG + wanted]
+    texts["long-line"] = ("0" * 200_000 + "\n" + script, LONG + wanted)
     for name, (script, wanted) in texts.items():
         for piece in PIECES:
-            runner.runs(f"{name} in pieces of {piece}", script.removesuffix("\n"), wanted, piece)
+            runs(trial, f"{name} in pieces of {piece}", script.removesuffix("\n"), wanted, piece)
 
 
-def of_pair(answers, pair):
+def of_pair(answers: str, pair: str) -> str:
     """The answer lines of a pair."""
     return "".join(line + "\n" for line in answers.splitlines() if line.startswith(f"{pair} "))
 
 
-def check_pairs(runner):
-    """Compares each pair's answers in the whole script, quiet and noisy, with those of its own script."""
-    whole = runner.answers(runner.two_links, "".join(f"{line}\n" for _, line in LINES))
-    hostile = list(islice(cycle(HOSTILE), BETWEEN))
-    noise = "".join(f"{line}\n" for line in [*hostile, under_10(TOO_LONG), under_302(TOO_LONG)])
-    noisy = runner.answers(runner.two_links, "".join(f"{line}\n{noise}" for _, line in LINES))
-    runner.compare("some of the hostile lines' answers", told_of(noisy, HOSTILE_TOLD), told_of(None, HOSTILE_TOLD))
-    runner.compare("more than 10,000 answers", str(len(noisy.splitlines()) > 10_000), "True")
-    for pair in PAIRS:
-        own = "".join(f"{line}\n" for whose, line in LINES if whose in (pair, pair.split()[0]))
-        alone = of_pair(runner.answers(runner.two_links, own), pair) or "no answer\n"
-        runner.compare(f"{pair} in the whole script", of_pair(whole, pair), alone)
-        runner.compare(f"{pair} with hostile lines", of_pair(noisy, pair), alone)
-    runner.compare("1 0 in the whole script, as computed", of_pair(whole, "1 0"), FIRST_TOLD)
-    runner.compare("1 0 with hostile lines, as computed", of_pair(noisy, "1 0"), FIRST_TOLD)
-
-
-def told_of(answers, lines):
-    """Those of these lines that stand among the answers; all of them if no answers are given."""
-    there = lines if answers is None else set(answers.splitlines())
+def those_in(lines: Sequence[str], answers: str) -> str:
+    """Those of these lines that stand among the answers."""
+    there = set(answers.splitlines())
     return "".join(f"{line}\n" for line in lines if line in there)
 
 
-def main():
-    if sys.argv[1:] == ["--help"]:
-        print(__doc__)
-        return
-    if len(sys.argv) != 2:
-        print("usage: bin/check_lines PROGRAM", file=sys.stderr)
-        sys.exit(2)
-    program = os.path.realpath(sys.argv[1])
-    if not os.access(program, os.X_OK) or os.path.isdir(program):
-        print(f"bin/check_lines: no program at {sys.argv[1]}", file=sys.stderr)
-        sys.exit(2)
-    with tempfile.TemporaryDirectory() as folder:
-        runner = Runner(program, folder)
-        for check in check_single_lines, check_long_lines, check_times, check_pieces, check_pairs:
-            check(runner)
-    print(f"lines: {runner.right} of {runner.right + runner.wrong} texts answered as wanted")
-    sys.exit(runner.wrong != 0)
+def check_pairs(trial: Trial) -> None:
+    """Compares each pair's answers in the whole script, quiet and noisy, with those of its own script."""
+    links = two_links(trial)
+    hostile = list(islice(cycle(HOSTILE), BETWEEN))
+    noise = "".join(f"{line}\n" for line in [*hostile, under_10(TOO_LONG), under_302(TOO_LONG)])
+    whole = answered(trial, links, "".join(f"{line}\n" for _, line in LINES))
+    noisy = answered(trial, links, "".join(f"{line}\n{noise}" for _, line in LINES))
+    wanted = "".join(f"{line}\n" for line in HOSTILE_TOLD)
+    trial.same("some of the hostile lines' answers", wanted, those_in(HOSTILE_TOLD, told(noisy)), noisy.call)
+    count = len(told(noisy).splitlines())
+    trial.demand(count > 10_000, f"hostile lines: {count} answers, and not more than 10,000", noisy.call)
+    for pair in PAIRS:
+        own = "".join(f"{line}\n" for whose, line in LINES if whose in (pair, pair.split()[0]))
+        alone = of_pair(told(answered(trial, links, own)), pair) or "no answer\n"
+        trial.same(f"{pair} in the whole script", alone, of_pair(told(whole), pair), whole.call)
+        trial.same(f"{pair} with hostile lines", alone, of_pair(told(noisy), pair), noisy.call)
+    trial.same("1 0 in the whole script, as computed", FIRST_TOLD, of_pair(told(whole), "1 0"), whole.call)
+    trial.same("1 0 with hostile lines, as computed", FIRST_TOLD, of_pair(told(noisy), "1 0"), noisy.call)
 
 
-main()
+PARTS = {"single": check_single, "long": check_long, "times": check_times, "pieces": check_pieces, "pairs": check_pairs}
+
+
+def is_part(top: Path, word: str) -> bool:
+    """Whether a word is a part of this check."""
+    return word in PARTS
+
+
+def check(trial: Trial) -> None:
+    """Runs the parts that are asked for."""
+    for part in trial.chosen(list(PARTS)):
+        PARTS[part](trial)
+    trial.say(f"lines: {trial.rights} of {trial.tried} texts answered as wanted")

@@ -1,0 +1,323 @@
+"""Checks that what the documents say is true.
+
+- A code block after a line `<!-- run -->` is a command in bash. Its output must be the code block that follows with
+  nothing but empty lines between, or nothing if none does. It runs in a folder in which `bin/rohcd` and `rohcd` are the
+  program and `examples` is the repository's. The commands of one document share that folder.
+- A code block after a line `<!-- beside LINKS SCRIPT -->` has each line of that script beside the answers that the
+  program gives to it with those links, and how many octets stand at the end of each. `..` stands for octets that are
+  cut out.
+- README.md has at most 1,200 words, and each document that it names is a link.
+- Each link, each anchor, and each file or folder of the repository that a document names is there.
+- Each function and each clause of docs/PROOFS.md stands in the sources. So does each name of code there and in six other
+  documents.
+- The examples of docs/EXAMPLES.md are those of tools/worked_examples.txt and of examples/worked.
+- docs/OPERATING.md has each key, each fault of the links file, each status's text and each refusal with its number.
+- docs/GLOSSARY.md has each word of docs/DEFINITIONS.md.
+- What documents say of the number of scripts, of test data and of refusals is true.
+- The pictures are those that tools/draw_pictures.py draws.
+- docs/TESTED.md is what `bin/check --table` writes, and that table lacks nothing.
+- Each script of bin, bench and tools says by `--help` how it is called, and starts nothing then.
+
+`words` checks all but the first two points, which need the program. Names of documents behind `documents` check those
+two points of these alone. `documents_test` shows that it fails if one of these doesn't hold.
+"""
+
+import os
+import re
+import shutil
+import tempfile
+from collections.abc import Iterator, Sequence
+from concurrent.futures import ThreadPoolExecutor
+from functools import partial
+from pathlib import Path
+
+from documents_commands import check_beside, check_commands
+from documents_text import FENCE, block_at, documents
+from program import Call, run
+from trial import Trial
+
+README_WORDS = 1200
+# Documents in which each name between back quotes must stand in the sources, except paths and octets.
+NAMING = [f"docs/{name}.md" for name in "PROOFS PROMISES THREATS DEFINITIONS GLOSSARY ARCHITECTURE DECISIONS".split()]
+EDITS = ("must-fail*/*.edit", "statements/*.edit")
+FOLDERS = "docs|bin|tools|examples|crates|man|bench|completion|python|include"
+PLACE = re.compile(rf"(?<![\w/.-])(?:{FOLDERS})/[\w./*-]*\w")
+
+
+def check_readme(top: Path) -> Iterator[str]:
+    """Finds names of documents in README.md that aren't links, and words too many."""
+    text = documents(top)["README.md"]
+    if len(text.split()) > README_WORDS:
+        yield f"README.md: has {len(text.split())} words, more than {README_WORDS}"
+    link = re.compile(r"\[([^\]]*)\]\(([^)\s]*)\)")
+    for shown, target in link.findall(text):
+        if shown.endswith(".md") and shown != target:
+            yield f"README.md: the link {shown} leads to {target}"
+    for name in re.findall(r"[\w/]+\.md\b", link.sub("", text)):
+        yield f"README.md: names {name}, and it isn't a link"
+
+
+def fault_of_help(top: Path, script: Path) -> str | None:
+    """What is wrong with a script's `--help`, if anything is. The toolchain that it finds then marks that it was started."""
+    name = str(script.relative_to(top))
+    with tempfile.TemporaryDirectory() as folder:
+        for tool in "rt", "rattle":
+            Path(f"{folder}/{tool}").write_text(f"#!/bin/sh\necho started >{folder}/started\n")
+            os.chmod(f"{folder}/{tool}", 0o755)
+        given = {"PATH": f"{folder}:{os.environ['PATH']}", "TMPDIR": folder}
+        ended = run(Call((script, "--help"), environment=given, folder=Path(folder)), 20)
+        helps = ended.is_good and re.search(rf"^usage: {name}\b", ended.text, re.MULTILINE)
+        if os.path.exists(f"{folder}/started"):
+            return f"{name}: --help starts the toolchain"
+        return None if helps else f"{name}: --help doesn't say how it is called, {ended.end()}"
+
+
+def check_help(top: Path) -> Iterator[str]:
+    """Finds scripts that don't say by `--help` how they are called, or that start the toolchain for it."""
+    files = [file for folder in ("bin", "bench", "tools") for file in (top / folder).iterdir() if file.is_file()]
+    with ThreadPoolExecutor() as pool:
+        yield from filter(None, pool.map(partial(fault_of_help, top), sorted(file for file in files if os.access(file, os.X_OK))))
+
+
+def anchors(text: str) -> set[str]:
+    """The anchors of a document's headings."""
+    heads = re.findall(r"^#+ (.*)$", text, re.MULTILINE)
+    return {re.sub(r"[^\w -]", "", head.lower()).replace(" ", "-") for head in heads}
+
+
+def check_links(top: Path) -> Iterator[str]:
+    """Finds links, anchors and named files that don't exist."""
+    texts = documents(top)
+    for name, text in texts.items():
+        for target in re.findall(r"\]\(([^)\s]+)\)", text):
+            path, _, anchor = target.partition("#")
+            file = (top / name).parent / path if path else top / name
+            if not file.exists():
+                yield f"{name}: leads to {target}, which isn't there"
+            elif anchor and anchor not in anchors(file.read_text()):
+                yield f"{name}: leads to {target}, and there is no such heading"
+        for place in set(PLACE.findall(text)):
+            if re.search(r"NAME|/out/|/out$", place):
+                continue
+            if not list(top.glob(place)):
+                yield f"{name}: names {place}, which isn't there"
+
+
+def contracts(top: Path, crate: str) -> Iterator[tuple[str, str, str]]:
+    """Each function of a crate with its contract, and the text before it in its file."""
+    for file in sorted((top / "crates" / crate / "src").rglob("*.rt")):
+        text = file.read_text()
+        for found in re.finditer(r"\bfn (\w+)", text):
+            head = re.search(r"\n\s*(?:ensures|requires)\b| \{\n|;\n", text[found.end() :])
+            if head and head[0].startswith("\n"):
+                start = found.end() + head.start()
+                end = re.search(r"\n *\{\}?\n|\};\n", text[start:])
+                yield found[1], text[start : start + end.start()], text[: found.start()]
+
+
+def has_clauses(top: Path, crate: str, kind: str, function: str, labels: Sequence[str]) -> bool:
+    """Whether a function has a contract with each of these labels. If a type is given, the function is one of its own."""
+    for name, contract, before in contracts(top, crate):
+        if name != function or "ensures" not in contract:
+            continue
+        owner = re.findall(r"^impl\b[^{]*?\b(\w+)(?:<[^{]*>)? \{", before, re.MULTILINE)
+        if kind[:1].isupper() and owner[-1:] != [kind]:
+            continue
+        if all(re.search(rf"ensures {label} \{{", contract) for label in labels):
+            return True
+    return False
+
+
+def check_proofs(top: Path) -> Iterator[str]:
+    """Finds functions and clauses of docs/PROOFS.md that aren't in the sources, and the reverse."""
+    text = documents(top)["docs/PROOFS.md"]
+    rows = 0
+    for row in re.findall(r"^\| (`rohc.*)$", text, re.MULTILINE):
+        cells = row.split(" | ")
+        labels = re.findall(r"`(\w+)`", cells[1])
+        for path in re.findall(r"`([\w:]+)`", cells[0]):
+            rows += 1
+            crate, *middle, function = path.split("::")
+            if not has_clauses(top, crate, middle[0] if middle else "", function, labels):
+                yield f"docs/PROOFS.md: {path} has no contract with {', '.join(labels) or 'a clause'}"
+    if rows == 0:
+        yield "docs/PROOFS.md names no function"
+    for crate in sorted(folder.name for folder in top.glob("crates/rohc_*")):
+        named = set(re.findall(rf"`{crate}::(?:\w+::)*(\w+)`", text))
+        for name, contract, before in contracts(top, crate):
+            if before.endswith(("pub ", 'pub extern "C" ')) and "ensures" in contract and name not in named:
+                yield f"docs/PROOFS.md lacks {crate}'s {name}"
+
+
+def check_names(top: Path) -> Iterator[str]:
+    """Finds names of code in the documents that don't stand in the sources."""
+    files = [*top.glob("crates/*/src/**/*.rt"), *top.glob("crates/*/specs/**/*.antt"), top / "crates.txt"]
+    words = set(re.findall(r"[\w-]+", " ".join(file.read_text() for file in files)))
+    stems = {file.stem for kind in (*EDITS, "proofs/**/*.antt") for file in top.glob(f"crates/*/{kind}")}
+    words |= {word for stem in stems for word in stem.split(".")}
+    whats = {stem.partition(".")[2] for stem in stems} - {""}
+    words |= {"NAME", "crate", "Type", "function", "rustc"}
+    for name in NAMING:
+        for span in sorted(set(re.findall(r"`([^`\n]+)`", documents(top)[name]))):
+            if "/" in span or re.fullmatch(r"(?:[0-9a-f]{2} ?)+", span):
+                continue
+            first = span.split()[0]
+            if first.partition(".")[2] in whats and first not in stems:
+                yield f"{name}: {first} is no edit"
+            for word in re.findall(r"[A-Za-z_]\w*", first):
+                if word not in words:
+                    yield f"{name}: {word} stands nowhere in the sources"
+
+
+def sections(text: str, begin: str) -> dict[str, list[str]]:
+    """The lines below each heading, by the heading's name."""
+    found: dict[str, list[str]] = {}
+    lines: list[str] = []
+    for line in text.splitlines():
+        head = re.match(begin, line)
+        if head:
+            lines = found[head[1]] = []
+        elif found:
+            lines.append(line)
+    return found
+
+
+def check_examples(top: Path) -> Iterator[str]:
+    """Compares docs/EXAMPLES.md, tools/worked_examples.txt and examples/worked."""
+    short = (top / "tools/worked_examples.txt").read_text()
+    kept = {name: [s for s in lines if s and s[0] != "#"] for name, lines in sections(short, r"= (\S+)$").items()}
+    shown: dict[str, list[str]] = {}
+    for name, lines in sections(documents(top)["docs/EXAMPLES.md"], r"### (\S+)$").items():
+        block = next((i for i, line in enumerate(lines) if FENCE.match(line)), len(lines))
+        shown[name] = (block_at(lines, block)[0] or "").splitlines()
+    for name in sorted(kept.keys() | shown.keys()):
+        if kept.get(name) != shown.get(name):
+            yield f"docs/EXAMPLES.md: {name} isn't the example of tools/worked_examples.txt"
+    with tempfile.TemporaryDirectory() as room:
+        folder = Path(room)
+        (folder / "tools").mkdir()
+        (folder / "examples/worked").mkdir(parents=True)
+        for name in "expand_examples.py", "worked_examples.txt":
+            shutil.copy(top / "tools" / name, folder / "tools")
+        ended = run(Call((folder / "tools/expand_examples.py",)))
+        if ended.status != 0:
+            yield f"tools/expand_examples.py: {ended.end()}"
+        for file in sorted((folder / "examples/worked").iterdir()):
+            there = top / "examples/worked" / file.name
+            if not there.exists() or there.read_text() != file.read_text():
+                yield f"examples/worked/{file.name} isn't what tools/expand_examples.py writes"
+
+
+def check_operating(top: Path) -> Iterator[str]:
+    """Finds keys, faults, texts and refusals that docs/OPERATING.md lacks."""
+    text = documents(top)["docs/OPERATING.md"]
+    refusals = (top / "crates/rohc_context/specs/Refusal.antt").read_text()
+    names = dict(re.findall(r"^name_of (\w+) = codes \"(\w+)\"", refusals, re.MULTILINE))
+    numbers = dict(re.findall(r"^number_of (\w+) = (\d+)", refusals, re.MULTILINE))
+    rows = {f"| {numbers.get(variant)} | {name} |" for variant, name in names.items()}
+    keys = re.findall(r"^(\w+) = ", (top / "examples/two-links.toml").read_text(), re.MULTILINE)
+    ends = re.findall(r"f\.write_str\(\"(rohcd: [\w ]+?):? ?\"\)", (top / "crates/rohc_end/src/lib.rt").read_text())
+    faults: list[str] = []
+    for place in "rohc_links/src/fault", "rohc_concentrator/src/setup":
+        files = [top / f"crates/{place}.rt", *top.glob(f"crates/{place}/*.rt")]
+        source = "".join(file.read_text() for file in files if file.exists())
+        faults += re.findall(r"(?:Links|Setup)Fault::\w+(?: \{ \.\. \})? => \"(\w+)\"", source)
+    if min(len(rows), len(keys), len(ends), len(faults)) == 0:
+        yield "no refusals, keys, ends or faults were found in the sources"
+    cells = re.findall(r"^\| ([^|]+) \|", text, re.MULTILINE)
+    named = {word.strip(" `") for cell in cells for word in cell.split(",")}
+    for word in sorted({*keys, *faults} - {"version", "NoMemory"} - named):
+        yield f"docs/OPERATING.md lacks a row of {word}"
+    for word in sorted([*rows, *(f"`{end}" for end in ends)]):
+        if word not in text:
+            yield f"docs/OPERATING.md lacks {word}"
+
+
+def check_glossary(top: Path) -> Iterator[str]:
+    """Finds words of docs/DEFINITIONS.md that docs/GLOSSARY.md lacks."""
+    texts = documents(top)
+    heads = re.findall(r"^\*\*([^*]+)\*\*", texts["docs/DEFINITIONS.md"], re.MULTILINE)
+    cells = re.findall(r"^\| ([^|]+) \|", texts["docs/GLOSSARY.md"], re.MULTILINE)
+    known = {word.strip().lower() for cell in cells for word in cell.split(",")}
+    for word in (word.strip() for head in heads for word in head.split(",")):
+        if word.lower() not in known:
+            yield f"docs/GLOSSARY.md lacks {word}"
+    if not heads:
+        yield "docs/DEFINITIONS.md defines no word"
+
+
+def check_counts(top: Path) -> Iterator[str]:
+    """Finds counts in documents that aren't true."""
+    names = (top / "crates/rohc_context/specs/Refusal.antt").read_text().count("\nname_of ")
+    questions = (top / "crates/vectors/stdin").read_text().splitlines()
+    counts = {
+        r"(\d+) whole\s+scripts": str(len([*top.glob("examples/scripts/*.script")])),
+        r"([\d,]+) (?:questions|lines\s+of\s+test\s+data)": f"{sum(line[:1] != '#' for line in questions):,}",
+        r"one of (\w+) (?:names|refusals)": "thirty" if names == 30 else str(names),
+    }
+    for pattern, true in counts.items():
+        found = [(name, count) for name, text in documents(top).items() for count in re.findall(pattern, text)]
+        if not found:
+            yield f"no document says '{pattern}'"
+        for name, count in found:
+            if count != true:
+                yield f"{name}: counts {count} where {true} is true"
+
+
+def check_pictures(top: Path) -> Iterator[str]:
+    """Compares the pictures with what is drawn."""
+    ended = run(Call((top / "tools/draw_pictures.py", "--check")))
+    if ended.status != 0:
+        yield f"docs/pictures: {ended.said}"
+
+
+def check_tested(top: Path) -> Iterator[str]:
+    """Compares docs/TESTED.md with the table that bin/check writes, and finds what that table lacks."""
+    ended = run(Call((top / "bin/check", "--table")))
+    yield from ended.said.splitlines()
+    if documents(top).get("docs/TESTED.md") != ended.text:
+        yield "docs/TESTED.md isn't what bin/check --table writes"
+
+
+CHECKS = (
+    check_readme,
+    check_help,
+    check_links,
+    check_proofs,
+    check_names,
+    check_examples,
+    check_operating,
+    check_glossary,
+    check_counts,
+    check_pictures,
+    check_tested,
+)
+
+
+def is_document(top: Path, word: str) -> bool:
+    """Whether a word is the path of a document."""
+    return word in documents(top)
+
+
+def check_words(trial: Trial) -> None:
+    """Tells what isn't true, as far as no program is needed."""
+    for one in CHECKS:
+        for fault in one(trial.top):
+            trial.wrong(fault)
+    trial.say("documents: as they say" if not trial.wrongs else f"documents: {trial.wrongs} faults")
+
+
+def check_shown(trial: Trial) -> None:
+    """Tells what of the commands and answers isn't as it is shown in all documents, or in those that are asked for."""
+    names = trial.chosen(list(documents(trial.top)))
+    check_commands(trial, names)
+    check_beside(trial, names)
+
+
+def check(trial: Trial) -> None:
+    """Tells what isn't true. Of the documents that are asked for it looks at what they show alone."""
+    check_shown(trial)
+    if not trial.words:
+        check_words(trial)
+    elif not trial.wrongs:
+        trial.say("documents: as they show")

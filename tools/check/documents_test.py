@@ -1,0 +1,180 @@
+"""Puts one fault after another into a copy of the tree. `documents` must find each, and nothing in the unchanged copy."""
+
+import shutil
+from collections.abc import Callable
+from pathlib import Path
+
+import documents
+from program import Call, run
+from trial import Trial
+
+Plant = tuple[str, str, str, str]
+
+BESIDE = "README.md: isn't what examples/worked/two-calls-and-noise.script is answered: "
+
+# What must be said, the file, and the text that is replaced there by another. These faults need the program.
+ON_PROGRAM: tuple[Plant, ...] = (
+    ("README.md:", "README.md", "29000300004011", "29000300004012"),
+    ("docs/OPERATING.md:", "docs/OPERATING.md", "head -n 3", "head -n 2"),
+    ("docs/OPERATING.md:", "docs/OPERATING.md", "$3 == \"ip\" || $3 == \"refused\"", "$3 == \"ip\""),
+    ("status 4", "docs/OPERATING.md", "< examples/scripts/middle-09.script", "< ."),
+    ("a mark without a command", "docs/FORMATS.md", "Octets are hexadecimal.", "<!-- run -->\nOctets are hexadecimal."),
+    (BESIDE, "README.md", "2 300 ip 450102 ", "2 300 ip 450103 "),
+    (BESIDE, "README.md", "arrive 1 20 10ac ", "arrive 1 20 10ad "),
+    (BESIDE, "README.md", "fd012b40..0980a0ab      42", "fd012b40..0980a0ab      43"),
+    (BESIDE, "README.md", "fd012b40..", "fd012b41.."),
+    (BESIDE, "README.md", "..00000001ac", "..00000001ad"),
+    (BESIDE, "README.md", "..00000001ac          41", "..00000001ac          40"),
+    (BESIDE, "README.md", "e2fc008145aa ", ".. "),
+    ("README.md: shows 0 rows", "README.md", "noise.script -->\n", "noise.script -->\nText.\n"),
+    ("README.md: shows 9 rows", "README.md", "\noops                                     - - refused BadLine", ""),
+)
+
+# The same without the program.
+IN_WORDS: tuple[Plant, ...] = (
+    ("names docs/PROVED.md", "README.md", "(docs/PROOFS.md)", "(docs/PROVED.md)"),
+    ("words, more than 1200", "README.md", "## Licence", "word " * 1200),
+    (
+        "names docs/THREATS.md, and it isn't a link",
+        "README.md",
+        "[docs/THREATS.md](docs/THREATS.md)",
+        "docs/THREATS.md",
+    ),
+    (
+        "the link docs/THREATS.md leads to docs/PROOFS.md",
+        "README.md",
+        "[docs/THREATS.md](docs/THREATS.md)",
+        "[docs/THREATS.md](docs/PROOFS.md)",
+    ),
+    ("tools/soak.py: --help doesn't say", "tools/soak.py", "\"--help\"", "\"--helps\""),
+    ("bin/sources: --help doesn't say", "bin/sources", "# usage: bin/sources", "# bin/sources"),
+    ("bin/rohcd: --help starts the toolchain", "bin/rohcd", ". \"$(dirname \"$(realpath \"$0\")\")/usage.sh\"", ""),
+    ("leads to pictures/calls.svg", "docs/OPERATING.md", "pictures/call.svg", "pictures/calls.svg"),
+    ("no such heading", "docs/OPERATING.md", "#how-a-call-comes-back", "#how-a-call-returns"),
+    ("names docs/PROVED.md", "README.md", "(docs/PROOFS.md)", "(docs/PROVED.md)"),
+    ("names tools/draw.py", "CONTRIBUTING.md", "tools/draw_pictures.py", "tools/draw.py"),
+    ("names docs/CHOICES.md", "man/rohcd.1", "docs/DECISIONS.md", "docs/CHOICES.md"),
+    ("rohc_replay::laws::equal_lines has no contract", "docs/PROOFS.md", "laws::same_lines", "laws::equal_lines"),
+    ("rohc_replay::replay has no contract with isolation", "docs/PROOFS.md", "`isolated`", "`isolation`"),
+    ("IsIsolatedAlways stands nowhere", "docs/PROOFS.md", "`IsIsolated`", "`IsIsolatedAlways`"),
+    (
+        "rohc_lsb::Header::build has no contract",
+        "docs/PROOFS.md",
+        "rohc_header::Header::build",
+        "rohc_lsb::Header::build",
+    ),
+    (
+        "rohc_frame::Header::build has no contract",
+        "docs/PROOFS.md",
+        "rohc_header::Header::build",
+        "rohc_frame::Header::build",
+    ),
+    ("has no contract with answer", "crates/rohc_concentrator/src/arrival.rt", "ensures answer", "ensures reply"),
+    ("LonelyRun stands nowhere", "docs/DEFINITIONS.md", "`LoneRun`", "`LonelyRun`"),
+    ("trace_free stands nowhere", "docs/THREATS.md", "`no_trace`", "`trace_free`"),
+    ("lacks rohc_lsb's sn_shift", "docs/PROOFS.md", "`rohc_lsb::sn_shift`, ", ""),
+    ("rohc_bits::reading::value has no contract", "docs/PROOFS.md", "`fits`, `shorter`", "`fits`, `longer`"),
+    ("plain-call isn", "docs/EXAMPLES.md", "1 0 feedback f100", "1 0 feedback f101"),
+    ("late-packet isn", "docs/EXAMPLES.md", "### late-packet", "### later-packet"),
+    ("examples/worked/plain-call.answers", "examples/worked/plain-call.answers", "f100", "f101"),
+    ("examples/worked/plain-call.answers", "tools/worked_examples.txt", "1 0 feedback f100", "1 0 feedback f101"),
+    ("lacks a row of idle_ms", "docs/OPERATING.md", "| `idle_ms` |", "| `idle` |"),
+    ("lacks | 27 | StateTooLow |", "docs/OPERATING.md", "| 27 | StateTooLow |", "| 26 | StateTooLow |"),
+    (
+        "lacks a row of DuplicateLinks",
+        "crates/rohc_concentrator/src/setup.rt",
+        "=> \"DuplicateLink\"",
+        "=> \"DuplicateLinks\"",
+    ),
+    ("lacks a row of BadKey", "docs/OPERATING.md", "| BadKey |", "| BadKeys |"),
+    ("lacks `rohcd: sockets", "crates/rohc_end/src/lib.rt", "\"rohcd: socket\"", "\"rohcd: sockets\""),
+    ("lacks Lone step", "docs/GLOSSARY.md", "| Lone step |", "| Single step |"),
+    ("counts 35 where 36", "README.md", "36 whole", "35 whole"),
+    ("counts 2,514 where 2,777", "README.md", "2,777 lines", "2,514 lines"),
+    (
+        "where 31 is true",
+        "crates/rohc_context/specs/Refusal.antt",
+        "name_of NoMemory",
+        "name_of NoRoom = codes \"NoRoom\"\nname_of NoMemory",
+    ),
+    ("docs/TESTED.md isn't", "docs/TESTED.md", "| Key | `idle_ms` |", "| Key | `idle` |"),
+    ("there is no row of the key idle_s", "docs/OPERATING.md", "| `idle_ms` |", "| `idle_s` |"),
+    ("no document names the key idle_ms", "docs/OPERATING.md", "| `idle_ms` |", "| `idle_s` |"),
+    (
+        "there is no row of the promise 3. Parts",
+        "docs/PROMISES.md",
+        "## 3. Each part is right",
+        "## 3. Parts are right",
+    ),
+    ("there is no row of the fault NoLink", "docs/OPERATING.md", "| NoLinks, ", "| NoLink, "),
+    ("there is no row of the status 4 closed", "docs/OPERATING.md", "`rohcd: write` |", "`rohcd: closed` |"),
+    ("there is no row of the refusal NoCheck", "docs/OPERATING.md", "| 28 | Check |", "| 28 | NoCheck |"),
+    ("there is no check serves", "tools/check/registry.py", "\"gate program launcher\")", "\"gate serves\")"),
+    ("there is no row of the check bodies", "tools/check/registry.py", "\"gate bodies\"", "\"gate\""),
+    ("states.svg", "docs/pictures/states.svg", "Full Context", "Whole Context"),
+    ("leaves its frame", "tools/draw_pictures.py", "\"no record\"", "\"no record of this link and this CID\""),
+    ("overlaps", "tools/draw_pictures.py", "c.text(400, 66,", "c.text(400, 54,"),
+    ("runs through", "tools/draw_pictures.py", "c.arrow((200, 80), (600, 80))", "c.arrow((200, 66), (600, 66))"),
+)
+
+
+class Copy:
+    """A copy of the tree."""
+
+    def __init__(self, trial: Trial) -> None:
+        """Copies the tree of a trial."""
+        self.trial = trial
+        self.top = trial.scratch / "tree"
+        self.count = 0
+        shutil.copytree(trial.top, self.top, ignore=shutil.ignore_patterns("out", ".git", "__pycache__"))
+
+    def judged(self, check: Callable[[Trial], None]) -> Trial:
+        """What a check says of the copy."""
+        self.count += 1
+        scratch = self.trial.scratch / f"run-{self.count}"
+        scratch.mkdir()
+        inner = Trial(self.top, self.trial.file, scratch)
+        check(inner)
+        shutil.rmtree(scratch)
+        return inner
+
+    def is_good(self, check: Callable[[Trial], None]) -> None:
+        """Nothing must be found in the copy as it is."""
+        inner = self.judged(check)
+        said = "\n".join(inner.lines)
+        self.trial.demand(inner.wrongs == 0, f"the copy as it is: {said}")
+
+    def finds(self, check: Callable[[Trial], None], plant: Plant) -> None:
+        """A fault must be found in the copy."""
+        text, name, old, new = plant
+        file = self.top / name
+        before = file.read_text()
+        if not self.trial.demand(old in before, f"no such text in {name}: {old}"):
+            return
+        file.write_text(before.replace(old, new, 1))
+        inner = self.judged(check)
+        said = "\n".join(inner.lines)
+        self.trial.demand(inner.wrongs > 0 and text in said, f"not found: {name}: {old}; it said: {said}")
+        file.write_text(before)
+
+    def ends(self, status: int, *words: str | Path) -> None:
+        """`bin/check` of the copy must end with this status."""
+        ended = run(Call((self.top / "bin/check", *words)), 600)
+        self.trial.demand(ended.status == status, f"{words}: status {ended.status}, not {status}: {ended.all}", ended.call)
+
+
+def check(trial: Trial) -> None:
+    """Puts all of them in."""
+    copy = Copy(trial)
+    copy.is_good(documents.check)
+    for plant in ON_PROGRAM:
+        copy.finds(documents.check_shown, plant)
+    for plant in IN_WORDS:
+        copy.finds(documents.check_words, plant)
+    # The whole command, with a fault and without.
+    copy.ends(0, "--program", trial.file, "documents", "README.md")
+    text, name, old, new = ON_PROGRAM[0]
+    (copy.top / name).write_text((copy.top / name).read_text().replace(old, new, 1))
+    copy.ends(1, "--program", trial.file, "documents", "README.md")
+    copy.ends(1, "--program", trial.file, "documents", "words")
+    trial.say(f"documents: {len(ON_PROGRAM) + len(IN_WORDS)} faults were put in")

@@ -1,0 +1,217 @@
+"""Builds the library for C, and runs it from C.
+
+examples/gateway.c must answer each example and each whole script as expected, octet for octet, and random scripts as the
+program does. tools/library_calls.c calls the library at its limits. Both run under the address sanitizer and under
+valgrind, if these are installed. tools/library_memory.c counts the memory that calls ask for and give back. The header
+is compiled as C99, C11 and C++. examples/udp_gateway.c takes a packet, the package in Python runs the examples, and
+pkg-config finds the installed library.
+"""
+
+import os
+import shutil
+from dataclasses import dataclass
+from pathlib import Path
+
+from examples import LONG, SCRIPTS, WORKED, Example, make_long, names_in, with_links
+from trial import Trial
+
+WARNINGS = ("-Wall", "-Wextra", "-Wpedantic", "-Werror")
+LANGUAGES = (
+    "-x c -std=c99",
+    "-x c -std=c11",
+    "-x c++ -std=c++98 -Wno-long-long",
+    "-x c++ -std=c++11",
+)
+EDGES = "-std=c11 -Wl,--wrap=malloc,--wrap=realloc"
+COUNTING = "-std=c11 -Wl,--wrap=malloc,--wrap=calloc,--wrap=realloc,--wrap=free"
+SANITIZER = "-g -fsanitize=address,undefined -fno-sanitize-recover=all"
+VALGRIND = ("valgrind", "-q", "--error-exitcode=9", "--leak-check=full")
+INSTALLED = ("lib/librohc.a", "lib/pkgconfig/rohc.pc", "include/rohc.h", "share/doc/rohc/LIBRARY.md")
+SECONDS = 3600
+
+
+class NotBuilt(Exception):
+    """The library or a program of this check can't be built. What is said stands in the trial."""
+
+
+@dataclass(frozen=True)
+class Library:
+    """The library, built into this check's own folder."""
+
+    trial: Trial
+
+    @property
+    def folder(self) -> Path:
+        """Where it stands."""
+        return self.trial.scratch
+
+    @property
+    def compiler(self) -> str:
+        """The compiler for C."""
+        return os.environ.get("CC", "cc")
+
+    @property
+    def call_of_example(self) -> Example:
+        """An example that runs in several ways."""
+        worked = self.trial.top / WORKED
+        return with_links("two-calls-and-noise", worked, worked)[0]
+
+    def make(self) -> None:
+        """Builds it."""
+        environment = {"ROHC_OVER_GATE": "1" if self.trial.over_gate else ""}
+        if not self.trial.must_run(self.trial.top / "bin/lib", self.folder, environment=environment, seconds=SECONDS):
+            raise NotBuilt
+
+    def build(self, flags: str, source: str, program: str) -> Path:
+        """Builds a program in C with the library."""
+        made = self.folder / program
+        words = [self.compiler, *WARNINGS, *flags.split(), "-I", "include", "-o", made, source, "-L", self.folder]
+        if not self.trial.must_run(*words, "-l:librohc.a"):
+            raise NotBuilt
+        return made
+
+    def links(self, file: Path) -> Path:
+        """The lines of a links file, as the programs in C read it."""
+        return self.trial.made("links", self.trial.top / "tools/link_lines.py", file)
+
+    def is_answered(self, program: Path, example: Example) -> bool:
+        """A program must answer an example as expected."""
+        ended = self.trial.ran(program, self.links(example.links), given=example.script)
+        if not ended.is_good:
+            return self.trial.wrong(f"{program.name}: {example.title}: {ended.end()}", ended.call)
+        return self.trial.same(f"{program.name}: {example.title}", example.answers.read_bytes(), ended.output, ended.call)
+
+
+def check_header(library: Library) -> None:
+    """The header alone, in each language that it supports."""
+    for language in LANGUAGES:
+        words = (library.compiler, *WARNINGS, *language.split(), "-I", "include", "-fsyntax-only", "-")
+        ended = library.trial.ran(*words, given=b'#include "rohc.h"\n')
+        library.trial.demand(ended.status == 0, f"include/rohc.h with {language}: NOT read: {ended.said}", ended.call)
+
+
+def all_examples(trial: Trial) -> list[Example]:
+    """Every example and script."""
+    top, worked = trial.top, trial.top / WORKED
+    found = [case for name in names_in(top, WORKED) for case in with_links(name, worked, worked)]
+    found += [case for name in LONG for case in with_links(name, trial.scratch / "long", worked)]
+    for folder in ("examples", SCRIPTS):
+        for name in names_in(top, folder):
+            script = top / folder / f"{name}.script"
+            links = script.with_suffix(".toml")
+            links = links if links.exists() else top / "examples/links.toml"
+            found.append(Example(name, links, script, script.with_suffix(".answers")))
+    return found
+
+
+def all_answers(library: Library, program: Path) -> None:
+    """A program must answer every example and script as expected."""
+    count = sum(library.is_answered(program, example) for example in all_examples(library.trial))
+    library.trial.say(f"{program.name}: {count} runs of examples and scripts answered as wanted")
+
+
+def must_end_well(library: Library, *words: str | Path) -> None:
+    """A program must end with status 0. What it says is told."""
+    ended = library.trial.ran(*words, seconds=SECONDS)
+    library.trial.say(ended.all)
+    library.trial.demand(ended.status == 0, f"{words[-1]}: status {ended.status}", ended.call)
+
+
+def sanitizes(library: Library) -> bool:
+    """Whether the sanitizers are there."""
+    tried = library.folder / "try"
+    words = (library.compiler, "-fsanitize=address,undefined", "-x", "c", "-o", tried, "-")
+    built = library.trial.ran(*words, given=b"int main(void) { return 0; }\n").status == 0
+    return built and library.trial.ran(tried).status == 0
+
+
+def check_sanitized(library: Library) -> None:
+    """The same under the sanitizers."""
+    if sanitizes(library):
+        all_answers(library, library.build(f"-std=c99 {SANITIZER}", "examples/gateway.c", "sanitized_gateway"))
+        must_end_well(library, library.build(f"{EDGES} {SANITIZER}", "tools/library_calls.c", "sanitized_calls"))
+
+
+def check_valgrind(library: Library, gateway: Path, calls: Path) -> None:
+    """The calls, and one example, under valgrind."""
+    if not shutil.which("valgrind"):
+        library.trial.leave_out("valgrind is not installed, the library was not run with it")
+        return
+    must_end_well(library, *VALGRIND, calls)
+    answers_call(library, *VALGRIND, gateway)
+
+
+def answers_call(library: Library, *words: str | Path) -> None:
+    """A program must answer one example."""
+    example = library.call_of_example
+    ended = library.trial.ran(*words, library.links(example.links), given=example.script, seconds=SECONDS)
+    library.trial.demand(ended.status == 0, f"{words[-1]}: {ended.end()}", ended.call)
+    library.trial.same(f"{words[-1]}: {example.title}", example.answers.read_bytes(), ended.output, ended.call)
+
+
+def check_random(library: Library, gateway: Path) -> None:
+    """Random scripts, compared with the program."""
+    trial = library.trial
+    links = trial.top / "examples/two-links.toml"
+    if not trial.file.exists():
+        return
+    for seed in ("1", "2", "3"):
+        script = trial.made("random", trial.top / "tools/random_script.py", seed, "20000")
+        wanted = trial.program.replay(links, script, seconds=SECONDS)
+        trial.demand(wanted.status == 0, f"random script {seed}: {wanted.end()}", wanted.call)
+        answers = trial.write("wanted", wanted.output)
+        library.is_answered(gateway, Example(f"random script {seed}", links, script, answers))
+
+
+def check_beside(library: Library) -> None:
+    """The gateway on sockets, and the package in Python."""
+    trial = library.trial
+    gateway = library.build("-std=c99 -O2", "examples/udp_gateway.c", "udp_gateway")
+    must_end_well(library, trial.top / "tools/udp_gateway_test.py", gateway, library.links(library.call_of_example.links))
+    if (library.folder / "librohc.so").is_file():
+        environment = {"ROHC_LIBRARY": str(library.folder)}
+        ended = trial.ran("python3", trial.top / "python/test_rohc.py", environment=environment, seconds=SECONDS)
+        trial.say(ended.all)
+        trial.demand(ended.status == 0, f"python/test_rohc.py: status {ended.status}", ended.call)
+
+
+def check_installed(library: Library) -> None:
+    """The installed library, as pkg-config finds it."""
+    trial, prefix = library.trial, library.folder / "prefix"
+    environment = {"ROHC_OVER_GATE": "1" if trial.over_gate else ""}
+    ended = trial.ran(trial.top / "bin/install", "--library", prefix, environment=environment, seconds=SECONDS)
+    trial.demand(ended.status == 0, f"bin/install --library: {ended.all}", ended.call)
+    for name in INSTALLED:
+        holds = str(prefix / name) in ended.text.splitlines() and (prefix / name).is_file()
+        trial.demand(holds, f"bin/install --library: no {name}")
+    if not shutil.which("pkg-config"):
+        trial.leave_out("pkg-config is not installed, the library was not run with it")
+        return
+    found = trial.ran("pkg-config", "--cflags", "--libs", "rohc", environment={"PKG_CONFIG_PATH": f"{prefix}/lib/pkgconfig"})
+    trial.demand(found.status == 0, f"pkg-config: {found.end()}", found.call)
+    installed = library.folder / "installed"
+    flags = (*found.text.split(), f"-Wl,-rpath,{prefix}/lib")
+    trial.must_run(library.compiler, "-std=c99", "-o", installed, "examples/gateway.c", *flags)
+    answers_call(library, installed)
+
+
+def check(trial: Trial) -> None:
+    """Runs all of it."""
+    library = Library(trial)
+    try:
+        library.make()
+        check_header(library)
+        make_long(trial)
+        gateway = library.build("-std=c99 -O2", "examples/gateway.c", "gateway")
+        calls = library.build(EDGES, "tools/library_calls.c", "calls")
+        memory = library.build(COUNTING, "tools/library_memory.c", "memory")
+        all_answers(library, gateway)
+        must_end_well(library, calls)
+        must_end_well(library, memory)
+        check_sanitized(library)
+        check_valgrind(library, gateway, calls)
+        check_random(library, gateway)
+        check_beside(library)
+        check_installed(library)
+    except NotBuilt:
+        trial.say("library: a part of it isn't built, so the rest wasn't tried")

@@ -1,0 +1,69 @@
+"""Runs the program once for each of its requests for memory, with that request refused.
+
+Either the run ends with `rohcd: memory` and nothing written, or it ends well. Then the answer to one first IR is
+`refused NoMemory`, the later answers for its link and CID are `refused NoContext`, and all other lines are unchanged.
+"""
+
+from collections import Counter
+from pathlib import Path
+
+from program import Ended
+from trial import Trial
+
+SCRIPTS = (
+    ("examples/worked/two-calls-and-noise", "examples/worked/links-1.toml", ("1 0", "2 300")),
+    ("examples/memory/growing-tables", "examples/memory/growing-tables.toml", ("1 0", "1 4", "1 8", "1 9", "2 300")),
+)
+MEMORY = "memory"
+
+
+def poor(pair: str, answers: str) -> bytes:
+    """The answers if the first IR of a pair finds no memory."""
+    told, seen = [], 0
+    for line in answers.splitlines():
+        if not line.startswith(f"{pair} "):
+            told.append(line)
+            continue
+        told += [f"{pair} refused NoMemory"] if seen == 0 else [f"{pair} refused NoContext"] if seen > 1 else []
+        seen += 1
+    return "".join(f"{line}\n" for line in told).encode()
+
+
+def kind_of(ended: Ended, answers: dict[str, bytes]) -> str:
+    """How a run ended: `memory`, or a pair whose first IR found no memory; nothing if it ended otherwise."""
+    if ended.status == 5:
+        return MEMORY if not ended.output and ended.said == "rohcd: memory" else ""
+    return next((pair for pair, text in answers.items() if ended.is_good and ended.output == text), "")
+
+
+def refuse_each(trial: Trial, refuse: Path, name: str, links: str, pairs: tuple[str, ...]) -> None:
+    """Every request of a run is refused in turn, and each of these pairs must find no memory once."""
+    script, wanted = (trial.top / f"{name}.{kind}" for kind in ("script", "answers"))
+    answers = {pair: poor(pair, wanted.read_text()) for pair in pairs}
+    kinds: Counter[str] = Counter()
+    count = trial.scratch / "made"
+    request = 1
+    while True:
+        given = {"LD_PRELOAD": str(refuse), "REFUSED_REQUEST": str(request), "REQUEST_COUNT": str(count)}
+        ended = trial.program.replay(trial.top / links, script, given)
+        made = int(count.read_text())
+        if made < request and ended.status == 0:
+            break
+        kind = kind_of(ended, answers) if made >= request else ""
+        if not kind:
+            trial.wrong(f"{name}, request {request} of {made} refused: {ended.end()}", ended.call)
+            trial.same(f"{name}, request {request} refused", wanted.read_bytes(), ended.output)
+            return
+        kinds[kind] += 1
+        request += 1
+    trial.same(f"{name}, with ample memory", wanted.read_bytes(), ended.output, ended.call)
+    for kind in (MEMORY, *pairs):
+        trial.demand(kinds[kind] > 0, f"{name}: not met: {kind}")
+    trial.say(f"{name}: {request - 1} requests refused in turn, {kinds[MEMORY]} of them before the first line")
+
+
+def check(trial: Trial) -> None:
+    """Refuses each request of two scripts."""
+    refuse = trial.compiled("tools/refuse_request.c")
+    for name, links, pairs in SCRIPTS:
+        refuse_each(trial, refuse, name, links, pairs)
