@@ -114,7 +114,8 @@ def must_end_well(library: Library, *words: str | Path) -> None:
     """A program must end with status 0. What it says is told."""
     ended = library.trial.ran(*words, seconds=SECONDS)
     library.trial.say(ended.all)
-    library.trial.demand(ended.status == 0, f"{words[-1]}: status {ended.status}", ended.call)
+    names = " ".join(Path(word).name for word in words)
+    library.trial.demand(ended.status == 0, f"{names}: status {ended.status}", ended.call)
 
 
 def sanitizes(library: Library) -> bool:

@@ -28,12 +28,15 @@ class Call:
         """The environment of the run."""
         return {**os.environ, **self.environment}
 
-    def shown(self, top: Path, given: str) -> str:
-        """The command that repeats the call at the top of the tree."""
-        words = [os.fsdecode(word).removeprefix(f"{top}/") for word in self.words]
-        before = [f"{name}={shlex.quote(text)}" for name, text in self.environment.items()]
-        there = f"cd {shlex.quote(str(self.folder))} && " if self.folder not in (None, top) else ""
-        return there + " ".join([*before, *map(shlex.quote, words)]) + (f" < {given}" if given else "")
+    def shown(self, top: Path, given: Path) -> str:
+        """The command that repeats the call, with this file as its input, at the top of the tree."""
+        is_there = self.folder in (None, top)
+        words = [os.fsdecode(word).removeprefix(f"{top}/" if is_there else "") for word in (*self.words, given)]
+        inherited = ":" + os.environ["PATH"]
+        texts = {name: shlex.quote(text.removesuffix(inherited)) for name, text in self.environment.items()}
+        before = [f"{name}={text}{':$PATH' * self.environment[name].endswith(inherited)}" for name, text in texts.items()]
+        there = "" if is_there else f"cd {shlex.quote(str(self.folder))} && "
+        return there + " ".join([*before, *map(shlex.quote, words[:-1]), "<", shlex.quote(words[-1])])
 
 
 @dataclass(frozen=True)

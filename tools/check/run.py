@@ -77,7 +77,7 @@ def run_one(check: Check, order: Order) -> Result:
         check.function(trial)
     except Exception:
         trial.wrong(f"{check.name}: {traceback.format_exc()}")
-    if trial.wrongs:
+    if trial.wrongs and any(scratch.iterdir()):
         trial.say(f"{check.name}: its files stay in {scratch}")
     else:
         shutil.rmtree(scratch, ignore_errors=True)

@@ -79,7 +79,7 @@ class Trial:
             file = self.scratch / f"given-{self.wrongs}"
             file.write_bytes(given)
             given = file
-        return call.shown(self.top, str(given).removeprefix(f"{self.top}/") if given else "/dev/null")
+        return call.shown(self.top, given if isinstance(given, Path) else Path("/dev/null"))
 
     def write(self, name: str, text: bytes | str) -> Path:
         """A file of this check's own folder with a text."""
@@ -119,7 +119,7 @@ class Trial:
         """A file of this check's own folder with what a command writes."""
         ended = self.ran(*words)
         if ended.status != 0:
-            raise RuntimeError(f"{ended.call.shown(self.top, '')}: {ended.end()}")
+            raise RuntimeError(f"{self.repeat(ended.call)}: {ended.end()}")
         return self.write(name, ended.output)
 
     def compiled(self, source: str) -> Path:
