@@ -82,6 +82,7 @@ def check_packet(trial: Trial) -> None:
     """The longest packet."""
     ended = replayed(trial, made(trial, "links", 2), made(trial, "long", 1))
     last = last_lines(ended.output, 1)
+    trial.same("a packet of 65,535 octets: its line's length", str(LONGEST_LINE), str(len(last)), ended.call)
     is_wanted(trial, "a packet of 65,535 octets", last.startswith(b"1 0 ip 45") and len(last) == LONGEST_LINE, ended)
 
 
@@ -117,8 +118,9 @@ def in_flood(trial: Trial, name: str, script: Path, wanted: bytes) -> None:
     own = "".join(line for line in lines if line.startswith("1 0 "))
     there = {(words[0], words[3]) for words in map(str.split, lines) if is_refused(words)}
     missing = [f"{link} {refusal}" for link in "12" for refusal in REFUSED if (link, refusal) not in there]
-    trial.demand(not missing, f"{name}: nothing is refused as {', '.join(missing)}", ended.call)
-    is_told(trial, name, wanted, own.encode(), ended)
+    is_own = trial.same(name, wanted, own, ended.call)
+    if trial.demand(not missing, f"{name}: nothing is refused as {', '.join(missing)}", ended.call) and is_own:
+        is_wanted(trial, name, True, ended)
 
 
 def check_call(trial: Trial) -> None:

@@ -33,7 +33,8 @@ class Call:
         is_there = self.folder in (None, top)
         words = [os.fsdecode(word).removeprefix(f"{top}/" if is_there else "") for word in (*self.words, given)]
         inherited = ":" + os.environ["PATH"]
-        texts = {name: shlex.quote(text.removesuffix(inherited)) for name, text in self.environment.items()}
+        own = {name: text for name, text in self.environment.items() if text != os.environ.get(name)}
+        texts = {name: shlex.quote(text.removesuffix(inherited)) for name, text in own.items()}
         before = [f"{name}={text}{':$PATH' * self.environment[name].endswith(inherited)}" for name, text in texts.items()]
         there = "" if is_there else f"cd {shlex.quote(str(self.folder))} && "
         return there + " ".join([*before, *map(shlex.quote, words[:-1]), "<", shlex.quote(words[-1])])
