@@ -6,8 +6,8 @@ ghost use Rattle.rohc_links.specs.Fields.{whole_number, required_field, is_among
 ghost use Rattle.rohc_links.specs.Keys.{name_of};
 ghost use Rattle.rohc_links.specs.Entry.{keys, ports_in, ranges_in, idle_in, has_known_keys, entry_in, numbered_entry};
 
-use crate::fields::{field_at, optional_field, required_field};
 use crate::fault::{Key, LinksFault};
+use crate::fields::{field_at, optional_field, required_field};
 use crate::ports::Ports;
 use crate::version::Version;
 use arrayvec::ArrayVec;

@@ -8,8 +8,8 @@ ghost use Rattle.rohc_links.specs.Ranges.{read_each};
 ghost use Rattle.rohc_links.specs.Links.{version, entries, read_from, read_table, read_text};
 
 use crate::entry::numbered_entry;
-use crate::fields::{Field, field_at, has_only, value_at};
 use crate::fault::{Key, LinksFault};
+use crate::fields::{Field, field_at, has_only, value_at};
 use crate::lists::Links;
 use crate::version::Version;
 use std::alloc::Global;
