@@ -1,3 +1,4 @@
+-- The exit statuses of the program.
 use Rattle.std.specs.Prelude.{ℕ}
 use Rattle.rohc_end.specs.declared.End.{End}
 use Rattle.rohc_end.specs.declared.End.TheVariants.{Done, CommandLine, LinksFile, Read, Write, Socket, Memory}

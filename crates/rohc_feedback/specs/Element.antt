@@ -1,3 +1,4 @@
+-- Feedback elements, octet by octet, and what they mean (RFC 5795 5.2.4.1; RFC 3095 5.7.6).
 use Rattle.std.specs.Prelude.{◌≡◌, ℕ, ◌+◌, ◌/◌, ◌%◌, ◌<◌, ◌≤◌, List, [], ◌∷◌, ◌++◌, Option, Some, None, length, ◌==◌, nat_lt, if◌then◌else◌}
 use Rattle.arrayvec.specs.ArrayVec.{ArrayVec}
 use Rattle.rohc_checks.specs.Division.{check, poly8}

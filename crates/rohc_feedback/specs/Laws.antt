@@ -1,3 +1,4 @@
+-- Laws of feedback elements: no two meanings have the same octets, and all are written by some function.
 use Rattle.std.specs.Prelude.{◌≡◌, ◌≤◌, ◌↔◌, ◌⊎◌, ℕ, List, Option}
 use Rattle.rohc_frame.specs.declared.header.CidKind.{CidKind}
 use Rattle.rohc_frame.specs.Header.{greatest_cid}

@@ -1,3 +1,4 @@
+-- Feedback in the forms in which the code splits and writes it.
 use Rattle.std.specs.Prelude.{ℕ, ◌+◌, ◌*◌, ◌/◌, ◌%◌, ◌<◌, List, [], ◌∷◌, Option, Some, None}
 use Rattle.std.specs.Borrow.{Bor}
 use Rattle.rohc_feedback.specs.declared.meaning.Word.{Word}

@@ -1,3 +1,4 @@
+-- The checks of a header: the split of its octets, and the division over them (RFC 3095 5.9).
 use Rattle.std.specs.Prelude.{ℕ, ◌+◌, ◌-◌, ◌^◌, Bool, List, [], ◌∷◌, ◌++◌, take, drop}
 use Rattle.std.specs.List.{flat_map}
 use Rattle.rohc_checks.specs.Division.{check, degree}

@@ -1,3 +1,4 @@
+-- Laws of original headers and of their checks.
 use Rattle.std.specs.Prelude.{◌≡◌, ◌≤◌, ℕ, ◌+◌, Bool, List, ◌++◌, length}
 use Rattle.std.specs.List.Sorted.{IsPermutation}
 use Rattle.rohc_checks.specs.Division.{check}

@@ -1,3 +1,4 @@
+-- The original header that fields mean, octet by octet: IPv4, UDP and RTP.
 use Rattle.std.specs.Prelude.{◌≡◌, ◌≤◌, ℕ, ◌+◌, ◌/◌, ◌%◌, Bool, if◌then◌else◌, List, [], ◌∷◌, ◌++◌, length}
 use Rattle.rohc_checks.specs.Sum.{header_sum, words}
 use Rattle.rohc_header.specs.declared.fields.Static.{Static}

@@ -1,3 +1,4 @@
+-- The polynomials of header checks, by their names in the code.
 use Rattle.std.specs.Prelude.{Bool, List}
 use Rattle.rohc_checks.specs.Division.{poly3, poly7}
 use Rattle.rohc_header.specs.declared.polynomial.Polynomial.{Polynomial}

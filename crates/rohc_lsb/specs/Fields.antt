@@ -1,3 +1,4 @@
+-- What bits mean: a sequence number, a timestamp, an Identification (RFC 3095 4.5).
 use Rattle.std.specs.Prelude.{◌≡◌, ℕ, ◌+◌, ◌*◌, ◌/◌, ◌%◌, ◌^◌, ◌<◌, Bool, true, false, Option, Some, None, IfSome, ℤ, pos, ◌+ℤ◌, ◌-ℤ◌, ◌*ℤ◌}
 use Rattle.rohc_bits.specs.LowBits.{LowBits}
 use Rattle.rohc_lsb.specs.Interval.{ExactlyOne, LiesInInterval, modulo, p_of_sn, p_of_ts}

@@ -1,3 +1,4 @@
+-- W-LSB: the value that bits mean against a reference (RFC 3095 4.5.1).
 use Rattle.std.specs.Prelude.{◌≡◌, ℕ, ◌-◌, ◌^◌, ◌<◌, List, All, ℤ, pos, ◌+ℤ◌, ◌-ℤ◌, ◌≤ℤ◌, unsigned_abs, nat_le, if◌then◌else◌}
 use Rattle.std.specs.Int.{int_rem_euclid}
 use Rattle.rohc_bits.specs.LowBits.{LowBits}
