@@ -1,3 +1,4 @@
+-- Least significant bits of a field, as plain data.
 use Rattle.std.specs.Prelude.{ℕ}
 use Rattle.rohc_bits.specs.declared.bits.Bits.{Bits}
 

@@ -1,3 +1,4 @@
+-- Laws of the one reading of a packet, or its one refusal.
 use Rattle.std.specs.Prelude.{◌≡◌, ℕ, ◌<◌, ◌≤◌, ◌↔◌, List, length, All, Some, Ok, Err, true}
 pub use Rattle.rohc_bits.specs.Bits.{IsOctet}
 use Rattle.rohc_bits.specs.Spelling.{IsSpelled}

@@ -1,3 +1,4 @@
+-- The parts of a packet, from its octets: its one reading, or its one refusal.
 use Rattle.std.specs.Prelude.{ℕ, ◌+◌, ◌-◌, ◌*◌, ◌%◌, List, [], ◌∷◌, take, drop, true, false, Option, Some, None, Result, Ok, Err, ◌==◌, nat_lt, if◌then◌else◌}
 use Rattle.rohc_frame.specs.declared.header.CidKind.{CidKind}
 use Rattle.rohc_frame.specs.declared.header.CidKind.TheVariants.{Small, Large}

@@ -1,3 +1,4 @@
+-- Items as the code reads them, and as the definitions do.
 use Rattle.std.specs.Prelude.{ℕ, List, Option, Some, None}
 use Rattle.std.specs.Borrow.{Bor}
 use Rattle.rohc_frame.specs.declared.items.Item.{Item}

@@ -1,3 +1,4 @@
+-- The reading of a packet, as plain data and as a relation to its octets.
 use Rattle.std.specs.Prelude.{◌≡◌, ◌≢◌, ℕ, List, [], ◌++◌, All, true, Option, Some, None, ◌≤◌}
 use Rattle.rohc_frame.specs.declared.header.CidKind.{CidKind}
 use Rattle.rohc_frame.specs.declared.header.Forward.{Forward}
