@@ -45,16 +45,7 @@ rnd_in_force kept (Some ip) = ip.rnd
 
 -- an offset of 16 bits replaces the bits that were said before
 abbrev pub with_offset : ℕ → Said → Said
-with_offset offset s =
-    record {
-      sn = s.sn;
-      ts = s.ts;
-      id = Some (record { count = 16; value = offset });
-      marker =
-          s.marker;
-      extended = s.extended;
-      check = s.check;
-    }
+with_offset offset s = record s { id = Some (record { count = 16; value = offset }) }
 
 abbrev pub with_offset_if : Option ℕ → Said → Said
 with_offset_if None s = s
@@ -81,48 +72,34 @@ abbrev pub payload_type_in : Option ℕ → Option ℕ
 payload_type_in None = None
 payload_type_in (Some octet) = Some (number_in PT octet)
 
+-- no value is given
+abbrev pub no_values : ValuesSaid
+no_values = record {
+  tos = None;
+  ttl = None;
+  payload_type = None;
+  stride = None;
+  padding = None;
+  df = None;
+  nbo = None;
+  rnd = None;
+  extension = None;
+}
+
 -- the values that are given
 abbrev pub ip_values : Option IpGiven → ValuesSaid → ValuesSaid
 ip_values None v = v
-ip_values (Some ip) v = record {
-  tos = ip.tos;
-  ttl = ip.ttl;
-  payload_type = v.payload_type;
-  stride = v.stride;
-  padding = v.padding;
-  df = Some ip.df;
-  nbo = Some ip.nbo;
-  rnd = Some ip.rnd;
-  extension = v.extension;
-}
+ip_values (Some ip) v =
+    record v { tos = ip.tos; ttl = ip.ttl; df = Some ip.df; nbo = Some ip.nbo; rnd = Some ip.rnd }
 
 abbrev pub rtp_values : Option RtpSaid → ValuesSaid
-rtp_values None =
-    record {
-      tos = None;
-      ttl = None;
-      payload_type = None;
-      stride = None;
-      padding = None;
-      df = None;
-      nbo =
-          None;
-      rnd = None;
-      extension = None;
-    }
-rtp_values (Some rtp) =
-    record {
-      tos = None;
-      ttl = None;
-      payload_type = rtp.payload_type;
-      stride = rtp.stride;
-      padding =
-          rtp.padding;
-      df = None;
-      nbo = None;
-      rnd = None;
-      extension = Some rtp.extension;
-    }
+rtp_values None = no_values
+rtp_values (Some rtp) = record no_values {
+  payload_type = rtp.payload_type;
+  stride = rtp.stride;
+  padding = rtp.padding;
+  extension = Some rtp.extension;
+}
 
 -- the marker: that of the rtp octet if there is one, else that of the base octets
 abbrev pub marker_in : Bool → Option RtpSaid → Bool

@@ -189,42 +189,12 @@ nothing = record { sn = None; ts = None; id = None; marker = false; extended = f
 -- more that is said: bits of a number are appended to those that are said already
 abbrev pub and_said : Field → LowBits → Said → Said
 and_said (Fixed n) d s = s
-and_said Sn d s =
-    record {
-      sn = and_bits s.sn d;
-      ts = s.ts;
-      id = s.id;
-      marker = s.marker;
-      extended = s.extended;
-      check =
-          s.check;
-    }
-and_said Ts d s =
-    record {
-      sn = s.sn;
-      ts = and_bits s.ts d;
-      id = s.id;
-      marker = s.marker;
-      extended = s.extended;
-      check =
-          s.check;
-    }
-and_said Id d s =
-    record {
-      sn = s.sn;
-      ts = s.ts;
-      id = and_bits s.id d;
-      marker = s.marker;
-      extended = s.extended;
-      check =
-          s.check;
-    }
-and_said Marker d s =
-    record { sn = s.sn; ts = s.ts; id = s.id; marker = d.value == 1; extended = s.extended; check = s.check }
-and_said Extended d s =
-    record { sn = s.sn; ts = s.ts; id = s.id; marker = s.marker; extended = d.value == 1; check = s.check }
-and_said Check d s =
-    record { sn = s.sn; ts = s.ts; id = s.id; marker = s.marker; extended = s.extended; check = d.value }
+and_said Sn d s = record s { sn = and_bits s.sn d }
+and_said Ts d s = record s { ts = and_bits s.ts d }
+and_said Id d s = record s { id = and_bits s.id d }
+and_said Marker d s = record s { marker = d.value == 1 }
+and_said Extended d s = record s { extended = d.value == 1 }
+and_said Check d s = record s { check = d.value }
 
 -- how many bits a format has
 abbrev pub width : Layout → ℕ
