@@ -107,7 +107,10 @@ fn faults_have_their_places(rt: HostRuntime) {
         if let Some(octet) = octets.get_mut(place) {
             *octet = value;
         }
-        assert_eq!(rt; Context::restore(&octets).err(), Some(ContextFault::Bad { left }));
+        assert_eq!(rt;
+            Context::restore(&octets).err(),
+            Some(ContextFault::Bad { left })
+        );
     }
 }
 
@@ -123,7 +126,10 @@ fn what_is_cut_is_short_and_what_follows_is_long(rt: HostRuntime) {
     for (octet, saved) in octets.iter_mut().zip(SAVED) {
         *octet = saved;
     }
-    assert_eq!(rt; Context::restore(&octets).err(), Some(ContextFault::Long { left: 1 }));
+    assert_eq!(rt;
+        Context::restore(&octets).err(),
+        Some(ContextFault::Long { left: 1 })
+    );
 }
 
 // Each octet changed to each value is refused, or is what is saved of the context that it spells.
