@@ -9,7 +9,6 @@ use crate::reference::Reference;
 use crate::settings::Settings;
 use crate::state::{FullContext, NoContext, State, StaticContext};
 use crate::window::Window;
-use rohc_frame::HeadKind;
 
 /// Whether a first octet of a packet of kind Other is that of a UOR-2 format.
 pub(crate) fn is_uor_2(first: u8) -> bool
@@ -32,21 +31,7 @@ impl State {
     ghost use Rattle.std.specs.Prelude.{◌≡◌, ◌<◌, ◌^◌};
     ghost use Rattle.rohc_context.specs.Settings.{AreGood};
     ghost use Rattle.rohc_context.specs.Record.{state_of};
-    ghost use Rattle.rohc_context.specs.Failures.{takes, leads_to, after_check, after_low_state};
-
-    /// Whether this state takes a packet of this kind, with this first octet of its header.
-    pub(crate) fn takes(&self, kind: HeadKind, first: u8) -> bool
-        ensures { result ≡ takes (state_of self.now) kind first }
-    {
-        match (self, kind) {
-            (_, HeadKind::Ir { .. }) | (State::Plain | State::Full(_), _) => true,
-            (State::NoContext(_), _) => false,
-            (State::Static(_), HeadKind::IrDyn) => true,
-            (State::Static(context), HeadKind::Other) => {
-                context.reference.is_some() && is_uor_2(first)
-            }
-        }
-    }
+    ghost use Rattle.rohc_context.specs.Failures.{leads_to, after_check, after_low_state};
 
     /// The state after a packet whose check doesn't match, and the feedback that is due.
     pub(crate) fn after_check(&self, settings: &Settings, moment: u64) -> (State, Due)
