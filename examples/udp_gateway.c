@@ -1,11 +1,15 @@
 /* A gateway on UDP sockets of 127.0.0.1:  udp_gateway LINKS PORT DELIVER RELAY [COUNT]
  * The packets of the first link arrive at PORT, those of the second at PORT + 1, and so on. Rebuilt packets are sent to the
- * port DELIVER, feedback to the sender of its packet, and feedback for this side's compressors to the port RELAY. The program
- * ends after COUNT packets, or at SIGINT or SIGTERM, and prints the contexts that stand then. LINKS is the output of
- * tools/link_lines.py for a links file. */
-#define _POSIX_C_SOURCE 200809L
+ * port DELIVER, feedback to the sender of its packet, and feedback for this side's compressors to the port RELAY. LINKS is
+ * the output of tools/link_lines.py for a links file.
+ *
+ * The program ends after COUNT packets, or at SIGINT, SIGTERM or SIGHUP, and prints the contexts that stand then and how
+ * many packets were refused by each name. Its status is 0, 2 for wrong words, 3 for links, 4 for a socket, 5 for memory. */
+#define _GNU_SOURCE
 #include <arpa/inet.h>
+#include <errno.h>
 #include <inttypes.h>
+#include <limits.h>
 #include <poll.h>
 #include <signal.h>
 #include <stdio.h>
@@ -18,9 +22,24 @@
 #include "link_lines.h"
 #include "rohc.h"
 
-enum { PACKET = 65535 };
+enum { PACKET = 65535, BATCH = 32, GREATEST_COUNT = 1000000000 };
+enum { BAD_WORDS = 2, BAD_LINKS = 3, BAD_SOCKET = 4, NO_MEMORY = 5 };
+
+/* As many datagrams as one call receives. */
+struct batch {
+    struct mmsghdr messages[BATCH];
+    struct iovec parts[BATCH];
+    struct sockaddr_in peers[BATCH];
+    uint8_t octets[BATCH][PACKET];
+};
+
+/* Where packets and relayed feedback are sent to. */
+struct targets {
+    struct sockaddr_in deliver, relay;
+};
 
 static volatile sig_atomic_t stopped;
+static uint64_t refused[ROHC_STORED];
 
 static void stop(int number) {
     (void)number;
@@ -33,77 +52,148 @@ static uint64_t milliseconds(void) {
     return (uint64_t)now.tv_sec * 1000 + (uint64_t)now.tv_nsec / 1000000;
 }
 
-static struct sockaddr_in local(unsigned port) {
+/* The number that a word spells in decimal digits. Another word, or a number outside these bounds, ends the program. */
+static unsigned long number_in(const char *name, const char *word, unsigned long least, unsigned long greatest) {
+    char *end;
+    errno = 0;
+    unsigned long number = strtoul(word, &end, 10);
+    if (*word < '0' || *word > '9' || *end || errno || number < least || number > greatest) {
+        fprintf(stderr, "udp_gateway: %s is \"%s\": it must be a number from %lu to %lu\n", name, word, least, greatest);
+        exit(BAD_WORDS);
+    }
+    return number;
+}
+
+static struct sockaddr_in local(unsigned long port) {
     struct sockaddr_in address = {.sin_family = AF_INET, .sin_port = htons((uint16_t)port)};
     address.sin_addr.s_addr = htonl(INADDR_LOOPBACK);
     return address;
+}
+
+/* A socket that listens at a port. */
+static int listen_at(unsigned long port) {
+    struct sockaddr_in address = local(port);
+    int made = socket(AF_INET, SOCK_DGRAM, 0);
+    if (made < 0 || bind(made, (struct sockaddr *)&address, sizeof address) != 0) {
+        fprintf(stderr, "udp_gateway: port %lu: %s\n", port, strerror(errno));
+        exit(BAD_SOCKET);
+    }
+    return made;
 }
 
 static void send_octets(int from, const struct sockaddr_in *to, const uint8_t *octets, size_t count) {
     if (sendto(from, octets, count, 0, (const struct sockaddr *)to, sizeof *to) < 0) perror("udp_gateway: send");
 }
 
-/* Receives one packet of a link, and sends what it gives. */
-static void take(struct rohc_gateway *gateway, uint16_t link, int socket, struct sockaddr_in deliver,
-                 struct sockaddr_in relay) {
-    static uint8_t octets[PACKET], packet[PACKET + ROHC_HEAD_ROOM], relayed[PACKET];
-    uint8_t feedback[ROHC_FEEDBACK_ROOM];
-    struct rohc_arrival a;
-    struct sockaddr_in peer;
-    socklen_t size = sizeof peer;
-    ssize_t count = recvfrom(socket, octets, sizeof octets, 0, (struct sockaddr *)&peer, &size);
-    if (count < 0) return;
-    if (rohc_arrive(gateway, link, milliseconds(), octets, (size_t)count, packet, sizeof packet, feedback, sizeof feedback,
-                    relayed, sizeof relayed, &a) != ROHC_ARRIVED) exit(4);
-    for (size_t at = 0; at < a.relayed_length; at += 1 + relayed[at])
-        send_octets(socket, &relay, relayed + at + 1, relayed[at]);
-    if (a.has_packet) send_octets(socket, &deliver, packet, a.packet_length);
-    if (a.has_feedback) send_octets(socket, &peer, feedback, a.feedback_length);
+/* Receives the datagrams that wait at a socket, at most so many, and returns how many came. */
+static size_t receive(int socket, struct batch *batch, size_t most) {
+    for (size_t i = 0; i < most; i++) {
+        batch->parts[i] = (struct iovec){.iov_base = batch->octets[i], .iov_len = PACKET};
+        batch->messages[i].msg_hdr = (struct msghdr){.msg_name = &batch->peers[i],
+                                                     .msg_namelen = sizeof batch->peers[i],
+                                                     .msg_iov = &batch->parts[i],
+                                                     .msg_iovlen = 1};
+    }
+    int count = recvmmsg(socket, batch->messages, (unsigned)most, MSG_DONTWAIT, NULL);
+    if (count < 0 && errno != EAGAIN && errno != EINTR) perror("udp_gateway: receive");
+    return count < 0 ? 0 : (size_t)count;
 }
 
-/* Prints each context of each link. */
+/* Takes one packet of a link, and sends what it gives. */
+static void take(struct rohc_gateway *gateway, uint16_t link, int socket, const uint8_t *octets, size_t count,
+                 const struct sockaddr_in *peer, const struct targets *to) {
+    static uint8_t packet[PACKET + ROHC_HEAD_ROOM], relayed[PACKET];
+    uint8_t feedback[ROHC_FEEDBACK_ROOM];
+    struct rohc_arrival a;
+    if (rohc_arrive(gateway, link, milliseconds(), octets, count, packet, sizeof packet, feedback, sizeof feedback, relayed,
+                    sizeof relayed, &a) != ROHC_ARRIVED) abort(); /* there is a concentrator, and the buffers have room */
+    for (size_t at = 0; at < a.relayed_length; at += 1 + relayed[at])
+        send_octets(socket, &to->relay, relayed + at + 1, relayed[at]);
+    if (a.has_packet) send_octets(socket, &to->deliver, packet, a.packet_length);
+    if (a.has_feedback) send_octets(socket, peer, feedback, a.feedback_length);
+    if (a.outcome != ROHC_DELIVERED && a.outcome < ROHC_STORED) refused[a.outcome]++;
+}
+
+/* Prints each context of each link, and how many packets were refused by each name. */
 static void show(struct rohc_gateway *gateway) {
     static const char *const states[] = {"No Context", "Static Context", "Full Context"};
     struct rohc_context_info context;
+    uint8_t name[ROHC_NAME_ROOM];
     uint16_t link;
     for (size_t i = 0; rohc_link_at(gateway, i, &link); i++)
         for (size_t j = 0; rohc_context_at(gateway, link, j, &context); j++)
             printf("link %u CID %u: profile 0x%04x, %s\n", link, context.cid, context.profile, states[context.state]);
+    for (uint8_t number = 0; number < ROHC_STORED; number++)
+        if (refused[number] > 0) {
+            size_t length = rohc_refusal_name(number, name, sizeof name);
+            printf("refused %.*s: %" PRIu64 "\n", (int)length, (const char *)name, refused[number]);
+        }
+}
+
+/* Makes the concentrator, and returns how many links it has. */
+static size_t make(struct rohc_gateway *gateway, const char *path, struct rohc_link *links) {
+    FILE *file = fopen(path, "r");
+    if (!file) {
+        fprintf(stderr, "udp_gateway: %s: %s\n", path, strerror(errno));
+        exit(BAD_LINKS);
+    }
+    size_t place, count = read_links(file, links);
+    uint8_t fault = rohc_new(gateway, links, count, &place);
+    fclose(file);
+    if (fault == ROHC_MADE) return count;
+    if (fault == ROHC_NO_MEMORY) fprintf(stderr, "udp_gateway: there is no memory\n");
+    else if (place == 0) fprintf(stderr, "udp_gateway: %s has no links, or more than %d\n", path, ROHC_LINKS);
+    else fprintf(stderr, "udp_gateway: %s: link %zu has a bad setting, or the number of one before it\n", path, place);
+    exit(fault == ROHC_NO_MEMORY ? NO_MEMORY : BAD_LINKS);
+}
+
+/* Takes what comes at the sockets, until so many packets came or a signal does. A signal comes while the program waits, and
+ * at no other time. */
+static void run(struct rohc_gateway *gateway, const struct rohc_link *links, struct pollfd *sockets, size_t count,
+                const struct targets *to, unsigned long left) {
+    static struct batch batch;
+    sigset_t none;
+    sigemptyset(&none);
+    while (left > 0 && ppoll(sockets, (nfds_t)count, NULL, &none) >= 0 && !stopped)
+        for (size_t i = 0; i < count; i++) {
+            if (!(sockets[i].revents & POLLIN)) continue;
+            size_t came = receive(sockets[i].fd, &batch, left < BATCH ? left : BATCH);
+            for (size_t j = 0; j < came; j++)
+                take(gateway, links[i].link, sockets[i].fd, batch.octets[j], batch.messages[j].msg_len, &batch.peers[j], to);
+            left -= came;
+        }
+}
+
+/* Lets a signal end the program while it waits. */
+static void end_at(int number, sigset_t *blocked) {
+    struct sigaction action = {.sa_handler = stop};
+    sigaction(number, &action, NULL);
+    sigaddset(blocked, number);
 }
 
 int main(int count, char **words) {
     static struct rohc_link links[ROHC_LINKS];
     static struct pollfd sockets[ROHC_LINKS];
     struct rohc_gateway gateway = {0};
-    FILE *file = count == 5 || count == 6 ? fopen(words[1], "r") : NULL;
-    size_t link_count = file ? read_links(file, links) : 0, place;
-    if (rohc_new(&gateway, links, link_count, &place) != ROHC_MADE) {
-        fprintf(stderr, "udp_gateway: no links, or a fault of link %zu\n", place);
-        return 3;
+    sigset_t blocked;
+    if (count != 5 && count != 6) {
+        fprintf(stderr, "usage: udp_gateway LINKS PORT DELIVER RELAY [COUNT]\n");
+        return BAD_WORDS;
     }
-    fclose(file);
-    for (size_t i = 0; i < link_count; i++) {
-        struct sockaddr_in address = local((unsigned)atoi(words[2]) + (unsigned)i);
-        sockets[i].fd = socket(AF_INET, SOCK_DGRAM, 0);
-        sockets[i].events = POLLIN;
-        if (bind(sockets[i].fd, (struct sockaddr *)&address, sizeof address) != 0) {
-            perror("udp_gateway: bind");
-            return 6;
-        }
-    }
-    struct sigaction action = {.sa_handler = stop};
-    sigaction(SIGINT, &action, NULL);
-    sigaction(SIGTERM, &action, NULL);
-    uint64_t left = count == 6 ? strtoull(words[5], NULL, 10) : UINT64_MAX;
-    struct sockaddr_in deliver = local((unsigned)atoi(words[3])), relay = local((unsigned)atoi(words[4]));
+    size_t link_count = make(&gateway, words[1], links);
+    unsigned long port = number_in("PORT", words[2], 1, 65536 - link_count);
+    struct targets to = {local(number_in("DELIVER", words[3], 1, 65535)), local(number_in("RELAY", words[4], 1, 65535))};
+    unsigned long left = count == 6 ? number_in("COUNT", words[5], 1, GREATEST_COUNT) : ULONG_MAX;
+    for (size_t i = 0; i < link_count; i++)
+        sockets[i] = (struct pollfd){.fd = listen_at(port + i), .events = POLLIN};
+    sigemptyset(&blocked);
+    end_at(SIGINT, &blocked);
+    end_at(SIGTERM, &blocked);
+    end_at(SIGHUP, &blocked);
+    sigprocmask(SIG_BLOCK, &blocked, NULL);
     puts("ready");
     fflush(stdout);
-    while (!stopped && left > 0 && poll(sockets, (nfds_t)link_count, -1) >= 0)
-        for (size_t i = 0; i < link_count && left > 0; i++)
-            if (sockets[i].revents & POLLIN) {
-                take(&gateway, links[i].link, sockets[i].fd, deliver, relay);
-                left--;
-            }
+    run(&gateway, links, sockets, link_count, &to, left);
     for (size_t i = 0; i < link_count; i++) close(sockets[i].fd);
     show(&gateway);
     rohc_free(&gateway);
