@@ -3,7 +3,9 @@
 
 from __future__ import annotations
 
+import copy
 import io
+import pickle
 import re
 import struct
 import sys
@@ -21,6 +23,7 @@ from rohc import (  # noqa: E402
     Closed,
     Concentrator,
     Context,
+    Error,
     Kind,
     Link,
     NoLink,
@@ -121,7 +124,6 @@ class Calls(unittest.TestCase):
             full = State.FULL_CONTEXT
             self.assertEqual(concentrator.contexts(1), [Context(5, 0x0000, full, 5), Context(0, 0x0000, full, 6)])
             self.assertEqual(concentrator.contexts(7), [])
-        self.assertEqual((concentrator.links(), concentrator.contexts(1)), ([], []))
 
     def test_faults(self) -> None:
         for links, status, place in (
@@ -143,8 +145,36 @@ class Calls(unittest.TestCase):
         concentrator.close()
         with self.assertRaises(Closed):
             concentrator.arrive(1, 0, self.IR)
+        for call in (
+            concentrator.links,
+            lambda: concentrator.contexts(1),
+            lambda: concentrator.has_context(1, 0),
+            lambda: concentrator.reset(1),
+        ):
+            with self.assertRaises(Closed) as raised:
+                call()
+            self.assertIsInstance(raised.exception, Error)
         with self.assertRaises(OverflowError):
             concentrator.arrive(65536, 0, self.IR)
+
+    def test_octets_of_any_kind(self) -> None:
+        pairs = self.IR + b"\xbb"
+        with Concentrator([Link(1)]) as concentrator:
+            for octets in (bytearray(pairs), memoryview(pairs), memoryview(pairs).cast("H")):
+                wanted = concentrator.arrive(1, 0, bytes(octets))
+                self.assertEqual(concentrator.arrive(1, 0, octets), wanted)
+            every_other = memoryview(bytes(octet for octet in pairs for _ in range(2)))[::2]
+            self.assertEqual(concentrator.arrive(1, 0, every_other).packet, b"\x45\xaa\xbb")
+            self.assertEqual(concentrator.arrive(1, 0, self.IR + bytes(5000)).packet, b"\x45\xaa" + bytes(5000))
+            for other in ("fc00", 5, None, [0xFC]):
+                with self.assertRaises(TypeError):
+                    concentrator.arrive(1, 0, other)  # type: ignore[arg-type]
+
+    def test_no_copy(self) -> None:
+        with Concentrator([Link(1)]) as concentrator:
+            for copy_of in (copy.copy, copy.deepcopy, pickle.dumps):
+                with self.assertRaises(TypeError):
+                    copy_of(concentrator)
 
 
 class Capture(unittest.TestCase):

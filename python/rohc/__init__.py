@@ -16,13 +16,26 @@ from __future__ import annotations
 from collections.abc import Callable, Iterable, Iterator, Sequence
 from dataclasses import dataclass
 from enum import IntEnum
-from typing import TypeVar
+from typing import NoReturn, TypeVar
 
 from . import _library
+from ._errors import Closed, Error, NoLink, SetupError
 
 T = TypeVar("T")
 
-__all__ = ["Answer", "Closed", "Concentrator", "Context", "Kind", "Link", "NoLink", "Range", "SetupError", "State"]
+__all__ = [
+    "Answer",
+    "Closed",
+    "Concentrator",
+    "Context",
+    "Error",
+    "Kind",
+    "Link",
+    "NoLink",
+    "Range",
+    "SetupError",
+    "State",
+]
 
 
 class Kind(IntEnum):
@@ -105,74 +118,61 @@ class Answer:
         return self.kind == Kind.CONTEXT and self.packet is None and self.refusal is None
 
 
-class SetupError(ValueError):
-    """No concentrator is made. `status` is one of enum rohc_made; `place` is the place of the link at fault from 1, or 0."""
-
-    def __init__(self, status: int, place: int) -> None:
-        where = f" at link {place}" if place else ""
-        super().__init__(f"{_library.MADE.get(status, status)}{where}")
-        self.status = status
-        self.place = place
-
-
-class NoLink(KeyError):
-    """There is no such link."""
-
-
-class Closed(ValueError):
-    """The concentrator is closed."""
-
-
 class Concentrator:
-    """The contexts of all links. It takes one call at a time. `close` or a `with` block frees it."""
+    """The contexts of all links. `close` or a `with` block frees it, and then every other call raises `Closed`.
+
+    It can't be copied. Calls of several threads wait for one another, also where Python has no common lock.
+    """
 
     def __init__(self, links: Iterable[Link]) -> None:
-        self._gateway = _library.Gateway()
-        status, place = _library.new(self._gateway, [_link(link) for link in links])
+        self._room = _library.Room()
+        status, place = _library.new(self._room.gateway, [_link(link) for link in links])
         if status != 0:
             raise SetupError(status, place)
 
-    def arrive(self, link: int, moment: int, octets: bytes) -> Answer:
-        """Takes one packet of a link, with its arrival time in milliseconds, and returns the answer."""
-        told = _library.arrive(self._gateway, _within(link, 16), _within(moment, 64), octets)
-        if told is None:
-            raise Closed("the concentrator is closed")
-        arrival, packet, feedback, relayed = told
-        kind = Kind(arrival.kind)
-        return Answer(
-            kind=kind,
-            cid=arrival.cid if kind == Kind.CONTEXT else None,
-            packet=packet if arrival.has_packet else None,
-            feedback=feedback if arrival.has_feedback else None,
-            relayed=relayed,
-            refusal=_library.refusal_name(arrival.outcome),
-        )
+    def arrive(self, link: int, moment: int, octets: bytes | bytearray | memoryview) -> Answer:
+        """Takes one packet of a link, with its arrival time in milliseconds, and returns the answer.
+
+        The packet is all octets of a bytes-like object, whatever its items are.
+        """
+        packet = octets if type(octets) is bytes else memoryview(octets).tobytes()
+        with self._room as room:
+            room.arrive(_within(link, 16), _within(moment, 64), packet)
+            arrival = room.arrival
+            kind = _KINDS[arrival.kind]
+            cid = arrival.cid if kind is Kind.CONTEXT else None
+            refusal = _library.refusal_names()[arrival.outcome]
+            return Answer(kind, cid, room.packet, room.feedback, room.relayed, refusal)
 
     def reset(self, link: int) -> None:
         """Forgets every context of a link, and no other context."""
-        status = _library.reset(self._gateway, _within(link, 16))
-        if status == 2:
-            raise NoLink(link)
-        if status != 0:
-            raise Closed("the concentrator is closed")
+        with self._room as room:
+            if _library.reset(room.gateway, _within(link, 16)) != 0:
+                raise NoLink(link)
 
     def has_context(self, link: int, cid: int) -> bool:
         """Whether there is a context for a CID of a link, even one that counts as none because it was idle too long."""
-        return _library.has_context(self._gateway, _within(link, 16), _within(cid, 16))
+        with self._room as room:
+            return _library.has_context(room.gateway, _within(link, 16), _within(cid, 16))
 
     def links(self) -> list[int]:
-        """The numbers of the links, in their order; none of a closed concentrator."""
-        return list(_standing(lambda place: _library.link_at(self._gateway, place)))
+        """The numbers of the links, in their order."""
+        with self._room as room:
+            return list(_standing(lambda place: _library.link_at(room.gateway, place)))
 
     def contexts(self, link: int) -> list[Context]:
         """The contexts of a link, in the order of their first IR; none if there is no such link."""
         number = _within(link, 16)
-        found = _standing(lambda place: _library.context_at(self._gateway, number, place))
-        return [Context(it.cid, it.profile, State(it.state), it.accepted) for it in found]
+        with self._room as room:
+            found = _standing(lambda place: _library.context_at(room.gateway, number, place))
+            return [Context(it.cid, it.profile, State(it.state), it.accepted) for it in found]
 
     def close(self) -> None:
         """Frees the concentrator. A second call does nothing."""
-        _library.free(self._gateway)
+        self._room.free()
+
+    def __reduce__(self) -> NoReturn:
+        raise TypeError("a concentrator can't be copied")
 
     def __enter__(self) -> Concentrator:
         return self
@@ -181,8 +181,11 @@ class Concentrator:
         self.close()
 
     def __del__(self) -> None:
-        if hasattr(self, "_gateway"):
+        if hasattr(self, "_room"):
             self.close()
+
+
+_KINDS = tuple(Kind)
 
 
 def _standing(at: Callable[[int], T | None]) -> Iterator[T]:

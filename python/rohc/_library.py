@@ -8,17 +8,11 @@ import os
 from ctypes import POINTER, byref, c_bool, c_size_t, c_uint8, c_uint16, c_uint32, c_uint64, c_void_p
 from functools import cache
 from pathlib import Path
+from threading import Lock
+
+from ._errors import Closed
 
 HEAD_ROOM, FEEDBACK_ROOM, NAME_ROOM = 40, 8, 16
-
-MADE = {
-    1: "there are no links",
-    2: "there are more than 256 links",
-    3: "more than eight ranges",
-    4: "settings outside their limits",
-    5: "the number of an earlier link",
-    6: "there is no memory",
-}
 
 
 class Gateway(ctypes.Structure):
@@ -79,7 +73,7 @@ def _path() -> str:
 
 @cache
 def _functions() -> ctypes.PyDLL:
-    """Loads the library, with the types of its functions. A call keeps the interpreter's lock, so calls never overlap."""
+    """Loads the library, with the types of its functions. A call keeps the interpreter's lock, if there is one."""
     library = ctypes.PyDLL(_path())
     octets = ctypes.c_void_p
     types = {
@@ -108,29 +102,65 @@ def new(gateway: Gateway, links: list[Link]) -> tuple[int, int]:
     return _functions().rohc_new(byref(gateway), array, len(links), byref(place)), place.value
 
 
-def free(gateway: Gateway) -> None:
-    _functions().rohc_free(byref(gateway))
+class Room:
+    """A gateway, and the room for its answers, which grows with the longest packet."""
 
+    def __init__(self) -> None:
+        self._lock = Lock()
+        self.gateway = Gateway()
+        self.arrival = Arrival()
+        self._grow(2048)
 
-def arrive(
-    gateway: Gateway, link: int, moment: int, octets: bytes
-) -> tuple[Arrival, bytes, bytes, tuple[bytes, ...]] | None:
-    """The answer to a packet, or None if there is no concentrator."""
-    count = len(octets)
-    packet = ctypes.create_string_buffer(count + HEAD_ROOM)
-    feedback = ctypes.create_string_buffer(FEEDBACK_ROOM)
-    relayed = ctypes.create_string_buffer(max(count, 1))
-    arrival = Arrival()
-    status = _functions().rohc_arrive(
-        byref(gateway), link, moment, bytes(octets), count, packet, len(packet), feedback, len(feedback), relayed,
-        len(relayed), byref(arrival)
-    )
-    if status == 1:
-        return None
-    if status != 0:
-        raise RuntimeError(f"rohc_arrive answered {status}")
-    elements = _elements(relayed.raw[: arrival.relayed_length])
-    return arrival, packet.raw[: arrival.packet_length], feedback.raw[: arrival.feedback_length], elements
+    def _grow(self, count: int) -> None:
+        """Makes room for the answer to a packet of so many octets."""
+        self._count = count
+        self._packet = ctypes.create_string_buffer(count + HEAD_ROOM)
+        self._feedback = ctypes.create_string_buffer(FEEDBACK_ROOM)
+        self._relayed = ctypes.create_string_buffer(count)
+        buffers = (self._packet, self._feedback, self._relayed)
+        self._told = [word for buffer in buffers for word in (ctypes.addressof(buffer), len(buffer))]
+        self._told.append(byref(self.arrival))
+
+    def __enter__(self) -> Room:
+        """Waits for a call of another thread. The error is `Closed`."""
+        self._lock.acquire()
+        if not self.gateway.live:
+            self._lock.release()
+            raise Closed("the concentrator is closed")
+        return self
+
+    def __exit__(self, *_: object) -> None:
+        self._lock.release()
+
+    def free(self) -> None:
+        """Frees the concentrator, if there is one."""
+        with self._lock:
+            _functions().rohc_free(byref(self.gateway))
+
+    def arrive(self, link: int, moment: int, octets: bytes) -> None:
+        """Takes a packet. There is a concentrator."""
+        count = len(octets)
+        if count > self._count:
+            self._grow(count)
+        status = _functions().rohc_arrive(byref(self.gateway), link, moment, octets, count, *self._told)
+        if status != 0:
+            raise RuntimeError(f"rohc_arrive answered {status}")
+
+    @property
+    def packet(self) -> bytes | None:
+        """The rebuilt packet of the last answer."""
+        return ctypes.string_at(self._packet, self.arrival.packet_length) if self.arrival.has_packet else None
+
+    @property
+    def feedback(self) -> bytes | None:
+        """The feedback for the compressor of the last answer."""
+        return ctypes.string_at(self._feedback, self.arrival.feedback_length) if self.arrival.has_feedback else None
+
+    @property
+    def relayed(self) -> tuple[bytes, ...]:
+        """The feedback that the last packet carried for this side."""
+        count = self.arrival.relayed_length
+        return _elements(ctypes.string_at(self._relayed, count)) if count else ()
 
 
 def _elements(octets: bytes) -> tuple[bytes, ...]:
@@ -163,8 +193,13 @@ def context_at(gateway: Gateway, link: int, place: int) -> ContextInfo | None:
     return context if _functions().rohc_context_at(byref(gateway), link, place, byref(context)) else None
 
 
-def refusal_name(number: int) -> str | None:
-    """The name of the refusal with this number, or None if there is none."""
+def _refusal_name(number: int) -> str | None:
     name = ctypes.create_string_buffer(NAME_ROOM)
     length = _functions().rohc_refusal_name(number, name, len(name))
     return name.raw[:length].decode("ascii") if length else None
+
+
+@cache
+def refusal_names() -> tuple[str | None, ...]:
+    """The name of the refusal with each number, or None if there is none."""
+    return tuple(_refusal_name(number) for number in range(256))

@@ -1,0 +1,34 @@
+"""The errors of this package."""
+
+from __future__ import annotations
+
+MADE = {
+    1: "there are no links",
+    2: "there are more than 256 links",
+    3: "more than eight ranges",
+    4: "settings outside their limits",
+    5: "the number of an earlier link",
+    6: "there is no memory",
+}
+
+
+class Error(Exception):
+    """Any error of this package."""
+
+
+class SetupError(Error, ValueError):
+    """No concentrator is made. `status` is one of enum rohc_made; `place` is the place of the link at fault from 1, or 0."""
+
+    def __init__(self, status: int, place: int) -> None:
+        where = f" at link {place}" if place else ""
+        super().__init__(f"{MADE.get(status, status)}{where}")
+        self.status = status
+        self.place = place
+
+
+class NoLink(Error, KeyError):
+    """There is no such link."""
+
+
+class Closed(Error, ValueError):
+    """The concentrator is closed."""
