@@ -1,0 +1,65 @@
+"""A slow, plain model of the decompressor, written from the documents alone.
+
+usage: python3 tools/model vectors < QUESTIONS
+       python3 tools/model replay --links FILE < SCRIPT
+       python3 tools/model random SEED COUNT --program FILE
+
+`vectors` answers each question of crates/vectors/stdin. `replay` answers a script as `rohcd replay` does. `random`
+makes a random script of so many lines, and compares the answers of a program with the model's.
+"""
+
+import sys
+
+# The model leaves no compiled modules beside its own.
+sys.dont_write_bytecode = True
+
+from pathlib import Path  # noqa: E402
+
+import against  # noqa: E402
+import links  # noqa: E402
+import vectors  # noqa: E402
+from replay import replay  # noqa: E402
+
+HELP = (__doc__ or "").strip()
+
+
+def settings_of(file: Path) -> dict[int, links.Setting]:
+    """The settings of a links file."""
+    try:
+        return links.read(file.read_bytes())
+    except OSError as fault:
+        raise links.LinksFault("Unreadable") from fault
+
+
+def show_replay(file: Path, script: bytes) -> int:
+    """Answers a script."""
+    try:
+        settings = settings_of(file)
+    except links.LinksFault as fault:
+        print(f"rohcd: links file: {fault}", file=sys.stderr)
+        return 3
+    for line in replay(settings, script):
+        print(line)
+    return 0
+
+
+def main(words: list[str]) -> int:
+    """Does what the words say."""
+    match words:
+        case ["--help"]:
+            print(HELP)
+        case ["vectors"]:
+            for line in vectors.answers(sys.stdin.read().splitlines()):
+                print(line)
+        case ["replay", "--links", file]:
+            return show_replay(Path(file), sys.stdin.buffer.read())
+        case ["random", seed, count, "--program", file] if seed.isdecimal() and count.isdecimal():
+            return against.compare(seed, count, Path(file))
+        case _:
+            print(HELP, file=sys.stderr)
+            return 2
+    return 0
+
+
+if __name__ == "__main__":
+    sys.exit(main(sys.argv[1:]))
