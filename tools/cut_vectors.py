@@ -9,7 +9,8 @@ name their columns; a line that begins with # is a comment. Of a long table the 
 each fifth of the others. Without DIR the tables stay as they are in crates/vectors.
 
 The tables were computed by a model that was written from the rules alone, bit by bit and over whole lists,
-apart from the crates here. The model and the whole tables aren't in this repository; what is cut from them is.
+apart from the crates here. That model and the whole tables aren't in this repository; what is cut from them is.
+tools/model is another such model, which makes each answer again, and answers new questions.
 
 At the end of each table stand the rows of tools/part_rows.txt that the table lacks: the worked examples and
 the limits of each part. There a line with # and a table's name begins that table, a line that begins with //

@@ -18,6 +18,7 @@ import library
 import limits
 import lines
 import lint
+import model
 import poverty
 import random_scripts
 from trial import Trial
@@ -102,6 +103,13 @@ CHECKS = (
         NOTHING,
         documents.check_words,
         "links, paths, names, counts, examples and pictures of the documents; each script's --help",
+    ),
+    Check(
+        "model",
+        NOTHING,
+        model.check,
+        "tools/model, written from the documents alone, answers the vectors and the examples as is kept",
+        knows=model.is_part,
     ),
     Check(
         "gate",
@@ -211,5 +219,6 @@ TESTED = (
     Tested("Text", "manual pages", "manual words"),
     Tested("Text", "scripts", "shell python words"),
     Tested("Text", "wrong bodies", "gate bodies"),
+    Tested("Text", "vectors, answers", "model"),
     Tested("Text", "the closed step", "closed closed_test"),
 )
