@@ -2,10 +2,11 @@
 
 usage: python3 tools/model vectors < QUESTIONS
        python3 tools/model replay --links FILE < SCRIPT
-       python3 tools/model random SEED COUNT --program FILE
+       python3 tools/model random|made SEED COUNT --program FILE
 
-`vectors` answers each question of crates/vectors/stdin. `replay` answers a script as `rohcd replay` does. `random`
-makes a random script of so many lines, and compares the answers of a program with the model's.
+`vectors` answers each question of crates/vectors/stdin. `replay` answers a script as `rohcd replay` does. `random` and
+`made` compare the answers of a program with the model's, on a random script of so many lines: `random` on one of
+tools/random_script.py, and `made` on one of packets of random octets, most of which carry the right check.
 """
 
 import sys
@@ -53,8 +54,8 @@ def main(words: list[str]) -> int:
                 print(line)
         case ["replay", "--links", file]:
             return show_replay(Path(file), sys.stdin.buffer.read())
-        case ["random", seed, count, "--program", file] if seed.isdecimal() and count.isdecimal():
-            return against.compare(seed, count, Path(file))
+        case ["random" | "made" as kind, seed, count, "--program", file] if seed.isdecimal() and count.isdecimal():
+            return against.compare(kind, seed, count, Path(file))
         case _:
             print(HELP, file=sys.stderr)
             return 2
