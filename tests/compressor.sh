@@ -11,9 +11,7 @@ set -u
 [ "$#" -eq 1 ] && [ -x "$1" ] && [ -f "$1" ] || usage
 rohcd=$(realpath "$1")
 cd "$(dirname "$(realpath "$0")")/.." || exit 2
-source=$PWD/tools/compressor
-scratch=$(mktemp -d)
-trap 'rm -rf "$scratch"' EXIT
+. tests/build_compressor.sh
 exec </dev/null
 failed=0
 runs=0
@@ -22,21 +20,6 @@ came=0
 wrong() {
     echo "compressor: $1"
     failed=1
-}
-
-build() {
-    if command -v cargo >/dev/null; then
-        RUSTFLAGS='-D warnings' cargo build --quiet --release --locked --offline --target-dir "$scratch/target" \
-            --manifest-path "$source/Cargo.toml" && compressor=$scratch/target/release/compressor
-    elif command -v rustc >/dev/null; then
-        local common=(--edition 2021 -O -D warnings --out-dir "$scratch")
-        rustc "${common[@]}" --crate-type rlib --crate-name compressor "$source/src/lib.rs" &&
-            CARGO_PKG_VERSION=0 rustc "${common[@]}" --extern "compressor=$scratch/libcompressor.rlib" \
-                --crate-name compress "$source/src/main.rs" && compressor=$scratch/compress
-    else
-        echo "left out: cargo isn't installed, so no packets of the test compressor were tried"
-        exit 0
-    fi
 }
 
 # Writes a script and what must come out, and answers the script: send OPTION..
@@ -132,7 +115,6 @@ ends() {
     fi
 }
 
-compressor=
 build || {
     wrong "it isn't built"
     exit 1
@@ -142,7 +124,7 @@ check_source
 
 seed=0
 packets=300
-for kind in g711 opus random-id swapped-id zero-id checksum checksum-off tos flags stride two many wrap video late \
+for kind in g711 g729 opus random-id swapped-id zero-id checksum checksum-off tos flags stride two many wrap video late \
     jumps mixed no-rtp crowd sizes; do
     seed=$((seed + 1))
     # Some packets for each of 200 calls, and few of the longest.

@@ -5,8 +5,9 @@ use crate::pcap::Packet;
 use crate::random::Random;
 
 /// All kinds, in the order of the help.
-pub const KINDS: [&str; 20] = [
+pub const KINDS: [&str; 21] = [
     "g711",
+    "g729",
     "opus",
     "random-id",
     "swapped-id",
@@ -146,6 +147,9 @@ fn voice(kind: &str, mut call: Call, count: u64) -> Vec<Packet> {
         call.stride = 960;
         call.header.pt = 111;
     }
+    if kind == "g729" {
+        call.header.pt = 18;
+    }
     if kind == "wrap" {
         (call.header.sn, call.header.ts) = (65_400, (count / 2 * 160) as u32);
         call.header.ts = call.header.ts.wrapping_neg().wrapping_add(77);
@@ -160,6 +164,7 @@ fn voice(kind: &str, mut call: Call, count: u64) -> Vec<Packet> {
         call.vary(kind, at, count);
         let length = match kind {
             "opus" => 20 + call.random.below(80),
+            "g729" => 20,
             "sizes" => [0, 1, 0, 1400, call.random.below(65_361)][(at % 5) as usize],
             _ => 160,
         };

@@ -8,8 +8,9 @@ use compressor::feedback::feedback;
 use compressor::gap;
 use compressor::generate::packets;
 use compressor::pcap::{written, Capture};
+use compressor::results::table;
 use compressor::script::{run, Plan};
-use compressor::words::{order, Making, Order, Script, HELP};
+use compressor::words::{order, Lossy, Making, Order, Script, HELP};
 
 fn script(words: Script) -> Result<u8, Fault> {
     let capture = Capture::of_files(&words.captures)?;
@@ -47,12 +48,19 @@ fn generate(kind: &str, file: &str, making: &Making) -> Result<u8, Fault> {
     Ok(0)
 }
 
+fn lossy(words: &Lossy) -> Result<u8, Fault> {
+    let all = packets(&words.kind, words.packets, words.seed).unwrap_or_default();
+    table(&words.plans, &all, |row| write("-", format!("{row}\n").as_bytes()))?;
+    Ok(0)
+}
+
 fn obey(order: Order) -> Result<u8, Fault> {
     match order {
         Order::Help => write("-", format!("{HELP}\n").as_bytes()).map(|()| 0),
         Order::Version => write("-", format!("compressor {}\n", env!("CARGO_PKG_VERSION")).as_bytes()).map(|()| 0),
         Order::Script(words) => script(*words),
         Order::Check { expected, answers } => check(&expected, &answers),
+        Order::Lossy(words) => lossy(&words),
         Order::Generate { kind, file, making } => generate(&kind, &file, &making),
     }
 }

@@ -20,6 +20,11 @@ impl Random {
         self.draw() % bound
     }
 
+    /// True in this share of the draws.
+    pub fn chance(&mut self, share: f64) -> bool {
+        ((self.draw() & 0xffff_ffff) as f64) < share * 4_294_967_296.0
+    }
+
     pub fn octets(&mut self, count: usize) -> Vec<u8> {
         (0..count).map(|_| self.draw() as u8).collect()
     }

@@ -24,6 +24,8 @@ pub struct Settings {
     pub mode: u8,
     pub stride: Option<u32>,
     pub static_first: bool,
+    /// IRs are sent until the decompressor has acknowledged one.
+    pub until_heard: bool,
     pub announce_by_ir_dyn: bool,
     pub passing: bool,
     /// Any packet that means the header may be sent, not the smallest alone.
@@ -55,6 +57,8 @@ pub struct Sender {
     held: VecDeque<(u64, Held)>,
     serial: u64,
     last: Option<Reference>,
+    /// The decompressor has acknowledged a packet.
+    is_heard: bool,
     since_ir: u64,
     since_dyn: u64,
     zero_checksums: u32,
@@ -74,6 +78,7 @@ impl Sender {
             held: VecDeque::from([(0, Held::Nothing)]),
             serial: 0,
             last: None,
+            is_heard: false,
             since_ir: 0,
             since_dyn: 0,
             zero_checksums: 0,
@@ -110,6 +115,15 @@ impl Sender {
     pub fn acknowledged(&mut self, serial: u64) {
         while self.held.front().is_some_and(|held| held.0 < serial) {
             self.held.pop_front();
+        }
+    }
+
+    /// The decompressor acknowledges the header whose sequence number has these low 12 bits.
+    pub fn heard(&mut self, sn: u16) {
+        self.is_heard = true;
+        let is_it = |held: &Held| matches!(held, Held::Full(reference) if reference.header.sn & 0xfff == sn);
+        if let Some(serial) = self.held.iter().rev().find(|held| is_it(&held.1)).map(|held| held.0) {
+            self.acknowledged(serial);
         }
     }
 
@@ -153,7 +167,7 @@ impl Sender {
 
     /// The IR or IR-DYN that is needed, if one is.
     fn needed(&mut self, to: &Reference) -> Option<Kind> {
-        if self.recent().any(|held| held == Held::Nothing) {
+        if self.recent().any(|held| held == Held::Nothing) || (self.settings.until_heard && !self.is_heard) {
             return Some(Kind::Ir);
         }
         if self.recent().any(|held| held == Held::Static) {
@@ -192,7 +206,10 @@ impl Sender {
         let all = shapes(to, &changes, tried).into_iter().filter(allowed);
         let fitting = all.filter_map(|shape| shape.fit(to, &window).map(|values| (shape, values)));
         if !self.settings.any {
-            return fitting.min_by_key(|(shape, values)| shape.write(to, *values, 0).len());
+            let mut fitting = fitting.peekable();
+            // Nothing is smaller than a UO-0, which comes first.
+            let smallest = fitting.next_if(|(shape, _)| shape.format == Format::Uo0);
+            return smallest.or_else(|| fitting.min_by_key(|(shape, values)| shape.write(to, *values, 0).len()));
         }
         let fitting: Vec<_> = fitting.collect();
         // Extensions 3 have many spellings; three of four times something else is sent, if it can be.

@@ -4,6 +4,7 @@ use crate::fault::Fault;
 use crate::flow::Link;
 use crate::formats::names;
 use crate::generate::KINDS;
+use crate::lossy::{Delays, Plan};
 use crate::pcap::Framing;
 use crate::sender::Settings;
 
@@ -14,6 +15,8 @@ usage: compressor script [OPTION..] CAPTURE..
            compares the packets in rohcd's answers with those that must come out
        compressor generate KIND FILE [--packets N] [--seed N] [--framing ethernet|vlan|cooked|raw] [--big] [--nano]
            writes a capture of a kind
+       compressor lossy PROGRAM [--packets N] [--seed N] [--kind KIND] [--delay MS] [--feedback-delay MS]
+           sends a call to a rohcd over a link that loses and damages, both ways, and writes a table of what came out
        compressor --help | --version
 
 options of script:
@@ -40,7 +43,10 @@ options of script:
   --gaps               one steady call (opus) with long losses, and what repair makes of them
   --front              padding and feedback for the other direction before headers
   --burst N            how many in a row at most, below --w and --optimistic (the greatest)
-  --seed N             of what is lost and picked (1)";
+  --seed N             of what is lost and picked (1)
+
+lossy sends 10000 packets of g729 in U mode and in O mode for each row, with the sender as script has it, and an IR in
+O mode until one is acknowledged. The delays are 40 and 60 milliseconds. The same seed gives the same table.";
 
 /// What is to be done.
 pub enum Order {
@@ -49,6 +55,16 @@ pub enum Order {
     Script(Box<Script>),
     Check { expected: String, answers: String },
     Generate { kind: String, file: String, making: Making },
+    Lossy(Box<Lossy>),
+}
+
+/// The words of `lossy`.
+pub struct Lossy {
+    pub kind: String,
+    pub packets: u64,
+    pub seed: u64,
+    /// In U mode and in O mode.
+    pub plans: [Plan; 2],
 }
 
 /// The words of `script`.
@@ -192,6 +208,7 @@ fn settings(options: &Options, o_mode: bool) -> Result<Settings, Fault> {
         mode: if o_mode { 2 } else { 1 },
         stride: (stride > 0).then_some(stride),
         static_first: options.flag("--static-first"),
+        until_heard: false,
         announce_by_ir_dyn: options.choice("--announce", &["ext3", "ir-dyn"])? == 1,
         passing: options.flag("--passing"),
         any: options.choice("--pick", &["smallest", "any"])? == 1,
@@ -245,6 +262,29 @@ fn generate(said: &[String]) -> Result<Order, Fault> {
     Ok(Order::Generate { kind: kind.clone(), file: file.clone(), making })
 }
 
+fn lossy(said: &[String]) -> Result<Order, Fault> {
+    let options = Options::of(said, &["--packets", "--seed", "--kind", "--delay", "--feedback-delay"], &[])?;
+    let [program] = &options.rest[..] else {
+        return words("lossy wants a program".to_string());
+    };
+    let milliseconds = |name, absent| options.number(name, 0, 10_000, absent);
+    let delays = Delays { forth: milliseconds("--delay", 40)?, back: milliseconds("--feedback-delay", 60)? };
+    let plan = |o_mode| {
+        let link = Link { number: 1, large: false, max_cid: 15, o_mode };
+        let settings = Settings { until_heard: o_mode, ..settings(&options, o_mode)? };
+        Ok(Plan { program: program.clone(), link, settings, delays })
+    };
+    Ok(Order::Lossy(Box::new(Lossy {
+        kind: match options.text("--kind") {
+            None => "g729".to_string(),
+            Some(_) => KINDS[options.choice("--kind", &KINDS)?].to_string(),
+        },
+        packets: options.number("--packets", 0, 1_000_000, 10_000)?,
+        seed: options.number("--seed", 0, u64::MAX, 1)?,
+        plans: [plan(false)?, plan(true)?],
+    })))
+}
+
 /// What the words after the program's name order.
 pub fn order(said: &[String]) -> Result<Order, Fault> {
     let Some((first, rest)) = said.split_first() else {
@@ -255,6 +295,7 @@ pub fn order(said: &[String]) -> Result<Order, Fault> {
         ("--version", []) => Ok(Order::Version),
         ("script", _) => script(rest),
         ("generate", _) => generate(rest),
+        ("lossy", _) => lossy(rest),
         ("check", [expected, answers]) => Ok(Order::Check { expected: expected.clone(), answers: answers.clone() }),
         ("check", _) => words("check wants two files".to_string()),
         _ => words(format!("unknown command {first}; see --help")),
@@ -272,7 +313,9 @@ mod tests {
 
     #[test]
     fn good_words() {
-        for text in ["--help", "--version", "script a b --w 8 --cid large", "check a b", "generate g711 a --big"] {
+        for text in
+            ["--help", "--version", "script a b --w 8 --cid large", "check a b", "generate g711 a --big", "lossy a"]
+        {
             assert_eq!(fault(text), "none", "{text}");
         }
     }
@@ -293,11 +336,13 @@ mod tests {
             ("script --fast a", "unknown option --fast"),
             ("check a", "check wants two files"),
             ("generate g711", "generate wants a kind and a file"),
+            ("lossy", "lossy wants a program"),
+            ("lossy a --delay 10001", "--delay 10001 is no number from 0 to 10000"),
         ];
         for (text, said) in all {
             assert_eq!(fault(text), format!("command line: {said}"));
         }
         assert!(fault("script a --without uo-9").starts_with("command line: --without uo-9 is none of uo-0, uo-1, "));
-        assert!(fault("generate tune a").starts_with("command line: tune is none of g711, opus"));
+        assert!(fault("generate tune a").starts_with("command line: tune is none of g711, g729, opus"));
     }
 }

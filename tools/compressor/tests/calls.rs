@@ -19,6 +19,7 @@ fn settings() -> Settings {
         mode: 2,
         stride: None,
         static_first: false,
+        until_heard: false,
         announce_by_ir_dyn: false,
         passing: false,
         any: false,
