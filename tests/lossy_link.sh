@@ -20,8 +20,8 @@ exec </dev/null
 failed=0
 kept=$PWD/tests/lossy_link.table
 small=(--packets 300 --seed 1)
-# The same words stand in docs/RESULTS.md.
-whole=(--packets 10000 --seed 1)
+# docs/RESULTS.md says how many.
+whole=(--packets 20000 --seed 1)
 
 wrong() {
     echo "lossy link: $1"

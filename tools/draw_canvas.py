@@ -43,10 +43,10 @@ def overlap(a, b):
 
 
 class Canvas:
-    """A picture of this width and height in pixels."""
+    """A picture of this width and height in pixels, with styles of its own behind those of all."""
 
-    def __init__(self, name, width, height):
-        self.name, self.width, self.height = name, width, height
+    def __init__(self, name, width, height, style=""):
+        self.name, self.width, self.height, self.style = name, width, height, style
         self.parts = []
         self.texts = []
         self.lines = []
@@ -116,6 +116,6 @@ class Canvas:
         return (
             f'<svg xmlns="http://www.w3.org/2000/svg" viewBox="0 0 {self.width} {self.height}" width="{self.width}" '
             f'height="{self.height}" role="img">\n'
-            f"  <title>{escape(shows[self.name])}</title>\n  <style>{STYLE}  </style>\n"
+            f"  <title>{escape(shows[self.name])}</title>\n  <style>{STYLE}{self.style}  </style>\n"
             f'  <rect class="page" width="{self.width}" height="{self.height}" rx="8"/>\n  {body}\n</svg>\n'
         )

@@ -11,6 +11,7 @@ import sys
 from pathlib import Path
 
 from draw_canvas import BadPicture, Canvas
+from draw_results import lossy_link
 
 # What each picture shows, in words, for readers who can't see it.
 SHOWS = {
@@ -19,6 +20,7 @@ SHOWS = {
     "tries": "The three tries to explain a packet; the first header with the packet's check is delivered",
     "isolation": "The lines of one call among hostile calls are the lines of a machine that serves this call alone",
     "call": "A call's life: what the compressor sends, the feedback it gets, the state after it, and the answer line",
+    "lossy-link": "What comes out of a lossy link, for shares of lost packets and of damaged bits, in U and in O mode",
 }
 FOLDER = Path(__file__).resolve().parent.parent / "docs" / "pictures"
 
@@ -210,7 +212,8 @@ def main():
         sys.exit(__doc__)
     stale = []
     try:
-        drawn = {f"{picture().name}.svg": picture().svg(SHOWS) for picture in (packet, states, tries, isolation, call)}
+        pictures = [picture() for picture in (packet, states, tries, isolation, call, lossy_link)]
+        drawn = {f"{picture.name}.svg": picture.svg(SHOWS) for picture in pictures}
     except BadPicture as fault:
         sys.exit(f"tools/draw_pictures.py: {fault}")
     for name, text in drawn.items():
