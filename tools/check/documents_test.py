@@ -112,6 +112,7 @@ IN_WORDS: tuple[Plant, ...] = (
     ("there is no check serves", "tools/check/registry.py", "\"gate program launcher\")", "\"gate serves\")"),
     ("there is no row of the check bodies", "tools/check/registry.py", "\"gate bodies\"", "\"gate\""),
     ("states.svg", "docs/pictures/states.svg", "Full Context", "Whole Context"),
+    ("lossy-link.svg", "docs/RESULTS.md", "   1%       0    19741", "   1%       0    18741"),
     ("leaves its frame", "tools/draw_pictures.py", "\"no record\"", "\"no record of this link and this CID\""),
     ("overlaps", "tools/draw_pictures.py", "c.text(400, 66,", "c.text(400, 54,"),
     ("runs through", "tools/draw_pictures.py", "c.arrow((200, 80), (600, 80))", "c.arrow((200, 66), (600, 66))"),
