@@ -143,27 +143,39 @@ def judged(settings: list[Setting]) -> dict[int, Setting]:
     return links
 
 
+def has_long_number(value: object) -> bool:
+    """Whether an integer of a table takes more than 64 bits, which TOML has as a fault and tomllib takes."""
+    if isinstance(value, dict):
+        return any(map(has_long_number, value.values()))
+    if isinstance(value, list):
+        return any(map(has_long_number, value))
+    return isinstance(value, int) and not -(2**63) <= value < 2**63
+
+
 def parsed(octets: bytes) -> Table:
     """The table of a links file."""
     if len(octets) > LONGEST_FILE:
         raise LinksFault("Unreadable")
     try:
-        return tomllib.loads(octets.decode())
+        table = tomllib.loads(octets.decode())
     except UnicodeDecodeError as fault:
         raise LinksFault("Unreadable") from fault
     except tomllib.TOMLDecodeError as fault:
         raise LinksFault("NotToml") from fault
+    if has_long_number(table):
+        raise LinksFault("NotToml")
+    return table
 
 
 def read(octets: bytes) -> dict[int, Setting]:
     """The settings of the links of a file, by their numbers."""
     table = parsed(octets)
     version = table.get("version")
-    if isinstance(version, bool) or version not in (1, 2):
+    if type(version) is not int or version not in (1, 2):
         raise LinksFault("BadVersion")
     if set(table) - {"version", "link"}:
         raise LinksFault("UnknownKey")
     entries = table.get("link", [])
     if not isinstance(entries, list) or not all(isinstance(entry, dict) for entry in entries):
         raise LinksFault("BadKey")
-    return judged([read_entry(entry, 1 if version == 1 else 2) for entry in entries])
+    return judged([read_entry(entry, version) for entry in entries])

@@ -11,7 +11,8 @@ from record import Record
 from step import Arrival, Step, step
 
 LONGEST_LINE = 131_200
-NUMBER = b"(0|[1-9][0-9]*)"
+# The greatest time has twenty digits.
+NUMBER = b"(0|[1-9][0-9]{0,19})"
 ARRIVE = re.compile(b"arrive %s %s (-|(?:[0-9a-f]{2}){1,65535})" % (NUMBER, NUMBER))
 RESET = re.compile(b"reset %s" % NUMBER)
 
