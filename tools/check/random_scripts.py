@@ -1,14 +1,17 @@
 """Runs the program on random scripts.
 
 The answers must not depend on the pieces in which the script is read. Each pair of a link and a CID must get the answer
-lines of its own script. Behind `random` may stand a seed (1) and how many lines there are (10000).
+lines of its own script. The answers must be those of tools/model, also on packets of random octets with right checks.
+Behind `random` may stand a seed (1) and how many lines there are (10000).
 """
 
+import sys
 from pathlib import Path
 
 from trial import Trial
 
 PIECES = (1, 7, 131_200)
+MODEL_KINDS = ("random", "made")
 
 
 def is_number(top: Path, word: str) -> bool:
@@ -32,3 +35,7 @@ def check(trial: Trial) -> None:
     pairs = trial.ran(trial.top / "tools/pair_scripts.py", trial.file, links, script, answers)
     if trial.demand(pairs.status == 0, f"seed {seed}, {lines} lines: {pairs.all.strip()}", pairs.call):
         trial.say(f"seed {seed}, {lines} lines: {pairs.all.strip()}")
+    for kind in MODEL_KINDS:
+        asked = trial.ran(sys.executable, "-B", "tools/model", kind, seed, lines, "--program", trial.file)
+        if trial.demand(asked.status == 0, f"the model differs:\n{asked.all.strip()}", asked.call):
+            trial.say(f"as the model: {asked.text.strip()}")

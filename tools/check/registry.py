@@ -145,7 +145,7 @@ CHECKS = (
         "random",
         ON_PROGRAM,
         random_scripts.check,
-        "random scripts, in pieces of any size and each call by itself",
+        "random scripts, in pieces of any size, each call by itself, and against tools/model",
         knows=random_scripts.is_number,
     ),
     Check(
