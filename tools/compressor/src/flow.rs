@@ -82,6 +82,8 @@ enum Context {
 /// What became of a packet.
 pub enum Routed {
     Sent(u16, Vec<Sent>),
+    /// By profile 0x0000, and why.
+    Plain(u16, Sent, &'static str),
     LeftOut(&'static str),
 }
 
@@ -121,16 +123,30 @@ impl Table {
         if packet.len() > LONGEST {
             return Routed::LeftOut("too long");
         }
-        match Header::read(packet) {
-            Some((header, payload)) if self.is_rtp(&header) => self.send_rtp(&header, payload),
-            _ if self.others => self.send_plain(packet),
-            _ => Routed::LeftOut("no RTP"),
+        let cause = match Header::read(packet) {
+            Some((header, payload)) => match self.no_rtp(&header) {
+                None => return self.send_rtp(&header, payload),
+                Some(cause) => cause,
+            },
+            None => Header::refused(packet).unwrap_or_default(),
+        };
+        if self.others {
+            self.send_plain(packet, cause)
+        } else {
+            Routed::LeftOut("no RTP")
         }
     }
 
-    fn is_rtp(&mut self, header: &Header) -> bool {
+    /// Why a header that can be rebuilt isn't one of RTP; nothing if it is.
+    fn no_rtp(&mut self, header: &Header) -> Option<&'static str> {
         // The types of RTCP, with and without the marker's bit (RFC 5761 4).
-        !matches!(header.pt, 64..=95) && self.steadiness.entry(ends(header)).or_default().steady(header)
+        if matches!(header.pt, 64..=95) {
+            Some("a type of RTCP")
+        } else if !self.steadiness.entry(ends(header)).or_default().steady(header) {
+            Some("an unsteady SSRC or payload type")
+        } else {
+            None
+        }
     }
 
     fn send_rtp(&mut self, header: &Header, payload: &[u8]) -> Routed {
@@ -178,7 +194,7 @@ impl Table {
         used.min().map(|(_, number)| number)
     }
 
-    fn send_plain(&mut self, packet: &[u8]) -> Routed {
+    fn send_plain(&mut self, packet: &[u8], cause: &'static str) -> Routed {
         let Some(number) = self.plain.or_else(|| self.free()) else {
             return Routed::LeftOut("no identifier");
         };
@@ -198,7 +214,8 @@ impl Table {
         let octets = if ir { [&uncompressed(cid), packet].concat() } else { cid.frame(packet) };
         let name = if ir { "ir-uncompressed" } else { "normal" }.to_string();
         let header = octets.len() - packet.len();
-        Routed::Sent(number, vec![Sent { serial: *serial, octets, name, header, check: 0, carries: true }])
+        let sent = Sent { serial: *serial, octets, name, header, check: 0, carries: true };
+        Routed::Plain(number, sent, cause)
     }
 
     /// The sender of an identifier, if it is one of profile 0x0001.

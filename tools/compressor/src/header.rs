@@ -69,6 +69,25 @@ impl Header {
         (payload.len() <= 65_495 && header.octets(payload.len())[..] == *head).then_some((header, payload))
     }
 
+    /// Why the header of an IP packet can't be rebuilt from its fields; nothing if it can.
+    pub fn refused(packet: &[u8]) -> Option<&'static str> {
+        let word = |at: usize| if packet.len() >= at + 2 { word(packet, at) } else { 0 };
+        let octet = |at: usize| packet.get(at).copied().unwrap_or_default();
+        Some(match Header::read(packet) {
+            Some(_) => return None,
+            None if octet(0) >> 4 != 4 => "no IPv4",
+            None if octet(0) != 0x45 => "IPv4 options",
+            None if word(6) & 0x3fff != 0 => "a fragment",
+            None if word(6) & 0x8000 != 0 => "the reserved bit of IPv4",
+            None if octet(9) != 17 => "no UDP",
+            None if packet.len() < 40 => "too short for RTP",
+            None if usize::from(word(24)) + 20 != packet.len() => "a length of UDP",
+            None if octet(28) >> 6 != 2 => "no RTP version 2",
+            None if octet(28) & 0x0f != 0 => "contributing sources",
+            None => "a length or checksum of IPv4",
+        })
+    }
+
     /// The 40 octets of the header before a payload of this length.
     pub fn octets(&self, payload: usize) -> [u8; 40] {
         let mut head = [0; 40];
@@ -148,5 +167,31 @@ pub mod tests {
             bad[at] ^= 0x81;
             assert!(Header::read(&bad).is_none(), "octet {at}");
         }
+    }
+
+    #[test]
+    fn why_it_cannot_be_rebuilt() {
+        let good = [&worked(1, false, 1, 160).octets(1)[..], &[0xab]].concat();
+        assert_eq!(Header::refused(&good), None);
+        let all = [
+            (0, 0x20, "no IPv4"),
+            (0, 0x03, "IPv4 options"),
+            (6, 0x20, "a fragment"),
+            (7, 0x01, "a fragment"),
+            (6, 0x80, "the reserved bit of IPv4"),
+            (9, 0x17, "no UDP"),
+            (25, 0x01, "a length of UDP"),
+            (28, 0x40, "no RTP version 2"),
+            (28, 0x02, "contributing sources"),
+            (2, 0x01, "a length or checksum of IPv4"),
+            (11, 0x01, "a length or checksum of IPv4"),
+        ];
+        for (at, bits, cause) in all {
+            let mut bad = good.clone();
+            bad[at] ^= bits;
+            assert_eq!(Header::refused(&bad), Some(cause), "octet {at}");
+        }
+        assert_eq!(Header::refused(&good[..39]), Some("too short for RTP"));
+        assert_eq!(Header::refused(&[]), Some("no IPv4"));
     }
 }

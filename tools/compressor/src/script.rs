@@ -58,8 +58,23 @@ pub struct Report {
     pub expected: u64,
     pub acted_on: u64,
     pub left_out: BTreeMap<&'static str, u64>,
+    /// The packets that went by profile 0x0000, counted from 1, by the cause.
+    pub plain: BTreeMap<&'static str, Vec<u64>>,
     /// The packets of each name, the octets before their payloads, and the octets of the original headers.
     pub formats: BTreeMap<String, (u64, u64)>,
+}
+
+/// Numbers in order, each run of them by its first and its last.
+fn ranges(numbers: &[u64]) -> String {
+    let mut all: Vec<(u64, u64)> = Vec::new();
+    for number in numbers {
+        match all.last_mut() {
+            Some((_, last)) if *last + 1 == *number => *last = *number,
+            _ => all.push((*number, *number)),
+        }
+    }
+    let one = |(first, last)| if first == last { format!("{first}") } else { format!("{first}-{last}") };
+    all.into_iter().map(one).collect::<Vec<_>>().join(" ")
 }
 
 impl Report {
@@ -82,6 +97,9 @@ impl Report {
         let _ = writeln!(text, "expected {expected} feedback {acted_on}");
         for (cause, count) in &self.left_out {
             let _ = writeln!(text, "left out, {cause}: {count}");
+        }
+        for (cause, numbers) in &self.plain {
+            let _ = writeln!(text, "by profile 0x0000, {cause}: {}, packets {}", numbers.len(), ranges(numbers));
         }
         for (name, (count, octets)) in &self.formats {
             let _ = writeln!(text, "{name}: {count}, header octets {:.2}", *octets as f64 / *count as f64);
@@ -170,18 +188,24 @@ pub fn run(plan: &Plan, packets: &[Packet]) -> Written {
     let start = packets.first().map_or(0, |packet| packet.time);
     for packet in packets {
         written.report.packets += 1;
-        match table.send(&packet.octets) {
-            Routed::LeftOut(cause) => *written.report.left_out.entry(cause).or_default() += 1,
-            Routed::Sent(cid, sent) => {
-                let moment = packet.time.saturating_sub(start) / 1_000_000;
-                for one in sent {
-                    written.report.count(&one);
-                    let fate = way.fate(cid, &one);
-                    let front = if plan.front { way.front() } else { Front::default() };
-                    if written.arrive(plan, &Passage { moment, cid, sent: &one, packet, fate, front }) {
-                        listen(plan, &mut table, &mut written.report, cid, &one);
-                    }
-                }
+        let (cid, sent) = match table.send(&packet.octets) {
+            Routed::LeftOut(cause) => {
+                *written.report.left_out.entry(cause).or_default() += 1;
+                continue;
+            }
+            Routed::Sent(cid, sent) => (cid, sent),
+            Routed::Plain(cid, sent, cause) => {
+                written.report.plain.entry(cause).or_default().push(written.report.packets);
+                (cid, vec![sent])
+            }
+        };
+        let moment = packet.time.saturating_sub(start) / 1_000_000;
+        for one in sent {
+            written.report.count(&one);
+            let fate = way.fate(cid, &one);
+            let front = if plan.front { way.front() } else { Front::default() };
+            if written.arrive(plan, &Passage { moment, cid, sent: &one, packet, fate, front }) {
+                listen(plan, &mut table, &mut written.report, cid, &one);
             }
         }
     }
@@ -227,5 +251,17 @@ impl Written {
         self.report.arrived += 1;
         let _ = writeln!(self.script, "arrive {link} {moment} {}", hex(&octets));
         true
+    }
+}
+
+#[cfg(test)]
+mod tests {
+    use super::*;
+
+    #[test]
+    fn numbers_in_ranges() {
+        assert_eq!(ranges(&[]), "");
+        assert_eq!(ranges(&[3]), "3");
+        assert_eq!(ranges(&[1, 2, 3, 5, 8, 9]), "1-3 5 8-9");
     }
 }
