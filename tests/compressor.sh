@@ -3,7 +3,8 @@
 # compares what comes out with what went in, octet for octet: with both sizes of CIDs, without loss and with as much in
 # a row as the sender reckons with, with the smallest packet that means a header and with any; in U mode with
 # refreshes; in O mode with damaged packets, until the sender has heard all feedback; and with losses so long that the
-# decompressor has to repair its reference.
+# decompressor has to repair its reference. It does the same with the captures of real calls in tests/calls. Which of
+# their packets go by profile 0x0000, and why, must be what tests/calls/plain.txt says, and none may be left out.
 #
 # usage: tests/compressor.sh ROHCD
 set -u
@@ -12,6 +13,7 @@ set -u
 rohcd=$(realpath "$1")
 cd "$(dirname "$(realpath "$0")")/.." || exit 2
 . tests/build_compressor.sh
+calls=$PWD/tests/calls
 exec </dev/null
 failed=0
 runs=0
@@ -82,6 +84,31 @@ see_differences() {
     "$rohcd" replay --links links.toml <bent >answers
     "$compressor" check expected answers >said
     [ "$?" -eq 1 ] || wrong 'a bent packet is taken for right'
+}
+
+# Whether a capture comes out as it is: the comparison is right, nothing is left out, and what goes by profile 0x0000
+# is what is written of it. carry NAME
+carry() {
+    try "$1"
+    grep '^left out' counts && wrong "$1: packets are left out"
+    sed -n "s/^by profile 0x0000/$1/p" counts >plain
+    grep "^$1, " "$calls/plain.txt" >wanted
+    diff wanted plain >said || wrong "$1: by profile 0x0000 go others than tests/calls/plain.txt says: $(head -n 4 said)"
+}
+
+# What comes out of a copy with a changed octet, its last, must be seen to be another call than the one captured.
+see_changed_call() {
+    send || wrong "$(head -c 400 counts error)"
+    mv expected unchanged
+    local octet
+    octet=$(tail -c 1 capture | od -An -tu1)
+    head -c -1 capture >changed
+    printf '%b' "\\x$(printf '%02x' $((octet ^ 1)))" >>changed
+    mv changed capture
+    send || wrong "$(head -c 400 counts error)"
+    "$compressor" check expected answers >said || wrong "a changed call: $(head -c 400 said)"
+    "$compressor" check unchanged answers >said
+    [ "$?" -eq 1 ] || wrong 'a call with a changed octet is taken for the one that was captured'
 }
 
 # The source is formatted and has no warnings, and its own tests pass.
@@ -165,6 +192,25 @@ for kind in g711 two swapped-id zero-id stride jumps; do
     done
 done
 
+captures=0
+for file in "$calls"/*.pcap; do
+    [ -e "$file" ] || continue
+    name=$(basename "$file" .pcap)
+    captures=$((captures + 1))
+    cp "$file" capture
+    carry "$name"
+    for cid in small large; do
+        for pick in smallest any; do
+            try "$name" --cid "$cid" --lose 40 --w 4 --optimistic 4 --pick "$pick" --seed "$captures"
+        done
+        try "$name" --cid "$cid" --mode U --refresh-ir 50 --refresh-dyn 11 --passing --lose 20 --burst 2 --front
+        try "$name" --cid "$cid" --w 12 --optimistic 3 --announce ir-dyn --static-first --max-cid 3
+    done
+    hear "$name" --damage 20 --lose 10 --w 6 --optimistic 6 --without uo-0,uo-1,uo-1-id,uo-1-ts
+done
+[ "$captures" -gt 0 ] || wrong 'there is no capture of a real call'
+see_changed_call
+
 "$compressor" generate g711 capture --packets 100
 see_differences
 head -c 100 capture >short
@@ -177,4 +223,4 @@ ends 2 'compressor: command line: no command; see --help'
 ends 0 '' --help
 
 [ "$failed" -eq 0 ] || exit 1
-echo "compressor: $runs runs, $came packets and feedback elements came out as they went in"
+echo "compressor: $captures real calls among $runs runs, $came packets and feedback elements came out as they went in"
