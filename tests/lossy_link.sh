@@ -1,7 +1,7 @@
 #!/usr/bin/env bash
 # Sends a call from tools/compressor to a built program over a lossy link, with feedback in time, and counts what comes
 # out. The small run must give the table that is kept beside this, another seed another one, and a program that bends a
-# packet one packet fewer that is right.
+# packet one packet fewer that is right. A program without feedback gets IRs alone in O mode.
 #
 # usage: tests/lossy_link.sh ROHCD            the small run
 #        tests/lossy_link.sh --write ROHCD    makes docs/RESULTS.md's table, its picture and the kept table again
@@ -88,6 +88,14 @@ for column in 3 8; do
     [ "$(clean bent "$column") $(clean bent $((column + 1)))" = "$((small[1] - 1)) 1" ] ||
         wrong "a bent packet isn't counted as wrong, column $column"
 done
+# Without feedback the sender goes on with IRs in O mode, and in U mode as before.
+table heard "$rohcd" --packets 60
+bends silent '/ feedback /d'
+table unheard "$scratch/silent" --packets 60
+unheard=$(clean unheard 12)
+if [ "$(clean heard 7)" != "$(clean unheard 7)" ] || [ "${unheard%.*}" -lt 38 ]; then
+    wrong "without feedback the mean header has $(clean unheard 7) and $unheard octets"
+fi
 bends loud 's/^1 0 ip/1 0 up/'
 faults 'at 40 ms: BadLine' "$scratch/loud"
 faults 'at 40 ms: NoAnswer' /bin/true
