@@ -16,6 +16,7 @@ fi
 rohcd=$(realpath "$1")
 cd "$(dirname "$(realpath "$0")")/.." || exit 2
 . tests/build_compressor.sh
+export TMPDIR=$scratch
 exec </dev/null
 failed=0
 kept=$PWD/tests/lossy_link.table
@@ -100,5 +101,6 @@ bends loud 's/^1 0 ip/1 0 up/'
 faults 'at 40 ms: BadLine' "$scratch/loud"
 faults 'at 40 ms: NoAnswer' /bin/true
 faults 'whole file: NotStarted' "$scratch/missing"
+[ -z "$(find "$TMPDIR" -name 'compressor-*.toml')" ] || wrong 'a links file is left'
 [ "$failed" -eq 0 ] || exit 1
 echo "lossy link: $(($(wc -l <"$kept") - 3)) rows of ${small[1]} packets in two modes came out as before"

@@ -48,7 +48,10 @@ impl Live {
         let call = ["replay", "--links", &links];
         let started = Command::new(program).args(call).stdin(Stdio::piped()).stdout(Stdio::piped()).spawn();
         let fault = || Fault::input(program, "whole file".to_string(), "NotStarted");
-        let mut child = started.map_err(|_| fault())?;
+        let mut child = started.map_err(|_| {
+            let _ = std::fs::remove_file(&links);
+            fault()
+        })?;
         let input = Some(child.stdin.take().ok_or_else(fault)?);
         let output = BufReader::new(child.stdout.take().ok_or_else(fault)?);
         Ok(Live { program: program.to_string(), links, link: link.number, child, input, output })
