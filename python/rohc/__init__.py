@@ -136,8 +136,9 @@ class Concentrator:
         The packet is all octets of a bytes-like object, whatever its items are.
         """
         packet = octets if type(octets) is bytes else memoryview(octets).tobytes()
+        number, time = _within(link, 16), _within(moment, 64)
         with self._room as room:
-            room.arrive(_within(link, 16), _within(moment, 64), packet)
+            room.arrive(number, time, packet)
             arrival = room.arrival
             kind = _KINDS[arrival.kind]
             cid = arrival.cid if kind is Kind.CONTEXT else None
@@ -146,14 +147,16 @@ class Concentrator:
 
     def reset(self, link: int) -> None:
         """Forgets every context of a link, and no other context."""
+        number = _within(link, 16)
         with self._room as room:
-            if _library.reset(room.gateway, _within(link, 16)) != 0:
+            if _library.reset(room.gateway, number) != 0:
                 raise NoLink(link)
 
     def has_context(self, link: int, cid: int) -> bool:
         """Whether there is a context for a CID of a link, even one that counts as none because it was idle too long."""
+        number, identifier = _within(link, 16), _within(cid, 16)
         with self._room as room:
-            return _library.has_context(room.gateway, _within(link, 16), _within(cid, 16))
+            return _library.has_context(room.gateway, number, identifier)
 
     def links(self) -> list[int]:
         """The numbers of the links, in their order."""
