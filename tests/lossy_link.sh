@@ -20,9 +20,11 @@ export TMPDIR=$scratch
 exec </dev/null
 failed=0
 kept=$PWD/tests/lossy_link.table
-small=(--packets 300 --seed 1)
+seed=1
+another=2
+small=(--packets 300 --seed "$seed")
 # docs/RESULTS.md says how many.
-whole=(--packets 20000 --seed 1)
+whole=(--packets 20000 --seed "$seed")
 
 wrong() {
     echo "lossy link: $1"
@@ -81,7 +83,7 @@ said=$(diff "$kept" "$scratch/same") || wrong "not the kept table: $said"
 for column in 3 8; do
     [ "$(clean same "$column")" = "${small[1]}" ] || wrong "not all is right without losses, column $column"
 done
-table other "$rohcd" --packets "${small[1]}" --seed 2
+table other "$rohcd" --packets "${small[1]}" --seed "$another"
 cmp -s "$kept" "$scratch/other" && wrong 'another seed gives the same table'
 bends bending '0,/ ip 45b8/s// ip 45b9/'
 table bent "$scratch/bending" "${small[@]}"
