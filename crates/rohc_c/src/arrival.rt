@@ -100,17 +100,6 @@ pub(crate) fn put_long(long: &Delivered<'_>, place: &mut [u8]) -> usize
     head.len() + long.payload.len()
 }
 
-/// Writes a Normal packet, its first octet and the rest, into a buffer, and returns its length.
-#[inline(always)]
-pub(crate) fn put_normal(first: u8, rest: &[u8], place: &mut [u8]) -> usize
-    requires { 1 + length rest.now ≤ length place.old }
-    ensures { StandsIn ((first ∷ []) ++ rest.now) result place.new }
-{
-    put_payload(place, 1, rest);
-    place[0] = first;
-    1 + rest.len()
-}
-
 /// Writes a reply's packet into its buffer. Returns whether there is one, and its length.
 #[inline(always)]
 fn tell_packet(reply: &Reply<'_>, place: &mut [u8]) -> (bool, usize)

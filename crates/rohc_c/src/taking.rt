@@ -7,12 +7,10 @@ ghost use Rattle.rohc_c.specs.Calls.{HasRoom};
 ghost use Rattle.rohc_c.specs.Relay.{Fits};
 ghost use Rattle.rohc_c.specs.Written.{relayed_in, IsWithin, IsWritten};
 
-use crate::arrival::{
-    RohcArrival, packet_in, put_long, put_normal, put_packet, relays, tell_alone, write,
-};
+use crate::arrival::{RohcArrival, packet_in, put_long, put_packet, relays, tell_alone, write};
 use crate::room::HEAD;
-use rohc_concentrator::{Answer, Concentrator, Taken};
-use rohc_context::Refusal;
+use rohc_concentrator::{Answer, Concentrator};
+use rohc_context::AtOnce;
 
 /// Takes one packet of a link, and writes the answer into the struct and the buffers.
 ///
@@ -33,18 +31,9 @@ pub(crate) fn take_packet(
     ensures { (report : Report) × Arrives concentrator.old link moment octets.now report concentrator.new
         × IsWritten report (record { packet = packet.new; feedback = feedback.new; relayed = relayed.new }) arrival.new }
 {
-    let mut answer = Answer::refusing(0, Refusal::NoContext);
-    match concentrator.take_at_once(link, moment, octets, &mut answer) {
-        Some(Taken::Rebuilt) => match packet_in(&answer) {
-            Some((cid, long)) if long.head.len() == HEAD => {
-                *arrival = tell_alone(cid, put_long(long, packet));
-            }
-            _ => write_other(answer, packet, feedback, relayed, arrival),
-        },
-        Some(Taken::Normal { cid, first, rest }) => {
-            *arrival = tell_alone(cid, put_normal(first, rest, packet));
-        }
-        None => take_longer(
+    let mut answer = Answer::blank();
+    if !concentrator.take_at_once(AtOnce::Rebuilt, link, moment, octets, &mut answer) {
+        return take_longer(
             concentrator,
             link,
             moment,
@@ -53,7 +42,13 @@ pub(crate) fn take_packet(
             feedback,
             relayed,
             arrival,
-        ),
+        );
+    }
+    match packet_in(&answer) {
+        Some((cid, long)) if long.head.len() == HEAD => {
+            *arrival = tell_alone(cid, put_long(long, packet));
+        }
+        _ => write_other(answer, packet, feedback, relayed, arrival),
     }
 }
 
@@ -94,8 +89,8 @@ fn take_longer(
     ensures { (report : Report) × Arrives concentrator.old link moment octets.now report concentrator.new
         × IsWritten report (record { packet = packet.new; feedback = feedback.new; relayed = relayed.new }) arrival.new }
 {
-    let mut answer = Answer::Refused(Refusal::NoContext);
-    concentrator.arrive_longer(link, moment, octets, &mut answer);
+    let mut answer = Answer::blank();
+    concentrator.arrive_into(link, moment, octets, &mut answer);
     *arrival = match packet_in(&answer) {
         Some((cid, delivered)) if !relays(&answer) => {
             tell_alone(cid, put_packet(delivered, packet))

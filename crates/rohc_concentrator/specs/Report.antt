@@ -1,6 +1,6 @@
--- The answer to an arrival. Words: Report, the answer as plain data; report_taken; OwnStep; IsPoor (lack of
+-- The answer to an arrival. Words: Report, the answer as plain data; OwnStep; IsPoor (lack of
 -- memory); IsAnswered.
-use Rattle.std.specs.Prelude.{◌≡◌, ℕ, List, [], ◌∷◌, Bool, true, false, Option, Some, None, Result, Ok, Err, ◌⊎◌}
+use Rattle.std.specs.Prelude.{◌≡◌, ℕ, List, Bool, true, false, Option, Some, None, Result, Ok, Err, ◌⊎◌}
 use Rattle.rohc_frame.specs.Header.{Header}
 use Rattle.rohc_frame.specs.Reading.{Reading, elements_of}
 use Rattle.rohc_frame.specs.Parts.{parts_of}
@@ -12,13 +12,11 @@ use Rattle.rohc_context.specs.declared.reply.Outcome.TheVariants as outcomes
 use Rattle.rohc_context.specs.declared.settings.Settings.{Settings}
 use Rattle.rohc_context.specs.Framing.{refusal_of_framing}
 use Rattle.rohc_context.specs.Record.{Record}
-use Rattle.rohc_context.specs.Response.{Response, response_of, delivered, refused}
+use Rattle.rohc_context.specs.Response.{Response, response_of, refused}
 use Rattle.rohc_context.specs.Step.{LoneStep}
 use Rattle.rohc_concentrator.specs.declared.setting.LinkSetting.{LinkSetting}
 use Rattle.rohc_concentrator.specs.declared.answer.Answer.{Answer}
 use Rattle.rohc_concentrator.specs.declared.answer.Answer.TheVariants as answers
-use Rattle.rohc_concentrator.specs.declared.answer.Taken.{Taken}
-use Rattle.rohc_concentrator.specs.declared.answer.Taken.TheVariants.{Rebuilt, Normal}
 use Rattle.rohc_concentrator.specs.Setting.{settings_of}
 
 -- An answer, apart from where its octets lie in memory.
@@ -32,12 +30,6 @@ abbrev pub report_of : Answer → Report
 report_of (answers.Arrived cid reply relayed) = Arrived cid (response_of reply) (elements_of relayed)
 report_of (answers.OnlyFront relayed) = OnlyFront (elements_of relayed)
 report_of (answers.Refused refusal) = Refused refusal
-
--- the report of a packet that was taken at once: that in the answer, or the octets of a Normal packet
--- (RFC 3095 5.10.2)
-abbrev pub report_taken : Taken → Answer → Report
-report_taken Rebuilt answer = report_of answer
-report_taken (Normal cid first rest) answer = Arrived cid (delivered (first ∷ []) rest.now None) []
 
 -- A first IR that the lone step would accept finds no memory: nothing changes.
 abbrev pub IsPoor : Settings → ℕ → Header → Option Record → Response → Option Record → Type 0

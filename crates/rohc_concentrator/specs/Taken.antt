@@ -6,6 +6,7 @@ use Rattle.rohc_frame.specs.Header.{Header}
 use Rattle.rohc_frame.specs.Parts.{header_parts}
 use Rattle.rohc_context.specs.Record.{Record}
 use Rattle.rohc_context.specs.Response.{Response}
+use Rattle.rohc_context.specs.declared.at_once.AtOnce.{AtOnce}
 use Rattle.rohc_context.specs.AtOnce.{NeedsStep}
 use Rattle.rohc_concentrator.specs.declared.setting.LinkSetting.{LinkSetting}
 use Rattle.rohc_concentrator.specs.declared.records.LinkRecords.{LinkRecords}
@@ -42,6 +43,6 @@ pub record MayBeTaken (s : LinkSetting) (octets : List ℕ) (h : Header) : Type 
 
 -- The packet isn't taken at once: it is no such header, its CID has no record, or its record needs the whole
 -- step.
-abbrev pub IsMissed : LinkSetting → (ℕ → Option Record) → ℕ → List ℕ → Type 0
-IsMissed s before moment octets = (h : Header) → MayBeTaken s octets h →
-    IfSome (before h.cid) (λ r. NeedsStep s.settings.idle_ms moment r h)
+abbrev pub IsMissed : AtOnce → LinkSetting → (ℕ → Option Record) → ℕ → List ℕ → Type 0
+IsMissed which s before moment octets = (h : Header) → MayBeTaken s octets h →
+    IfSome (before h.cid) (λ r. NeedsStep which s.settings.idle_ms moment r h)

@@ -29,35 +29,17 @@ pub enum Answer<'a> {
 }
 
 impl Answer<'_> {
-    /// The answer of a CID's context that refuses a packet without feedback.
-    ///
-    /// `arrive_into` writes over it sooner than over another answer, since the answer to most packets has its shape.
+    /// A blank form for `arrive_into` to fill in: a refusal, in the shape of most answers.
     #[inline(always)]
-    pub fn refusing(cid: u16, refusal: Refusal) -> Self
-        ensures { report_of result ≡ Arrived cid (refused refusal) [] }
+    pub fn blank() -> Self
+        ensures { report_of result ≡ Arrived 0 (refused Refusal.NoContext) [] }
     {
         Answer::Arrived {
-            cid,
-            reply: Reply::refused(refusal),
+            cid: 0,
+            reply: Reply::refused(Refusal::NoContext),
             relayed: Elements::none(),
         }
     }
-}
-
-/// A packet that was taken at once.
-#[derive(Clone, Copy, Debug, PartialEq, Eq)]
-pub enum Taken<'a> {
-    /// Its header was rebuilt, and the answer stands in that of the caller.
-    Rebuilt,
-    /// It is a Normal packet of profile 0x0000 (RFC 3095 5.10.2). It is delivered as it is, without feedback. The answer
-    /// of the caller holds nothing of it.
-    Normal {
-        cid: u16,
-        /// The first octet after the CID octets.
-        first: u8,
-        /// The octets after the first.
-        rest: &'a [u8],
-    },
 }
 
 /// There is no such link.

@@ -1,33 +1,17 @@
 //! The events of a concentrator, and what it shows.
 
-ghost use Rattle.std.specs.Prelude.{◌≡◌, None, IfSome, nat_eq};
-ghost use Rattle.indexmap.specs.IndexMap.{get};
-ghost use Rattle.rohc_concentrator.specs.Tables.{IsPlaceOf};
-
-use crate::answer::{Answer, NoLink, Taken};
+use crate::answer::{Answer, NoLink};
 use crate::concentrator::Concentrator;
-use crate::link::{arrive_on, take_longer, take_short};
-use crate::place::{Places, place_by_hash, stands_at};
+use crate::link::{arrive_on, take_short};
+use crate::place::{place_by_hash, stands_at};
 use crate::records::LinkRecords;
 use indexmap::IndexMap;
-use rohc_context::Refusal;
-
-/// The place of a link, if it is there.
-fn link_place(links: &IndexMap<u16, LinkRecords>, places: &Places, link: u16) -> Option<usize>
-    ensures there { IfSome result (λ place. IsPlaceOf links.now place link) }
-    ensures absent { result ≡ None → get nat_eq links.now link ≡ None }
-{
-    let hint = places.hint(link);
-    if stands_at(links, hint, link) {
-        return Some(hint);
-    }
-    place_by_hash(links, link)
-}
+use rohc_context::{AtOnce, Refusal};
 
 impl Concentrator {
-    ghost use Rattle.std.specs.Prelude.{◌≡◌, [], ◌≢◌, ◌↔◌, ℕ, None, IfSome, IsErr, is_some, nat_eq};
+    ghost use Rattle.std.specs.Prelude.{◌≡◌, [], ◌≢◌, ◌↔◌, ℕ, None, true, false, IfSome, IsErr, is_some};
     ghost use Rattle.rohc_concentrator.specs.Tables.{setting_at, record_at, identifiers_at, AreTables, TellAll, KeepsSettings, KeepsOthers, KeepsOrder, KeepsAll};
-    ghost use Rattle.rohc_concentrator.specs.Report.{report_of, report_taken, IsAnswered};
+    ghost use Rattle.rohc_concentrator.specs.Report.{report_of, IsAnswered};
     ghost use Rattle.rohc_concentrator.specs.Events.{Arrives};
     ghost use Rattle.rohc_concentrator.specs.Bears.{borne};
     ghost use Rattle.rohc_concentrator.specs.Taken.{IsFor, IsMissed};
@@ -44,7 +28,7 @@ impl Concentrator {
         ensures others { KeepsOthers self.old self.new link (borne (setting_at self.old link) octets.entry.now) }
         ensures order { KeepsOrder self.old self.new link (borne (setting_at self.old link) octets.entry.now) }
     {
-        let mut answer = Answer::refusing(0, Refusal::NoContext);
+        let mut answer = Answer::blank();
         self.arrive_into(link, moment, octets, &mut answer);
         answer
     }
@@ -79,24 +63,26 @@ impl Concentrator {
         arrive_on(records, moment, octets, answer);
     }
 
-    /// Takes a packet as `arrive_into` does and returns how, if nothing stands before its header, its first octet is that
-    /// of a UO-0, and its context takes it at once, as nearly every packet of a call is. Then the answer is that of a
-    /// CID's context, without relayed feedback. Otherwise it returns `None`: then all settings and records stay as they
-    /// were, what `answer` holds means nothing, and `arrive_longer` takes the packet.
+    /// Takes a packet as `arrive_into` does and returns true, if nothing stands before its header, its first octet is that
+    /// of a UO-0, it is one of `which`, and its context takes it at once, as nearly every packet of a call is. Then the answer is that of a
+    /// CID's context, without relayed feedback. Otherwise it returns false: then all settings and records stay as they
+    /// were, what `answer` holds means nothing, and `arrive_into` takes the packet.
     ///
-    /// For a caller who copies the packet right away, and so lets the compiler write its header where the copy goes.
+    /// It is the head of `arrive_into`. A caller who copies the packet right away tries it first, and so lets the compiler
+    /// write the header where the copy goes.
     #[inline(always)]
     pub fn take_at_once<'a>(
         &mut self,
+        which: AtOnce,
         link: u16,
         moment: u64,
         octets: &'a [u8],
         answer: &mut Answer<'a>,
-    ) -> Option<Taken<'a>>
-        ensures taken { IfSome result (λ taken. Arrives self.old link moment octets.entry.now (report_taken taken answer.new) self.new) }
-        ensures alone { IfSome result (λ taken. (cid : ℕ) × IsFor cid (report_taken taken answer.new)) }
-        ensures missed { result ≡ None → IfSome (setting_at self.old link) (λ s. IsMissed s (record_at self.old link) moment octets.entry.now) }
-        ensures stays { result ≡ None → KeepsAll self.old self.new }
+    ) -> bool
+        ensures taken { result ≡ true → Arrives self.old link moment octets.entry.now (report_of answer.new) self.new }
+        ensures alone { result ≡ true → (cid : ℕ) × IsFor cid (report_of answer.new) }
+        ensures missed { result ≡ false → IfSome (setting_at self.old link) (λ s. IsMissed which s (record_at self.old link) moment octets.entry.now) }
+        ensures stays { result ≡ false → KeepsAll self.old self.new }
     {
         // As in `arrive_into`.
         let hint = self.places.hint(link);
@@ -104,32 +90,12 @@ impl Concentrator {
             hint
         } else {
             let Some(found) = place_by_hash(&self.links, link) else {
-                return None;
+                return false;
             };
             found
         };
         let (_, records) = self.links.pair_mut(place);
-        take_short(records, moment, octets, answer)
-    }
-
-    /// Takes a packet as `arrive_into` does. It is for a packet that `take_at_once` didn't take, and doesn't try the
-    /// same again.
-    #[inline(always)]
-    pub fn arrive_longer<'a>(
-        &mut self,
-        link: u16,
-        moment: u64,
-        octets: &'a [u8],
-        answer: &mut Answer<'a>,
-    )
-        ensures { Arrives self.old link moment octets.entry.now (report_of answer.new) self.new }
-    {
-        let Some(place) = link_place(&self.links, &self.places, link) else {
-            *answer = Answer::Refused(Refusal::NoLink);
-            return;
-        };
-        let (_, records) = self.links.pair_mut(place);
-        take_longer(records, moment, octets, answer);
+        take_short(which, records, moment, octets, answer)
     }
 
     /// Forgets every record of a link, and no other record. The error is `NoLink`.

@@ -14,7 +14,7 @@ pub mod setting;
 pub mod setup;
 mod standing;
 
-pub use answer::{Answer, NoLink, Taken};
+pub use answer::{Answer, NoLink};
 pub use concentrator::Concentrator;
 pub use putting::PutFault;
 pub use records::LinkRecords;

@@ -1,18 +1,18 @@
 //! One arrival on one link.
 
-ghost use Rattle.std.specs.Prelude.{◌≡◌, ◌≢◌, ◌≤◌, ℕ, None, true, false, IfSome, nat_eq, nat_lt};
+ghost use Rattle.std.specs.Prelude.{◌≡◌, ◌≢◌, ◌≤◌, ℕ, None, true, false, IfSome, nat_eq};
 ghost use Rattle.indexmap.specs.IndexMap.{get, keys};
 ghost use Rattle.rohc_frame.specs.declared.header.HeadKind.TheVariants.{Other};
 ghost use Rattle.rohc_frame.specs.Reading.{header_of};
-ghost use Rattle.rohc_context.specs.Response.{response_of, response_taken};
+ghost use Rattle.rohc_context.specs.Response.{response_of};
 ghost use Rattle.rohc_context.specs.Record.{record_of};
 ghost use Rattle.rohc_context.specs.AtOnce.{NeedsStep};
 ghost use Rattle.rohc_concentrator.specs.Setting.{settings_of};
 ghost use Rattle.rohc_concentrator.specs.Tables.{record_in, KeepsPlace, IsPlaceOf};
-ghost use Rattle.rohc_concentrator.specs.Report.{report_of, report_taken, OwnStep};
+ghost use Rattle.rohc_concentrator.specs.Report.{report_of, OwnStep};
 ghost use Rattle.rohc_concentrator.specs.Taken.{Takes, Stays, IsFor, IsMissed};
 
-use crate::answer::{Answer, Taken};
+use crate::answer::Answer;
 use crate::place::{Places, place_by_hash, stands_at};
 use crate::records::LinkRecords;
 use crate::setting::mode_in;
@@ -30,135 +30,43 @@ pub(crate) fn arrive_on<'a>(
 )
     ensures { Takes records.old moment octets.entry.now (report_of answer.new) records.new }
 {
-    if !take_plain(records, moment, octets, Start::Short, answer) {
-        take_longer(records, moment, octets, answer);
-    }
-}
-
-/// Takes a packet that has no UO-0 at its start, or isn't taken at once. It is marked as cold, since the compiler
-/// inlines less on a way that it takes for a rare one, and the way past this function isn't.
-#[cold]
-#[inline(never)]
-pub(crate) fn take_longer<'a>(
-    records: &mut LinkRecords,
-    moment: u64,
-    octets: &'a [u8],
-    answer: &mut Answer<'a>,
-)
-    ensures { Takes records.old moment octets.entry.now (report_of answer.new) records.new }
-{
-    if !take_plain(records, moment, octets, Start::Other, answer) {
+    if !take_short(AtOnce::Any, records, moment, octets, answer) {
         take_any(records, moment, octets, answer);
     }
 }
 
-/// Takes a packet that its context takes at once, with nothing before its header, as nearly every packet is, and
-/// returns true. Otherwise it returns false: then the records stay as they were, and what `answer` holds means nothing.
+/// Takes a packet that its context takes at once, with nothing before its header, if it begins as a UO-0 does, as nearly
+/// every packet does, and is one of `which`, and returns true. Otherwise it returns false: then the records stay as they
+/// were, and what `answer` holds means nothing.
 ///
-/// It takes only the packets that `start` says. So the compiler makes two copies of it, and that for a UO-0, as nearly
-/// every packet is, has nothing in it for other formats. Neither passes anything on to what follows, which reads the
-/// packet again. So what they read stays in registers.
+/// It passes nothing on to what follows, which reads the packet again. So what it reads stays in registers.
 #[inline(always)]
-fn take_plain<'a>(
+pub(crate) fn take_short<'a>(
+    which: AtOnce,
     records: &mut LinkRecords,
     moment: u64,
     octets: &'a [u8],
-    start: Start,
     answer: &mut Answer<'a>,
 ) -> bool
     ensures taken { result ≡ true → Takes records.old moment octets.entry.now (report_of answer.new) records.new }
+    ensures alone { result ≡ true → (cid : ℕ) × IsFor cid (report_of answer.new) }
+    ensures missed { result ≡ false → IsMissed which records.old.setting (record_in records.old) moment octets.entry.now }
     ensures stays { result ≡ false → Stays records.old records.new }
 {
     let settings = &records.setting.settings;
     let Some(forward) = plain_header(settings.size, settings.max_cid, octets) else {
-        missed();
         return false;
     };
-    if !start.has(forward.first) {
-        missed();
+    // Where the compiler knows that the packet begins as a UO-0, it drops all other formats.
+    if forward.first >= 0x80 {
         return false;
     }
     prepare(answer, forward.cid);
     let Answer::Arrived { reply, .. } = answer else {
-        missed();
         return false;
     };
-    match take_at(records, moment, &forward, reply) {
-        Some(AtOnce::Rebuilt) => true,
-        Some(AtOnce::Normal) => {
-            reply.deliver_normal(forward.first, forward.rest);
-            true
-        }
-        None => false,
-    }
+    take_at(which, records, moment, &forward, reply)
 }
-
-/// The packets that one copy of the short path is for, by the first octet of the header.
-#[derive(Clone, Copy, Debug, PartialEq, Eq)]
-enum Start {
-    /// That of a UO-0.
-    Short,
-    /// Another.
-    Other,
-}
-
-impl Start {
-    /// Whether this octet is such a first octet.
-    #[inline(always)]
-    fn has(self, first: u8) -> bool
-        ensures { self ≡ Start.Short → result ≡ nat_lt first 0x80 }
-    {
-        match self {
-            Start::Short => first < 0x80,
-            Start::Other => first >= 0x80,
-        }
-    }
-}
-
-/// Takes a packet as `take_plain` does, if the first octet of its header is that of a UO-0, and returns how. Otherwise it
-/// returns `None`: then the records stay as they were, and what `answer` holds means nothing. Of a Normal packet it writes
-/// no answer. So the compiler doesn't join that answer with the one to a rebuilt packet.
-#[inline(always)]
-pub(crate) fn take_short<'a>(
-    records: &mut LinkRecords,
-    moment: u64,
-    octets: &'a [u8],
-    answer: &mut Answer<'a>,
-) -> Option<Taken<'a>>
-    ensures taken { IfSome result (λ taken. Takes records.old moment octets.entry.now (report_taken taken answer.new) records.new) }
-    ensures alone { IfSome result (λ taken. (cid : ℕ) × IsFor cid (report_taken taken answer.new)) }
-    ensures missed { result ≡ None → IsMissed records.old.setting (record_in records.old) moment octets.entry.now }
-    ensures stays { result ≡ None → Stays records.old records.new }
-{
-    let settings = &records.setting.settings;
-    let Some(forward) = plain_header(settings.size, settings.max_cid, octets) else {
-        missed();
-        return None;
-    };
-    if !Start::Short.has(forward.first) {
-        missed();
-        return None;
-    }
-    prepare(answer, forward.cid);
-    let Answer::Arrived { reply, .. } = answer else {
-        missed();
-        return None;
-    };
-    match take_at(records, moment, &forward, reply)? {
-        AtOnce::Rebuilt => Some(Taken::Rebuilt),
-        AtOnce::Normal => Some(Taken::Normal {
-            cid: forward.cid,
-            first: forward.first,
-            rest: forward.rest,
-        }),
-    }
-}
-
-/// Does nothing, where a packet isn't taken. The compiler takes the way to a cold function for a rare one, and inlines what
-/// is called on the way past it.
-#[cold]
-#[inline(never)]
-fn missed() {}
 
 /// Makes the answer one for this CID without relayed feedback. What its reply holds means nothing; a reply that
 /// stands there isn't written.
@@ -169,7 +77,11 @@ fn prepare(answer: &mut Answer<'_>, cid: u16)
     match answer {
         Answer::Arrived { cid: held, .. } => *held = cid,
         Answer::OnlyFront { .. } | Answer::Refused(_) => {
-            *answer = Answer::refusing(cid, Refusal::NoContext);
+            *answer = Answer::Arrived {
+                cid,
+                reply: Reply::refused(Refusal::NoContext),
+                relayed: Elements::none(),
+            };
         }
     }
     if let Answer::Arrived { relayed, .. } = answer {
@@ -207,34 +119,38 @@ fn take_any<'a>(records: &mut LinkRecords, moment: u64, octets: &'a [u8], answer
     }
 }
 
-/// Takes a packet at once by the record of its CID, if there is one that does, and returns how. Otherwise it returns
-/// `None`: then the records stay as they were, and what `reply` holds means nothing.
+/// Takes a packet at once by the record of its CID, and returns whether there is one that does. If not, the records
+/// stay as they were, and what `reply` holds means nothing.
 #[inline(always)]
 fn take_at<'a>(
+    which: AtOnce,
     records: &mut LinkRecords,
     moment: u64,
     forward: &Forward<'a>,
     reply: &mut Reply<'a>,
-) -> Option<AtOnce>
-    ensures own { IfSome result (λ how. OwnStep (settings_of records.old.setting forward.now.cid) moment (header_of forward.now)
-        (record_in records.old forward.now.cid) (response_taken how (header_of forward.now) reply.new) (record_in records.new forward.now.cid)) }
+) -> bool
+    ensures own { result ≡ true → OwnStep (settings_of records.old.setting forward.now.cid) moment (header_of forward.now)
+        (record_in records.old forward.now.cid) (response_of reply.new) (record_in records.new forward.now.cid) }
     ensures others { (cid : ℕ) → cid ≢ forward.now.cid → record_in records.new cid ≡ record_in records.old cid }
     ensures setting { records.new.setting ≡ records.old.setting }
     ensures order { keys records.new.contexts ≡ keys records.old.contexts }
-    ensures missed { result ≡ None → forward.now.kind ≡ Other → IfSome (record_in records.old forward.now.cid)
-        (λ r. NeedsStep records.old.setting.settings.idle_ms moment r (header_of forward.now)) }
-    ensures stays { result ≡ None → record_in records.new forward.now.cid ≡ record_in records.old forward.now.cid }
+    ensures missed { result ≡ false → forward.now.kind ≡ Other → IfSome (record_in records.old forward.now.cid)
+        (λ r. NeedsStep which records.old.setting.settings.idle_ms moment r (header_of forward.now)) }
+    ensures stays { result ≡ false → record_in records.new forward.now.cid ≡ record_in records.old forward.now.cid }
 {
     // Written out: an option of the place would be tested once more on the likely way.
     let hint = records.places.hint(forward.cid);
     let place = if stands_at(&records.contexts, hint, forward.cid) {
         hint
     } else {
-        place_by_hash(&records.contexts, forward.cid)?
+        let Some(found) = place_by_hash(&records.contexts, forward.cid) else {
+            return false;
+        };
+        found
     };
     let idle_ms = records.setting.settings.idle_ms;
     let (_, context) = records.contexts.pair_mut(place);
-    context.take_at_once(idle_ms, moment, forward, reply)
+    context.take_at_once(which, idle_ms, moment, forward, reply)
 }
 
 /// Takes an arrival for a CID: its record takes one step, or a first IR makes it. The answer overwrites what

@@ -46,6 +46,8 @@ use Rattle.rohc_context.specs.NextReference.{first_reference}
 use Rattle.rohc_context.specs.Explains.{Explained, Explains}
 use Rattle.rohc_context.specs.Tries.{Try, Fits, Acceptance, Verdict, unshifted, static_tries, full_tries}
 use Rattle.rohc_context.specs.Update.{said_under, VerdictUnless, Judges, Accepts, promoted, updated, acknowledged, silent, UpdatesBy}
+use Rattle.rohc_context.specs.declared.at_once.AtOnce.{AtOnce}
+use Rattle.rohc_context.specs.declared.at_once.AtOnce.TheVariants.{Any, Rebuilt}
 use Rattle.rohc_context.specs.AtOnce.{MissesFirst, MissesAtOnce, NeedsStep}
 use Rattle.rohc_context.specs.Step.{counts_within, counting, TakenBy, Turn, LoneStep}
 use Rattle.rohc_context.specs.Modes.{IsSilentInU, KeepsPrevious, HasOneTry, PlainAtOnce, FitsAtOnce, SavesByReference, Holds, KeepsFlags, MeansOneUnrefused}
@@ -389,14 +391,17 @@ keeps_flags r after fixed also held reference previous window s m h a holds coun
 
 -- ---- What is taken at once
 
+Any_not_Rebuilt : Any ≡ Rebuilt → ⊥
+Any_not_Rebuilt e = cc
+
 pub plain_at_once : PlainAtOnce
 unfolding NeedsStep
 plain_at_once idle_ms m r h state counted (inl idle) = false≢true (sym idle ∙ counted)
-plain_at_once idle_ms m r h state counted (inr misses) = subst (λ (st : State). MissesAtOnce st h) state misses
+plain_at_once idle_ms m r h state counted (inr misses) = Any_not_Rebuilt (subst (λ (st : State). MissesAtOnce Any st h) state misses)
 
 pub fits_at_once : FitsAtOnce
 unfolding NeedsStep
-fits_at_once idle_ms m r fixed reference previous window h c e state counted all plain read few fits needs = go needs where
+fits_at_once which idle_ms m r fixed reference previous window h c e state counted all plain read few fits needs = go needs where
   good : IsGoodContent h.first reference.carries_sum (is_some reference.moving.stride) c
   good = subst (λ read. IfOk read (IsGoodContent h.first reference.carries_sum (is_some reference.moving.stride))) read (form_reads h reference all)
 
@@ -404,13 +409,13 @@ fits_at_once idle_ms m r fixed reference previous window h c e state counted all
   first (inl long) = omega arith
   first (inr misses) = fit_or_miss h.first reference.carries_sum (is_some reference.moving.stride) fixed (unshifted reference) c e good fits misses
 
-  misses_full : MissesAtOnce (FullContext fixed reference previous window) h → ⊥
+  misses_full : MissesAtOnce which (FullContext fixed reference previous window) h → ⊥
   misses_full (inl extended) = false≢true (sym plain ∙ extended)
   misses_full (inr misses) = first (subst (MissesFirst fixed reference) read misses)
 
-  go : (counts_within idle_ms m r ≡ false) ⊎ MissesAtOnce r.state h → ⊥
+  go : (counts_within idle_ms m r ≡ false) ⊎ MissesAtOnce which r.state h → ⊥
   go (inl idle) = false≢true (sym idle ∙ counted)
-  go (inr misses) = misses_full (subst (λ (st : State). MissesAtOnce st h) state misses)
+  go (inr misses) = misses_full (subst (λ (st : State). MissesAtOnce which st h) state misses)
 
 -- ---- What is lent
 

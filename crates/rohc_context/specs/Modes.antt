@@ -22,6 +22,8 @@ use Rattle.rohc_context.specs.Failures.{takes}
 use Rattle.rohc_context.specs.Explains.{Explained, Explains}
 use Rattle.rohc_context.specs.Tries.{Fits, unshifted}
 use Rattle.rohc_context.specs.Update.{said_under}
+use Rattle.rohc_context.specs.declared.at_once.AtOnce.{AtOnce}
+use Rattle.rohc_context.specs.declared.at_once.AtOnce.TheVariants.{Any}
 use Rattle.rohc_context.specs.AtOnce.{NeedsStep}
 use Rattle.rohc_context.specs.Step.{LoneStep, counts, counts_within}
 
@@ -51,19 +53,19 @@ HasOneTry = (r : Record) (fixed : Static) (reference : Reference) (previous : Op
     LoneStep (Some r) s moment h response next → response.outcome ≡ Delivered →
     (e : Explained) × Fits fixed (unshifted reference) c e × (response ≡ delivered e.octets c.payload None)
 
--- In profile 0x0000 a packet of kind Other is always taken at once, if the record counts.
+-- In profile 0x0000 a packet of kind Other is always taken at once, if the record counts and any packet may be.
 abbrev pub PlainAtOnce : Type 0
 PlainAtOnce = (idle_ms moment : ℕ) (r : Record) (h : Header) → r.state ≡ Plain →
-    counts_within idle_ms moment r ≡ true → ¬ NeedsStep idle_ms moment r h
+    counts_within idle_ms moment r ≡ true → ¬ NeedsStep Any idle_ms moment r h
 
 -- In Full Context a packet is, if it has no extension, isn't too long and fits by the first try.
 abbrev pub FitsAtOnce : Type 0
-FitsAtOnce = (idle_ms moment : ℕ) (r : Record) (fixed : Static) (reference : Reference)
+FitsAtOnce = (which : AtOnce) (idle_ms moment : ℕ) (r : Record) (fixed : Static) (reference : Reference)
     (previous : Option Reference) (window : List Bool) (h : Header) (c : Content) (e : Explained) →
     r.state ≡ FullContext fixed reference previous window → counts_within idle_ms moment r ≡ true →
     All IsOctet h.rest → is_extended h reference.moving.rnd ≡ false → said_under h reference ≡ Ok c →
     length c.payload ≤ longest_payload → Fits fixed (unshifted reference) c e →
-    ¬ NeedsStep idle_ms moment r h
+    ¬ NeedsStep which idle_ms moment r h
 
 -- Registers are kept exactly if there is a reference: in profile 0x0001, if the state takes a UOR-2.
 abbrev pub SavesByReference : Type 0

@@ -1,7 +1,5 @@
-use Rattle.std.specs.Prelude.{ℕ, List, [], ◌∷◌, Option, Some, None}
-use Rattle.rohc_frame.specs.Header.{Header}
-use Rattle.rohc_context.specs.declared.at_once.AtOnce.{AtOnce}
-use Rattle.rohc_context.specs.declared.at_once.AtOnce.TheVariants.{Rebuilt, Normal}
+-- A reply as plain data. Words: Packet, Response; response_of; delivered, stored, failed, refused.
+use Rattle.std.specs.Prelude.{ℕ, List, Option, Some, None}
 use Rattle.rohc_context.specs.declared.refusal.Refusal.{Refusal}
 use Rattle.rohc_context.specs.declared.reply.Delivered.{Delivered}
 use Rattle.rohc_context.specs.declared.reply.Outcome.{Outcome}
@@ -34,12 +32,6 @@ delivered head payload feedback = record {
   feedback = feedback;
   outcome = outcomes.Delivered;
 }
-
--- the answer to a packet that was taken at once: that in the reply, or the octets of a Normal packet
--- (RFC 3095 5.10.2)
-abbrev pub response_taken : AtOnce → Header → Reply → Response
-response_taken Rebuilt h reply = response_of reply
-response_taken Normal h reply = delivered (h.first ∷ []) h.rest None
 
 -- the context was made or renewed, without a packet
 abbrev pub stored : Option (List ℕ) → Response

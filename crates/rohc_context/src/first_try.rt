@@ -11,12 +11,6 @@ use rohc_forms::{Form, FormKind, read_unextended};
 use rohc_frame::Forward;
 use rohc_header::{Dynamic, LONGEST_PAYLOAD, put_header};
 
-/// Does nothing, where a packet isn't taken. The compiler takes the way to a cold function for a rare one, and inlines what
-/// is called on the way past it.
-#[cold]
-#[inline(never)]
-pub(crate) fn missed() {}
-
 impl FullContext {
     ghost use Rattle.std.specs.Prelude.{◌≡◌, ◌≢◌, ◌≤◌, ◌⊎◌, ℕ, List, length, Some, None, Ok, true, false};
     ghost use Rattle.rohc_header.specs.Original.{IsOriginal, longest_payload};
@@ -128,11 +122,9 @@ impl FullContext {
     {
         let kept = &self.reference;
         let Some(form) = read_unextended(forward, kept.moving.rnd, kept.carries_sum) else {
-            missed();
             return false;
         };
         if form.payload.len() > LONGEST_PAYLOAD {
-            missed();
             return false;
         }
         self.take_first(&form, reply)

@@ -107,8 +107,8 @@ pub fn kept_flags()
     ensures { KeepsFlags }
 {}
 
-/// What is always taken at once, if the record counts: in profile 0x0000 every packet of kind Other, and in Full Context
-/// one that has no extension, isn't too long and fits by the first try.
+/// What is always taken at once, if the record counts: in profile 0x0000 every packet of kind Other, if any packet may be
+/// taken so, and in Full Context one that has no extension, isn't too long and fits by the first try.
 pub fn taken_at_once()
     ensures plain { PlainAtOnce }
     ensures full { FitsAtOnce }

@@ -58,7 +58,8 @@ impl<'a> Reply<'a> {
 
     /// Writes the answer to a Normal packet of profile 0x0000 over what the reply held: the packet is its first octet and
     /// the rest, its octets without the CID octets (RFC 3095 5.10.2).
-    pub fn deliver_normal(&mut self, first: u8, rest: &'a [u8])
+    #[inline(always)]
+    pub(crate) fn deliver_normal(&mut self, first: u8, rest: &'a [u8])
         ensures { response_of self.new ≡ delivered (first ∷ []) rest.entry.now None }
     {
         self.packet = Some(Delivered {

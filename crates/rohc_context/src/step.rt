@@ -79,32 +79,13 @@ impl Context {
         ensures { LoneStep (Some (record_of self.old)) settings.now moment (header_of forward.now) (response_of result) (Some (record_of self.new)) }
     {
         let mut reply = Reply::refused(Refusal::NoContext);
-        self.arrive_into(settings, moment, forward, &mut reply);
+        if !self.take_at_once(AtOnce::Any, settings.idle_ms, moment, forward, &mut reply) {
+            self.step(settings, moment, forward, &mut reply);
+        }
         reply
     }
 
-    /// Takes an arrival as `arrive` does, and writes the answer over what `reply` held. A caller that passes the
-    /// answer on saves its copies, since each function that returns a reply copies it.
-    pub fn arrive_into<'a>(
-        &mut self,
-        settings: &Settings,
-        moment: u64,
-        forward: &Forward<'a>,
-        reply: &mut Reply<'a>,
-    )
-        requires good { AreGood settings.now }
-        requires sized { forward.now.size ≡ settings.now.size }
-        requires within { forward.now.cid ≤ settings.now.max_cid }
-        ensures { LoneStep (Some (record_of self.old)) settings.now moment (header_of forward.now) (response_of reply.new) (Some (record_of self.new)) }
-    {
-        match self.take_at_once(settings.idle_ms, moment, forward, reply) {
-            Some(AtOnce::Rebuilt) => {}
-            Some(AtOnce::Normal) => reply.deliver_normal(forward.first, forward.rest),
-            None => self.step(settings, moment, forward, reply),
-        }
-    }
-
-    /// Takes an arrival of any kind as `arrive_into` does, but without the short path: for a caller that has
+    /// Takes an arrival of any kind as `arrive` does, and writes the answer over what `reply` held: for a caller that has
     /// tried `take_at_once` itself. It isn't inlined, so that its callers keep no stack space for a second reply.
     ///
     /// The settings are good. `moment` is the arrival time in milliseconds.

@@ -122,17 +122,18 @@ fn large_header<'a>(max_cid: u16, octets: &'a [u8]) -> Result<Option<Forward<'a>
 
 /// The header after padding and feedback elements, if there is one.
 #[tactic(auto, unfolding(crate::specs::Parts::header_parts))]
-fn header<'a>(
+fn header_after_items<'a>(
     size: CidKind,
     max_cid: u16,
     octets: &'a [u8],
 ) -> Result<Option<Forward<'a>>, FrameRefusal>
-    ensures { MatchResult result (λ forward. header_parts size max_cid octets.entry.now ≡ Ok (option_header forward))
-        (λ e. header_parts size max_cid octets.entry.now ≡ Err e) }
+    ensures { MatchResult result (λ forward. header_parts size max_cid (after_items octets.entry.now) ≡ Ok (option_header forward))
+        (λ e. header_parts size max_cid (after_items octets.entry.now) ≡ Err e) }
 {
+    let after = after_items(octets);
     match size {
-        CidKind::Small => small_header(max_cid, octets),
-        CidKind::Large => large_header(max_cid, octets),
+        CidKind::Small => small_header(max_cid, after),
+        CidKind::Large => large_header(max_cid, after),
     }
 }
 
@@ -215,7 +216,6 @@ pub fn plain_header<'a>(size: CidKind, max_cid: u16, octets: &'a [u8]) -> Option
     ensures only { IsNone result → (h : Header) → header_parts size max_cid octets.entry.now ≡ Ok (Some h) → IsOther h.kind → ⊥ }
     ensures parts { IfSome result (λ forward. parts_of size max_cid octets.entry.now
         ≡ Ok (record { elements = []; header = Some (header_of forward) })) }
-    ensures front { IfSome result (λ forward. after_items octets.entry.now ≡ octets.entry.now) }
     ensures sized { IfSome result (λ forward. forward.size ≡ size) }
     ensures within { IfSome result (λ forward. forward.cid ≤ max_cid) }
 {
@@ -223,22 +223,6 @@ pub fn plain_header<'a>(size: CidKind, max_cid: u16, octets: &'a [u8]) -> Option
         CidKind::Small => small_plain(max_cid, octets),
         CidKind::Large => large_plain(max_cid, octets),
     }
-}
-
-/// The header after the items, if there is one.
-#[tactic(auto, unfolding(crate::specs::Parts::header_parts))]
-fn header_after_items<'a>(
-    size: CidKind,
-    max_cid: u16,
-    octets: &'a [u8],
-) -> Result<Option<Forward<'a>>, FrameRefusal>
-    ensures { MatchResult result (λ forward. header_parts size max_cid (after_items octets.entry.now) ≡ Ok (option_header forward))
-        (λ e. header_parts size max_cid (after_items octets.entry.now) ≡ Err e) }
-{
-    if let Some(forward) = plain_header(size, max_cid, octets) {
-        return Ok(Some(forward));
-    }
-    header(size, max_cid, after_items(octets))
 }
 
 /// Splits a packet of a link into feedback elements and a header (RFC 5795 5.2).

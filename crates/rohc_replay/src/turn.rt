@@ -32,7 +32,7 @@ pub(crate) fn take_turn<W: Write>(
     match read_words(line, packet) {
         Some(Words::Arrive { link, moment, size }) => {
             counts.tally.events = counts.tally.events.saturating_add(1);
-            let mut answer = Answer::refusing(0, Refusal::NoContext);
+            let mut answer = Answer::blank();
             concentrator.arrive_into(link, moment, &packet[..size], &mut answer);
             counts.answers.offer_answer(writer, link, &answer)
         }

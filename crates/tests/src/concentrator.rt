@@ -5,9 +5,9 @@ mod honest;
 use crate::examples::WHOLE_IR;
 use arrayvec::ArrayVec;
 use rohc_concentrator::{
-    Answer, CidRange, Concentrator, LinkRecords, LinkSetting, NoLink, SetupFault, Taken,
+    Answer, CidRange, Concentrator, LinkRecords, LinkSetting, NoLink, SetupFault,
 };
-use rohc_context::{Mode, Outcome, Refusal, Settings};
+use rohc_context::{AtOnce, Mode, Outcome, Refusal, Settings};
 use rohc_frame::CidKind;
 use std::alloc::{AllocError, Global};
 use std::fmt::InlineText;
@@ -98,8 +98,8 @@ fn cid_and_outcome(answer: &Answer<'_>) -> Option<(u16, Outcome)> {
 #[test]
 fn an_answer_overwrites_the_one_that_is_lent(rt: HostRuntime) {
     let mut concentrator = made(&rt, rt.alloc(), link_1(0));
-    let mut answer = Answer::refusing(7, Refusal::NoContext);
-    assert_eq!(rt; cid_and_outcome(&answer), Some((7, NO_CONTEXT)));
+    let mut answer = Answer::blank();
+    assert_eq!(rt; cid_and_outcome(&answer), Some((0, NO_CONTEXT)));
     concentrator.arrive_into(1, 0, b"\xfc\x00\xb7\x45\xaa", &mut answer);
     assert_eq!(rt; cid_and_outcome(&answer), Some((0, DELIVERED)));
     concentrator.arrive_into(9, 0, b"\xfc\x00\xb7\x45\xaa", &mut answer);
@@ -111,32 +111,33 @@ fn an_answer_overwrites_the_one_that_is_lent(rt: HostRuntime) {
 #[test]
 fn a_packet_is_taken_at_once_or_later(rt: HostRuntime) {
     let mut concentrator = made(&rt, rt.alloc(), link_1(0));
-    let mut answer = Answer::refusing(7, Refusal::NoContext);
-    assert_eq!(rt;
-        concentrator.take_at_once(1, 0, WHOLE_IR, &mut answer),
-        None
-    );
-    concentrator.arrive_longer(1, 0, WHOLE_IR, &mut answer);
+    let mut answer = Answer::blank();
+    assert!(rt; !concentrator.take_at_once(AtOnce::Any, 1, 0, WHOLE_IR, &mut answer));
+    concentrator.arrive_into(1, 0, WHOLE_IR, &mut answer);
     assert_eq!(rt; cid_and_outcome(&answer), Some((0, DELIVERED)));
-    answer = Answer::refusing(7, Refusal::NoContext);
-    let taken = concentrator.take_at_once(1, 0, b"\x10\xac", &mut answer);
-    assert_eq!(rt; taken, Some(Taken::Rebuilt));
+    answer = Answer::blank();
+    assert!(rt; concentrator.take_at_once(AtOnce::Rebuilt, 1, 0, b"\x10\xac", &mut answer));
     assert_eq!(rt; cid_and_outcome(&answer), Some((0, DELIVERED)));
 }
 
+// RFC 3095 5.10.2: a Normal packet is delivered without its Add-CID octet.
 #[test]
-fn a_normal_packet_is_taken_as_it_is(rt: HostRuntime) {
+fn a_normal_packet_is_taken_at_once_if_any_is(rt: HostRuntime) {
     let mut concentrator = made(&rt, rt.alloc(), link_1(0));
-    let mut answer = Answer::refusing(7, Refusal::NoContext);
-    concentrator.arrive_longer(1, 0, b"\xe1\xfc\x00\x30\x45\xaa", &mut answer);
+    let mut answer = Answer::blank();
+    concentrator.arrive_into(1, 0, b"\xe1\xfc\x00\x30\x45\xaa", &mut answer);
     assert_eq!(rt; cid_and_outcome(&answer), Some((1, DELIVERED)));
-    let taken = concentrator.take_at_once(1, 0, b"\xe1\x45\xab", &mut answer);
-    let normal = Taken::Normal {
-        cid: 1,
-        first: 0x45,
-        rest: &[0xab],
+    let normal = b"\xe1\x45\xab";
+    assert!(rt; !concentrator.take_at_once(AtOnce::Rebuilt, 1, 0, normal, &mut answer));
+    assert!(rt; concentrator.take_at_once(AtOnce::Any, 1, 0, normal, &mut answer));
+    let Answer::Arrived { cid: 1, reply, .. } = &answer else {
+        panic!(rt; "refused");
     };
-    assert_eq!(rt; taken, Some(normal));
+    let Some(packet) = &reply.packet else {
+        panic!(rt; "no packet");
+    };
+    assert_eq!(rt; packet.head.as_slice(), [0x45].as_slice());
+    assert_eq!(rt; packet.payload, [0xab].as_slice());
 }
 
 /// Packets of two CIDs, of which the greater comes first.

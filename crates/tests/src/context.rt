@@ -18,6 +18,8 @@ const SETTINGS: Settings = Settings {
     idle_ms: 0,
 };
 
+const REBUILT: rohc_context::AtOnce = rohc_context::AtOnce::Rebuilt;
+
 // The context after a first packet.
 fn first(packet: &[u8]) -> Option<Context> {
     let forward = cut(CidKind::Small, 15, packet).ok()?.forward?;
@@ -42,7 +44,6 @@ fn answer(context: &mut Context, packet: &[u8]) -> Option<(Outcome, Option<u8>, 
 }
 
 /// A packet whose header was rebuilt at once.
-const REBUILT: Option<rohc_context::AtOnce> = Some(rohc_context::AtOnce::Rebuilt);
 
 const UNFIT: Outcome = Outcome::Refused(Refusal::Check);
 
@@ -98,43 +99,20 @@ fn packets_without_an_extension_3(rt: HostRuntime) {
     }
 }
 
-// Example first UO-0, whose answer is written over a refusal.
-#[test]
-fn an_answer_overwrites_the_one_that_is_lent(rt: HostRuntime) {
-    let Some(mut context) = first(WHOLE_IR) else {
-        panic!(rt; "refused");
-    };
-    let packet = [0x10, 0xac];
-    let Ok(framed) = cut(CidKind::Small, 15, &packet) else {
-        panic!(rt; "refused");
-    };
-    let Some(forward) = framed.forward else {
-        panic!(rt; "no header");
-    };
-    let mut reply = Reply::refused(Refusal::NoLink);
-    context.arrive_into(&SETTINGS, 0, &forward, &mut reply);
-    assert_eq!(rt; reply.outcome, Outcome::Delivered);
-    let Some(delivered) = reply.packet else {
-        panic!(rt; "no packet");
-    };
-    assert_eq!(rt; delivered.head.get(31).copied(), Some(2));
-    assert_eq!(rt; delivered.payload, [0xac].as_slice());
-}
-
 // Examples first UO-0, UOR-2-TS jump and offset bits: packets without an extension are taken at once. The packet of the
 // last one that has an extension 1 isn't, and the step delivers it. A UO-0 with another check isn't either, and the step
 // refuses it.
 #[test]
 fn packets_without_an_extension_are_taken_at_once(rt: HostRuntime) {
-    let packets: [(&[u8], Option<rohc_context::AtOnce>, Outcome); 4] = [
-        (&[0xd4, 0xc3, 0x3e, 0xad], REBUILT, Outcome::Delivered),
-        (&[0x84, 0x1f, 0xad], REBUILT, Outcome::Delivered),
+    let packets: [(&[u8], bool, Outcome); 4] = [
+        (&[0xd4, 0xc3, 0x3e, 0xad], true, Outcome::Delivered),
+        (&[0x84, 0x1f, 0xad], true, Outcome::Delivered),
         (
             &[0xc0, 0x0c, 0xfa, 0x63, 0x64, 0xad],
-            None,
+            false,
             Outcome::Delivered,
         ),
-        (&[0x11, 0xac], None, UNFIT),
+        (&[0x11, 0xac], false, UNFIT),
     ];
     for (packet, taken, outcome) in packets {
         let Some(mut context) = first(WHOLE_IR) else {
@@ -147,28 +125,17 @@ fn packets_without_an_extension_are_taken_at_once(rt: HostRuntime) {
         ) else {
             panic!(rt; "no header");
         };
-        assert_eq!(rt; context.take_at_once(0, 0, &uo_0, &mut reply), REBUILT);
+        assert!(rt; context.take_at_once(REBUILT, 0, 0, &uo_0, &mut reply));
         assert_eq!(rt; reply.outcome, Outcome::Delivered);
-        assert_eq!(rt; context.take_at_once(0, 0, &forward, &mut reply), taken);
-        if taken.is_none() {
+        assert_eq!(rt;
+            context.take_at_once(REBUILT, 0, 0, &forward, &mut reply),
+            taken
+        );
+        if !taken {
             context.step(&SETTINGS, 0, &forward, &mut reply);
         }
         assert_eq!(rt; reply.outcome, outcome);
     }
-}
-
-// RFC 3095 5.10.2.
-#[test]
-fn a_normal_packet_is_delivered_as_it_is(rt: HostRuntime) {
-    let mut reply = Reply::refused(Refusal::NoLink);
-    reply.deliver_normal(0x45, &[0xab]);
-    assert_eq!(rt; reply.outcome, Outcome::Delivered);
-    assert!(rt; reply.feedback.is_none());
-    let Some(packet) = &reply.packet else {
-        panic!(rt; "no packet");
-    };
-    assert_eq!(rt; packet.head.as_slice(), [0x45].as_slice());
-    assert_eq!(rt; packet.payload, [0xab].as_slice());
 }
 
 // In Full Context the second window is empty. The registers are those of headers with the reference's fields.

@@ -9,7 +9,7 @@ ghost use Rattle.std.specs.Prelude.{◌≤◌, length};
 use crate::input::{bad_text, read_text};
 use crate::script::{Arrival, Script};
 use rohc_concentrator::{Answer, Concentrator, LinkSetting};
-use rohc_context::{Delivered, Refusal};
+use rohc_context::Delivered;
 use rohc_links::read_links;
 use std::io;
 use std::rt::{Clock, Files};
@@ -121,7 +121,7 @@ fn run(
         octets: 0,
         lasts: 0,
     };
-    let mut answer = Answer::refusing(0, Refusal::NoContext);
+    let mut answer = Answer::blank();
     for arrival in arrivals.iter() {
         concentrator.arrive_into(arrival.link, arrival.moment, arrival.octets, &mut answer);
         match target {
