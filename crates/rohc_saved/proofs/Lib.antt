@@ -1,2 +1,3 @@
 pub mod OutputLemmas
 pub mod FormLemmas
+pub mod ReadingLemmas

@@ -1,2 +1,4 @@
 pub mod Form
 pub mod Output
+pub mod Reading
+pub mod Read

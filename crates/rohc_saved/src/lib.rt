@@ -2,7 +2,9 @@
 #![tactic(auto)]
 
 pub mod fault;
+mod form;
 mod output;
+mod reading;
 pub mod saving;
 
 pub use fault::{SaveFault, SavedFault};

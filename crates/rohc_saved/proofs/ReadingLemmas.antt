@@ -1,0 +1,95 @@
+-- What is read is what the definitions read.
+use Rattle.std.proofs.Common.{◌≡◌, ℕ, suc, ◌<◌, ◌+◌, List, [], ◌∷◌, ◌++◌, map, length, take, drop, Bool, true, false, cond, Option, Some, None, Result, Ok, Err, refl, sym, ap, subst, ◌∙◌, nat_eq, arith, inl, inr, append_assoc, is_some, length-append}
+use Rattle.std.specs.Prelude.{nat_le, ◌==◌, ◌||◌, ◌⊎◌, IsErr, IsErrAnd}
+use Rattle.std.specs.List.{list_any}
+use Rattle.std.specs.Map.{lookup}
+use Rattle.std.specs.HashMap.{HashMap, get}
+use Rattle.std.proofs.lemmas.Bool.Decides.{nat_tests}
+use Rattle.std.proofs.lemmas.List.{take_at, drop_at, map-append}
+use Rattle.indexmap.specs.IndexMap.{insert_entry}
+use Rattle.indexmap.proofs.CallerLemmas.{insert_entry-new}
+use Rattle.rohc_context.specs.declared.record.Context.{Context}
+use Rattle.rohc_context.specs.Record.{Record, record_of}
+use Rattle.rohc_saved.specs.declared.form.SavedLink.{SavedLink}
+use Rattle.rohc_saved.specs.Form.{Link, contexts_in}
+use Rattle.rohc_saved.specs.Read.{link_in, links_in}
+use Rattle.rohc_saved.specs.declared.fault.SavedFault.{SavedFault}
+use Rattle.rohc_saved.specs.declared.fault.SavedFault.TheVariants.{NoMemory}
+use Rattle.rohc_saved.specs.Reading.{Read, Gives, given, part_at, has, context_at, contexts_at, link_at, links_at}
+
+-- a front of this length is what is taken
+pub part_is : (count : ℕ) (short : SavedFault) (front rest : List ℕ) → length front ≡ count → part_at count short (front ++ rest) ≡ Ok (front, rest)
+unfolding part_at
+part_is count short front rest is =
+    let enough : nat_le count (length (front ++ rest)) ≡ true = grind (arith, nat_tests, length-append front rest, is) in
+    rw (enough, take_at front rest count is, drop_at front rest count is) refl
+
+-- a key is in a map exactly if its list has it
+has_in : {V A : Type 0} (view : V → A) (es : List (ℕ × V)) (n : ℕ) → has n (map (λ (e : ℕ × V). (e.0, view e.1)) es) ≡ is_some (lookup (nat_eq n) es)
+has_in view [] n = refl
+has_in {V} {A} view (e ∷ es) n = by (has_in view es n) (nat_eq n e.0) refl
+  where
+    by : has n (map (λ (e : ℕ × V). (e.0, view e.1)) es) ≡ is_some (lookup (nat_eq n) es) → (b : Bool) → nat_eq n e.0 ≡ b
+        → (nat_eq n e.0 || has n (map (λ (e : ℕ × V). (e.0, view e.1)) es)) ≡ is_some (cond (nat_eq n e.0) (Some e.1) (lookup (nat_eq n) es))
+    by rest true f = rw f refl
+    by rest false f = rw f rest
+
+pub has_context : {S : Type 0} (m : HashMap ℕ Context S) (n : ℕ) → has n (contexts_in m) ≡ is_some (get nat_eq m n)
+has_context m n = has_in record_of m.entries n
+
+pub has_link : {S : Type 0} (m : HashMap ℕ SavedLink S) (n : ℕ) → has n (links_in m) ≡ is_some (get nat_eq m n)
+has_link m n = has_in link_in m.entries n
+
+-- a new entry goes last
+inserted : {V A S : Type 0} (view : V → A) (m n : HashMap ℕ V S) (k : ℕ) (v : V) → get nat_eq m k ≡ None → n.entries ≡ insert_entry nat_eq m.entries k v
+    → map {B = ℕ × A} (λ (e : ℕ × V). (e.0, view e.1)) n.entries ≡ map {B = ℕ × A} (λ (e : ℕ × V). (e.0, view e.1)) m.entries ++ (k, view v) ∷ []
+inserted {V} {A} view m n k v absent is =
+    let seen : ℕ × V → ℕ × A = λ e. (e.0, view e.1) in
+    ap (map seen) (is ∙ insert_entry-new nat_eq m k v absent) ∙ map-append seen m.entries ((k, v) ∷ [])
+
+pub context_last : {S : Type 0} (m n : HashMap ℕ Context S) (k : ℕ) (v : Context) → get nat_eq m k ≡ None → n.entries ≡ insert_entry nat_eq m.entries k v → contexts_in n ≡ contexts_in m ++ (k, record_of v) ∷ []
+context_last m n k v absent is = inserted record_of m n k v absent is
+
+pub link_last : {S : Type 0} (m n : HashMap ℕ SavedLink S) (k : ℕ) (v : SavedLink) → get nat_eq m k ≡ None → n.entries ≡ insert_entry nat_eq m.entries k v → links_in n ≡ links_in m ++ (k, link_in v) ∷ []
+link_last m n k v absent is = inserted link_in m n k v absent is
+
+-- after one context, the others are those behind it
+pub contexts_step : (total greatest count : ℕ) (held new : List (ℕ × Record)) (text behind : List ℕ) (x : ℕ × Record) → context_at total greatest held text ≡ Ok (x, behind) → new ≡ held ++ x ∷ []
+    → contexts_at total greatest (suc count) held text ≡ contexts_at total greatest count new behind
+unfolding contexts_at
+contexts_step total greatest count held new text behind x read is = rw (read, is) refl
+
+pub contexts_stop : (total greatest count : ℕ) (held : List (ℕ × Record)) (text : List ℕ) (e : SavedFault) → context_at total greatest held text ≡ Err e → contexts_at total greatest (suc count) held text ≡ Err e
+unfolding contexts_at
+contexts_stop total greatest count held text e read = rw read refl
+
+-- and so for links
+pub links_step : (total count : ℕ) (held new : List (ℕ × Link)) (text behind : List ℕ) (x : ℕ × Link) → link_at total held text ≡ Ok (x, behind) → new ≡ held ++ x ∷ []
+    → links_at total (suc count) held text ≡ links_at total count new behind
+unfolding links_at
+links_step total count held new text behind x read is = rw (read, is) refl
+
+pub links_stop : (total count : ℕ) (held : List (ℕ × Link)) (text : List ℕ) (e : SavedFault) → link_at total held text ≡ Err e → links_at total (suc count) held text ≡ Err e
+unfolding links_at
+links_stop total count held text e read = rw read refl
+
+-- a reader that was stopped by this fault, or by want of memory
+pub stops : {A B : Type 0} (view : A → B) (result : Result A SavedFault) (behind : List ℕ) (e : SavedFault) (read : Read B)
+    → IsErr result → IsErrAnd result (λ x. x ≡ e) → (e ≡ NoMemory) ⊎ (read ≡ Err e) → Gives view result behind read
+stops view (Ok x) behind e read err is why = absurd (let never = err in cc)
+stops view (Err x) behind e read err is (inl poor) = inl (is ∙ poor)
+stops view (Err x) behind e read err is (inr stop) = inr (stop ∙ ap Err (sym is))
+
+-- no context is left to read
+pub contexts_end : (total greatest count : ℕ) (held : List (ℕ × Record)) (text : List ℕ) → count ≡ 0 → contexts_at total greatest count held text ≡ Ok (held, text)
+unfolding contexts_at
+contexts_end total greatest count held text none = rw none refl
+
+pub links_end : (total count : ℕ) (held : List (ℕ × Link)) (text : List ℕ) → count ≡ 0 → links_at total count held text ≡ Ok (held, text)
+unfolding links_at
+links_end total count held text none = rw none refl
+
+-- a fault of one more is that of all
+pub either_by : {P Q R : Type 0} → (Q → R) → P ⊎ Q → P ⊎ R
+either_by f (inl p) = inl p
+either_by f (inr q) = inr (f q)
