@@ -55,5 +55,5 @@ unfolding link_text
 link_by k s contexts is = ap (λ cs. head_text (link_with s cs) ++ flat_map context_text cs) (sym is)
 
 -- one more part stands before the others
-pub parts_more : (front one more rest whole : List ℕ) → rest ≡ one ++ more → front ++ rest ≡ whole → (front ++ one) ++ more ≡ whole
-parts_more front one more rest whole cut is = append_assoc front one more ∙ ap (λ t. front ++ t) (sym cut) ∙ is
+pub parts_more : {A : Type 0} (front one more rest whole : List A) → rest ≡ one ++ more → front ++ rest ≡ whole → (front ++ one) ++ more ≡ whole
+parts_more front one more rest whole cut is = append_assoc front one more ∙ ap (λ rest. front ++ rest) (sym cut) ∙ is

@@ -1,3 +1,4 @@
 pub mod OutputLemmas
 pub mod FormLemmas
 pub mod ReadingLemmas
+pub mod RestoringLemmas

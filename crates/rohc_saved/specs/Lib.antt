@@ -2,3 +2,4 @@ pub mod Form
 pub mod Output
 pub mod Reading
 pub mod Read
+pub mod Restoring

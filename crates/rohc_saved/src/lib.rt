@@ -5,6 +5,7 @@ pub mod fault;
 mod form;
 mod output;
 mod reading;
+mod restoring;
 pub mod saving;
 
 pub use fault::{SaveFault, SavedFault};
