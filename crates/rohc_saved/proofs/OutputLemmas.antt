@@ -1,5 +1,5 @@
 -- What a writer took of one text, and then of the next.
-use Rattle.std.proofs.Common.{ℕ, ◌+◌, ◌-◌, ◌<◌, ◌≤◌, ◌^◌, List, [], ◌++◌, length, take, drop, min, Bool, true, false, Option, Some, None, append_assoc, append-nil, sym, ◌∙◌, ap, refl, subst, ◌≡◌, arith, length-append, length-drop}
+use Rattle.std.proofs.Common.{ℕ, ◌+◌, ◌-◌, ◌≤◌, List, [], ◌++◌, length, take, drop, Bool, true, false, Option, Some, None, append_assoc, append-nil, sym, ◌∙◌, ap, subst, ◌≡◌, arith, length-append}
 use Rattle.std.specs.Prelude.{nat_lt, Result, Ok, Err, IfOk, IfErr}
 use Rattle.std.proofs.lemmas.List.{take-append-drop, take_rest, length-take-le, take_all}
 use Rattle.std.proofs.lemmas.Bool.Decides.{nat_tests}

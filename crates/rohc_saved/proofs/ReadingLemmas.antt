@@ -1,7 +1,6 @@
 -- What is read is what the definitions read.
-use Rattle.std.proofs.Common.{◌≡◌, ℕ, suc, ◌<◌, ◌+◌, List, [], ◌∷◌, ◌++◌, map, length, take, drop, Bool, true, false, cond, Option, Some, None, Result, Ok, Err, refl, sym, ap, subst, ◌∙◌, nat_eq, arith, inl, inr, append_assoc, is_some, length-append}
-use Rattle.std.specs.Prelude.{nat_le, ◌==◌, ◌||◌, ◌⊎◌, IsErr, IsErrAnd}
-use Rattle.std.specs.List.{list_any}
+use Rattle.std.proofs.Common.{◌≡◌, ℕ, suc, List, [], ◌∷◌, ◌++◌, map, length, Bool, true, false, cond, Some, None, Result, Ok, Err, refl, sym, ap, ◌∙◌, nat_eq, arith, inl, inr, is_some, length-append}
+use Rattle.std.specs.Prelude.{nat_le, ◌||◌, ◌⊎◌, IsErr, IsErrAnd}
 use Rattle.std.specs.Map.{lookup}
 use Rattle.std.specs.HashMap.{HashMap, get}
 use Rattle.std.proofs.lemmas.Bool.Decides.{nat_tests}
@@ -15,7 +14,7 @@ use Rattle.rohc_saved.specs.Form.{Link, contexts_in}
 use Rattle.rohc_saved.specs.Read.{link_in, links_in}
 use Rattle.rohc_saved.specs.declared.fault.SavedFault.{SavedFault}
 use Rattle.rohc_saved.specs.declared.fault.SavedFault.TheVariants.{NoMemory}
-use Rattle.rohc_saved.specs.Reading.{Read, Gives, given, part_at, has, context_at, contexts_at, link_at, links_at}
+use Rattle.rohc_saved.specs.Reading.{Read, Gives, part_at, has, context_at, contexts_at, link_at, links_at}
 
 -- a front of this length is what is taken
 pub part_is : (count : ℕ) (short : SavedFault) (front rest : List ℕ) → length front ≡ count → part_at count short (front ++ rest) ≡ Ok (front, rest)

@@ -1,6 +1,6 @@
 -- A saved concentrator (docs/FORMATS.md): what is saved, and the octets that spell it. Numbers stand with the
 -- most significant octet first. Words: Link, Form; link_of, form_of; form_text, signed, saved_form.
-use Rattle.std.specs.Prelude.{ℕ, ◌/◌, ◌%◌, ◌^◌, List, [], ◌∷◌, ◌++◌, map, filter_map, flat_map, length, codes, Option}
+use Rattle.std.specs.Prelude.{ℕ, ◌/◌, ◌%◌, ◌^◌, List, [], ◌∷◌, ◌++◌, map, filter_map, flat_map, length, codes}
 use Rattle.std.specs.Option.{option_map}
 use Rattle.sha2.specs.Sha256.{sha256}
 use Rattle.rohc_frame.specs.declared.header.CidKind.{CidKind}

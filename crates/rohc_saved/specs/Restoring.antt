@@ -1,17 +1,20 @@
--- What is restored of what was saved, under settings. Words: limit_of, taken_of, taken_at; IsHeldAt; IsTold;
--- Restores, IsRefusal.
-use Rattle.std.specs.Prelude.{◌≡◌, ℕ, ◌+◌, ◌-◌, List, [], ◌++◌, map, filter, flat_map, length, sum_by, count_by, Bool, true, false, not, nat_eq, nat_le, if◌then◌else◌, Option, Some, None, is_some, is_none, Ok, Err}
+-- What is restored of what was saved, under settings. Words: limit_of, taken_of, taken_at; IsHeldAt;
+-- IsTold; Restores, IsRefusal.
+use Rattle.std.specs.Prelude.{◌≡◌, ℕ, ◌+◌, ◌-◌, List, [], ◌++◌, map, filter, flat_map, length, sum_by, Bool, true, false, nat_eq, nat_le, if◌then◌else◌, Option, Some, None, is_some, ◌⊎◌, Err}
 use Rattle.std.specs.Map.{lookup}
 use Rattle.rohc_frame.specs.declared.header.CidKind.{CidKind}
 use Rattle.rohc_frame.specs.declared.header.CidKind.TheVariants.{Small, Large}
 use Rattle.rohc_context.specs.Record.{Record}
 use Rattle.rohc_concentrator.specs.declared.concentrator.Concentrator.{Concentrator}
 use Rattle.rohc_concentrator.specs.declared.setting.LinkSetting.{LinkSetting}
-use Rattle.rohc_concentrator.specs.Tables.{record_at, identifiers_at, settings_in_order}
+use Rattle.rohc_concentrator.specs.declared.setup.SetupFault.{SetupFault}
+use Rattle.rohc_concentrator.specs.Tables.{record_at, identifiers_at, setting_at, settings_in_order}
 use Rattle.rohc_concentrator.specs.Setup.{entry_of, IsFault, AreFine}
 use Rattle.rohc_saved.specs.declared.fault.SavedFault.{SavedFault}
-use Rattle.rohc_saved.specs.declared.fault.SavedFault.TheVariants.{Settings, NotSaved, Version, Short, BadLink, BadContext, BadOrder, Digest, Long, NoMemory}
+use Rattle.rohc_saved.specs.declared.fault.SavedFault.TheVariants.{Settings, NoMemory}
 use Rattle.rohc_saved.specs.Form.{Link, Form}
+use Rattle.rohc_saved.specs.declared.restored.Restored.{Restored}
+use Rattle.rohc_saved.specs.Output.{counted}
 use Rattle.rohc_saved.specs.Reading.{restored}
 
 abbrev pub is_same : CidKind → CidKind → Bool
@@ -52,3 +55,72 @@ pub record IsHeldAt (k : Concentrator) (link : ℕ) (contexts : List (ℕ × Rec
 abbrev pub Adds : Concentrator → Concentrator → (ℕ → List (ℕ × Record)) → Type 0
 Adds old new more =
     (link : ℕ) (held : List (ℕ × Record)) → IsHeldAt old link held → IsHeldAt new link (held ++ more link)
+
+-- ---- What is told of it: how many links and contexts were taken, and how many left out
+
+-- the link is taken, isn't in the settings, or is of another CID kind there
+abbrev pub taken_link : Option LinkSetting → Link → ℕ
+taken_link s link = if is_some (limit_of s link) then 1 else 0
+
+abbrev pub unknown_link : Option LinkSetting → Link → ℕ
+unknown_link s link = if is_some s then 0 else 1
+
+abbrev pub other_link : Option LinkSetting → Link → ℕ
+other_link s link = 1 - taken_link s link - unknown_link s link
+
+-- its contexts that are taken, are left out with it, or are above the greatest CID
+abbrev pub taken_contexts : Option LinkSetting → Link → ℕ
+taken_contexts s link = length (taken_of s link)
+
+abbrev pub left_contexts : Option LinkSetting → Link → ℕ
+left_contexts s link = if is_some (limit_of s link) then 0 else length link.contexts
+
+abbrev pub high_contexts : Option LinkSetting → Link → ℕ
+high_contexts s link = length link.contexts - taken_contexts s link - left_contexts s link
+
+-- the sum over the links, up to the greatest `u64`
+abbrev pub told_of : (Option LinkSetting → Link → ℕ) → (ℕ → Option LinkSetting) → List (ℕ × Link) → ℕ
+told_of count settings links = counted (sum_by (λ l. count (settings l.0) l.1) links)
+
+-- what is told of one link
+pub record TellsOne (s : Option LinkSetting) (link : Link) (told : Restored) : Type 0 where
+  pub links : told.links ≡ taken_link s link
+  pub unknown : told.unknown_links ≡ unknown_link s link
+  pub other : told.other_links ≡ other_link s link
+  pub contexts : told.contexts ≡ taken_contexts s link
+  pub left : told.left_contexts ≡ left_contexts s link
+  pub high : told.high_contexts ≡ high_contexts s link
+
+-- what is told of more is added
+pub record AddsUp (old more new : Restored) : Type 0 where
+  pub moment : new.moment ≡ old.moment
+  pub links : new.links ≡ counted (old.links + more.links)
+  pub unknown : new.unknown_links ≡ counted (old.unknown_links + more.unknown_links)
+  pub other : new.other_links ≡ counted (old.other_links + more.other_links)
+  pub contexts : new.contexts ≡ counted (old.contexts + more.contexts)
+  pub left : new.left_contexts ≡ counted (old.left_contexts + more.left_contexts)
+  pub high : new.high_contexts ≡ counted (old.high_contexts + more.high_contexts)
+
+-- what is told of all links of a form
+pub record IsTold (settings : ℕ → Option LinkSetting) (form : Form) (told : Restored) : Type 0 where
+  pub moment : told.moment ≡ form.moment
+  pub links : told.links ≡ told_of taken_link settings form.links
+  pub unknown : told.unknown_links ≡ told_of unknown_link settings form.links
+  pub other : told.other_links ≡ told_of other_link settings form.links
+  pub contexts : told.contexts ≡ told_of taken_contexts settings form.links
+  pub left : told.left_contexts ≡ told_of left_contexts settings form.links
+  pub high : told.high_contexts ≡ told_of high_contexts settings form.links
+
+-- ---- The whole
+
+-- a concentrator with these settings, which holds what is taken of the form
+pub record Restores (settings : List LinkSetting) (form : Form) (k : Concentrator) : Type 0 where
+  pub in_order : settings_in_order k ≡ settings
+  pub each : (link : ℕ) → setting_at k link ≡ entry_of link settings
+  pub held : (link : ℕ) → IsHeldAt k link (taken_at settings form.links link)
+
+-- the settings have this fault; or they are fine, and there is no memory, or this is the fault of the octets
+abbrev pub IsRefusal : List LinkSetting → List ℕ → SavedFault → Type 0
+IsRefusal settings octets e =
+    ((fault : SetupFault) × IsFault settings fault × (e ≡ Settings fault))
+    ⊎ (AreFine settings × ((e ≡ NoMemory) ⊎ (restored octets ≡ Err e)))

@@ -5,8 +5,11 @@ pub mod fault;
 mod form;
 mod output;
 mod reading;
-mod restoring;
+pub mod restored;
+pub mod restoring;
 pub mod saving;
 
 pub use fault::{SaveFault, SavedFault};
+pub use restored::Restored;
+pub use restoring::restore;
 pub use saving::{save, save_link};

@@ -1,18 +1,24 @@
 //! A concentrator from its octets (docs/FORMATS.md).
 
-ghost use Rattle.std.specs.Prelude.{◌≡◌, [], ◌∷◌, Some, flat_map, OnOk, IfErr};
+ghost use Rattle.std.specs.Prelude.{◌≡◌, [], ◌∷◌, Some, Ok, flat_map, length, option_map, OnOk, IfOk, IfErr};
 ghost use Rattle.rohc_context.specs.Record.{record_of};
 ghost use Rattle.rohc_concentrator.specs.Tables.{setting_at, KeepsSettings};
-ghost use Rattle.rohc_saved.specs.Form.{contexts_in};
-ghost use Rattle.rohc_saved.specs.Read.{link_in, links_in};
-ghost use Rattle.rohc_saved.specs.Restoring.{is_same, limit_of, up_to, taken_of, own, Adds};
+ghost use Rattle.rohc_saved.specs.Form.{Form, contexts_in};
+ghost use Rattle.rohc_saved.specs.Read.{link_in, links_in, form_in};
+ghost use Rattle.rohc_saved.specs.Restoring.{is_same, limit_of, up_to, taken_of, own, Adds, TellsOne, AddsUp, IsTold, Restores, IsRefusal};
+ghost use Rattle.rohc_saved.specs.Reading.{restored};
+ghost use Rattle.rohc_saved.specs.Output.{counted};
+ghost use Rattle.rohc_concentrator.specs.Setup.{entry_of, AreFine};
 
 use crate::fault::SavedFault;
-use crate::form::SavedLink;
+use crate::form::{SavedForm, SavedLink};
+use crate::reading::read;
+use crate::restored::Restored;
 use indexmap::IndexMap;
-use rohc_concentrator::{Concentrator, LinkSetting};
+use rohc_concentrator::{Concentrator, LinkSetting, SetupFault};
 use rohc_context::Context;
 use rohc_frame::CidKind;
+use std::alloc::Global;
 
 /// Whether two CID kinds are the same.
 fn is_same(a: CidKind, b: CidKind) -> bool
@@ -120,4 +126,110 @@ fn take_links(
         take_link(concentrator, *number, link)?;
     }
     Ok(())
+}
+
+/// How many of these contexts have a CID up to the greatest.
+fn count_up_to(contexts: &IndexMap<u16, Context>, greatest: u16) -> u64
+    ensures { result ≡ counted (length (up_to (Some greatest) (contexts_in contexts.now))) }
+{
+    let mut count = 0u64;
+    for (cid, _) in contexts {
+        count = count.saturating_add(u64::from(*cid <= greatest));
+    }
+    count
+}
+
+/// What is told of one link.
+fn tally(setting: Option<&LinkSetting>, link: &SavedLink) -> Restored
+    ensures { TellsOne (option_map (λ s. s.now) setting.entry) (link_in link.now) result }
+{
+    let none = Restored::default();
+    let all = link.contexts.len() as u64;
+    let Some(setting) = setting else {
+        return Restored {
+            unknown_links: 1,
+            left_contexts: all,
+            ..none
+        };
+    };
+    let Some(greatest) = limit_under(setting, link) else {
+        return Restored {
+            other_links: 1,
+            left_contexts: all,
+            ..none
+        };
+    };
+    let taken = count_up_to(&link.contexts, greatest);
+    Restored {
+        links: 1,
+        contexts: taken,
+        high_contexts: all.saturating_sub(taken),
+        ..none
+    }
+}
+
+/// Adds what is told of one more link.
+fn add(told: &mut Restored, more: &Restored)
+    ensures { AddsUp told.old more.now told.new }
+{
+    *told = Restored {
+        moment: told.moment,
+        links: told.links.saturating_add(more.links),
+        unknown_links: told.unknown_links.saturating_add(more.unknown_links),
+        other_links: told.other_links.saturating_add(more.other_links),
+        contexts: told.contexts.saturating_add(more.contexts),
+        left_contexts: told.left_contexts.saturating_add(more.left_contexts),
+        high_contexts: told.high_contexts.saturating_add(more.high_contexts),
+    };
+}
+
+/// What is told of one link of this number.
+fn tally_at(concentrator: &Concentrator, number: u16, link: &SavedLink) -> Restored
+    ensures { TellsOne (setting_at concentrator.now number) (link_in link.now) result }
+{
+    match concentrator.tables().get(&number) {
+        Some(records) => tally(Some(&records.setting), link),
+        None => tally(None, link),
+    }
+}
+
+/// Tells what is taken of a form, and what is left out.
+fn tell(concentrator: &Concentrator, form: &SavedForm) -> Restored
+    ensures { IsTold (setting_at concentrator.now) (form_in form.now) result }
+{
+    let mut told = Restored {
+        moment: form.moment,
+        ..Restored::default()
+    };
+    for (number, link) in &form.links {
+        add(&mut told, &tally_at(concentrator, *number, link));
+    }
+    told
+}
+
+/// A concentrator with these links, which goes on from what these octets spell (docs/FORMATS.md). The contexts of a link
+/// that isn't in the settings, or is of another CID kind there, are left out, and those above the greatest CID of the
+/// settings. What is left out is judged as well.
+///
+/// The error is a fault of the settings, or else the first fault of the octets from the left. `NoMemory` comes only if a
+/// request for memory was refused. Then nothing is restored.
+pub fn restore(
+    alloc: Global,
+    settings: &[LinkSetting],
+    octets: &[u8],
+) -> Result<(Concentrator, Restored), SavedFault>
+    ensures fine { IfOk result (λ x. AreFine settings.now) }
+    ensures restored { IfOk result (λ x. (form : Form) × (restored octets.now ≡ Ok form)
+        × Restores settings.now form x.0 × IsTold (λ link. entry_of link settings.now) form x.1) }
+    ensures fault { IfErr result (IsRefusal settings.now octets.now) }
+{
+    let mut concentrator = match Concentrator::new(alloc, settings) {
+        Ok(concentrator) => concentrator,
+        Err(SetupFault::NoMemory) => return Err(SavedFault::NoMemory),
+        Err(fault) => return Err(SavedFault::Settings(fault)),
+    };
+    let form = read(alloc, octets)?;
+    take_links(&mut concentrator, &form.links)?;
+    let told = tell(&concentrator, &form);
+    Ok((concentrator, told))
 }

@@ -141,7 +141,10 @@ fn put_link<W: Write>(
 {
     match concentrator.tables().get(&setting.link) {
         Some(records) => {
-            out.put(writer, head_part(setting, records.contexts.len()).as_slice());
+            out.put(
+                writer,
+                head_part(setting, records.contexts.len()).as_slice(),
+            );
             put_contexts(out, writer, &records.contexts);
         }
         None => out.put(writer, head_part(setting, 0).as_slice()),
@@ -160,11 +163,7 @@ fn put_links<W: Write>(out: &mut Output, writer: &mut W, concentrator: &Concentr
 
 /// Writes a concentrator. Returns how many octets were written; the error is how many were before a write failed.
 #[tactic(auto, unfolding(crate::specs::Form::form_text))]
-fn write_all<W: Write>(
-    concentrator: &Concentrator,
-    moment: u64,
-    writer: &mut W,
-) -> Result<u64, u64>
+fn write_all<W: Write>(concentrator: &Concentrator, moment: u64, writer: &mut W) -> Result<u64, u64>
     ensures whole { IfOk result (IsWhole (W.contents writer.old) (W.contents writer.new)
         (saved_form moment concentrator.now)) }
     ensures fault { IfErr result (IsWritten (W.contents writer.old) (W.contents writer.new)

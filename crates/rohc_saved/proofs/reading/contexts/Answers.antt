@@ -1,4 +1,4 @@
-use Rattle.std.proofs.Common.{◌≡◌, ◌∙◌, ◌-◌, ◌+◌, [], suc, ℕ, ap, sym, arith}
+use Rattle.std.proofs.Common.{◌≡◌, ◌∙◌, ◌-◌, ◌+◌, [], suc, ap, sym, arith}
 use Rattle.rohc_saved.specs.Form.{contexts_in}
 use Rattle.rohc_saved.specs.Reading.{contexts_at}
 use Rattle.rohc_saved.proofs.ReadingLemmas.{contexts_step, contexts_stop, contexts_end, stops, either_by}

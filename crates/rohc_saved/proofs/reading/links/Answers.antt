@@ -1,4 +1,4 @@
-use Rattle.std.proofs.Common.{◌≡◌, ◌∙◌, ◌-◌, ◌+◌, [], suc, ℕ, ap, sym, arith}
+use Rattle.std.proofs.Common.{◌≡◌, ◌∙◌, ◌-◌, ◌+◌, [], suc, ap, sym, arith}
 use Rattle.rohc_saved.specs.Read.{links_in}
 use Rattle.rohc_saved.specs.Reading.{links_at}
 use Rattle.rohc_saved.proofs.ReadingLemmas.{links_step, links_stop, links_end, stops, either_by}

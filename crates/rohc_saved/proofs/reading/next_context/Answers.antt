@@ -1,4 +1,4 @@
-use Rattle.std.proofs.Common.{◌≡◌, refl}
+use Rattle.std.proofs.Common.{refl}
 use Rattle.rohc_context.specs.Record.{record_of}
 use Rattle.rohc_saved.specs.Reading.{context_at}
 use Rattle.rohc_saved.proofs.ReadingLemmas.{context_last}

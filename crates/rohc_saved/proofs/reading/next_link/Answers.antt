@@ -1,4 +1,4 @@
-use Rattle.std.proofs.Common.{◌≡◌, refl}
+use Rattle.std.proofs.Common.{refl}
 use Rattle.rohc_saved.specs.declared.form.SavedLink.{SavedLink}
 use Rattle.rohc_saved.specs.Read.{link_in}
 use Rattle.rohc_saved.specs.Reading.{link_at}

@@ -1,4 +1,4 @@
-use Rattle.std.proofs.Common.{◌≡◌, sym, ap, ◌∙◌}
+use Rattle.std.proofs.Common.{sym, ap, ◌∙◌}
 use Rattle.rohc_saved.specs.Read.{link_in}
 use Rattle.rohc_saved.specs.Restoring.{limit_of}
 use Rattle.rohc_saved.proofs.restoring.limit.Goals as goal

@@ -1,7 +1,7 @@
-use Rattle.std.proofs.Common.{◌≡◌, ◌∙◌, sym, subst}
+use Rattle.std.proofs.Common.{◌∙◌, sym, subst}
 use Rattle.rohc_saved.specs.Form.{contexts_in}
 use Rattle.rohc_saved.specs.Restoring.{own, up_to, Adds}
-use Rattle.rohc_saved.proofs.RestoringLemmas.{on_by, adds_none, adds_as, own_none}
+use Rattle.rohc_saved.proofs.RestoringLemmas.{on_by}
 use Rattle.rohc_saved.proofs.restoring.take_link.Goals as goal
 
 pub returns-in-Some-clause-adds : goal.returns-in-Some-clause-adds

@@ -13,7 +13,7 @@ loop-number-preserved c =
     let seen : List (ℕ × SavedLink) → List (ℕ × Link) = map (λ (e : ℕ × SavedLink). (e.0, link_in e.1)) in
     let one : ℕ × Link = (c.in-Some.number.now, link_in c.in-Some.link.now) in
     let adds =
-        subst (λ s. Adds c.loop-number.concentrator c.take_link.new.concentrator (own c.in-Some.number.now (taken_of s (link_in c.in-Some.link.now)))) (c.loop-number.invariant.settings.each c.in-Some.number.now) c.in_ok-take_link.ensures.adds in
+    subst (λ s. Adds c.loop-number.concentrator c.take_link.new.concentrator (own c.in-Some.number.now (taken_of s (link_in c.in-Some.link.now)))) (c.loop-number.invariant.settings.each c.in-Some.number.now) c.in_ok-take_link.ensures.adds in
     record {
       done = c.loop-number.invariant.done ++ one ∷ [];
       parts = parts_more c.loop-number.invariant.done (one ∷ []) (seen c.next.new.self) (seen c.loop-number.number-iterator) (links_in c.args.links.now) (ap seen c.in-Some.ensures.steps) c.loop-number.invariant.parts;

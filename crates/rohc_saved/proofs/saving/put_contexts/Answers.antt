@@ -1,7 +1,7 @@
-use Rattle.std.proofs.Common.{◌≡◌, ◌++◌, ◌∷◌, ℕ, List, Option, flat_map, map, ap, sym, subst, ◌∙◌, append_assoc, refl}
-use Rattle.rohc_context.specs.Record.{Record, record_of}
+use Rattle.std.proofs.Common.{◌≡◌, ◌++◌, ℕ, List, flat_map, map, ap, sym, subst, ◌∙◌, append_assoc}
+use Rattle.rohc_context.specs.Record.{record_of}
 use Rattle.rohc_context.specs.declared.record.Context.{Context}
-use Rattle.rohc_saved.specs.Form.{contexts_in, context_text}
+use Rattle.rohc_saved.specs.Form.{context_text}
 use Rattle.rohc_saved.specs.Output.{IsPut}
 use Rattle.rohc_saved.proofs.saving.put_contexts.Goals as goal
 

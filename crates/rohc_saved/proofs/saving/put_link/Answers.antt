@@ -1,7 +1,7 @@
-use Rattle.std.proofs.Common.{◌≡◌, ◌++◌, ℕ, List, [], Option, flat_map, length, ap, sym, subst, ◌∙◌, append_assoc, append-nil, refl}
+use Rattle.std.proofs.Common.{◌++◌, ℕ, List, [], flat_map, ap, sym, subst, ◌∙◌, append_assoc, append-nil, refl}
 use Rattle.std.proofs.lemmas.List.{length-map}
 use Rattle.rohc_context.specs.Record.{Record, record_of}
-use Rattle.rohc_saved.specs.Form.{contexts_in, context_text, head_text, link_text, link_of}
+use Rattle.rohc_saved.specs.Form.{contexts_in, context_text, head_text}
 use Rattle.rohc_saved.specs.Output.{IsPut}
 use Rattle.rohc_saved.proofs.FormLemmas.{contexts_are, contexts_none, link_with, link_by}
 use Rattle.rohc_saved.proofs.saving.put_link.Goals as goal

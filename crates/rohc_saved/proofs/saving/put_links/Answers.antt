@@ -1,4 +1,4 @@
-use Rattle.std.proofs.Common.{◌≡◌, ◌++◌, ◌∷◌, ℕ, List, Option, flat_map, map, ap, sym, subst, ◌∙◌, append_assoc, refl}
+use Rattle.std.proofs.Common.{◌++◌, ℕ, List, flat_map, map, ap, subst, append_assoc}
 use Rattle.rohc_concentrator.specs.Tables.{settings_in_order}
 use Rattle.rohc_concentrator.specs.declared.records.LinkRecords.{LinkRecords}
 use Rattle.rohc_saved.specs.Form.{link_of, link_text}

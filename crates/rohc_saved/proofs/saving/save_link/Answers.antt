@@ -1,5 +1,4 @@
 use Rattle.std.proofs.Common.{◌≡◌, Option, Some, None, Ok, Err, sym, subst, ◌∙◌}
-use Rattle.rohc_concentrator.specs.Tables.{setting_at}
 use Rattle.rohc_concentrator.specs.declared.setting.LinkSetting.{LinkSetting}
 use Rattle.rohc_saved.specs.declared.fault.SaveFault.TheVariants.{Write}
 use Rattle.rohc_saved.specs.Output.{SavesLink}

@@ -1,9 +1,9 @@
-use Rattle.std.proofs.Common.{◌≡◌, ◌++◌, ℕ, List, [], Option, flat_map, map, length, ap, sym, subst, ◌∙◌, refl}
+use Rattle.std.proofs.Common.{◌≡◌, ℕ, List, [], map, length, ap, sym, subst, ◌∙◌}
 use Rattle.std.proofs.lemmas.List.{length-map}
 use Rattle.rohc_concentrator.specs.Tables.{settings_in_order}
 use Rattle.rohc_concentrator.specs.declared.records.LinkRecords.{LinkRecords}
-use Rattle.rohc_saved.specs.Form.{Link, Form, form_of, link_of, start_text, form_text, signed, link_text}
-use Rattle.rohc_saved.specs.Output.{IsPut, IsWhole, IsWritten}
+use Rattle.rohc_saved.specs.Form.{Link, form_of, link_of, start_text, form_text}
+use Rattle.rohc_saved.specs.Output.{IsPut}
 use Rattle.rohc_saved.proofs.OutputLemmas.{ok_by, err_by}
 use Rattle.rohc_saved.proofs.saving.write_all.Goals as goal
 

@@ -1,6 +1,6 @@
-use Rattle.std.proofs.Common.{◌≡◌, ◌++◌, ◌∷◌, ℕ, List, [], Option, flat_map, map, length, ap, sym, subst, ◌∙◌, refl, append-nil}
-use Rattle.rohc_saved.specs.Form.{Link, Form, link_of, start_text, form_text, signed, link_text}
-use Rattle.rohc_saved.specs.Output.{IsPut, IsWhole, IsWritten}
+use Rattle.std.proofs.Common.{◌++◌, ◌∷◌, ℕ, List, [], sym, subst, ◌∙◌, refl, append-nil}
+use Rattle.rohc_saved.specs.Form.{Link, Form, link_of, start_text, form_text, link_text}
+use Rattle.rohc_saved.specs.Output.{IsPut}
 use Rattle.rohc_saved.proofs.OutputLemmas.{ok_by, err_by}
 use Rattle.rohc_saved.proofs.saving.write_link.Goals as goal
 

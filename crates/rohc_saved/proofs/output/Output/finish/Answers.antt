@@ -1,7 +1,7 @@
-use Rattle.std.proofs.Common.{ℕ, List, ◌++◌, Bool, true, false, Option, subst, ap, sym, ◌≡◌}
+use Rattle.std.proofs.Common.{◌++◌, true, false, subst}
 use Rattle.sha2.specs.Sha256.{sha256}
 use Rattle.rohc_saved.specs.Form.{signed}
-use Rattle.rohc_saved.specs.Output.{IsTaken, IsPut}
+use Rattle.rohc_saved.specs.Output.{IsTaken}
 use Rattle.rohc_saved.proofs.OutputLemmas.{whole_written, whole_kept}
 use Rattle.rohc_saved.proofs.output.Output.finish.Goals as goal
 
