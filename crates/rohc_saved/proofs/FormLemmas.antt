@@ -44,16 +44,6 @@ no_cids (Some r) e = absurd (let f : ◌≡◌ {A = Option LinkSetting} (Some r.
 pub contexts_none : (k : Concentrator) (link : ℕ) → setting_at k link ≡ None → contexts_of k link ≡ []
 contexts_none k link e = ap (filter_map (λ cid. pair_of cid (record_at k link cid))) (no_cids (get nat_eq k.links link) e)
 
--- what is saved of a link, if these are its contexts
-abbrev pub link_with : LinkSetting → List (ℕ × Record) → ℕ × Link
-link_with s contexts = (s.link, record { size = s.settings.size; greatest = s.settings.max_cid; contexts = contexts })
-
--- its octets are those of its head, and those of its contexts behind
-pub link_by : (k : Concentrator) (s : LinkSetting) (contexts : List (ℕ × Record)) → contexts_of k s.link ≡ contexts
-    → head_text (link_with s contexts) ++ flat_map context_text contexts ≡ link_text (link_of k s)
-unfolding link_text
-link_by k s contexts is = ap (λ cs. head_text (link_with s cs) ++ flat_map context_text cs) (sym is)
-
 -- one more part stands before the others
 pub parts_more : {A : Type 0} (front one more rest whole : List A) → rest ≡ one ++ more → front ++ rest ≡ whole → (front ++ one) ++ more ≡ whole
 parts_more front one more rest whole cut is = append_assoc front one more ∙ ap (λ rest. front ++ rest) (sym cut) ∙ is

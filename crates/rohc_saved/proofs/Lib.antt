@@ -1,4 +1,9 @@
 pub mod OutputLemmas
 pub mod FormLemmas
+pub mod LinkTexts
+pub mod MapLemmas
 pub mod ReadingLemmas
 pub mod RestoringLemmas
+pub mod KeptLemmas
+pub mod BackLemmas
+pub mod SpellsLemmas

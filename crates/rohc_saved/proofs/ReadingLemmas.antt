@@ -14,7 +14,7 @@ use Rattle.rohc_saved.specs.Form.{Link, contexts_in}
 use Rattle.rohc_saved.specs.Read.{link_in, links_in}
 use Rattle.rohc_saved.specs.declared.fault.SavedFault.{SavedFault}
 use Rattle.rohc_saved.specs.declared.fault.SavedFault.TheVariants.{NoMemory}
-use Rattle.rohc_saved.specs.Reading.{Read, Gives, part_at, has, context_at, contexts_at, link_at, links_at}
+use Rattle.rohc_saved.specs.Reading.{cid_at, record_text_at, Read, Gives, part_at, has, context_at, contexts_at, link_at, links_at}
 
 -- a front of this length is what is taken
 pub part_is : (count : ℕ) (short : SavedFault) (front rest : List ℕ) → length front ≡ count → part_at count short (front ++ rest) ≡ Ok (front, rest)
@@ -22,35 +22,6 @@ unfolding part_at
 part_is count short front rest is =
     let enough : nat_le count (length (front ++ rest)) ≡ true = grind (arith, nat_tests, length-append front rest, is) in
     rw (enough, take_at front rest count is, drop_at front rest count is) refl
-
--- a key is in a map exactly if its list has it
-has_in : {V A : Type 0} (view : V → A) (es : List (ℕ × V)) (n : ℕ) → has n (map (λ (e : ℕ × V). (e.0, view e.1)) es) ≡ is_some (lookup (nat_eq n) es)
-has_in view [] n = refl
-has_in {V} {A} view (e ∷ es) n = by (has_in view es n) (nat_eq n e.0) refl
-  where
-    by : has n (map (λ (e : ℕ × V). (e.0, view e.1)) es) ≡ is_some (lookup (nat_eq n) es) → (b : Bool) → nat_eq n e.0 ≡ b
-        → (nat_eq n e.0 || has n (map (λ (e : ℕ × V). (e.0, view e.1)) es)) ≡ is_some (cond (nat_eq n e.0) (Some e.1) (lookup (nat_eq n) es))
-    by rest true f = rw f refl
-    by rest false f = rw f rest
-
-pub has_context : {S : Type 0} (m : HashMap ℕ Context S) (n : ℕ) → has n (contexts_in m) ≡ is_some (get nat_eq m n)
-has_context m n = has_in record_of m.entries n
-
-pub has_link : {S : Type 0} (m : HashMap ℕ SavedLink S) (n : ℕ) → has n (links_in m) ≡ is_some (get nat_eq m n)
-has_link m n = has_in link_in m.entries n
-
--- a new entry goes last
-inserted : {V A S : Type 0} (view : V → A) (m n : HashMap ℕ V S) (k : ℕ) (v : V) → get nat_eq m k ≡ None → n.entries ≡ insert_entry nat_eq m.entries k v
-    → map {B = ℕ × A} (λ (e : ℕ × V). (e.0, view e.1)) n.entries ≡ map {B = ℕ × A} (λ (e : ℕ × V). (e.0, view e.1)) m.entries ++ (k, view v) ∷ []
-inserted {V} {A} view m n k v absent is =
-    let seen : ℕ × V → ℕ × A = λ e. (e.0, view e.1) in
-    ap (map seen) (is ∙ insert_entry-new nat_eq m k v absent) ∙ map-append seen m.entries ((k, v) ∷ [])
-
-pub context_last : {S : Type 0} (m n : HashMap ℕ Context S) (k : ℕ) (v : Context) → get nat_eq m k ≡ None → n.entries ≡ insert_entry nat_eq m.entries k v → contexts_in n ≡ contexts_in m ++ (k, record_of v) ∷ []
-context_last m n k v absent is = inserted record_of m n k v absent is
-
-pub link_last : {S : Type 0} (m n : HashMap ℕ SavedLink S) (k : ℕ) (v : SavedLink) → get nat_eq m k ≡ None → n.entries ≡ insert_entry nat_eq m.entries k v → links_in n ≡ links_in m ++ (k, link_in v) ∷ []
-link_last m n k v absent is = inserted link_in m n k v absent is
 
 -- after one context, the others are those behind it
 pub contexts_step : (total greatest count : ℕ) (held new : List (ℕ × Record)) (text behind : List ℕ) (x : ℕ × Record) → context_at total greatest held text ≡ Ok (x, behind) → new ≡ held ++ x ∷ []
@@ -92,3 +63,9 @@ links_end total count held text none = rw none refl
 pub either_by : {P Q R : Type 0} → (Q → R) → P ⊎ Q → P ⊎ R
 either_by f (inl p) = inl p
 either_by f (inr q) = inr (f q)
+
+-- a CID and a context behind it were read
+pub context_reads : (total greatest cid : ℕ) (held : List (ℕ × Record)) (text mid behind : List ℕ) (r : Record) → cid_at total greatest held text ≡ Ok (cid, mid)
+    → record_text_at total mid ≡ Ok (r, behind) → context_at total greatest held text ≡ Ok ((cid, r), behind)
+unfolding context_at
+context_reads total greatest cid held text mid behind r first second = rw (first, second) refl

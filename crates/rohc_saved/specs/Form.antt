@@ -60,7 +60,7 @@ size_octet Small = 0
 size_octet Large = 1
 
 -- a CID, and its context as it is saved alone
-unfoldable pub context_text : ℕ × Record → List ℕ
+abbrev pub context_text : ℕ × Record → List ℕ
 context_text c = word c.0 ++ saved_text c.1
 
 -- the number of the link, its CID kind, a reserved octet, its greatest CID, and the number of its contexts

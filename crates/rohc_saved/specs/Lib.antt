@@ -3,3 +3,4 @@ pub mod Output
 pub mod Reading
 pub mod Read
 pub mod Restoring
+pub mod Laws

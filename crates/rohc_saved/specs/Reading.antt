@@ -84,7 +84,7 @@ abbrev pub in_whole : {A : Type 0} → ℕ → Result A ContextFault → Result 
 in_whole total (Ok x) = Ok x
 in_whole total (Err fault) = Err (placed total fault)
 
-unfoldable pub record_text_at : ℕ → List ℕ → Read Record
+abbrev pub record_text_at : ℕ → List ℕ → Read Record
 record_text_at total text = in_whole total (saved_at text)
 
 -- one of these has the number

@@ -1,9 +1,12 @@
 //! A concentrator as octets, and back (docs/FORMATS.md).
 #![tactic(auto)]
 
+mod context_reading;
 pub mod fault;
 mod form;
+pub mod laws;
 mod output;
+mod part;
 mod reading;
 pub mod restored;
 pub mod restoring;

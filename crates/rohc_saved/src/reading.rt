@@ -5,17 +5,17 @@
 ghost use Rattle.std.specs.Prelude.{◌≡◌, ◌⊎◌, ◌-◌, [], length, nat_eq, None, Ok, Err, IfOk, MatchResult};
 ghost use Rattle.indexmap.specs.IndexMap.{get};
 ghost use Rattle.rohc_bits.specs.Reading.{Reads, ReadsAs};
-ghost use Rattle.rohc_context.specs.Record.{record_of};
 ghost use Rattle.rohc_saved.specs.Form.{contexts_in};
 ghost use Rattle.rohc_saved.specs.Read.{link_in, links_in, form_in};
-ghost use Rattle.rohc_saved.specs.Reading.{Gives, AddsNext, Passes, part_at, magic_at, octet_at, word_at, quad_at, long_at, version_at, placed, record_text_at, cid_at, context_at, contexts_at, number_at, size_at, reserved_at, greatest_at, link_at, links_at, form_at, digest_at, restored};
+ghost use Rattle.rohc_saved.specs.Reading.{Gives, AddsNext, Passes, part_at, magic_at, octet_at, word_at, quad_at, long_at, version_at, cid_at, context_at, contexts_at, number_at, size_at, reserved_at, greatest_at, link_at, links_at, form_at, digest_at, restored};
 
+use crate::context_reading::context;
 use crate::fault::SavedFault;
 use crate::form::{SavedForm, SavedLink};
 use crate::saving::{MAGIC, VERSION};
 use indexmap::IndexMap;
 use rohc_bits::{Cursor, reading};
-use rohc_context::{Context, ContextFault};
+use rohc_context::Context;
 use rohc_frame::CidKind;
 use sha2::{Digest, Sha256};
 use std::alloc::Global;
@@ -97,34 +97,8 @@ fn version(total: usize, cursor: &mut Cursor<'_>) -> Result<(), SavedFault>
     Ok(())
 }
 
-/// A fault of a context at its place in the whole text.
-fn placed(total: usize, fault: ContextFault) -> SavedFault
-    ensures { result ≡ placed total fault }
-{
-    match fault {
-        ContextFault::Short => SavedFault::Short { place: total },
-        ContextFault::Bad { left } => SavedFault::BadContext {
-            place: total.saturating_sub(left),
-        },
-        ContextFault::Long { left } => SavedFault::Long {
-            place: total.saturating_sub(left),
-        },
-    }
-}
-
-/// Reads a context.
-#[tactic(auto, unfolding(crate::specs::Reading::record_text_at))]
-fn context(total: usize, cursor: &mut Cursor<'_>) -> Result<Context, SavedFault>
-    ensures reads { ReadsAs record_of result cursor.new (record_text_at total cursor.old) }
-{
-    match Context::take_saved(cursor) {
-        Ok(context) => Ok(context),
-        Err(fault) => Err(placed(total, fault)),
-    }
-}
-
 /// Reads the CID of a context, behind those before it.
-#[tactic(auto, unfolding(crate::specs::Reading::cid_at), using(crate::proofs::ReadingLemmas::has_context))]
+#[tactic(auto, unfolding(crate::specs::Reading::cid_at), using(crate::proofs::MapLemmas::has_context))]
 fn cid(
     total: usize,
     cursor: &mut Cursor<'_>,
@@ -146,7 +120,7 @@ fn cid(
 }
 
 /// Reads one more context of a link, and keeps it behind those before it.
-#[tactic(auto, unfolding(crate::specs::Reading::context_at), using(crate::proofs::ReadingLemmas::context_last))]
+#[tactic(auto, unfolding(crate::specs::Reading::context_at), using(crate::proofs::MapLemmas::context_last))]
 fn next_context(
     total: usize,
     cursor: &mut Cursor<'_>,
@@ -182,7 +156,7 @@ fn contexts(
 }
 
 /// Reads the number of a link, behind those before it.
-#[tactic(auto, unfolding(crate::specs::Reading::number_at), using(crate::proofs::ReadingLemmas::has_link))]
+#[tactic(auto, unfolding(crate::specs::Reading::number_at), using(crate::proofs::MapLemmas::has_link))]
 fn number(
     total: usize,
     cursor: &mut Cursor<'_>,
@@ -238,7 +212,7 @@ fn greatest(total: usize, cursor: &mut Cursor<'_>, size: CidKind) -> Result<u16,
 }
 
 /// Reads one more link, and keeps it behind those before it.
-#[tactic(auto, unfolding(crate::specs::Reading::link_at), using(crate::proofs::ReadingLemmas::link_last))]
+#[tactic(auto, unfolding(crate::specs::Reading::link_at), using(crate::proofs::MapLemmas::link_last))]
 fn next_link(
     alloc: Global,
     total: usize,

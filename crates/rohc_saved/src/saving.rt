@@ -1,14 +1,14 @@
 //! A concentrator as octets (docs/FORMATS.md).
 
 ghost use Rattle.std.specs.Prelude.{◌≡◌, ◌+◌, ◌≤◌, ◌++◌, ◌%◌, ◌^◌, ℕ, List, Option, flat_map, map, length, None, IfOk, IfErr};
-ghost use Rattle.rohc_context.specs.Record.{Record, record_of};
+ghost use Rattle.rohc_context.specs.Record.{Record};
 ghost use Rattle.rohc_concentrator.specs.Tables.{settings_in_order, setting_at};
-ghost use Rattle.rohc_saved.specs.Form.{Link, contexts_in, word as word_text, quad as quad_text, long as long_text, size_octet, context_text, contexts_of, link_of, head_text, link_text, start_text, form_of, form_text, saved_form, saved_link};
+ghost use Rattle.rohc_saved.specs.Form.{Link, contexts_in, long as long_text, size_octet, context_text, contexts_of, link_of, head_text, link_text, start_text, form_of, form_text, saved_form, saved_link};
 ghost use Rattle.rohc_saved.specs.Output.{IsPut, IsWhole, IsWritten, WriteFault, SavesLink};
 
 use crate::fault::SaveFault;
 use crate::output::Output;
-use arrayvec::ArrayVec;
+use crate::part::{Part, context_part, put, put_quad, put_word};
 use indexmap::IndexMap;
 use rohc_concentrator::{Concentrator, LinkRecords, LinkSetting};
 use rohc_context::Context;
@@ -20,36 +20,6 @@ pub(crate) const MAGIC: &[u8; 9] = b"Polorowan";
 
 /// The version of the format.
 pub(crate) const VERSION: u16 = 1;
-
-/// A part of the octets, in a buffer of fixed size: at most a CID and a saved context.
-type Part = ArrayVec<u8, 77>;
-
-/// Appends octets.
-fn put(text: &mut Part, more: &[u8])
-    requires { length text.old.items + length more.now ≤ 77 }
-    ensures { text.new.items ≡ text.old.items ++ more.now }
-{
-    text.try_extend_from_slice(more).unwrap();
-}
-
-/// Appends a number of 16 bits.
-fn put_word(text: &mut Part, value: u16)
-    requires { length text.old.items + 2 ≤ 77 }
-    ensures text { text.new.items ≡ text.old.items ++ word_text value }
-    ensures length { length text.new.items ≡ length text.old.items + 2 }
-{
-    put(text, &value.to_be_bytes());
-}
-
-/// Appends a number of 32 bits.
-fn put_quad(text: &mut Part, value: u32)
-    requires { length text.old.items + 4 ≤ 77 }
-    ensures text { text.new.items ≡ text.old.items ++ quad_text value }
-    ensures length { length text.new.items ≡ length text.old.items + 4 }
-{
-    put_word(text, (value >> 16) as u16);
-    put_word(text, (value % (1 << 16)) as u16);
-}
 
 /// Appends a number of 64 bits.
 #[tactic(auto, unfolding(crate::specs::Form::long))]
@@ -77,18 +47,6 @@ fn size_octet(size: CidKind) -> u8
         CidKind::Small => 0,
         CidKind::Large => 1,
     }
-}
-
-/// The octets of a CID and its context.
-#[tactic(auto, unfolding(crate::specs::Form::context_text))]
-fn context_part(cid: u16, context: &Context) -> Part
-    ensures { result.items ≡ context_text (cid, record_of context.now) }
-{
-    let mut text = Part::new();
-    put_word(&mut text, cid);
-    let saved = context.save();
-    put(&mut text, saved.as_slice());
-    text
 }
 
 /// The octets of a link before its contexts.

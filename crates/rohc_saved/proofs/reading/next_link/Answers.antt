@@ -2,7 +2,7 @@ use Rattle.std.proofs.Common.{refl}
 use Rattle.rohc_saved.specs.declared.form.SavedLink.{SavedLink}
 use Rattle.rohc_saved.specs.Read.{link_in}
 use Rattle.rohc_saved.specs.Reading.{link_at}
-use Rattle.rohc_saved.proofs.ReadingLemmas.{link_last}
+use Rattle.rohc_saved.proofs.MapLemmas.{link_last}
 use Rattle.rohc_saved.proofs.reading.next_link.Goals as goal
 
 pub returns-in-Ok : goal.returns-in-Ok

@@ -3,7 +3,8 @@ use Rattle.std.proofs.lemmas.List.{length-map}
 use Rattle.rohc_context.specs.Record.{Record, record_of}
 use Rattle.rohc_saved.specs.Form.{contexts_in, context_text, head_text}
 use Rattle.rohc_saved.specs.Output.{IsPut}
-use Rattle.rohc_saved.proofs.FormLemmas.{contexts_are, contexts_none, link_with, link_by}
+use Rattle.rohc_saved.proofs.FormLemmas.{contexts_are, contexts_none}
+use Rattle.rohc_saved.proofs.LinkTexts.{link_with, link_by}
 use Rattle.rohc_saved.proofs.saving.put_link.Goals as goal
 
 pub returns-in-Some : goal.returns-in-Some
