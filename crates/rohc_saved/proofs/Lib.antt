@@ -7,3 +7,4 @@ pub mod RestoringLemmas
 pub mod KeptLemmas
 pub mod BackLemmas
 pub mod SpellsLemmas
+pub mod SoundLemmas

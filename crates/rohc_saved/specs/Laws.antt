@@ -42,3 +42,21 @@ IsSpelled = (text : List ℕ) (form : Form) → All IsOctet text → restored te
 -- The octets of a good form are read as that form.
 abbrev pub IsReadBack : Type 0
 IsReadBack = (form : Form) → IsGoodForm form → restored (signed (form_text form)) ≡ Ok form
+
+-- The settings are fine, and each stands for the link of its number, which has 16 bits. The CIDs of a link that
+-- have a record are apart, and within its greatest.
+pub record IsSound (k : Concentrator) : Type 0 where
+  pub fine : AreFine (settings_in_order k)
+  pub each : (link : ℕ) → setting_at k link ≡ entry_of link (settings_in_order k)
+  pub numbers : All (λ (s : LinkSetting). s.link < 65536) (settings_in_order k)
+  pub apart : (link : ℕ) → IsDistinct nat_eq (identifiers_at k link)
+  pub within : (link : ℕ) (s : LinkSetting) → setting_at k link ≡ Some s →
+      All (λ cid. cid ≤ s.settings.max_cid) (identifiers_at k link)
+
+-- What is saved of a sound concentrator is read. A concentrator that is restored from it under the same
+-- settings keeps the same settings and the same records, in the same order.
+abbrev pub ComesBack : Type 0
+ComesBack = (k : Concentrator) (moment : ℕ) → IsSound k → moment < 2 ^ 64 →
+    (restored (saved_form moment k) ≡ Ok (form_of moment k))
+    × ((form : Form) (new : Concentrator) → restored (saved_form moment k) ≡ Ok form →
+    Restores (settings_in_order k) form new → KeepsAll k new)
