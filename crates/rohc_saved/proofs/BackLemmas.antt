@@ -1,23 +1,22 @@
 -- What is saved is read back.
-use Rattle.std.proofs.Common.{◌≡◌, ◌≢◌, ℕ, ◌+◌, ◌-◌, ◌*◌, ◌/◌, ◌%◌, ◌^◌, ◌<◌, ◌≤◌, zero, suc, List, [], ◌∷◌, ◌++◌, flat_map, map, length, take, drop, Bool, true, false, Option, Some, None, Result, Ok, Err, refl, sym, ap, subst, ◌∙◌, arith, append_assoc, append-nil, nat_eq, length-append}
-use Rattle.std.specs.Prelude.{All, AllPairs, nat_le, nat_lt, ◌==◌, ◌&&◌, ◌||◌, not, bytes_eq}
-use Rattle.std.specs.List.{list_any, AllByRecursion, IsDistinct}
+use Rattle.std.proofs.Common.{◌≡◌, ℕ, ◌-◌, ◌/◌, ◌%◌, ◌^◌, ◌<◌, ◌≤◌, suc, List, [], ◌∷◌, ◌++◌, flat_map, map, length, take, true, false, Ok, refl, sym, ap, subst, ◌∙◌, arith, append_assoc, append-nil, nat_eq, length-append}
+use Rattle.std.specs.Prelude.{All, nat_le, bytes_eq}
+use Rattle.std.specs.List.{AllByRecursion, IsDistinct}
 use Rattle.std.proofs.lemmas.Map.Keys.{IsDistinct-head, IsDistinct-tail}
 use Rattle.std.proofs.lemmas.Bool.Decides.{nat_tests}
-use Rattle.std.proofs.lemmas.List.{take_at, drop_at}
+use Rattle.std.proofs.lemmas.List.{take_at}
 use Rattle.std.proofs.lemmas.List.Elements.{All-head, All-tail}
 use Rattle.std.proofs.lemmas.Slice.Eq.{bytes_eq-Decides}
 use Rattle.sha2.specs.Sha256.{sha256}
 use Rattle.sha2.proofs.Facts256.{length-sha256}
-use Rattle.rohc_bits.specs.Reading.{◌>>=◌, next_octet, next_word}
+use Rattle.rohc_bits.specs.Reading.{next_octet, next_word}
 use Rattle.rohc_frame.specs.declared.header.CidKind.{CidKind}
 use Rattle.rohc_frame.specs.declared.header.CidKind.TheVariants.{Small, Large}
 use Rattle.rohc_frame.specs.Header.{greatest_cid}
 use Rattle.rohc_context.specs.Record.{Record}
-use Rattle.rohc_saved.specs.declared.fault.SavedFault.{SavedFault}
 use Rattle.rohc_saved.specs.declared.fault.SavedFault.TheVariants.{NotSaved, Short}
 use Rattle.rohc_saved.specs.Form.{Link, Form, word, quad, long, size_octet, context_text, head_text, link_text, magic, start_text, form_text, signed}
-use Rattle.rohc_saved.specs.Reading.{Read, given, part_at, magic_at, octet_at, word_at, quad_at, long_at, version_at, has, record_text_at, cid_at, context_at, contexts_at, number_at, size_at, reserved_at, greatest_at, link_at, links_at, form_at, digest_at, restored}
+use Rattle.rohc_saved.specs.Reading.{part_at, magic_at, word_at, quad_at, long_at, version_at, has, cid_at, context_at, contexts_at, number_at, size_at, reserved_at, greatest_at, link_at, links_at, form_at, digest_at, restored}
 use Rattle.rohc_saved.specs.Laws.{IsGoodContext, IsGoodLink, IsGoodForm, IsReadBack}
 use Rattle.rohc_saved.proofs.KeptLemmas.{kept_back}
 use Rattle.rohc_saved.proofs.ReadingLemmas.{part_is, context_reads, contexts_step, links_step}

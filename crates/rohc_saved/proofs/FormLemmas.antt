@@ -1,5 +1,5 @@
 -- What is saved of the contexts of a link.
-use Rattle.std.proofs.Common.{◌≡◌, ℕ, List, [], ◌∷◌, ◌++◌, map, filter_map, flat_map, Option, Some, None, refl, sym, ap, subst, ◌∙◌, nat_eq, arith, append_assoc, unwrap_or}
+use Rattle.std.proofs.Common.{◌≡◌, ℕ, List, [], ◌∷◌, ◌++◌, map, filter_map, Option, Some, None, refl, sym, ap, subst, ◌∙◌, nat_eq, arith, append_assoc, unwrap_or}
 use Rattle.std.specs.Option.{option_map}
 use Rattle.std.specs.List.{IsDistinct}
 use Rattle.std.specs.Prelude.{Contains}
@@ -14,7 +14,7 @@ use Rattle.rohc_concentrator.specs.declared.concentrator.Concentrator.{Concentra
 use Rattle.rohc_concentrator.specs.declared.records.LinkRecords.{LinkRecords}
 use Rattle.rohc_concentrator.specs.declared.setting.LinkSetting.{LinkSetting}
 use Rattle.rohc_concentrator.specs.Tables.{setting_at, record_in, record_at, identifiers_at, IsLink}
-use Rattle.rohc_saved.specs.Form.{Link, contexts_of, contexts_in, link_of, head_text, context_text, link_text}
+use Rattle.rohc_saved.specs.Form.{contexts_of, contexts_in}
 
 abbrev pair_of : ℕ → Option Record → Option (ℕ × Record)
 pair_of cid found = option_map (λ r. (cid, r)) found

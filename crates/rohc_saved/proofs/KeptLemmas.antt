@@ -1,5 +1,5 @@
 -- A saved context within a longer text.
-use Rattle.std.proofs.Common.{◌≡◌, ℕ, List, ◌++◌, Result, Ok, Err, refl, sym, ap, ◌∙◌, append_assoc, All}
+use Rattle.std.proofs.Common.{◌≡◌, ℕ, List, ◌++◌, Result, Ok, Err, sym, ap, ◌∙◌, append_assoc, All}
 use Rattle.rohc_bits.specs.Bits.{IsOctet}
 use Rattle.rohc_bits.proofs.Steps.{ok_is}
 use Rattle.rohc_context.specs.declared.context_fault.ContextFault.{ContextFault}

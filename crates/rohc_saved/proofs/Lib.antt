@@ -8,3 +8,4 @@ pub mod KeptLemmas
 pub mod BackLemmas
 pub mod SpellsLemmas
 pub mod SoundLemmas
+pub mod RestartLemmas

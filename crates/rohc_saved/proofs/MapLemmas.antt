@@ -1,20 +1,17 @@
 -- What was read, kept in maps.
-use Rattle.std.proofs.Common.{◌≡◌, ℕ, suc, List, [], ◌∷◌, ◌++◌, map, length, Bool, true, false, cond, Some, None, Result, Ok, Err, refl, sym, ap, ◌∙◌, nat_eq, arith, inl, inr, is_some, length-append}
-use Rattle.std.specs.Prelude.{nat_le, ◌||◌, ◌⊎◌, IsErr, IsErrAnd}
+use Rattle.std.proofs.Common.{◌≡◌, ℕ, List, [], ◌∷◌, ◌++◌, map, Bool, true, false, cond, Some, None, refl, ap, ◌∙◌, nat_eq, is_some}
+use Rattle.std.specs.Prelude.{◌||◌}
 use Rattle.std.specs.Map.{lookup}
 use Rattle.std.specs.HashMap.{HashMap, get}
-use Rattle.std.proofs.lemmas.Bool.Decides.{nat_tests}
-use Rattle.std.proofs.lemmas.List.{take_at, drop_at, map-append}
+use Rattle.std.proofs.lemmas.List.{map-append}
 use Rattle.indexmap.specs.IndexMap.{insert_entry}
 use Rattle.indexmap.proofs.CallerLemmas.{insert_entry-new}
 use Rattle.rohc_context.specs.declared.record.Context.{Context}
-use Rattle.rohc_context.specs.Record.{Record, record_of}
+use Rattle.rohc_context.specs.Record.{record_of}
 use Rattle.rohc_saved.specs.declared.form.SavedLink.{SavedLink}
-use Rattle.rohc_saved.specs.Form.{Link, contexts_in}
+use Rattle.rohc_saved.specs.Form.{contexts_in}
 use Rattle.rohc_saved.specs.Read.{link_in, links_in}
-use Rattle.rohc_saved.specs.declared.fault.SavedFault.{SavedFault}
-use Rattle.rohc_saved.specs.declared.fault.SavedFault.TheVariants.{NoMemory}
-use Rattle.rohc_saved.specs.Reading.{Read, Gives, part_at, has, context_at, contexts_at, link_at, links_at}
+use Rattle.rohc_saved.specs.Reading.{has}
 
 -- a key is in a map exactly if its list has it
 has_in : {V A : Type 0} (view : V → A) (es : List (ℕ × V)) (n : ℕ) → has n (map (λ (e : ℕ × V). (e.0, view e.1)) es) ≡ is_some (lookup (nat_eq n) es)

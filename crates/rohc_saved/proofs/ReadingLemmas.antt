@@ -1,20 +1,13 @@
 -- What is read is what the definitions read.
-use Rattle.std.proofs.Common.{◌≡◌, ℕ, suc, List, [], ◌∷◌, ◌++◌, map, length, Bool, true, false, cond, Some, None, Result, Ok, Err, refl, sym, ap, ◌∙◌, nat_eq, arith, inl, inr, is_some, length-append}
-use Rattle.std.specs.Prelude.{nat_le, ◌||◌, ◌⊎◌, IsErr, IsErrAnd}
-use Rattle.std.specs.Map.{lookup}
-use Rattle.std.specs.HashMap.{HashMap, get}
+use Rattle.std.proofs.Common.{◌≡◌, ℕ, suc, List, [], ◌∷◌, ◌++◌, length, true, Result, Ok, Err, refl, sym, ap, ◌∙◌, arith, inl, inr, length-append}
+use Rattle.std.specs.Prelude.{nat_le, ◌⊎◌, IsErr, IsErrAnd}
 use Rattle.std.proofs.lemmas.Bool.Decides.{nat_tests}
-use Rattle.std.proofs.lemmas.List.{take_at, drop_at, map-append}
-use Rattle.indexmap.specs.IndexMap.{insert_entry}
-use Rattle.indexmap.proofs.CallerLemmas.{insert_entry-new}
-use Rattle.rohc_context.specs.declared.record.Context.{Context}
-use Rattle.rohc_context.specs.Record.{Record, record_of}
-use Rattle.rohc_saved.specs.declared.form.SavedLink.{SavedLink}
-use Rattle.rohc_saved.specs.Form.{Link, contexts_in}
-use Rattle.rohc_saved.specs.Read.{link_in, links_in}
+use Rattle.std.proofs.lemmas.List.{take_at, drop_at}
+use Rattle.rohc_context.specs.Record.{Record}
+use Rattle.rohc_saved.specs.Form.{Link}
 use Rattle.rohc_saved.specs.declared.fault.SavedFault.{SavedFault}
 use Rattle.rohc_saved.specs.declared.fault.SavedFault.TheVariants.{NoMemory}
-use Rattle.rohc_saved.specs.Reading.{cid_at, record_text_at, Read, Gives, part_at, has, context_at, contexts_at, link_at, links_at}
+use Rattle.rohc_saved.specs.Reading.{cid_at, record_text_at, Read, Gives, part_at, context_at, contexts_at, link_at, links_at}
 
 -- a front of this length is what is taken
 pub part_is : (count : ℕ) (short : SavedFault) (front rest : List ℕ) → length front ≡ count → part_at count short (front ++ rest) ≡ Ok (front, rest)

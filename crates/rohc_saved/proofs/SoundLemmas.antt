@@ -1,6 +1,6 @@
 -- What is saved of a sound concentrator comes back.
-use Rattle.std.proofs.Common.{◌≡◌, ◌≢◌, ℕ, ◌+◌, ◌^◌, ◌<◌, ◌≤◌, zero, suc, List, [], ◌∷◌, ◌++◌, map, filter, filter_map, flat_map, find, length, Bool, true, false, cond, if◌then◌else◌, Option, Some, None, Result, Ok, Err, refl, sym, ap, subst, ◌∙◌, arith, append_assoc, append-nil, nat_eq, unwrap_or, get_or}
-use Rattle.std.specs.Prelude.{All, AllPairs, nat_le, ◌==◌, slice_index_or}
+use Rattle.std.proofs.Common.{◌≡◌, ◌≢◌, ℕ, ◌+◌, ◌^◌, ◌<◌, ◌≤◌, zero, suc, List, [], ◌∷◌, ◌++◌, map, length, Bool, true, false, cond, if◌then◌else◌, Option, Some, None, refl, sym, ap, subst, ◌∙◌, arith, append_assoc, append-nil, nat_eq, unwrap_or}
+use Rattle.std.specs.Prelude.{All, AllPairs, nat_le, slice_index_or}
 use Rattle.std.specs.Option.{option_map, option_and_then}
 use Rattle.std.specs.List.{AllByRecursion, IsDistinct, list_any}
 use Rattle.std.specs.Map.{keys_of, lookup}
@@ -15,7 +15,6 @@ use Rattle.rohc_frame.specs.declared.header.CidKind.{CidKind}
 use Rattle.rohc_frame.specs.declared.header.CidKind.TheVariants.{Small, Large}
 use Rattle.rohc_frame.specs.Header.{greatest_cid}
 use Rattle.rohc_context.specs.declared.record.Context.{Context}
-use Rattle.rohc_context.specs.Good.{IsGoodRecord}
 use Rattle.rohc_context.specs.Record.{Record, record_of}
 use Rattle.rohc_context.proofs.StepLaws.{keeps_good}
 use Rattle.rohc_concentrator.specs.declared.concentrator.Concentrator.{Concentrator}
@@ -23,13 +22,12 @@ use Rattle.rohc_concentrator.specs.declared.records.LinkRecords.{LinkRecords}
 use Rattle.rohc_concentrator.specs.declared.setting.LinkSetting.{LinkSetting}
 use Rattle.rohc_concentrator.specs.Setting.{IsGoodSetting}
 use Rattle.rohc_concentrator.specs.Setup.{entry_of}
-use Rattle.rohc_concentrator.specs.Tables.{setting_at, record_in, record_at, identifiers_at, settings_in_order, IsLink, KeepsAll}
+use Rattle.rohc_concentrator.specs.Tables.{setting_at, record_in, settings_in_order, IsLink, KeepsAll}
 use Rattle.rohc_saved.specs.declared.fault.SavedFault.{SavedFault}
-use Rattle.rohc_saved.specs.Form.{Link, Form, contexts_of, contexts_in, link_of, form_of, saved_form}
-use Rattle.rohc_saved.specs.Reading.{restored}
-use Rattle.rohc_saved.specs.Restoring.{is_same, limit_of, up_to, taken_of, own, taken_at, IsHeldAt, Restores}
+use Rattle.rohc_saved.specs.Form.{Link, contexts_of, link_of, form_of}
+use Rattle.rohc_saved.specs.Restoring.{is_same, up_to, taken_of, own, taken_at, IsHeldAt, Restores}
 use Rattle.rohc_saved.specs.Laws.{IsGoodContext, IsGoodLink, IsGoodForm, IsSound, ComesBack}
-use Rattle.rohc_saved.proofs.FormLemmas.{contexts_are, contexts_none}
+use Rattle.rohc_saved.proofs.FormLemmas.{contexts_are}
 use Rattle.rohc_saved.proofs.BackLemmas.{read_back}
 
 abbrev seen : List (ℕ × Context) → List (ℕ × Record)
@@ -217,12 +215,15 @@ module _ (k : Concentrator) (sound : IsSound k) where
     where
       own_part : List (ℕ × Record)
       own_part = taken_of (entry_of s.link (settings_in_order k)) (link_of k s).1
+
       rest_part : List (ℕ × Record)
       rest_part = taken_at (settings_in_order k) (map (link_of k) ss) l
+
       later : s.link ≡ l → entry_of l ss ≡ None
       later e =
           subst (λ n. entry_of n ss ≡ None) e
           (absent s.link ss (IsDistinct-head nat_eq s.link (numbers ss) (distinct_behind front (s ∷ ss) (subst (λ xs. IsDistinct nat_eq (numbers xs)) is distinct))))
+
       by : own_part ≡ contexts_of k s.link → rest_part ≡ if_there (entry_of l ss) (contexts_of k l) → (b : Bool) → nat_eq s.link l ≡ b
           → own s.link own_part l ++ rest_part ≡ if_there (if nat_eq s.link l then Some s else entry_of l ss) (contexts_of k l)
       by whole rest true e =
@@ -257,7 +258,7 @@ module _ (k : Concentrator) (sound : IsSound k) where
   keeps : (moment : ℕ) → moment < 2 ^ 64 → (new : Concentrator) → Restores (settings_in_order k) (form_of moment k) new → KeepsAll k new
   keeps moment small new back =
       let same : (l : ℕ) → IsHeldAt new l (if_there (entry_of l (settings_in_order k)) (contexts_of k l)) =
-          λ l. subst (IsHeldAt new l) (taken_is [] (settings_in_order k) refl (good_form moment small).links l) (back.held l) in
+      λ l. subst (IsHeldAt new l) (taken_is [] (settings_in_order k) refl (good_form moment small).links l) (back.held l) in
       record {
         settings = record { each = λ l. back.each l ∙ sym (sound.each l); in_order = back.in_order };
         records = λ l cid. (same l).records cid ∙ sym ((holds_own l).records cid);
@@ -266,8 +267,7 @@ module _ (k : Concentrator) (sound : IsSound k) where
 
 pub comes_back : ComesBack
 comes_back k moment sound small =
-    let reads = read_back (form_of moment k) (good_form k sound moment small) in
-    (
+    let reads = read_back (form_of moment k) (good_form k sound moment small) in (
       reads,
       λ form new e back.
           keeps k sound moment small new (subst (λ form. Restores (settings_in_order k) form new) (ok_is {E = SavedFault} form (form_of moment k) (sym e ∙ reads)) back),

@@ -1,5 +1,5 @@
 -- What is read is what was saved.
-use Rattle.std.proofs.Common.{◌≡◌, ℕ, ◌+◌, ◌-◌, ◌*◌, ◌/◌, ◌%◌, ◌^◌, ◌<◌, ◌≤◌, zero, suc, List, [], ◌∷◌, ◌++◌, flat_map, map, length, take, drop, Bool, true, false, Option, Some, None, Result, Ok, Err, refl, sym, ap, subst, ◌∙◌, arith, append_assoc, append-nil, nat_eq, length-append}
+use Rattle.std.proofs.Common.{◌≡◌, ℕ, ◌+◌, ◌-◌, ◌*◌, ◌/◌, ◌%◌, ◌^◌, ◌<◌, zero, suc, List, [], ◌∷◌, ◌++◌, flat_map, length, take, drop, Bool, true, false, Result, Ok, refl, sym, ap, subst, ◌∙◌, arith, append_assoc, append-nil, length-append}
 use Rattle.std.specs.Prelude.{All, nat_le, nat_lt, ◌==◌, ◌&&◌, not, bytes_eq}
 use Rattle.std.proofs.lemmas.Bool.{eqb-true}
 use Rattle.std.proofs.lemmas.Bool.Decides.{nat_tests}
@@ -15,7 +15,7 @@ use Rattle.rohc_frame.specs.Header.{greatest_cid}
 use Rattle.rohc_context.specs.Record.{Record}
 use Rattle.rohc_saved.specs.declared.fault.SavedFault.{SavedFault}
 use Rattle.rohc_saved.specs.declared.fault.SavedFault.TheVariants.{NotSaved, Version, Short, BadLink, BadOrder, Digest, Long}
-use Rattle.rohc_saved.specs.Form.{Link, Form, word, quad, long, size_octet, context_text, head_text, link_text, magic, start_text, form_text, signed}
+use Rattle.rohc_saved.specs.Form.{Link, word, quad, long, size_octet, context_text, head_text, link_text, magic, start_text, form_text, signed}
 use Rattle.rohc_saved.specs.Reading.{Read, given, part_at, magic_at, octet_at, word_at, quad_at, long_at, version_at, has, record_text_at, cid_at, context_at, contexts_at, number_at, size_of, size_at, reserved_at, greatest_at, link_at, links_at, form_at, digest_at, restored}
 use Rattle.rohc_saved.specs.Laws.{IsSpelled}
 use Rattle.rohc_saved.proofs.KeptLemmas.{kept_spells}
@@ -340,5 +340,5 @@ spelled text form all e =
     let last = given_ok (length b.0 == 0) (Long (length text - length b.0)) a.value form b.2 in
     let digest = digest_spells (form_text a.value) a.mid b.0 a.octets (subst (λ whole. digest_at whole a.mid ≡ Ok b.0) a.whole b.1) in
     let whole : text ≡ form_text a.value ++ sha256 (form_text a.value) =
-        a.whole ∙ ap (λ t. form_text a.value ++ t) (digest ∙ ap (λ t. sha256 (form_text a.value) ++ t) (nothing b.0 last.0) ∙ append-nil (sha256 (form_text a.value))) in
+    a.whole ∙ ap (λ t. form_text a.value ++ t) (digest ∙ ap (λ t. sha256 (form_text a.value) ++ t) (nothing b.0 last.0) ∙ append-nil (sha256 (form_text a.value))) in
     subst (λ form. text ≡ form_text form ++ sha256 (form_text form)) last.1 whole

@@ -1,6 +1,6 @@
 -- Laws of saved concentrators. Words: IsGoodLink, IsGoodForm; IsSpelled, IsReadBack; IsSound, ComesBack;
--- CutByRestart.
-use Rattle.std.specs.Prelude.{◌≡◌, ◌≢◌, ◌++◌, ◌<◌, ◌≤◌, ◌^◌, ℕ, List, map, length, filter, nat_eq, All, Option, Some, None, IsSome, Ok}
+-- IsMadeSound, StaysSound, IsKeptSound; GoesOnRestored, CutByRestart.
+use Rattle.std.specs.Prelude.{◌≡◌, ◌++◌, ◌<◌, ◌≤◌, ◌^◌, ℕ, List, map, length, filter, nat_eq, All, Option, Some, None, Ok}
 use Rattle.std.specs.List.{AllByRecursion, IsDistinct}
 use Rattle.rohc_bits.specs.Bits.{IsOctet}
 use Rattle.rohc_frame.specs.Header.{greatest_cid}
@@ -10,6 +10,11 @@ use Rattle.rohc_concentrator.specs.declared.concentrator.Concentrator.{Concentra
 use Rattle.rohc_concentrator.specs.declared.setting.LinkSetting.{LinkSetting}
 use Rattle.rohc_concentrator.specs.Tables.{record_at, identifiers_at, setting_at, settings_in_order, KeepsAll}
 use Rattle.rohc_concentrator.specs.Setup.{entry_of, AreFine}
+use Rattle.rohc_concentrator.specs.Report.{Report}
+use Rattle.rohc_concentrator.specs.Events.{Event, RunsEvents}
+use Rattle.rohc_concentrator.specs.LoneRun.{unmarked}
+use Rattle.rohc_concentrator.specs.Isolation.{EventRun, own_events, own_replies, is_rich}
+use Rattle.rohc_concentrator.specs.Laws.{IsFit}
 use Rattle.rohc_saved.specs.Form.{Link, Form, form_text, signed, form_of, saved_form}
 use Rattle.rohc_saved.specs.Reading.{restored}
 use Rattle.rohc_saved.specs.Restoring.{Restores}
@@ -60,3 +65,46 @@ ComesBack = (k : Concentrator) (moment : ℕ) → IsSound k → moment < 2 ^ 64 
     (restored (saved_form moment k) ≡ Ok (form_of moment k))
     × ((form : Form) (new : Concentrator) → restored (saved_form moment k) ≡ Ok form →
     Restores (settings_in_order k) form new → KeepsAll k new)
+
+-- Concentrators are sound: one that was just made from settings whose numbers have 16 bits; one after events
+-- that are fit, if it was sound before; and one that keeps all that a sound one keeps.
+abbrev pub IsMadeSound : Type 0
+IsMadeSound = (settings : List LinkSetting) (k : Concentrator) → AreFine settings →
+    All (λ (s : LinkSetting). s.link < 65536) settings → settings_in_order k ≡ settings →
+    ((link : ℕ) → setting_at k link ≡ entry_of link settings) →
+    ((link cid : ℕ) → record_at k link cid ≡ None) → IsSound k
+
+abbrev pub StaysSound : Type 0
+StaysSound = (old new : Concentrator) (turns : List (Event × Option Report)) →
+    AllByRecursion (λ (turn : Event × Option Report). IsFit turn.0) turns →
+    RunsEvents old turns new → IsSound old → IsSound new
+
+abbrev pub IsKeptSound : Type 0
+IsKeptSound = (old new : Concentrator) → KeepsAll old new → IsSound old → IsSound new
+
+-- A concentrator is saved at a cut of a run, and another, restored from it under the same settings, goes on.
+-- Its events for a CID are those that came behind the cut.
+pub record GoesOnRestored (cut : Concentrator) (behind : List (Event × Option Report)) (other : EventRun)
+    (l c : ℕ) : Type 0 where
+  pub moment : ℕ
+  pub fits : moment < 2 ^ 64
+  pub form : Form
+  pub saved : restored (saved_form moment cut) ≡ Ok form
+  pub back : Restores (settings_in_order cut) form other.before
+  pub runs : RunsEvents other.before other.turns other.after
+  pub here : LinkSetting
+  pub set : setting_at cut l ≡ Some here
+  pub same : unmarked (own_events here l c behind) ≡ unmarked (own_events here l c other.turns)
+
+-- A run from a sound concentrator is cut anywhere, and a restored one goes on. Then the CID gets from both
+-- together the replies of the whole run, lack of memory aside, and has the record that the whole run leaves.
+abbrev pub CutByRestart : Type 0
+CutByRestart = (whole : EventRun) (front behind : List (Event × Option Report)) →
+    RunsEvents whole.before whole.turns whole.after → whole.turns ≡ front ++ behind →
+    AllByRecursion (λ (turn : Event × Option Report). IsFit turn.0) front →
+    AllByRecursion (λ (turn : Event × Option Report). IsFit turn.0) behind → IsSound whole.before →
+    (cut : Concentrator) × RunsEvents whole.before front cut ×
+    ((other : EventRun) (l c : ℕ) → GoesOnRestored cut behind other l c →
+    (filter is_rich (own_replies l c whole.turns)
+    ≡ filter is_rich (own_replies l c front ++ own_replies l c other.turns))
+    × (record_at whole.after l c ≡ record_at other.after l c))

@@ -1,6 +1,6 @@
 //! Laws of saved concentrators, as contracts of functions that do nothing.
 
-ghost use Rattle.rohc_saved.specs.Laws.{IsSpelled, IsReadBack, ComesBack};
+ghost use Rattle.rohc_saved.specs.Laws.{IsSpelled, IsReadBack, ComesBack, IsMadeSound, StaysSound, IsKeptSound, CutByRestart};
 
 /// Octets that are read as a form are those of that form, and the octets of a good form are read as that form.
 pub fn spelled()
@@ -11,4 +11,17 @@ pub fn spelled()
 /// What is saved of a concentrator, restored under the same settings, is a concentrator that keeps the same.
 pub fn comes_back()
     ensures { ComesBack }
+{}
+
+/// Concentrators that were made from settings are sound, they stay so, and so is what keeps all that a sound one keeps.
+pub fn sound()
+    ensures made { IsMadeSound }
+    ensures stays { StaysSound }
+    ensures kept { IsKeptSound }
+{}
+
+/// A run is cut anywhere by a restart. Then the CID of a link gets the replies of the whole run, and has the record that
+/// the whole run leaves, lack of memory aside.
+pub fn cut_by_restart()
+    ensures { CutByRestart }
 {}
