@@ -16,3 +16,6 @@ pub use fault::{SaveFault, SavedFault};
 pub use restored::Restored;
 pub use restoring::restore;
 pub use saving::{save, save_link};
+
+#[cfg(test)]
+mod tests;
