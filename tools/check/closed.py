@@ -6,10 +6,10 @@ In the crates above each mention of the name rohc_context, also in a comment, mu
 - in code, a path to one of its public modules, types or functions;
 - a line of its own `use Rattle.rohc_context.MODULE.{NAMES}`, with a module and names of the tables below.
 
-None of these may be renamed or exported again. A closed word is a word of these modules that is marked `unfoldable`. A
+None of these may be renamed or exported again. A closed word is one of these names that is marked `unfoldable`. A
 file that has one may not have `unfold` or `unfolding`, and may not rename it. Of the proofs of rohc_context only the
-laws may be used: in StepLaws the type of each public lemma is a name of specs/Laws.antt. Beside them stands one example
-of a call, in WrittenCall.
+laws may be used: in StepLaws the type of each public lemma is a name of specs/Laws.antt. Beside them stand one example
+of a call, in WrittenCall, and the two laws of saved contexts, in SavedLemmas.
 
 The check can't see whether a law, or an open word, says too much. That can only be found by reading.
 """
@@ -28,11 +28,20 @@ OPEN: dict[str, tuple[str, ...] | None] = {
     "specs.Step": ("LoneStep",),
     "specs.Record": ("Record", "record_of"),
     "specs.AtOnce": ("NeedsStep",),
+    "specs.SavedText": ("saved_text",),
+    "specs.SavedReading": ("saved_at",),
     **{f"specs.{name}": None for name in "Response Settings Standing Good Laws Honest Refusal Framing".split()},
     "proofs.WrittenCall": ("IsWrittenCall", "has_written_call"),
+    "proofs.SavedLemmas": ("comes_back", "is_spelled"),
 }
 # The words that must be closed, with their modules.
-MUST_BE_CLOSED = {"LoneStep": "Step", "NeedsStep": "AtOnce", "record_of": "Record"}
+MUST_BE_CLOSED = {
+    "LoneStep": "Step",
+    "NeedsStep": "AtOnce",
+    "record_of": "Record",
+    "saved_text": "SavedText",
+    "saved_at": "SavedReading",
+}
 
 # A letter that isn't ASCII ends a word here, so that what is written with one is looked at.
 WORD = re.compile(r"\w+", re.ASCII)
@@ -145,8 +154,12 @@ class Closed:
 
     def words(self) -> tuple[str, ...]:
         """The closed words of the modules that may be used."""
-        files = [self.box / f"specs/{module.removeprefix('specs.')}.antt" for module in OPEN if module.startswith("specs.")]
-        found = {word for file in files for word in re.findall(r"^\s*unfoldable pub (\S+) :", file.read_text(), re.MULTILINE)}
+        found = set()
+        for module, names in OPEN.items():
+            if module.startswith("specs."):
+                file = self.box / f"specs/{module.removeprefix('specs.')}.antt"
+                marked = re.findall(r"^\s*unfoldable pub (\S+) :", file.read_text(), re.MULTILINE)
+                found |= {word for word in marked if names is None or word in names}
         for word, module in MUST_BE_CLOSED.items():
             file = self.box / f"specs/{module}.antt"
             text = file.read_text()

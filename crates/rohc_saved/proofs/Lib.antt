@@ -7,5 +7,6 @@ pub mod RestoringLemmas
 pub mod KeptLemmas
 pub mod BackLemmas
 pub mod SpellsLemmas
+pub mod Distinct
 pub mod SoundLemmas
 pub mod RestartLemmas

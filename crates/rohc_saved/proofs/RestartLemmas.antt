@@ -2,7 +2,7 @@
 use Rattle.std.proofs.Common.{◌≡◌, ◌≢◌, ℕ, ◌≤◌, List, [], ◌∷◌, ◌++◌, inl, inr, Bool, true, false, cond, Option, Some, None, Result, Ok, Err, refl, sym, ap, subst, ◌∙◌, arith, nat_eq, unwrap_or}
 use Rattle.std.specs.Prelude.{All, ◌||◌}
 use Rattle.std.specs.Option.{option_map, option_and_then}
-use Rattle.std.specs.List.{AllByRecursion, IsDistinct, list_any}
+use Rattle.std.specs.List.{IsDistinct, list_any}
 use Rattle.std.specs.Map.{keys_of, lookup}
 use Rattle.std.specs.HashMap.{get, keys}
 use Rattle.std.proofs.lemmas.Bool.Decides.{nat_tests}
@@ -26,6 +26,7 @@ use Rattle.rohc_concentrator.specs.Setup.{entry_of}
 use Rattle.rohc_concentrator.specs.Tables.{setting_at, record_in, record_at, identifiers_at, KeepsSettings, KeepsPlace, KeepsPlaces}
 use Rattle.rohc_concentrator.proofs.CutLemmas.{cut_run}
 use Rattle.rohc_saved.specs.Laws.{IsSound, IsMadeSound, StaysSound, IsKeptSound, CutByRestart}
+use Rattle.rohc_saved.proofs.Distinct.{distinct_none, distinct_more}
 use Rattle.rohc_saved.proofs.RestoringLemmas.{holds_none}
 use Rattle.rohc_saved.proofs.SoundLemmas.{comes_back}
 
@@ -45,24 +46,6 @@ unlisted_at : (cid : ℕ) (o : Option LinkRecords) → option_and_then (λ (r : 
     → list_any (nat_eq cid) (unwrap_or (option_map (λ (r : LinkRecords). keys r.contexts) o) []) ≡ false
 unlisted_at cid None none = refl
 unlisted_at cid (Some r) none = unlisted cid r.contexts.entries none
-
--- a number that isn't listed may come behind distinct ones
-apart_more : (n cid : ℕ) (xs : List ℕ) → AllByRecursion (λ y. nat_eq n y ≡ false) xs → nat_eq n cid ≡ false → AllByRecursion (λ y. nat_eq n y ≡ false) (xs ++ cid ∷ [])
-apart_more n cid [] all other = (other, tt)
-apart_more n cid (x ∷ xs) all other = (all.0, apart_more n cid xs all.1 other)
-
-either_false : (a b : Bool) → (a || b) ≡ false → (a ≡ false) × (b ≡ false)
-either_false false false e = (refl, refl)
-either_false false true e = cc
-either_false true b e = cc
-
-distinct_more : (cid : ℕ) (xs : List ℕ) → IsDistinct nat_eq xs → list_any (nat_eq cid) xs ≡ false → IsDistinct nat_eq (xs ++ cid ∷ [])
-unfolding IsDistinct
-distinct_more cid [] distinct none = (tt, tt)
-distinct_more cid (x ∷ xs) distinct none =
-    let parts = either_false (nat_eq cid x) (list_any (nat_eq cid) xs) none in
-    let other : nat_eq x cid ≡ false = let apart = parts.0 in grind (arith, nat_tests, apart) in
-    (apart_more x cid xs distinct.0 other, distinct_more cid xs distinct.1 parts.1)
 
 -- the CID of a packet is within the greatest of its link
 borne_within : (s : LinkSetting) (octets : List ℕ) (cid : ℕ) → All IsOctet octets → borne (Some s) octets ≡ Some cid → cid ≤ s.settings.max_cid
@@ -123,8 +106,7 @@ pub kept_sound : IsKeptSound
 kept_sound old new keeps sound = sound_by old new keeps.settings (λ l. subst (AreListed (setting_at old l)) (sym (keeps.order l)) (listed_of old l sound)) sound
 
 no_ids : (setting : Option LinkSetting) → AreListed setting []
-unfolding IsDistinct
-no_ids setting = record { apart = tt; within = λ s e. All-nil (λ cid. cid ≤ s.settings.max_cid) }
+no_ids setting = record { apart = distinct_none; within = λ s e. All-nil (λ cid. cid ≤ s.settings.max_cid) }
 
 pub made_sound : IsMadeSound
 made_sound settings k fine numbers in_order each none =

@@ -1,6 +1,6 @@
 -- What is saved of a sound concentrator comes back.
-use Rattle.std.proofs.Common.{◌≡◌, ◌≢◌, ℕ, ◌+◌, ◌^◌, ◌<◌, ◌≤◌, zero, suc, List, [], ◌∷◌, ◌++◌, map, length, Bool, true, false, cond, if◌then◌else◌, Option, Some, None, refl, sym, ap, subst, ◌∙◌, arith, append_assoc, append-nil, nat_eq, unwrap_or}
-use Rattle.std.specs.Prelude.{All, AllPairs, nat_le, slice_index_or}
+use Rattle.std.proofs.Common.{◌≡◌, ℕ, ◌+◌, ◌^◌, ◌<◌, ◌≤◌, zero, suc, List, [], ◌∷◌, ◌++◌, map, length, Bool, true, false, cond, if◌then◌else◌, Option, Some, None, refl, sym, ap, subst, ◌∙◌, arith, append_assoc, append-nil, nat_eq, unwrap_or}
+use Rattle.std.specs.Prelude.{All, nat_le}
 use Rattle.std.specs.Option.{option_map, option_and_then}
 use Rattle.std.specs.List.{AllByRecursion, IsDistinct, list_any}
 use Rattle.std.specs.Map.{keys_of, lookup}
@@ -29,6 +29,7 @@ use Rattle.rohc_saved.specs.Restoring.{is_same, up_to, taken_of, own, taken_at, 
 use Rattle.rohc_saved.specs.Laws.{IsGoodContext, IsGoodLink, IsGoodForm, IsSound, ComesBack}
 use Rattle.rohc_saved.proofs.FormLemmas.{contexts_are}
 use Rattle.rohc_saved.proofs.BackLemmas.{read_back}
+use Rattle.rohc_saved.proofs.Distinct.{numbers, links_apart}
 
 abbrev seen : List (ℕ × Context) → List (ℕ × Record)
 seen es = map (λ (e : ℕ × Context). (e.0, record_of e.1)) es
@@ -71,19 +72,6 @@ all_up_to greatest (c ∷ cs) good =
     rw first (ap (λ cs. c ∷ cs) (all_up_to greatest cs (All-tail (IsGoodContext greatest) c cs good)))
 
 -- ---- Settings
-
-abbrev numbers : List LinkSetting → List ℕ
-numbers ss = map (λ (s : LinkSetting). s.link) ss
-
-others_apart : (n : ℕ) (ss : List LinkSetting) → ((j : ℕ) (d : LinkSetting) → j < length ss → n ≢ (slice_index_or ss j d).link) → AllByRecursion (λ y. nat_eq n y ≡ false) (numbers ss)
-others_apart n [] h = tt
-others_apart n (s ∷ ss) h = (let other : n ≢ s.link = h 0 s (omega arith) in grind (arith, nat_tests, other), others_apart n ss (λ j d within. h (suc j) d (omega arith)))
-
-links_apart : (ss : List LinkSetting) → AllPairs (λ (s t : LinkSetting). s.link ≢ t.link) ss → IsDistinct nat_eq (numbers ss)
-unfolding IsDistinct
-links_apart [] h = tt
-links_apart (s ∷ ss) h =
-    (others_apart s.link ss (λ j d within. h 0 (suc j) d (omega arith) (omega arith)), links_apart ss (λ i j d below within. h (suc i) (suc j) d (omega arith) (omega arith)))
 
 at_in : (n : ℕ) (front ss : List LinkSetting) (s : LinkSetting) → AllByRecursion (λ y. nat_eq n y ≡ false) (numbers (front ++ s ∷ ss)) → nat_eq n s.link ≡ false
 at_in n [] ss s all = all.0
