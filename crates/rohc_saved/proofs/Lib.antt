@@ -10,3 +10,5 @@ pub mod SpellsLemmas
 pub mod Distinct
 pub mod SoundLemmas
 pub mod RestartLemmas
+pub mod FormOrder
+pub mod RestoredSound

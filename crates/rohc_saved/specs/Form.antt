@@ -36,8 +36,10 @@ abbrev pub contexts_in : {S : Type 0} → HashMap ℕ Context S → List (ℕ ×
 contexts_in m = map (λ e. (e.0, record_of e.1)) m.entries
 
 abbrev pub link_of : Concentrator → LinkSetting → ℕ × Link
-link_of k s =
-    (s.link, record { size = s.settings.size; greatest = s.settings.max_cid; contexts = contexts_of k s.link })
+link_of k s = (
+  s.link,
+  record { size = s.settings.size; greatest = s.settings.max_cid; contexts = contexts_of k s.link },
+)
 
 -- what is saved of a concentrator: each link in the order of their settings
 abbrev pub form_of : ℕ → Concentrator → Form

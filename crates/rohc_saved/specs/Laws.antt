@@ -1,5 +1,5 @@
 -- Laws of saved concentrators. Words: IsGoodLink, IsGoodForm; IsSpelled, IsReadBack; IsSound, ComesBack;
--- IsMadeSound, StaysSound, IsKeptSound; GoesOnRestored, CutByRestart.
+-- IsMadeSound, StaysSound, IsKeptSound, IsRestoredSound; GoesOnRestored, CutByRestart.
 use Rattle.std.specs.Prelude.{◌≡◌, ◌++◌, ◌<◌, ◌≤◌, ◌^◌, ℕ, List, map, length, filter, nat_eq, All, Option, Some, None, Ok}
 use Rattle.std.specs.List.{AllByRecursion, IsDistinct}
 use Rattle.rohc_bits.specs.Bits.{IsOctet}
@@ -48,8 +48,8 @@ IsSpelled = (text : List ℕ) (form : Form) → All IsOctet text → restored te
 abbrev pub IsReadBack : Type 0
 IsReadBack = (form : Form) → IsGoodForm form → restored (signed (form_text form)) ≡ Ok form
 
--- The settings are fine, and each stands for the link of its number, which has 16 bits. The CIDs of a link that
--- have a record are apart, and within its greatest.
+-- The settings are fine, and each stands for the link of its number, which has 16 bits. The CIDs of a link
+-- that have a record are apart, and within its greatest.
 pub record IsSound (k : Concentrator) : Type 0 where
   pub fine : AreFine (settings_in_order k)
   pub each : (link : ℕ) → setting_at k link ≡ entry_of link (settings_in_order k)
@@ -66,8 +66,9 @@ ComesBack = (k : Concentrator) (moment : ℕ) → IsSound k → moment < 2 ^ 64 
     × ((form : Form) (new : Concentrator) → restored (saved_form moment k) ≡ Ok form →
     Restores (settings_in_order k) form new → KeepsAll k new)
 
--- Concentrators are sound: one that was just made from settings whose numbers have 16 bits; one after events
--- that are fit, if it was sound before; and one that keeps all that a sound one keeps.
+-- Concentrators are sound: one that was made from settings whose numbers have 16 bits; one after fit events,
+-- if it was sound before; one that keeps all that a sound one keeps; and one that was restored, also under
+-- other settings.
 abbrev pub IsMadeSound : Type 0
 IsMadeSound = (settings : List LinkSetting) (k : Concentrator) → AreFine settings →
     All (λ (s : LinkSetting). s.link < 65536) settings → settings_in_order k ≡ settings →
@@ -81,6 +82,11 @@ StaysSound = (old new : Concentrator) (turns : List (Event × Option Report)) �
 
 abbrev pub IsKeptSound : Type 0
 IsKeptSound = (old new : Concentrator) → KeepsAll old new → IsSound old → IsSound new
+
+abbrev pub IsRestoredSound : Type 0
+IsRestoredSound = (settings : List LinkSetting) (text : List ℕ) (form : Form) (k : Concentrator) →
+    AreFine settings → All (λ (s : LinkSetting). s.link < 65536) settings → restored text ≡ Ok form →
+    Restores settings form k → IsSound k
 
 -- A concentrator is saved at a cut of a run, and another, restored from it under the same settings, goes on.
 -- Its events for a CID are those that came behind the cut.

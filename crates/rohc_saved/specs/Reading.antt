@@ -1,5 +1,5 @@
--- Reading a saved concentrator from left to right, up to the first fault. A place counts octets from 0, and is
--- the length of the whole text without what is left of it. Words: link_at, form_at; restored.
+-- Reading a saved concentrator from left to right, up to the first fault. A place counts octets from 0, and
+-- is the length of the whole text without what is left of it. Words: link_at, form_at; restored.
 use Rattle.std.specs.Prelude.{ℕ, zero, suc, ◌-◌, ◌+◌, ◌*◌, ◌^◌, List, [], ◌∷◌, ◌++◌, length, take, drop, Bool, true, false, not, nat_le, nat_lt, ◌==◌, ◌&&◌, bytes_eq, Result, Ok, Err, MatchResult, ◌≡◌, ◌⊎◌}
 use Rattle.std.specs.List.{list_any}
 use Rattle.sha2.specs.Sha256.{sha256}
@@ -104,7 +104,8 @@ context_at total greatest held text = do
   Ok ((cid, r), text)
 
 -- so many contexts behind those that were read
-unfoldable pub contexts_at : (total greatest count : ℕ) → List (ℕ × Record) → List ℕ → Read (List (ℕ × Record))
+unfoldable pub contexts_at : (total greatest count : ℕ) → List (ℕ × Record) → List ℕ
+    → Read (List (ℕ × Record))
 contexts_at total greatest zero held text = Ok (held, text)
 contexts_at total greatest (suc count) held text = do
   (one, text) ← context_at total greatest held text
@@ -167,7 +168,8 @@ form_at total text = do
 unfoldable pub digest_at : (whole text : List ℕ) → Result (List ℕ) SavedFault
 digest_at whole text = do
   (digest, after) ← part_at 32 (Short (length whole)) text
-  given (bytes_eq digest (sha256 (take (length whole - length text) whole))) (Digest (length whole - length text)) after
+  given (bytes_eq digest (sha256 (take (length whole - length text) whole)))
+      (Digest (length whole - length text)) after
 
 -- what a text spells, or its first fault
 unfoldable pub restored : List ℕ → Result Form SavedFault

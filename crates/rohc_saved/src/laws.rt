@@ -1,6 +1,7 @@
 //! Laws of saved concentrators, as contracts of functions that do nothing.
 
-ghost use Rattle.rohc_saved.specs.Laws.{IsSpelled, IsReadBack, ComesBack, IsMadeSound, StaysSound, IsKeptSound, CutByRestart};
+ghost use Rattle.rohc_saved.specs.Laws.{IsSpelled, IsReadBack, ComesBack, CutByRestart};
+ghost use Rattle.rohc_saved.specs.Laws.{IsMadeSound, StaysSound, IsKeptSound, IsRestoredSound};
 
 /// Octets that are read as a form are those of that form, and the octets of a good form are read as that form.
 pub fn spelled()
@@ -13,15 +14,17 @@ pub fn comes_back()
     ensures { ComesBack }
 {}
 
-/// Concentrators that were made from settings are sound, they stay so, and so is what keeps all that a sound one keeps.
+/// Concentrators that were made from settings are sound, they stay so, and so is one that keeps all that a sound one
+/// keeps, and one that was restored, also under other settings.
 pub fn sound()
     ensures made { IsMadeSound }
     ensures stays { StaysSound }
     ensures kept { IsKeptSound }
+    ensures restored { IsRestoredSound }
 {}
 
-/// A run is cut anywhere by a restart. Then the CID of a link gets the replies of the whole run, and has the record that
-/// the whole run leaves, lack of memory aside.
+/// A run is cut anywhere by a restart. Then the CID of a link gets the replies of the whole run, and has the record
+/// that the whole run leaves, lack of memory aside.
 pub fn cut_by_restart()
     ensures { CutByRestart }
 {}

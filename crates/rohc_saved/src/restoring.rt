@@ -207,12 +207,12 @@ fn tell(concentrator: &Concentrator, form: &SavedForm) -> Restored
     told
 }
 
-/// A concentrator with these links, which goes on from what these octets spell (docs/FORMATS.md). The contexts of a link
-/// that isn't in the settings, or is of another CID kind there, are left out, and those above the greatest CID of the
-/// settings. What is left out is judged as well.
+/// A concentrator with these links, which goes on from what these octets spell (docs/FORMATS.md). The contexts of a
+/// link that isn't in the settings, or is of another CID kind there, are left out, and those above the greatest CID of
+/// the settings. What is left out is judged as well.
 ///
-/// The error is a fault of the settings, or else the first fault of the octets from the left. `NoMemory` comes only if a
-/// request for memory was refused. Then nothing is restored.
+/// The error is a fault of the settings, or else the first fault of the octets from the left. `NoMemory` comes only if
+/// a request for memory was refused. Then nothing is restored.
 pub fn restore(
     alloc: Global,
     settings: &[LinkSetting],

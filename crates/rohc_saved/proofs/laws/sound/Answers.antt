@@ -1,4 +1,5 @@
 use Rattle.rohc_saved.proofs.RestartLemmas.{made_sound, stays_sound, kept_sound}
+use Rattle.rohc_saved.proofs.RestoredSound.{restored_sound}
 use Rattle.rohc_saved.proofs.laws.sound.Goals as goal
 
 pub returns-clause-made : goal.returns-clause-made
@@ -9,3 +10,6 @@ returns-clause-stays c = stays_sound
 
 pub returns-clause-kept : goal.returns-clause-kept
 returns-clause-kept c = kept_sound
+
+pub returns-clause-restored : goal.returns-clause-restored
+returns-clause-restored c = restored_sound
