@@ -1,0 +1,36 @@
+//! rohctl: tells what rohcd did with each call.
+#![tactic(auto)]
+
+use rohctl_program::{Ending, run};
+use std::io::IsTerminal;
+use std::process::ExitCode;
+use std::rt::Env;
+use std::{env, io};
+
+/// The words of the command line after the program's name.
+fn words<R: Env + AllocGlobal>(rt: &R) -> io::Result<Vec<String>> {
+    let mut words = Vec::new(rt.alloc());
+    for word in env::args(rt)?.skip(1) {
+        words.push(word)?;
+    }
+    Ok(words)
+}
+
+/// Whether colours are wanted: standard output is a terminal, and NO_COLOR is absent or empty.
+fn wants_colour<R: Env + AllocGlobal>(rt: &R, is_terminal: bool) -> bool {
+    match env::var(rt, "NO_COLOR") {
+        Ok(text) => is_terminal && text.is_empty(),
+        Err(_) => is_terminal,
+    }
+}
+
+fn main(rt: HostRuntime) -> ExitCode {
+    let colour = wants_colour(&rt, rt.stdout().is_terminal());
+    let ending = match words(&rt) {
+        Ok(words) => run(&rt, words.as_slice(), colour),
+        Err(e) if e.kind() == io::ErrorKind::InvalidData => Ending::CommandLine,
+        Err(_) => Ending::Memory,
+    };
+    let _ = eprint!(rt; "{ending}");
+    ExitCode::from(ending.status())
+}

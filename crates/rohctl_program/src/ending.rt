@@ -1,0 +1,44 @@
+//! How a run of `rohctl` ends: its exit status, and the line that it prints on standard error.
+
+use std::fmt;
+
+/// How a run of the program ends.
+#[derive(Clone, Copy, Debug, PartialEq, Eq)]
+pub enum Ending {
+    /// All was done, and nothing was found.
+    Good,
+    /// All was done, and something was found: a call to which nothing is delivered, or a line that isn't good.
+    Findings,
+    /// The words are not a command. What is wrong was printed.
+    CommandLine,
+    /// A read failed.
+    Read,
+    /// A write failed.
+    Write,
+    /// There is no memory.
+    Memory,
+}
+
+impl Ending {
+    /// The exit status of the program.
+    pub fn status(&self) -> u8 {
+        match self {
+            Ending::Good => 0,
+            Ending::Findings => 1,
+            Ending::CommandLine => 2,
+            Ending::Read | Ending::Write => 4,
+            Ending::Memory => 5,
+        }
+    }
+}
+
+impl fmt::Display for Ending {
+    fn fmt<W: fmt::Write>(&self, f: &mut fmt::Formatter<W>) -> fmt::Result {
+        match self {
+            Ending::Good | Ending::Findings | Ending::CommandLine => Ok(()),
+            Ending::Read => f.write_str("rohctl: read\n"),
+            Ending::Write => f.write_str("rohctl: write\n"),
+            Ending::Memory => f.write_str("rohctl: memory\n"),
+        }
+    }
+}

@@ -1,0 +1,72 @@
+//! The program, from the words after its name to how it ends.
+
+use crate::command::{Form, Request, read_request};
+use crate::ending::Ending;
+use crate::file::totals_of;
+use crate::json::write_json;
+use crate::metrics::write_metrics;
+use crate::table::write_table;
+use rohc_totals::{CallRow, LineKind, Totals, call_rows};
+use std::io;
+use std::io::{BufWriter, Write};
+use std::rt::Files;
+
+/// Runs the program with these words. `colour` is whether standard output takes colours.
+pub fn run<R>(rt: &R, words: &[String], colour: bool) -> Ending
+where
+    R: Files + Input + Print + AllocGlobal,
+{
+    match requested(rt, words, colour) {
+        Ok(ending) => ending,
+        Err(ending) => ending,
+    }
+}
+
+/// Does what the words ask for.
+fn requested<R>(rt: &R, words: &[String], colour: bool) -> Result<Ending, Ending>
+where
+    R: Files + Input + Print + AllocGlobal,
+{
+    match read_request(rt, words)? {
+        Request::Totals { answers, form } => run_totals(rt, answers, form, colour),
+    }
+}
+
+/// Counts the answer lines of a file, and writes what there is.
+fn run_totals<R>(rt: &R, answers: &str, form: Form, colour: bool) -> Result<Ending, Ending>
+where
+    R: Files + Input + Print + AllocGlobal,
+{
+    let totals = totals_of(rt, answers)?;
+    let rows = call_rows(rt.alloc(), &totals).map_err(|_| Ending::Memory)?;
+    let Ok(mut out) = BufWriter::new(rt.alloc(), io::writer(rt)) else {
+        return Err(Ending::Memory);
+    };
+    let written = match form {
+        Form::Table => write_table(&mut out, &totals, &rows, colour),
+        Form::Json => write_json(&mut out, &totals, &rows),
+        Form::Prometheus => write_metrics(&mut out, &totals, &rows),
+    };
+    if written.is_err() || out.flush().is_err() {
+        return Err(Ending::Write);
+    }
+    Ok(found(&totals, &rows))
+}
+
+/// Whether there is something to be looked at: a call that is refused and gets nothing, or a line that isn't good.
+fn found(totals: &Totals, rows: &[CallRow]) -> Ending {
+    let strange = totals
+        .counts
+        .of(LineKind::NoAnswer)
+        .saturating_add(totals.counts.of(LineKind::BadLine))
+        .saturating_add(totals.counts.of(LineKind::LongLine));
+    if strange > 0 {
+        return Ending::Findings;
+    }
+    for row in rows {
+        if row.totals.refused > 0 {
+            return Ending::Findings;
+        }
+    }
+    Ending::Good
+}
