@@ -1,6 +1,5 @@
 -- Words and numbers of a line.
-use Rattle.std.proofs.Common.{◌≡◌, ℕ, ◌+◌, ◌%◌, ◌<◌, ◌≤◌, ◌^◌, List, [], ◌∷◌, ◌++◌, length, take, drop, ◌-◌, length-drop, drop-cons, get_or, slice_index, Bool, true, false, ◌||◌, ◌==◌, Option, Some, None, IfSome, IfNone, IsUtf8, IsAscii, arith, eqb-true, length-take, ⊎_elim, ◌⊎◌, inl, inr, refl, sym, ◌∙◌, ap, subst, ne_eqb, zero, suc}
-use Rattle.std.specs.List.{list_any}
+use Rattle.std.proofs.Common.{◌≡◌, ℕ, ◌+◌, ◌%◌, ◌<◌, ◌≤◌, ◌^◌, List, [], ◌∷◌, ◌++◌, length, take, drop, ◌-◌, length-drop, drop-cons, get_or, slice_index, Bool, true, false, ◌||◌, ◌==◌, Option, Some, None, IfSome, IfNone, IsUtf8, arith, eqb-true, length-take, ⊎_elim, refl, sym, ◌∙◌, ap, subst, ne_eqb, zero, suc}
 use Rattle.std.specs.Fmt.{decimal}
 use Rattle.std.proofs.lemmas.Bool.{cases_Bool}
 use Rattle.std.proofs.lemmas.Fmt.{decimal_by_steps}
@@ -62,7 +61,7 @@ pub no_space : (n : ℕ) → n < 2 ^ 64 → has_space (decimal n) ≡ false
 no_space n fits = decimal_by_steps (λ m text. has_space text ≡ false)
     (λ m small. both_false ((48 + m) == 32) false (ne_eqb (48 + m) 32 (λ e. omega arith)) refl)
     (λ m text great h. list_any-append (λ (octet : ℕ). octet == 32) text ((48 + m % 10) ∷ [])
-      ∙ both_false (has_space text) (has_space ((48 + m % 10) ∷ [])) h (both_false ((48 + m % 10) == 32) false (ne_eqb (48 + m % 10) 32 (λ e. omega arith)) refl))
+    ∙ both_false (has_space text) (has_space ((48 + m % 10) ∷ [])) h (both_false ((48 + m % 10) == 32) false (ne_eqb (48 + m % 10) 32 (λ e. omega arith)) refl))
     n fits
 
 pub number_utf8 : (n : ℕ) → n < 2 ^ 64 → IsUtf8 (decimal n)

@@ -4,3 +4,4 @@ pub mod FieldLemmas
 pub mod LineLemmas
 pub mod ReadingLemmas
 pub mod SumLemmas
+pub mod RowLemmas

@@ -1,10 +1,9 @@
 -- What a line that was read, or that wasn't, is the text of.
-use Rattle.std.proofs.Common.{◌≡◌, ◌≢◌, ℕ, ◌<◌, ◌^◌, List, [], ◌∷◌, ◌++◌, drop, codes, Option, Some, None, IfSome, IfNone, append_assoc, arith, refl, sym, ◌∙◌, ap, subst}
+use Rattle.std.proofs.Common.{◌≡◌, ℕ, ◌<◌, ◌^◌, List, ◌∷◌, ◌++◌, drop, codes, Option, Some, None, IfNone, append_assoc, arith, sym, ◌∙◌, ap}
 use Rattle.std.specs.Fmt.{decimal}
-use Rattle.rohc_replay.specs.AnswerLines.{pair_text}
 use Rattle.rohc_replay.proofs.PairLemmas.{pair_spelled, digits_first}
 use Rattle.rohc_totals.specs.declared.kind.AnswerLine.{AnswerLine}
-use Rattle.rohc_totals.specs.Answer.{LinkSays, CallSays, Answer, BadAnswer, LongAnswer, OfLink, OfCall, IsLinkSays, IsCallSays, IsAnswer, link_text, call_text, spelling, Tells, IsNoAnswer}
+use Rattle.rohc_totals.specs.Answer.{LinkSays, CallSays, BadAnswer, LongAnswer, OfLink, OfCall, IsLinkSays, IsCallSays, IsAnswer, link_text, call_text, spelling, IsNoAnswer}
 use Rattle.rohc_totals.proofs.FieldLemmas.{one_field}
 
 -- the link, a space, a dash and a space

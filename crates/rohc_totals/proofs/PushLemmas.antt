@@ -1,7 +1,6 @@
 -- What one line more does to counts and lists.
-use Rattle.std.proofs.Common.{◌≡◌, ℕ, ◌+◌, List, [], ◌∷◌, ◌++◌, length, filter, Bool, true, false, cond, ◌||◌, ◌==◌, if◌then◌else◌, Option, Some, None, count_by, append-nil, arith, refl, sym, ◌∙◌, ap}
-use Rattle.std.specs.List.{flat_map, list_any}
-use Rattle.std.specs.Option.{option_map}
+use Rattle.std.proofs.Common.{◌≡◌, ℕ, ◌+◌, List, [], ◌∷◌, ◌++◌, length, filter, Bool, true, false, cond, ◌||◌, if◌then◌else◌, Option, Some, None, count_by, append-nil, arith, refl, ◌∙◌, ap}
+use Rattle.std.specs.List.{list_any}
 use Rattle.std.proofs.lemmas.List.Folds.{list_any-append}
 use Rattle.std.proofs.lemmas.List.Sums.{sum_by-append}
 use Rattle.std.proofs.lemmas.Grind.{flat_map-append}
@@ -9,7 +8,7 @@ use Rattle.rohc_context.specs.declared.refusal.Refusal.{Refusal}
 use Rattle.rohc_links.specs.Limits.{counted}
 use Rattle.rohc_totals.specs.declared.kind.AnswerLine.{AnswerLine}
 use Rattle.rohc_totals.specs.Kind.{refusal_of}
-use Rattle.rohc_totals.specs.Counted.{tally, first_of, later_of}
+use Rattle.rohc_totals.specs.Counted.{tally, later_of}
 use Rattle.rohc_totals.specs.Totals.{Numbered, numbered_after, numbered, after_last, first_by, last_in, listed, refusals_of}
 
 -- one more is counted

@@ -1,6 +1,5 @@
 -- Where the reading of a text stands after one octet more, and at its end.
-use Rattle.std.proofs.Common.{◌≡◌, ℕ, ◌<◌, ◌≤◌, List, [], ◌∷◌, ◌++◌, length, Bool, true, false, arith, refl, sym, ◌∙◌, ap, subst, append-nil, ◌⊎◌, inl, inr}
-use Rattle.rohc_replay.specs.Script.{longest_line, lines_of}
+use Rattle.std.proofs.Common.{◌≡◌, ℕ, ◌<◌, List, [], ◌∷◌, ◌++◌, length, Bool, true, false, arith, refl, sym, ◌∙◌, ap, subst, append-nil, ◌⊎◌, inl, inr}
 use Rattle.rohc_replay.specs.Stream.{IsKept}
 use Rattle.rohc_replay.proofs.SplitLemmas.{Splits-newline, lines_of-splits, last_line}
 use Rattle.rohc_totals.specs.declared.kind.AnswerLine.{AnswerLine}

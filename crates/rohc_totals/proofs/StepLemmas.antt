@@ -1,17 +1,16 @@
 -- One line more, told of all totals.
-use Rattle.std.proofs.Common.{◌≡◌, ◌≢◌, ℕ, ◌+◌, ◌<◌, List, [], ◌∷◌, ◌++◌, length, length-append, Bool, true, false, cond, ◌&&◌, ◌==◌, if◌then◌else◌, Option, Some, None, count_by, append-nil, arith, refl, sym, ◌∙◌, ap, subst, eqb-true, eq-eqb, filter, ◌≤◌}
+use Rattle.std.proofs.Common.{◌≡◌, ℕ, ◌+◌, ◌<◌, List, [], ◌∷◌, ◌++◌, length, length-append, Bool, true, false, cond, ◌&&◌, ◌==◌, if◌then◌else◌, Option, Some, None, count_by, append-nil, arith, refl, sym, ◌∙◌, ap, subst, eqb-true, eq-eqb, filter, ◌≤◌}
 use Rattle.std.specs.Option.{option_map, option_and_then, is_some}
 use Rattle.std.proofs.lemmas.List.Sums.{sum_by-cons}
 use Rattle.rohc_context.specs.declared.refusal.Refusal.{Refusal}
 use Rattle.rohc_links.specs.Limits.{counted}
-use Rattle.rohc_totals.specs.declared.kind.LineKind.{LineKind}
 use Rattle.rohc_totals.specs.declared.kind.AnswerLine.{AnswerLine}
 use Rattle.rohc_totals.specs.declared.call.CallTotals.{CallTotals}
 use Rattle.rohc_totals.specs.declared.totals.LinkTotals.{LinkTotals}
 use Rattle.rohc_totals.specs.declared.totals.Totals.{Totals}
-use Rattle.rohc_totals.specs.Kind.{kind_number, refusal_of, is_kind}
-use Rattle.rohc_totals.specs.Counted.{count_in, tally, count_after, first_of, since_with, since_after, refused_with, refused_after, later_of, last_after}
-use Rattle.rohc_totals.specs.Steps.{Advances, AdvancesFrom, StepsTo, CallSteps, call_in, link_in, call_at, LinkAdvances, LinkStepsTo, TotalsStep, strange_after}
+use Rattle.rohc_totals.specs.Kind.{refusal_of, is_kind}
+use Rattle.rohc_totals.specs.Counted.{count_in, tally, count_after, first_of, since_with, since_after, refused_with, refused_after, later_of}
+use Rattle.rohc_totals.specs.Steps.{Advances, StepsTo, call_in, link_in, call_at, LinkStepsTo, TotalsStep, strange_after}
 use Rattle.rohc_totals.specs.Totals.{Numbered, numbered, names, is_link, is_call, own_lines, delivers, refuses, refusals_of, after_last, first_by, last_in, shown, IsCallOf, IsCall, IsLink, is_strange, AreTotals}
 use Rattle.rohc_totals.proofs.PushLemmas.{tally-push, count_by-push, after_last-hit, after_last-miss, first_by-push, or_else, last-push, numbered-push, filter-push}
 
@@ -30,16 +29,16 @@ since_push : (own : List Numbered) (e : Numbered) → option_map shown (first_by
 since_push own e = elim (delivers e) as (λ b. delivers e ≡ b → option_map shown (first_by refuses (after_last delivers (own ++ e ∷ []))) ≡ (if b then None else since_with (refusal_of e.1.kind) (shown e) (option_map shown (first_by refuses (after_last delivers own))))) [
   | true ↦ λ hit. ap (λ t. option_map shown (first_by refuses t)) (after_last-hit delivers own e hit)
   | false ↦ λ miss. ap (λ t. option_map shown (first_by refuses t)) (after_last-miss delivers own e miss)
-    ∙ ap (option_map shown) (first_by-push refuses (after_last delivers own) e)
-    ∙ begins (refusal_of e.1.kind) (first_by refuses (after_last delivers own)) e
+      ∙ ap (option_map shown) (first_by-push refuses (after_last delivers own) e)
+      ∙ begins (refusal_of e.1.kind) (first_by refuses (after_last delivers own)) e
 ] refl
 
 refused_push : (own : List Numbered) (e : Numbered) → tally refuses (after_last delivers (own ++ e ∷ [])) ≡ refused_after e.1.kind (tally refuses (after_last delivers own))
 refused_push own e = elim (delivers e) as (λ b. delivers e ≡ b → tally refuses (after_last delivers (own ++ e ∷ [])) ≡ (if b then 0 else refused_with (refusal_of e.1.kind) (tally refuses (after_last delivers own)))) [
   | true ↦ λ hit. ap (tally refuses) (after_last-hit delivers own e hit)
   | false ↦ λ miss. ap (tally refuses) (after_last-miss delivers own e miss)
-    ∙ tally-push refuses (after_last delivers own) e
-    ∙ counts_with (refusal_of e.1.kind) (tally refuses (after_last delivers own))
+      ∙ tally-push refuses (after_last delivers own) e
+      ∙ counts_with (refusal_of e.1.kind) (tally refuses (after_last delivers own))
 ] refl
 
 call_push : (own : List Numbered) (e : Numbered) (counts : ℕ → ℕ) (since : Option ℕ) (refused : ℕ) (last : Option Refusal) (u : CallTotals) →
@@ -171,15 +170,15 @@ calls_push : (lines : List AnswerLine) (x : AnswerLine) (old new : Totals) → T
 calls_push lines x old new step number l c is =
     elim (is_link l x) as (λ b. is_link l x ≡ b → IsCall (own_lines l c (lines ++ x ∷ [])) (call_at new l c)) [
       | true ↦ λ mine.
-        let s = subst (λ n. LinkStepsTo x n (link_in old l) (link_in new l)) number (step.own l (named l x.link mine)) in
-        elim (names c x.cid) as (λ b. names c x.cid ≡ b → IsCall (own_lines l c (lines ++ x ∷ [])) (call_at new l c)) [
-          | true ↦ λ bears. subst (λ own. IsCall own (call_at new l c)) (sym (own_hit l c lines x mine bears))
-            (calls_own (own_lines l c lines) (length lines + 1, x) c (link_in old l) (link_in new l) s (named c x.cid bears) is)
-          | false ↦ λ other. subst (λ own. IsCall own (call_at new l c)) (sym (own_miss l c lines x (ap (λ a. a && names c x.cid) mine ∙ other)))
-            (calls_other (own_lines l c lines) (length lines + 1, x) c (link_in old l) (link_in new l) s (unnamed c x.cid other) is)
-        ] refl
+          let s = subst (λ n. LinkStepsTo x n (link_in old l) (link_in new l)) number (step.own l (named l x.link mine)) in
+          elim (names c x.cid) as (λ b. names c x.cid ≡ b → IsCall (own_lines l c (lines ++ x ∷ [])) (call_at new l c)) [
+            | true ↦ λ bears. subst (λ own. IsCall own (call_at new l c)) (sym (own_hit l c lines x mine bears))
+                (calls_own (own_lines l c lines) (length lines + 1, x) c (link_in old l) (link_in new l) s (named c x.cid bears) is)
+            | false ↦ λ other. subst (λ own. IsCall own (call_at new l c)) (sym (own_miss l c lines x (ap (λ a. a && names c x.cid) mine ∙ other)))
+                (calls_other (own_lines l c lines) (length lines + 1, x) c (link_in old l) (link_in new l) s (unnamed c x.cid other) is)
+          ] refl
       | false ↦ λ other. subst (λ own. IsCall own (call_at new l c)) (sym (own_miss l c lines x (ap (λ a. a && names c x.cid) other)))
-        (subst (λ o. IsCall (own_lines l c lines) (in_link c o)) (sym (step.others l (unnamed l x.link other))) is)
+          (subst (λ o. IsCall (own_lines l c lines) (in_link c o)) (sym (step.others l (unnamed l x.link other))) is)
     ] refl
 
 -- ---- all

@@ -1,5 +1,5 @@
 -- Each line is of one kind.
-use Rattle.std.proofs.Common.{◌≡◌, ℕ, zero, suc, ◌+◌, ◌<◌, ◌≤◌, List, [], ◌∷◌, length, Bool, true, false, cond, ◌==◌, count_by, eqb-true, eq-eqb, ne_eqb, inl, inr, arith, refl, sym, ◌∙◌, ap}
+use Rattle.std.proofs.Common.{◌≡◌, ℕ, zero, suc, ◌+◌, ◌<◌, ◌≤◌, [], ◌∷◌, length, true, false, cond, ◌==◌, count_by, eqb-true, eq-eqb, ne_eqb, inl, inr, arith, refl}
 use Rattle.std.proofs.lemmas.Bool.{cases_eq}
 use Rattle.std.proofs.lemmas.List.Sums.{sum_by-cons}
 use Rattle.rohc_context.specs.Refusal.{number_of}

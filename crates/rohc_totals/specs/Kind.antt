@@ -1,5 +1,5 @@
 -- The kinds of lines. Words: kind_number, refusal_of, is_kind; delivers, refuses, for a call.
-use Rattle.std.specs.Prelude.{ℕ, ◌+◌, Bool, true, false, ◌==◌, Option, Some, None}
+use Rattle.std.specs.Prelude.{ℕ, ◌+◌, Bool, ◌==◌, Option, Some, None}
 use Rattle.rohc_context.specs.Refusal.{number_of}
 use Rattle.rohc_context.specs.declared.refusal.Refusal.{Refusal}
 use Rattle.rohc_totals.specs.declared.kind.LineKind.{LineKind}

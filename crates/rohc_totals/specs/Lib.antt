@@ -5,3 +5,4 @@ pub mod Steps
 pub mod Totals
 pub mod Reading
 pub mod Laws
+pub mod Rows

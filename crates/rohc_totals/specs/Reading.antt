@@ -1,5 +1,5 @@
 -- Where the reading of a text stands. Words: AreTotalsOf; Stands.
-use Rattle.std.specs.Prelude.{◌≡◌, ℕ, ◌≤◌, List, length, Bool}
+use Rattle.std.specs.Prelude.{ℕ, ◌≤◌, List, length}
 use Rattle.rohc_replay.specs.Script.{longest_line, lines_of}
 use Rattle.rohc_replay.specs.Lines.{Splits}
 use Rattle.rohc_replay.specs.Stream.{IsKept}

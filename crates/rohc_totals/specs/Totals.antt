@@ -1,6 +1,6 @@
 -- What totals say of lines. Words: numbered, own_lines; after_last, first_by, last_in; IsCallOf, IsCall,
 -- AreTotals.
-use Rattle.std.specs.Prelude.{◌≡◌, ◌≢◌, ℕ, ◌+◌, ◌<◌, List, [], ◌∷◌, length, filter, Bool, true, false, ◌&&◌, ◌==◌, if◌then◌else◌, Option, Some, None, count_by}
+use Rattle.std.specs.Prelude.{◌≡◌, ◌≢◌, ℕ, ◌+◌, ◌<◌, List, [], ◌∷◌, length, filter, Bool, false, ◌&&◌, ◌==◌, if◌then◌else◌, Option, Some, None, count_by}
 use Rattle.std.specs.List.{flat_map, list_any}
 use Rattle.std.specs.Option.{option_map, is_some}
 use Rattle.rohc_context.specs.declared.refusal.Refusal.{Refusal}
@@ -9,7 +9,7 @@ use Rattle.rohc_totals.specs.declared.kind.AnswerLine.{AnswerLine}
 use Rattle.rohc_totals.specs.declared.call.CallTotals.{CallTotals}
 use Rattle.rohc_totals.specs.declared.totals.LinkTotals.{LinkTotals}
 use Rattle.rohc_totals.specs.declared.totals.Totals.{Totals}
-use Rattle.rohc_totals.specs.Kind.{kind_number, refusal_of, is_kind}
+use Rattle.rohc_totals.specs.Kind.{refusal_of, is_kind}
 use Rattle.rohc_totals.specs.Counted.{count_in, tally}
 use Rattle.rohc_totals.specs.Steps.{link_in, call_at}
 

@@ -18,7 +18,21 @@ fn after_script(line: &[u8]) -> Option<&[u8]>
     ensures none { IfNone result ((text : List ℕ) → line.entry.now ≢ codes "- - refused " ++ text) }
 {
     match line {
-        [b'-', b' ', b'-', b' ', b'r', b'e', b'f', b'u', b's', b'e', b'd', b' ', text @ ..] => Some(text),
+        [
+            b'-',
+            b' ',
+            b'-',
+            b' ',
+            b'r',
+            b'e',
+            b'f',
+            b'u',
+            b's',
+            b'e',
+            b'd',
+            b' ',
+            text @ ..,
+        ] => Some(text),
         _ => None,
     }
 }
@@ -62,7 +76,18 @@ fn after_feedback(text: &[u8]) -> Option<&[u8]>
     ensures none { IfNone result ((rest : List ℕ) → text.entry.now ≢ codes "feedback " ++ rest) }
 {
     match text {
-        [b'f', b'e', b'e', b'd', b'b', b'a', b'c', b'k', b' ', rest @ ..] => Some(rest),
+        [
+            b'f',
+            b'e',
+            b'e',
+            b'd',
+            b'b',
+            b'a',
+            b'c',
+            b'k',
+            b' ',
+            rest @ ..,
+        ] => Some(rest),
         _ => None,
     }
 }
@@ -151,7 +176,11 @@ fn read_link_kind(text: &[u8]) -> Option<LineKind>
     ensures none { IfNone result ((says : LinkSays) → IsLinkSays says → text.now ≢ link_text says) }
 {
     if let Some(hex) = after_relay(text) {
-        if is_hex(hex) { Some(LineKind::Relayed) } else { None }
+        if is_hex(hex) {
+            Some(LineKind::Relayed)
+        } else {
+            None
+        }
     } else {
         let refusal = refusal_in(text)?;
         Some(LineKind::Refused(refusal))
@@ -167,10 +196,18 @@ fn read_call_kind(cid: u16, text: &[u8]) -> Option<LineKind>
         return Some(LineKind::Stored);
     }
     if let Some(hex) = after_ip(text) {
-        return if is_hex(hex) { Some(LineKind::Delivered) } else { None };
+        return if is_hex(hex) {
+            Some(LineKind::Delivered)
+        } else {
+            None
+        };
     }
     if let Some(hex) = after_feedback(text) {
-        return if is_hex(hex) { Some(feedback_kind(cid, hex)) } else { None };
+        return if is_hex(hex) {
+            Some(feedback_kind(cid, hex))
+        } else {
+            None
+        };
     }
     let refusal = refusal_in(text)?;
     Some(LineKind::Refused(refusal))

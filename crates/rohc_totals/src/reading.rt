@@ -160,11 +160,7 @@ pub fn read_totals<R: Read>(alloc: Global, reader: &mut R) -> Result<Totals, Tot
 }
 
 /// The totals of all that a reader gives, by way of this buffer.
-fn read_by<R: Read>(
-    alloc: Global,
-    reader: &mut R,
-    buffer: &mut [u8],
-) -> Result<Totals, TotalsFault>
+fn read_by<R: Read>(alloc: Global, reader: &mut R, buffer: &mut [u8]) -> Result<Totals, TotalsFault>
     requires { 0 < length buffer.old }
     ensures { IfOk result (λ t. IfSome (R.remaining reader.old) (λ text. AreTotalsOf text t)) }
 {

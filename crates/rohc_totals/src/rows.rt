@@ -1,5 +1,8 @@
 //! The calls in the order in which an operator asks for them.
 
+ghost use Rattle.std.specs.Prelude.{◌≡◌, ◌++◌, OnOk, IfOk, IsPermutation};
+ghost use Rattle.rohc_totals.specs.Rows.{rows_of, rows_in};
+
 use crate::call::CallTotals;
 use crate::totals::{LinkTotals, Totals};
 use std::alloc::{AllocError, Global};
@@ -16,24 +19,40 @@ pub struct CallRow {
 }
 
 /// Appends the calls of a link.
-fn push_calls(rows: &mut Vec<CallRow>, link: u16, totals: &LinkTotals) -> Result<(), AllocError> {
-    for (cid, call) in &totals.calls {
-        rows.push(CallRow {
-            link,
-            cid: *cid,
-            totals: *call,
-        })?;
+fn push_calls(rows: &mut Vec<CallRow>, link: u16, totals: &LinkTotals) -> Result<(), AllocError>
+    ensures { OnOk result (rows.new.items ≡ rows.old.items ++ rows_of link totals.now) }
+{
+    for place in 0..totals.calls.len() {
+        if let Some((cid, call)) = totals.calls.as_slice().get_index(place) {
+            rows.push(CallRow {
+                link,
+                cid: *cid,
+                totals: *call,
+            })?;
+        }
     }
     Ok(())
 }
 
-/// All calls. Those with the most refusals since their last delivery come first, and among equals those that are
-/// refused since the earliest line.
-pub fn call_rows(alloc: Global, totals: &Totals) -> Result<Vec<CallRow>, AllocError> {
+/// The calls of all links, in the order of their first lines.
+fn calls_of(alloc: Global, totals: &Totals) -> Result<Vec<CallRow>, AllocError>
+    ensures { IfOk result (λ rows. rows.items ≡ rows_in totals.now) }
+{
     let mut rows = Vec::new(alloc);
-    for (link, of_link) in &totals.links {
-        push_calls(&mut rows, *link, of_link)?;
+    for place in 0..totals.links.len() {
+        if let Some((link, of_link)) = totals.links.as_slice().get_index(place) {
+            push_calls(&mut rows, *link, of_link)?;
+        }
     }
+    Ok(rows)
+}
+
+/// All calls, each once. Those with the most refusals since their last delivery come first, and among equals those
+/// that are refused since the earliest line.
+pub fn call_rows(alloc: Global, totals: &Totals) -> Result<Vec<CallRow>, AllocError>
+    ensures { IfOk result (λ rows. IsPermutation (rows_in totals.now) rows.items) }
+{
+    let mut rows = calls_of(alloc, totals)?;
     rows.sort_by_key(|row| (
         u64::MAX - row.totals.refused,
         row.totals.since.unwrap_or(0),

@@ -41,7 +41,9 @@ fn totals<'a>(alloc: Global) -> Result<Command<'a>, AllocError> {
                 .default_value("-"),
         )?
         .arg(flag(alloc, "json", "Write JSON, one object a line"))?
-        .arg(flag(alloc, "prometheus", "Write the text format of Prometheus").conflicts_with("json")?)
+        .arg(flag(alloc, "prometheus", "Write the text format of Prometheus").conflicts_with(
+            "json",
+        )?)
 }
 
 /// The parser of the command line.
@@ -80,7 +82,7 @@ fn asked_for<'a>(matches: &ArgMatches<'a>) -> Option<Request<'a>> {
 
 /// Reads the request from the words of the command line. Help, the version and what is wrong with the words are
 /// printed here.
-pub(crate) fn read_request<'a, R: Print + AllocGlobal>(
+pub(crate) fn read_request<'a, R: Print + Eprint + AllocGlobal>(
     rt: &R,
     words: &'a [String],
 ) -> Result<Request<'a>, Ending> {

@@ -18,15 +18,24 @@ fn write_counts<W: Write>(out: &mut W, counts: &Counts) -> io::Result<()> {
         counts.of(LineKind::Plain),
         counts.of(LineKind::OtherFeedback)
     )?;
-    let mut comma = "";
+    write_refused(out, counts)?;
+    writeln!(out, "}}}}")
+}
+
+/// Writes the members of those refusals that came.
+fn write_refused<W: Write>(out: &mut W, counts: &Counts) -> io::Result<()> {
+    let mut is_first = true;
     for refusal in all_refusals() {
         let count = counts.of(LineKind::Refused(refusal));
         if count > 0 {
-            write!(out, "{comma}\"{refusal}\":{count}")?;
-            comma = ",";
+            if !is_first {
+                write!(out, ",")?;
+            }
+            write!(out, "\"{refusal}\":{count}")?;
+            is_first = false;
         }
     }
-    writeln!(out, "}}}}")
+    Ok(())
 }
 
 /// Writes the object of a call.
@@ -34,9 +43,7 @@ fn write_call<W: Write>(out: &mut W, row: &CallRow) -> io::Result<()> {
     write!(
         out,
         "{{\"link\":{},\"cid\":{},\"refused_since_delivery\":{},\"since_line\":",
-        row.link,
-        row.cid,
-        row.totals.refused
+        row.link, row.cid, row.totals.refused
     )?;
     match row.totals.since {
         Some(line) => write!(out, "{line}")?,

@@ -25,8 +25,7 @@ fn write_kind<W: Write>(
         writeln!(
             out,
             "{name}{{link=\"{}\",cid=\"{}\"}} {count}",
-            row.link,
-            row.cid
+            row.link, row.cid
         )?;
     }
     Ok(())
@@ -61,8 +60,7 @@ fn write_refused<W: Write>(out: &mut W, row: &CallRow) -> io::Result<()> {
             writeln!(
                 out,
                 "rohc_refused_total{{link=\"{}\",cid=\"{}\",refusal=\"{refusal}\"}} {count}",
-                row.link,
-                row.cid
+                row.link, row.cid
             )?;
         }
     }
@@ -71,16 +69,35 @@ fn write_refused<W: Write>(out: &mut W, row: &CallRow) -> io::Result<()> {
 
 /// Writes the samples of whole links and of all lines.
 fn write_sums<W: Write>(out: &mut W, totals: &Totals) -> io::Result<()> {
-    write_head(out, "rohc_link_refused_total", "counter", "Refusals of a link, with a CID or without.")?;
+    write_head(
+        out,
+        "rohc_link_refused_total",
+        "counter",
+        "Refusals of a link, with a CID or without.",
+    )?;
     for (link, of_link) in &totals.links {
-        writeln!(out, "rohc_link_refused_total{{link=\"{link}\"}} {}", refused(&of_link.counts))?;
+        writeln!(
+            out,
+            "rohc_link_refused_total{{link=\"{link}\"}} {}",
+            refused(&of_link.counts)
+        )?;
     }
-    write_head(out, "rohc_relayed_total", "counter", "Feedback elements for this side's compressor.")?;
+    write_head(
+        out,
+        "rohc_relayed_total",
+        "counter",
+        "Feedback elements for this side's compressor.",
+    )?;
     for (link, of_link) in &totals.links {
         let count = of_link.counts.of(LineKind::Relayed);
         writeln!(out, "rohc_relayed_total{{link=\"{link}\"}} {count}")?;
     }
-    write_head(out, "rohc_lines_total", "counter", "Lines, by what they are.")?;
+    write_head(
+        out,
+        "rohc_lines_total",
+        "counter",
+        "Lines, by what they are.",
+    )?;
     let counts = &totals.counts;
     let bad = counts.of(LineKind::BadLine);
     let long = counts.of(LineKind::LongLine);
@@ -97,9 +114,26 @@ pub(crate) fn write_metrics<W: Write>(
     totals: &Totals,
     rows: &[CallRow],
 ) -> io::Result<()> {
-    write_kind(out, "rohc_delivered_total", "Rebuilt packets.", LineKind::Delivered, rows)?;
-    write_kind(out, "rohc_stored_total", "Contexts made without a packet.", LineKind::Stored, rows)?;
-    write_head(out, "rohc_feedback_total", "counter", "Feedback for the compressor, by kind.")?;
+    write_kind(
+        out,
+        "rohc_delivered_total",
+        "Rebuilt packets.",
+        LineKind::Delivered,
+        rows,
+    )?;
+    write_kind(
+        out,
+        "rohc_stored_total",
+        "Contexts made without a packet.",
+        LineKind::Stored,
+        rows,
+    )?;
+    write_head(
+        out,
+        "rohc_feedback_total",
+        "counter",
+        "Feedback for the compressor, by kind.",
+    )?;
     for row in rows {
         write_feedback(out, row)?;
     }
@@ -107,14 +141,17 @@ pub(crate) fn write_metrics<W: Write>(
     for row in rows {
         write_refused(out, row)?;
     }
-    write_head(out, "rohc_refused_since_delivery", "gauge", "Refusals since the last delivery.")?;
+    write_head(
+        out,
+        "rohc_refused_since_delivery",
+        "gauge",
+        "Refusals since the last delivery.",
+    )?;
     for row in rows {
         writeln!(
             out,
             "rohc_refused_since_delivery{{link=\"{}\",cid=\"{}\"}} {}",
-            row.link,
-            row.cid,
-            row.totals.refused
+            row.link, row.cid, row.totals.refused
         )?;
     }
     write_sums(out, totals)

@@ -14,7 +14,7 @@ use std::rt::Files;
 /// Runs the program with these words. `colour` is whether standard output takes colours.
 pub fn run<R>(rt: &R, words: &[String], colour: bool) -> Ending
 where
-    R: Files + Input + Print + AllocGlobal,
+    R: Files + Input + Print + Eprint + AllocGlobal,
 {
     match requested(rt, words, colour) {
         Ok(ending) => ending,
@@ -25,7 +25,7 @@ where
 /// Does what the words ask for.
 fn requested<R>(rt: &R, words: &[String], colour: bool) -> Result<Ending, Ending>
 where
-    R: Files + Input + Print + AllocGlobal,
+    R: Files + Input + Print + Eprint + AllocGlobal,
 {
     match read_request(rt, words)? {
         Request::Totals { answers, form } => run_totals(rt, answers, form, colour),
@@ -35,7 +35,7 @@ where
 /// Counts the answer lines of a file, and writes what there is.
 fn run_totals<R>(rt: &R, answers: &str, form: Form, colour: bool) -> Result<Ending, Ending>
 where
-    R: Files + Input + Print + AllocGlobal,
+    R: Files + Input + Print + Eprint + AllocGlobal,
 {
     let totals = totals_of(rt, answers)?;
     let rows = call_rows(rt.alloc(), &totals).map_err(|_| Ending::Memory)?;

@@ -36,7 +36,9 @@ fn write_counts<W: Write>(out: &mut W, counts: &Counts) -> io::Result<()> {
         "{:>10} {:>7} {:>6} {:>6} {:>6} {:>6} {:>8}",
         counts.of(LineKind::Delivered),
         counts.of(LineKind::Stored),
-        counts.of(LineKind::Ack).saturating_add(counts.of(LineKind::Plain)),
+        counts
+            .of(LineKind::Ack)
+            .saturating_add(counts.of(LineKind::Plain)),
         counts.of(LineKind::Nack),
         counts.of(LineKind::StaticNack),
         counts.of(LineKind::OtherFeedback),
@@ -73,7 +75,7 @@ pub(crate) fn write_table<W: Write>(
 ) -> io::Result<()> {
     writeln!(
         out,
-        " link   cid  delivered  stored    ack   nack s-nack  other  refused    since at-line  last"
+        " link   cid  delivered  stored    ack   nack s-nack  other  refused   silent from-line last"
     )?;
     for row in rows {
         write_call(out, row, colour)?;

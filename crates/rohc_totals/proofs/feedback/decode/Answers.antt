@@ -1,4 +1,4 @@
-use Rattle.std.proofs.Common.{◌≡◌, ◌≢◌, ◌/◌, ◌*◌, ℕ, List, length, Result, Ok, Err, MatchResult, IsTrue, IsFalse, true, false, is_ok, arith, refl, sym, ◌∙◌, ap}
+use Rattle.std.proofs.Common.{◌≡◌, ◌/◌, ℕ, List, length, Result, Ok, Err, MatchResult, true, false, is_ok, arith, refl, sym, ◌∙◌, ap}
 use Rattle.hex.specs.Hex.{decode_of, decode_sized}
 use Rattle.hex.proofs.HexLemmas.{decode_of-ok, decode_sized-ok, decode_sized-twice}
 use Rattle.hex.specs.declared.error.FromHexError.{FromHexError}

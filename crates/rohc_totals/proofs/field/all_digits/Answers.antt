@@ -1,4 +1,4 @@
-use Rattle.std.proofs.Common.{◌∙◌, ◌&&◌, ap, sym, get_or, take}
+use Rattle.std.proofs.Common.{◌∙◌, ◌&&◌, ap, sym, take}
 use Rattle.std.specs.List.{list_all}
 use Rattle.std.proofs.lemmas.List.Folds.{list_all_more}
 use Rattle.rohc_totals.specs.Answer.{is_digit}

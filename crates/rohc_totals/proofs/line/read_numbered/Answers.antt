@@ -1,4 +1,4 @@
-use Rattle.std.proofs.Common.{◌≡◌, List, ℕ, IfSome, ap, sym, ◌∙◌, ◌++◌, ◌∷◌, subst}
+use Rattle.std.proofs.Common.{List, ℕ, IfSome, ap, sym, ◌∙◌, ◌++◌, ◌∷◌, subst}
 use Rattle.std.specs.Fmt.{decimal}
 use Rattle.rohc_replay.proofs.PairLemmas.{pair_spelled}
 use Rattle.rohc_totals.specs.Answer.{call_text, Tells}

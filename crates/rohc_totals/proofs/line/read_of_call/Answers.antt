@@ -1,4 +1,4 @@
-use Rattle.std.proofs.Common.{◌≡◌, List, ℕ, refl, ap, sym, ◌∙◌, ◌++◌, ◌∷◌, arith, subst}
+use Rattle.std.proofs.Common.{◌≡◌, refl, ap, sym, ◌∙◌, ◌++◌, ◌∷◌, arith}
 use Rattle.std.specs.Fmt.{decimal}
 use Rattle.rohc_replay.proofs.PairLemmas.{pair_spelled}
 use Rattle.rohc_totals.specs.Answer.{OfCall, call_text}

@@ -1,4 +1,4 @@
-use Rattle.std.proofs.Common.{◌++◌, take, rules}
+use Rattle.std.proofs.Common.{◌++◌, take}
 use Rattle.std.proofs.KnownBytes.{Consumes-trans}
 use Rattle.rohc_totals.proofs.reading.read_by.Goals as goal
 

@@ -1,4 +1,4 @@
-use Rattle.std.proofs.Common.{rules, refl, inl, inr, arith}
+use Rattle.std.proofs.Common.{rules, inl, inr, arith}
 use Rattle.std.proofs.lemmas.Grind.{common_steps}
 use Rattle.rohc_totals.proofs.ReadingLemmas.{stands_end, stands_whole}
 use Rattle.rohc_totals.proofs.reading.Progress.end.Goals as goal
