@@ -57,11 +57,11 @@ front_same rest octet full =
 same_length : (finished : List (List ℕ)) (lines : List Line) (answers : List (List (List ℕ))) (old new : Concentrator) →
     AreLines finished lines → Runs old lines answers new → length finished ≡ length answers
 same_length [] [] [] old new are run = refl
-same_length (f ∷ fs) (l ∷ ls) (a ∷ as) old new are run = let rest = same_length fs ls as run.0 new are.1 run.2 in omega (arith, rest)
-same_length [] [] (a ∷ as) old new are run = absurd run
+same_length (f ∷ fs) (l ∷ ls) (a ∷ rest_of) old new are run = let rest = same_length fs ls rest_of run.0 new are.1 run.2 in omega (arith, rest)
+same_length [] [] (a ∷ rest_of) old new are run = absurd run
 same_length (f ∷ fs) (l ∷ ls) [] old new are run = absurd run
-same_length [] (l ∷ ls) as old new are run = absurd are
-same_length (f ∷ fs) [] as old new are run = absurd are
+same_length [] (l ∷ ls) answers old new are run = absurd are
+same_length (f ∷ fs) [] answers old new are run = absurd are
 
 traced-push : (n : ℕ) (finished : List (List ℕ)) (answers : List (List (List ℕ))) (octets : List ℕ) (more : List (List ℕ)) →
     length finished ≡ length answers →

@@ -42,7 +42,8 @@ fn push_front(text: &mut Vec<u8>, line: &[u8]) -> Result<(), AllocError>
     ensures { OnOk result (text.new.items ≡ text.old.items ++ shown line.now) }
 {
     if line.len() > SHOWN {
-        push_all(text, &line[..SHOWN])?;
+        let (front, _) = line.split_at(SHOWN);
+        push_all(text, front)?;
         text.extend_from_slice(b"..")?;
         return Ok(());
     }

@@ -166,7 +166,8 @@ impl Tracer {
         if self.line.is_empty() {
             return Ok(());
         }
-        self.run_kept(concentrator, writer)
+        self.run_kept(concentrator, writer)?;
+        Ok(())
     }
 }
 
@@ -207,7 +208,8 @@ fn trace_by<R: Read, W: Write>(
             return Err(TraceFault::Read);
         };
         if count == 0 {
-            return tracer.end(concentrator, writer);
+            tracer.end(concentrator, writer)?;
+            return Ok(());
         }
         tracer.take_all(concentrator, writer, &buffer[..count])?;
     }
