@@ -21,6 +21,7 @@ import lint
 import model
 import poverty
 import random_scripts
+import rohctl
 from trial import Trial
 
 TOP = Path(__file__).resolve().parent.parent.parent
@@ -155,6 +156,7 @@ CHECKS = (
         "256 links, all CIDs, 2^20 reads, 2^32 octets; a call and an honest sender in a flood",
         knows=limits.is_part,
     ),
+    Check("rohctl", ON_PROGRAM, rohctl.check, "the totals, traces and statuses of rohctl"),
     Check("poverty", ON_PROGRAM, poverty.check, "each request for memory refused in turn"),
     Check("launcher", ON_PROGRAM, launcher.check, "bin/rohcd with a proved program and without one"),
     Check("install", ON_PROGRAM, installation.check, "bin/install, the completion, tools/link_lines.py on faulty files"),
@@ -213,6 +215,7 @@ TESTED = (
     Tested("Refusal", "NoMemory", "gate library poverty"),
     Tested("Command", "replay", "gate program examples lines random limits poverty"),
     Tested("Command", "serve", "gate program launcher"),
+    Tested("Command", "rohctl totals, rohctl trace", "gate rohctl"),
     Tested("Command", "bin/rohcd", "launcher"),
     Tested("Command", "bin/install, completion", "library install"),
     Tested("Text", "documents", "words documents documents_test"),

@@ -21,6 +21,8 @@ pub(crate) enum Form {
 pub(crate) enum Request<'a> {
     /// Count the answer lines of this file; `-` is standard input.
     Totals { answers: &'a str, form: Form },
+    /// Trace the script of this file, with the links of another; `-` is standard input.
+    Trace { links: &'a str, script: &'a str },
 }
 
 /// An option without a value.
@@ -46,6 +48,25 @@ fn totals<'a>(alloc: Global) -> Result<Command<'a>, AllocError> {
         )?)
 }
 
+/// The subcommand `trace`.
+fn trace<'a>(alloc: Global) -> Result<Command<'a>, AllocError> {
+    Command::new(alloc, "trace")
+        .about("Write each line of a script with its number, and its answers behind it")
+        .arg(
+            Arg::new(alloc, "links")
+                .long("links")
+                .value_name("FILE")
+                .help("The links file")
+                .required(true)
+                .action(ArgAction::Set),
+        )?
+        .arg(
+            Arg::new(alloc, "SCRIPT")
+                .help("The script; - is standard input")
+                .default_value("-"),
+        )
+}
+
 /// The parser of the command line.
 fn command<'a>(alloc: Global) -> Result<Command<'a>, AllocError> {
     Command::new(alloc, "rohctl")
@@ -55,7 +76,8 @@ fn command<'a>(alloc: Global) -> Result<Command<'a>, AllocError> {
         .no_binary_name(true)
         .subcommand_required(true)
         .arg_required_else_help(true)
-        .subcommand(totals(alloc)?)
+        .subcommand(totals(alloc)?)?
+        .subcommand(trace(alloc)?)
 }
 
 /// The form that is asked for.
@@ -75,6 +97,10 @@ fn asked_for<'a>(matches: &ArgMatches<'a>) -> Option<Request<'a>> {
         ("totals", options) => Some(Request::Totals {
             answers: options.get_str("ANSWERS")?,
             form: form_of(options),
+        }),
+        ("trace", options) => Some(Request::Trace {
+            links: options.get_str("links")?,
+            script: options.get_str("SCRIPT")?,
         }),
         _ => None,
     }

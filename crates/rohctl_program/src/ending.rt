@@ -11,6 +11,8 @@ pub enum Ending {
     Findings,
     /// The words are not a command. What is wrong was printed.
     CommandLine,
+    /// The links file can't be read, or it has the fault of this name.
+    LinksFile(&'static str),
     /// A read failed.
     Read,
     /// A write failed.
@@ -26,6 +28,7 @@ impl Ending {
             Ending::Good => 0,
             Ending::Findings => 1,
             Ending::CommandLine => 2,
+            Ending::LinksFile(_) => 3,
             Ending::Read | Ending::Write => 4,
             Ending::Memory => 5,
         }
@@ -36,6 +39,11 @@ impl fmt::Display for Ending {
     fn fmt<W: fmt::Write>(&self, f: &mut fmt::Formatter<W>) -> fmt::Result {
         match self {
             Ending::Good | Ending::Findings | Ending::CommandLine => Ok(()),
+            Ending::LinksFile(name) => {
+                f.write_str("rohctl: links file: ")?;
+                f.write_str(name)?;
+                f.write_str("\n")
+            }
             Ending::Read => f.write_str("rohctl: read\n"),
             Ending::Write => f.write_str("rohctl: write\n"),
             Ending::Memory => f.write_str("rohctl: memory\n"),

@@ -7,6 +7,7 @@ mod command;
 mod ending;
 mod file;
 mod json;
+mod links;
 mod metrics;
 mod program;
 mod table;

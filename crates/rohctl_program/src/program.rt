@@ -4,12 +4,14 @@ use crate::command::{Form, Request, read_request};
 use crate::ending::Ending;
 use crate::file::totals_of;
 use crate::json::write_json;
+use crate::links::concentrator_of;
 use crate::metrics::write_metrics;
 use crate::table::write_table;
 use rohc_totals::{CallRow, LineKind, Totals, call_rows};
-use std::io;
+use rohc_trace::{TraceFault, trace};
 use std::io::{BufWriter, Write};
 use std::rt::Files;
+use std::{fs, io};
 
 /// Runs the program with these words. `colour` is whether standard output takes colours.
 pub fn run<R>(rt: &R, words: &[String], colour: bool) -> Ending
@@ -29,6 +31,7 @@ where
 {
     match read_request(rt, words)? {
         Request::Totals { answers, form } => run_totals(rt, answers, form, colour),
+        Request::Trace { links, script } => run_trace(rt, links, script),
     }
 }
 
@@ -51,6 +54,33 @@ where
         return Err(Ending::Write);
     }
     Ok(found(&totals, &rows))
+}
+
+/// Traces the script of a file, with the links of another.
+fn run_trace<R>(rt: &R, links: &str, script: &str) -> Result<Ending, Ending>
+where
+    R: Files + Input + Print + AllocGlobal,
+{
+    let mut concentrator = concentrator_of(rt, links)?;
+    let Ok(mut out) = BufWriter::new(rt.alloc(), io::writer(rt)) else {
+        return Err(Ending::Memory);
+    };
+    let traced = if script == "-" {
+        let mut reader = rt.reader();
+        trace(rt.alloc(), &mut concentrator, &mut reader, &mut out)
+    } else {
+        let Ok(mut file) = fs::open(rt, script) else {
+            return Err(Ending::Read);
+        };
+        trace(rt.alloc(), &mut concentrator, &mut file, &mut out)
+    };
+    let flushed = out.flush();
+    match traced {
+        Ok(()) if flushed.is_ok() => Ok(Ending::Good),
+        Ok(()) | Err(TraceFault::Write) => Err(Ending::Write),
+        Err(TraceFault::Read) => Err(Ending::Read),
+        Err(TraceFault::NoMemory) => Err(Ending::Memory),
+    }
 }
 
 /// Whether there is something to be looked at: a call that is refused and gets nothing, or a line that isn't good.

@@ -1,0 +1,169 @@
+"""Runs rohctl on answers and scripts whose totals and traces were counted by hand, and to each of its statuses."""
+
+import json
+from collections.abc import Sequence
+from pathlib import Path
+
+from program import Call, Ended, run
+from trial import Trial
+
+PROGRAM = "crates/rohctl/out/rohctl"
+PLAIN = "examples/plain-call"
+LINKS = "examples/links.toml"
+
+# The call of plain-call.answers: two packets, FEEDBACK-1, and refusals since its line 4. Line 5 is a bad line.
+PLAIN_ROWS = (
+    "1 0 2 0 1 0 0 0 2 2 4 NoContext",
+    "1 all 2 0 1 0 0 0 2",
+    "9 all 0 0 0 0 0 0 1",
+    "all all 2 0 1 0 0 0 3",
+)
+PLAIN_LINES = "lines 7 relayed 0 bad 1 long 0 no answer 0"
+
+# Answer lines of two links, with the feedback of docs/FORMATS.md: FEEDBACK-1 of CID 1, small; ACK and NACK are kept in
+# whole examples. Line 6 is no answer line, since its CID has a leading zero, nor is line 8, whose octets are odd.
+MIXED = """2 - relay 20
+2 300 ip 4501
+1 1 stored
+1 1 feedback f2e100
+1 1 refused Truncated
+1 01 ip 45
+2 300 refused Check
+2 300 ip 450
+2 300 refused StateTooLow
+2 - refused Empty
+- - refused LongLine
+3 7 feedback f100"""
+MIXED_ROWS = (
+    "2 300 1 0 0 0 0 0 2 2 7 StateTooLow",
+    "1 1 0 1 1 0 0 0 1 1 5 Truncated",
+    "3 7 0 0 0 0 0 1 0",
+)
+MIXED_LINES = "lines 12 relayed 1 bad 0 long 1 no answer 2"
+HOSTILE = b"\x1b[31m\n1 0 ip \x00\n\xff\xfe refused Check\n1 0 refused \"}\n" + b"1 0 ip " + b"0" * 131_200
+
+# A script of one packet, a line with an escape, and a last line without a newline.
+SCRIPT = b"arrive 1 0 fc00b745aa\n\x1b[2J\nreset 9"
+TRACE = """1 arrive 1 0 fc00b745aa
+1 0 ip 45aa
+1 0 feedback f100
+2 \\x1b[2J
+- - refused BadLine
+3 reset 9
+9 - refused NoLink
+"""
+
+
+def call(trial: Trial, *words: str | Path, given: bytes | Path = b"") -> Ended:
+    """How rohctl ends with these words, at the top of the tree."""
+    return run(Call((trial.top / PROGRAM, *words), given, {}, trial.top))
+
+
+def ends(trial: Trial, ended: Ended, status: int, said: str = "") -> None:
+    """A call must end with this status, and say this on standard error."""
+    words = " ".join(str(word) for word in ended.call.words[1:])
+    holds = (ended.status, ended.said) == (status, said)
+    trial.demand(holds, f"rohctl {words}: {ended.end()}; wanted {status}, {said or 'nothing'}", ended.call)
+
+
+def rows(text: str) -> list[str]:
+    """The lines of a table, with one space between the cells."""
+    return [" ".join(line.split()) for line in text.splitlines()]
+
+
+def has_rows(trial: Trial, ended: Ended, wanted: Sequence[str]) -> None:
+    """The first rows behind the table's head must be these."""
+    found = rows(ended.text)[1 : 1 + len(wanted)]
+    trial.same("the rows", "\n".join(wanted), "\n".join(found), ended.call)
+
+
+def check_totals(trial: Trial) -> None:
+    """The totals of the plain call and of mixed lines, as tables."""
+    ended = call(trial, "totals", f"{PLAIN}.answers")
+    ends(trial, ended, 1)
+    has_rows(trial, ended, PLAIN_ROWS)
+    trial.same("the table", (trial.top / "crates/rohctl/stdout").read_text(), ended.text, ended.call)
+    trial.demand(PLAIN_LINES in rows(ended.text), f"no row '{PLAIN_LINES}'", ended.call)
+    mixed = call(trial, "totals", given=MIXED.encode())
+    ends(trial, mixed, 1)
+    has_rows(trial, mixed, MIXED_ROWS)
+    trial.same("the last rows", f"{MIXED_LINES}\nline 6 is the first that is no answer line", "\n".join(rows(mixed.text)[-2:]))
+    ends(trial, call(trial, "totals", "-", given=b"1 0 ip 45aa\n1 0 feedback f100\n"), 0)
+    ends(trial, call(trial, "totals"), 0)
+
+
+def check_json(trial: Trial) -> None:
+    """Each line of --json must be an object, and say what the table says."""
+    ended = call(trial, "totals", "--json", given=MIXED.encode())
+    objects = [json.loads(line) for line in ended.text.splitlines()]
+    first, last = objects[0], objects[-1]
+    trial.same("the silent call", "2 300 2 7 StateTooLow", " ".join(str(first[key]) for key in (
+        "link", "cid", "refused_since_delivery", "since_line", "last_refusal"
+    )), ended.call)
+    trial.same("its refusals", json.dumps({"StateTooLow": 1, "Check": 1}), json.dumps(first["refused"]), ended.call)
+    trial.same("the lines", "12 2 6 1", " ".join(str(last[key]) for key in ("lines", "no_answer", "first_no_answer", "long")))
+    trial.demand(objects[2]["feedback"]["other"] == 1, "no other feedback for link 3", ended.call)
+    trial.demand(objects[1]["feedback"]["plain"] == 1, "no FEEDBACK-1 for link 1", ended.call)
+
+
+def check_metrics(trial: Trial) -> None:
+    """The metrics of --prometheus: each sample stands behind its HELP and TYPE."""
+    ended = call(trial, "totals", "--prometheus", f"{PLAIN}.answers")
+    for line in (
+        "# TYPE rohc_delivered_total counter",
+        'rohc_delivered_total{link="1",cid="0"} 2',
+        'rohc_feedback_total{link="1",cid="0",kind="plain"} 1',
+        'rohc_refused_total{link="1",cid="0",refusal="Check"} 1',
+        'rohc_refused_since_delivery{link="1",cid="0"} 2',
+        'rohc_lines_total{kind="bad"} 1',
+    ):
+        trial.demand(line in ended.text.splitlines(), f"no line '{line}'", ended.call)
+    names: set[str] = set()
+    for line in ended.text.splitlines():
+        if line.startswith("# TYPE "):
+            names.add(line.split()[2])
+        elif not line.startswith("#"):
+            trial.demand(line.split("{")[0] in names, f"'{line}' stands before its TYPE", ended.call)
+
+
+def check_hostile(trial: Trial) -> None:
+    """Lines of any octets are counted, and nothing of them is shown."""
+    for form in ((), ("--json",), ("--prometheus",)):
+        ended = call(trial, "totals", *form, given=HOSTILE)
+        ends(trial, ended, 1)
+        trial.demand(ended.output.isascii() and b"\x1b" not in ended.output, "an octet of the input is shown", ended.call)
+    table = call(trial, "totals", given=HOSTILE)
+    trial.demand("no answer 5" in table.text, "not 5 lines that are no answer lines", table.call)
+
+
+def check_trace(trial: Trial) -> None:
+    """The trace of a script, and of each whole script without its own lines: the answers of rohcd."""
+    ended = call(trial, "trace", "--links", LINKS, given=SCRIPT)
+    ends(trial, ended, 0)
+    trial.same("the trace", TRACE, ended.text, ended.call)
+    script = trial.top / f"{PLAIN}.script"
+    traced = call(trial, "trace", "--links", LINKS, script)
+    heads = [f"{n} {line}" for n, line in enumerate(script.read_text().splitlines(), 1)]
+    answers = [line for line in traced.text.splitlines() if line not in heads]
+    trial.same("the answers in a trace", (trial.top / f"{PLAIN}.answers").read_text(), "".join(f"{a}\n" for a in answers))
+
+
+def check_ends(trial: Trial) -> None:
+    """The statuses of wrong words and files; help and version."""
+    for words in (("--help",), ("--version",), ("totals", "--help"), ("trace", "--help")):
+        ended = call(trial, *words)
+        trial.demand(ended.status == 0 and ended.text != "", f"rohctl {words}: {ended.end()}", ended.call)
+    for words in ((), ("frob",), ("trace",), ("totals", "--json", "--prometheus"), ("totals", "a", "b")):
+        ended = call(trial, *words)
+        trial.demand(ended.status == 2, f"rohctl {words}: {ended.end()}; wanted 2", ended.call)
+    ends(trial, call(trial, "trace", "--links", "nothing.toml"), 3, "rohctl: links file: Unreadable")
+    ends(trial, call(trial, "trace", "--links", f"{PLAIN}.answers"), 3, "rohctl: links file: NotToml")
+    ends(trial, call(trial, "totals", "nothing"), 4, "rohctl: read")
+    ends(trial, call(trial, "totals", "examples"), 4, "rohctl: read")
+    ends(trial, call(trial, "trace", "--links", LINKS, "nothing"), 4, "rohctl: read")
+
+
+def check(trial: Trial) -> None:
+    """All of it, on the program that the gate left."""
+    for part in (check_totals, check_json, check_metrics, check_hostile, check_trace, check_ends):
+        part(trial)
