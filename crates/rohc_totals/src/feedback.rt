@@ -3,7 +3,7 @@
 ghost use Rattle.std.specs.Prelude.{◌≡◌, ◌≢◌, ◌⊎◌, ◌/◌, ℕ, List, length, Ok, IsTrue, IsFalse, IfSome, IfNone};
 ghost use Rattle.hex.specs.Hex.{decode_of};
 ghost use Rattle.rohc_frame.specs.declared.header.CidKind.{CidKind};
-ghost use Rattle.rohc_feedback.specs.declared.meaning.Word.{Word as Name};
+ghost use Rattle.rohc_feedback.specs.declared.meaning.Word.{Word};
 ghost use Rattle.rohc_totals.specs.declared.kind.LineKind.TheVariants.{OtherFeedback};
 ghost use Rattle.rohc_totals.specs.Answer.{IsFeedback, IsElement, kind_of};
 
@@ -30,7 +30,7 @@ fn kind_of(word: Word) -> LineKind
 /// The word of an element for this CID, on a link of CIDs of this kind.
 fn word_on(size: CidKind, cid: u16, element: &[u8]) -> Option<Word>
     ensures word { IfSome result (IsElement cid element.now size) }
-    ensures none { IfNone result ((word : Name) → ¬ IsElement cid element.now size word) }
+    ensures none { IfNone result ((word : Word) → ¬ IsElement cid element.now size word) }
 {
     match read(size, element) {
         Some(reading) => {
@@ -46,8 +46,8 @@ fn word_on(size: CidKind, cid: u16, element: &[u8]) -> Option<Word>
 
 /// The kind of an element for this CID.
 fn element_kind(cid: u16, element: &[u8]) -> LineKind
-    ensures { ((size : CidKind) × (word : Name) × IsElement cid element.now size word × (result ≡ kind_of word))
-        ⊎ (result ≡ OtherFeedback) × ((size : CidKind) (word : Name) → ¬ IsElement cid element.now size word) }
+    ensures { ((size : CidKind) × (word : Word) × IsElement cid element.now size word × (result ≡ kind_of word))
+        ⊎ (result ≡ OtherFeedback) × ((size : CidKind) (word : Word) → ¬ IsElement cid element.now size word) }
 {
     if let Some(word) = word_on(CidKind::Small, cid, element) {
         return kind_of(word);

@@ -39,7 +39,7 @@ impl LineKind {
     ghost use Rattle.rohc_totals.specs.Kind.{kind_number, refusal_of};
 
     /// The kind's number, below `KINDS`.
-    pub fn number(self) -> usize
+    pub(crate) fn number(self) -> usize
         ensures number { result ≡ kind_number self }
         ensures within { result < KINDS }
     {
@@ -60,7 +60,7 @@ impl LineKind {
     }
 
     /// The refusal, if the line says one.
-    pub fn refusal(self) -> Option<Refusal>
+    pub(crate) fn refusal(self) -> Option<Refusal>
         ensures { result ≡ refusal_of self }
     {
         match self {

@@ -3,7 +3,7 @@
 ghost use Rattle.std.specs.Prelude.{◌≡◌, ◌≢◌, ℕ, List, ◌++◌, ◌∷◌, ◌<◌, ◌^◌, length, get_or, codes, IfSome, IfNone};
 ghost use Rattle.std.specs.Fmt.{decimal};
 ghost use Rattle.rohc_context.specs.Refusal.{name_of};
-ghost use Rattle.rohc_context.specs.declared.refusal.Refusal.{Refusal as Name};
+ghost use Rattle.rohc_context.specs.declared.refusal.Refusal.{Refusal};
 ghost use Rattle.rohc_context.specs.declared.refusal.Refusal.TheVariants.{Empty};
 ghost use Rattle.rohc_totals.specs.Answer.{LinkSays, CallSays, Answer, OfLink, OfCall, IsLinkSays, IsCallSays, IsAnswer, link_text, call_text, spelling, link_kind, IsCallKind, Tells, IsNoAnswer, all_refusals};
 
@@ -157,7 +157,7 @@ fn named_among(refusals: &[Refusal], name: &[u8]) -> Option<Refusal>
 /// The refusal with this name.
 fn refusal_named(name: &[u8]) -> Option<Refusal>
     ensures named { IfSome result (λ r. name.now ≡ name_of r) }
-    ensures none { IfNone result ((r : Name) → name.now ≢ name_of r) }
+    ensures none { IfNone result ((r : Refusal) → name.now ≢ name_of r) }
 {
     named_among(all_refusals().as_slice(), name)
 }
@@ -165,7 +165,7 @@ fn refusal_named(name: &[u8]) -> Option<Refusal>
 /// The refusal in `refused NAME`.
 fn refusal_in(text: &[u8]) -> Option<Refusal>
     ensures named { IfSome result (λ r. text.now ≡ codes "refused " ++ name_of r) }
-    ensures none { IfNone result ((r : Name) → text.now ≢ codes "refused " ++ name_of r) }
+    ensures none { IfNone result ((r : Refusal) → text.now ≢ codes "refused " ++ name_of r) }
 {
     refusal_named(after_refused(text)?)
 }
