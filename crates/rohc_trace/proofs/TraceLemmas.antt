@@ -1,5 +1,5 @@
 -- Where a trace stands after one octet more, and at its end.
-use Rattle.std.proofs.Common.{◌≡◌, ◌≢◌, ℕ, ◌+◌, ◌-◌, ◌<◌, ◌≤◌, List, [], ◌∷◌, ◌++◌, length, length-append, length-take, take, drop, Bool, true, false, ◌==◌, Option, arith, refl, sym, ◌∙◌, ap, subst, append-nil, append_assoc, ne_eqb, inl, inr}
+use Rattle.std.proofs.Common.{◌≡◌, ℕ, ◌+◌, ◌<◌, ◌≤◌, List, [], ◌∷◌, ◌++◌, length, length-append, length-take, drop, false, ◌==◌, Option, arith, refl, sym, ◌∙◌, ap, subst, append-nil, append_assoc, ne_eqb, inl, inr}
 use Rattle.std.specs.List.{flat_map}
 use Rattle.std.specs.Io.KnownBytes.{Appends}
 use Rattle.std.proofs.KnownBytes.{Appends-nil, Appends-trans}
@@ -9,7 +9,7 @@ use Rattle.rohc_concentrator.specs.declared.concentrator.Concentrator.{Concentra
 use Rattle.rohc_links.specs.Limits.{counted}
 use Rattle.rohc_replay.specs.Script.{Line, Good, Bad, Long, IsLine, AreLines, longest_line, lines_of}
 use Rattle.rohc_replay.specs.AnswerLines.{text_of}
-use Rattle.rohc_replay.specs.Lines.{has_newline, Splits}
+use Rattle.rohc_replay.specs.Lines.{has_newline}
 use Rattle.rohc_replay.specs.Run.{Runs, RunsLine, Change, change}
 use Rattle.rohc_replay.proofs.SplitLemmas.{Splits-more, Splits-newline, AreLines-push, lines_of-splits, lines_of-line, last_line, both_false, neither, has_newline-append}
 use Rattle.rohc_replay.proofs.StreamLemmas.{Runs-push}
@@ -28,9 +28,9 @@ long_front rest Long many is = omega (arith, many)
 
 pub line_of_front : (rest : List ℕ) (line : Line) → IsLine (front_of rest) line → IsLine rest line
 line_of_front rest line is = elim (cases_lt (longest_line + 1) (length rest)) [
-    | inl many ↦ long_front rest line many is
-    | inr few ↦ subst (λ (t : List ℕ). IsLine t line) (take_all (longest_line + 1) rest few) is
-  ]
+  | inl many ↦ long_front rest line many is
+  | inr few ↦ subst (λ (t : List ℕ). IsLine t line) (take_all (longest_line + 1) rest few) is
+]
 
 -- the front has no newline if the line has none
 front_none : (rest : List ℕ) → has_newline rest ≡ false → has_newline (front_of rest) ≡ false

@@ -1,5 +1,5 @@
 -- The trace of a script. Words: traced; Traces; Stands.
-use Rattle.std.specs.Prelude.{◌≡◌, ℕ, ◌+◌, List, [], ◌∷◌, ◌++◌, length, take, false, Option}
+use Rattle.std.specs.Prelude.{◌≡◌, ℕ, ◌+◌, List, [], ◌∷◌, ◌++◌, length, take}
 use Rattle.std.specs.Io.KnownBytes.{Appends}
 use Rattle.rohc_links.specs.Limits.{counted}
 use Rattle.rohc_replay.specs.Script.{Line, AreLines, IsScript, longest_line, lines_of}

@@ -11,9 +11,11 @@ loop-init g c = ([], Consumes-nil _, stands_first _ _ _ c.new-tracer.ensures.lin
 
 pub loop-preserved : goal.loop-preserved
 loop-preserved g c =
-    let before = c.loop.invariant in
-    (before.0 ++ take c.in-Ok.count c.read.new.buf, Consumes-trans _ _ _ _ _ before.1 c.in-Ok.ensures.bytes.0,
-      c.in_ok-take_all.ensures c.args.concentrator.now (g.W.Write.contents c.args.writer.now) before.0 before.2)
+    let before = c.loop.invariant in (
+      before.0 ++ take c.in-Ok.count c.read.new.buf,
+      Consumes-trans _ _ _ _ _ before.1 c.in-Ok.ensures.bytes.0,
+      c.in_ok-take_all.ensures c.args.concentrator.now (g.W.Write.contents c.args.writer.now) before.0 before.2,
+    )
 
 whole : (a b c : Option (List ℕ)) (seen more : List ℕ) (P : List ℕ → Type 0) → Consumes a b seen → Consumes b c more → more ≡ [] → IsAtEnd c → P seen → IfSome a P
 whole None b c seen more P p q none ends holds = tt
