@@ -11,6 +11,7 @@ import closed_test
 import documents
 import documents_test
 import ends
+import evidence
 import examples
 import installation
 import launcher
@@ -157,6 +158,13 @@ CHECKS = (
         knows=limits.is_part,
     ),
     Check("rohctl", ON_PROGRAM, rohctl.check, "the totals, traces and statuses of rohctl"),
+    Check(
+        "evidence",
+        ON_PROGRAM,
+        evidence.check,
+        "made and real calls, a lossy link, Wireshark's and scapy's readings of packets",
+        knows=evidence.is_part,
+    ),
     Check("poverty", ON_PROGRAM, poverty.check, "each request for memory refused in turn"),
     Check("launcher", ON_PROGRAM, launcher.check, "bin/rohcd with a proved program and without one"),
     Check("install", ON_PROGRAM, installation.check, "bin/install, the completion, tools/link_lines.py on faulty files"),
@@ -182,11 +190,11 @@ class Tested:
 
 # The kinds up to Refusal are whole lists of docs/PROMISES.md and docs/OPERATING.md.
 TESTED = (
-    Tested("Promise", "1. Isolation", "closed gate lines random limits"),
-    Tested("Promise", "2. Safe and total", "gate library examples lines random limits poverty"),
-    Tested("Promise", "3. Each part is right", "gate library examples"),
+    Tested("Promise", "1. Isolation", "closed gate lines random limits evidence"),
+    Tested("Promise", "2. Safe and total", "gate library examples lines random limits poverty evidence"),
+    Tested("Promise", "3. Each part is right", "gate library examples evidence"),
     Tested("Promise", "4. One event is one step of one context", "closed gate examples lines"),
-    Tested("Promise", "5. What is delivered was sent", "gate limits"),
+    Tested("Promise", "5. What is delivered was sent", "gate limits evidence"),
     Tested("Key", "number, cid, max_cid", "gate program examples lines"),
     Tested("Key", "mode, range, k1, n1, k2, n2, packet_ms, static_nack_ms", "gate program examples"),
     Tested("Key", "deliver_port, feedback_port, relay_port", "gate program"),

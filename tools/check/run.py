@@ -72,7 +72,7 @@ def run_one(check: Check, order: Order) -> Result:
         return Result(check.name, "left out", 0, [f"{LEFT_OUT}{check.tool} is not installed, {check.without_tool}"])
     start = time.monotonic()
     scratch = Path(tempfile.mkdtemp(prefix=f"rohc-{check.name}-"))
-    trial = Trial(TOP, order.program, scratch, order.words[check.name], order.over_gate)
+    trial = Trial(TOP, order.program, scratch, order.words[check.name], order.over_gate, order.is_all)
     try:
         check.function(trial)
     except Exception:

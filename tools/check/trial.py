@@ -16,8 +16,8 @@ LEFT_OUT = "left out: "
 class Trial:
     """One run of a check: the tree, the program, a folder of its own, and what it says.
 
-    The words are those that stood behind the check's name. The folder stays if the check fails. The last line is said
-    once more at the end of all.
+    The words are those that stood behind the check's name. It may be one of all checks. The folder stays if the check
+    fails. The last line is said once more at the end of all.
     """
 
     top: Path
@@ -25,6 +25,7 @@ class Trial:
     scratch: Path
     words: tuple[str, ...] = ()
     over_gate: bool = False
+    is_all: bool = False
     lines: list[str] = field(default_factory=list)
     rights: int = 0
     wrongs: int = 0

@@ -1,0 +1,128 @@
+"""Compares others' readings of ROHC packets, and of what was delivered for them, with tools/model's.
+
+usage: python3 tools/dissect [--bend] FOLDER..
+
+Each FOLDER has links.toml, with one link; a script of arrivals; and answers, which are what a program said to it.
+Wireshark's dissector reads each packet of the script and each element of feedback; the model says what they are. Of each
+delivered packet, Wireshark's dissectors and scapy judge the header's checksum and read the fields, and what was said of
+the compressed packet must be what is in the delivered one. The status is 1 if anything differs beyond what is known of
+the dissector. The answers must be the model's, too. With --bend a bit of each ROHC packet is turned before the dissector
+reads it.
+"""
+
+import subprocess
+import sys
+import tempfile
+from collections.abc import Iterator
+from concurrent.futures import ProcessPoolExecutor
+from pathlib import Path
+
+# The comparison leaves no compiled modules beside its own.
+sys.dont_write_bytecode = True
+
+import capture  # noqa: E402
+import said  # noqa: E402
+import wireshark  # noqa: E402
+from comparison import Counts, Seen  # noqa: E402
+from links import read  # noqa: E402
+
+HELP = (__doc__ or "").strip()
+SHOWN = 8
+DESTINATION_PORT = slice(22, 24)
+# The Python that Debian's package of scapy is for is not always the first on the path.
+PYTHONS = (sys.executable, "/usr/bin/python3")
+SCAPY = Path(__file__).resolve().parent / "scapy_view.py"
+
+
+def python_of_scapy() -> str:
+    """A Python that has scapy, or nothing."""
+    tries = (python for python in PYTHONS if Path(python).exists())
+    asked = (python for python in tries if not subprocess.run([python, "-c", "import scapy"], capture_output=True).returncode)
+    return next(asked, "")
+
+
+def with_bit_turned(octets: bytes) -> bytes:
+    """A packet with another least bit in its first octet."""
+    return bytes([octets[0] ^ 1]) + octets[1:]
+
+
+def by_wireshark(counts: Counts, setting: said.Setting, packets: list[said.Said], room: Path, bend: bool) -> None:
+    """Compares what Wireshark's dissectors say."""
+    shown = (with_bit_turned(one.octets) if bend else one.octets for one in packets)
+    capture.write_rohc(room / "rohc.pcap", shown, setting.is_small)
+    views = wireshark.rohc_views(room / "rohc.pcap")
+    seen = Seen(setting.is_small)
+    delivered = []
+    for one, theirs in zip(packets, views, strict=True):
+        if not one.view:
+            counts.packets["refused, or no header"] += 1
+        elif counts.compare(one, theirs, seen) and one.delivered:
+            delivered.append((one, theirs))
+    capture.write(room / "ip.pcap", capture.RAW_IP, (one.delivered for one, _ in delivered))
+    ports = {int.from_bytes(one.delivered[DESTINATION_PORT]) for one, _ in delivered}
+    for (one, theirs), found in zip(delivered, wireshark.delivered_views(room / "ip.pcap", ports), strict=True):
+        counts.compare_delivered(one, theirs, found)
+
+
+def by_scapy(counts: Counts, python: str, packets: list[said.Said]) -> None:
+    """Compares what scapy says of what was delivered."""
+    delivered = [one for one in packets if one.delivered]
+    lines = "".join(f"{one.delivered.hex()}\n" for one in delivered)
+    told = subprocess.run([python, "-B", SCAPY], input=lines, capture_output=True, text=True, check=True).stdout
+    for one, line in zip(delivered, told.splitlines(), strict=True):
+        header, *numbers, verdict = line.split(" ")
+        counts.compare_numbers(one, "header by scapy", "same", header)
+        counts.agreed[f"UDP checksum by scapy: {verdict}"] += 1
+        for name, number in zip(("SN", "TS", "SSRC"), numbers, strict=True):
+            if name in one.view:
+                counts.compare_numbers(one, f"{name} by scapy", one.view[name], number)
+
+
+def compared(folder: Path, python: str, bend: bool) -> Counts:
+    """What is found of a run."""
+    counts = Counts()
+    setting = next(iter(read((folder / "links.toml").read_bytes()).values()))
+    all_said = list(said.all_said(setting, (folder / "script").read_bytes()))
+    packets = [one for one, _ in all_said]
+    told = [line for _, lines in all_said for line in lines]
+    if told != (folder / "answers").read_text().splitlines():
+        counts.faults.append("the answers aren't the model's")
+    with tempfile.TemporaryDirectory() as room:
+        by_wireshark(counts, setting, packets, Path(room), bend)
+    if python:
+        by_scapy(counts, python, packets)
+    counts.faults = [f"{folder.name}: {fault}" for fault in counts.faults]
+    return counts
+
+
+def rows(counts: Counts) -> Iterator[str]:
+    """What was found, in lines."""
+    for title, found in ("packets", counts.packets), ("as the model says", counts.agreed), ("known", counts.known):
+        yield f"{title}: {sum(found.values())}"
+        yield from (f"  {number:7} {name}" for name, number in sorted(found.items()))
+    yield f"otherwise: {len(counts.faults)}"
+    yield from (f"  {fault}" for fault in counts.faults[:SHOWN])
+
+
+def main(words: list[str]) -> int:
+    """Does what the words say."""
+    if words == ["--help"]:
+        print(HELP)
+        return 0
+    bend = words[:1] == ["--bend"]
+    words = words[bend:]
+    if not words or not all(Path(word).is_dir() for word in words):
+        print(HELP, file=sys.stderr)
+        return 2
+    python, counts = python_of_scapy(), Counts()
+    if not python:
+        print("left out: scapy is not installed, delivered headers were read by Wireshark alone")
+    with ProcessPoolExecutor() as pool:
+        for found in pool.map(compared, map(Path, words), [python] * len(words), [bend] * len(words)):
+            counts.add(found)
+    print("\n".join(rows(counts)))
+    return int(bool(counts.faults))
+
+
+if __name__ == "__main__":
+    sys.exit(main(sys.argv[1:]))
