@@ -4,8 +4,11 @@ Each part says what it leaves out if a tool isn't there. Words behind `evidence`
 
 - compressor: tests/compressor.sh, calls of many kinds and the real calls of tests/calls from tools/compressor.
 - lossy: tests/lossy_link.sh, calls over a lossy link with feedback in time.
+- real: calls that SIPp, GStreamer and FFmpeg make now (tools/real_calls, as root), sent likewise.
 - tshark: packets of such calls and what was delivered for them, as Wireshark's dissectors and scapy read them, beside
   tools/model (tools/dissect). A bit that is turned in each packet must be seen.
+- fuzz: libFuzzer on the library for C (tools/fuzz), and bugs that are planted into it, which must be found.
+- bench: the loads of bench/run that the repository makes by itself, each answered without a refusal.
 
 Among all checks the parts are smaller. They run side by side.
 """
@@ -16,7 +19,6 @@ import sys
 from collections.abc import Callable
 from concurrent.futures import ThreadPoolExecutor
 from dataclasses import dataclass
-from itertools import product
 from pathlib import Path
 
 from program import Word
@@ -31,7 +33,9 @@ KINDS = (
     "g711 random-id swapped-id zero-id checksum checksum-off tos flags stride two many wrap video late jumps mixed no-rtp"
 ).split()
 FEW_KINDS = "random-id checksum flags many jumps mixed".split()
-WAYS = tuple(product(("small", "large"), ("smallest", "any")))
+WAYS = (("small", "smallest"), ("small", "any"), ("large", "any"))
+# The calls of other programs that are made anew among all checks.
+REAL_CALLS = ("sipp-pcma", "gst-opus-dtx", "ffmpeg-opus")
 # Packets that are damaged until feedback asks for others, so that feedback is read too.
 DAMAGED = "--damage 40 --lose 10 --w 6 --optimistic 6 --without uo-0,uo-1,uo-1-id,uo-1-ts".split()
 
@@ -101,6 +105,22 @@ def sent(evidence: Evidence, name: str, capture: Path, *options: str) -> Path:
     return folder
 
 
+def real(evidence: Evidence) -> None:
+    """Calls that other programs make now."""
+    trial, folder = evidence.trial, evidence.trial.scratch / "real"
+    folder.mkdir()
+    made = trial.ran("tools/real_calls", folder, *(REAL_CALLS if trial.is_all else ()), seconds=SECONDS)
+    if made.status != 0:
+        said = made.said.replace("tools/real_calls: ", "").replace("\n", "; ")
+        trial.leave_out(f"{said}, so not all calls of other programs were made anew")
+    for file in sorted(folder.glob("*.pcap")):
+        expected = folder / f"{file.stem}.expected"
+        run = sent(evidence, f"real-{file.stem}", file, "--expect", expected, "--lose", "20", "--pick", "any")
+        compared = trial.ran(evidence.compressor or "", "check", expected, run / "answers")
+        if trial.demand(compared.status == 0, f"{file.stem}: {compared.all.strip()}", compared.call):
+            trial.say(f"{file.stem}, made now: {compared.text.strip()}")
+
+
 def captures(evidence: Evidence) -> list[Path]:
     """Made calls, and the real ones."""
     found = []
@@ -127,7 +147,7 @@ def tshark(evidence: Evidence) -> None:
         folders.append(sent(evidence, f"{file.stem}-damaged", file, *DAMAGED))
     words = (sys.executable, "-B", "tools/dissect")
     ended = trial.ran(*words, *folders, seconds=SECONDS)
-    trial.say("".join(f"{line}\n" for line in ended.text.splitlines() if line[:1] != " " or ended.status))
+    trial.say(ended.text)
     version = VERSION.search(trial.ran("tshark", "--version").text)
     if version and version[1] == KNOWN_VERSION or ended.status == 0:
         trial.demand(ended.status == 0, f"tools/dissect: {ended.end()}", ended.call)
@@ -137,10 +157,23 @@ def tshark(evidence: Evidence) -> None:
     trial.demand(bent.status == 1 and "otherwise: 0\n" not in bent.text, "a bit that is turned isn't seen", bent.call)
 
 
+def fuzz(evidence: Evidence) -> None:
+    """libFuzzer on the library, and planted bugs."""
+    evidence.runs("tools/fuzz/run", "--test", evidence.size("20", "60"))
+
+
+def bench(evidence: Evidence) -> None:
+    """The loads of bench/run."""
+    evidence.runs("bench/run", "--check", evidence.trial.file)
+
+
 PARTS: dict[str, Callable[[Evidence], None]] = {
     "compressor": compressor,
     "lossy": lossy,
+    "real": real,
     "tshark": tshark,
+    "fuzz": fuzz,
+    "bench": bench,
 }
 
 
@@ -155,7 +188,7 @@ def check(trial: Trial) -> None:
     if not file:
         trial.leave_out("cargo isn't installed, so no packets of the test compressor were tried")
     evidence = Evidence(trial, file)
-    names = [name for name in trial.chosen(list(PARTS)) if file or name not in ("compressor", "lossy", "tshark")]
+    names = [name for name in trial.chosen(list(PARTS)) if file or name == "fuzz"]
     with ThreadPoolExecutor(len(PARTS)) as pool:
         for done in [pool.submit(PARTS[name], evidence) for name in names]:
             done.result()

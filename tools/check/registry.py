@@ -162,7 +162,7 @@ CHECKS = (
         "evidence",
         ON_PROGRAM,
         evidence.check,
-        "made and real calls, a lossy link, Wireshark's and scapy's readings of packets",
+        "made and real calls, a lossy link, Wireshark's and scapy's readings, a fuzzer, bench/run's loads",
         knows=evidence.is_part,
     ),
     Check("poverty", ON_PROGRAM, poverty.check, "each request for memory refused in turn"),

@@ -13,6 +13,7 @@ reads it.
 import subprocess
 import sys
 import tempfile
+from collections import Counter
 from collections.abc import Iterator
 from concurrent.futures import ProcessPoolExecutor
 from pathlib import Path
@@ -72,7 +73,7 @@ def by_scapy(counts: Counts, python: str, packets: list[said.Said]) -> None:
     for one, line in zip(delivered, told.splitlines(), strict=True):
         header, *numbers, verdict = line.split(" ")
         counts.compare_numbers(one, "header by scapy", "same", header)
-        counts.agreed[f"UDP checksum by scapy: {verdict}"] += 1
+        counts.udp_checksums[verdict] += 1
         for name, number in zip(("SN", "TS", "SSRC"), numbers, strict=True):
             if name in one.view:
                 counts.compare_numbers(one, f"{name} by scapy", one.view[name], number)
@@ -95,9 +96,26 @@ def compared(folder: Path, python: str, bend: bool) -> Counts:
     return counts
 
 
+def group(name: str) -> str:
+    """What a field is counted among."""
+    if name == "header checksum":
+        return "header checksums of what was delivered, by Wireshark"
+    if name == "header by scapy":
+        return "headers of what was delivered, written anew by scapy"
+    if name.endswith(" by scapy"):
+        return "numbers of SN, TS and SSRC, by scapy"
+    if name.startswith("delivered "):
+        return "fields of a compressed packet that are in the delivered one, by Wireshark"
+    return "fields of compressed packets and of feedback, by Wireshark"
+
+
 def rows(counts: Counts) -> Iterator[str]:
     """What was found, in lines."""
-    for title, found in ("packets", counts.packets), ("as the model says", counts.agreed), ("known", counts.known):
+    agreed: Counter[str] = Counter()
+    for name, number in counts.agreed.items():
+        agreed[group(name)] += number
+    parts = {"packets": counts.packets, "as the model says": agreed, "known differences": counts.known}
+    for title, found in {**parts, "UDP checksums, by scapy": counts.udp_checksums}.items():
         yield f"{title}: {sum(found.values())}"
         yield from (f"  {number:7} {name}" for name, number in sorted(found.items()))
     yield f"otherwise: {len(counts.faults)}"

@@ -52,6 +52,7 @@ class Counts:
     packets: Counter[str] = field(default_factory=Counter)
     agreed: Counter[str] = field(default_factory=Counter)
     known: Counter[str] = field(default_factory=Counter)
+    udp_checksums: Counter[str] = field(default_factory=Counter)
     faults: list[str] = field(default_factory=list)
 
     def add(self, other: "Counts") -> None:
@@ -59,6 +60,7 @@ class Counts:
         self.packets += other.packets
         self.agreed += other.agreed
         self.known += other.known
+        self.udp_checksums += other.udp_checksums
         self.faults += other.faults
 
     def compare_field(self, said: Said, name: str, theirs: str, ours: str) -> None:

@@ -30,15 +30,15 @@ pub const KINDS: [&str; 21] = [
 ];
 
 /// A call that goes on.
-struct Call {
-    header: Header,
+pub(crate) struct Call {
+    pub(crate) header: Header,
     stride: u32,
     identification: u16,
     time: u64,
     random: Random,
 }
 
-fn call(number: u16, seed: u64) -> Call {
+pub(crate) fn call(number: u16, seed: u64) -> Call {
     let mut random = Random::new(seed.wrapping_mul(977) + u64::from(number));
     let header = Header {
         tos: 0xb8,
@@ -70,7 +70,7 @@ fn call(number: u16, seed: u64) -> Call {
 
 impl Call {
     /// The next packet of the stream: one step of SN, TS and time.
-    fn step(&mut self) {
+    pub(crate) fn step(&mut self) {
         self.header.sn = self.header.sn.wrapping_add(1);
         self.header.ts = self.header.ts.wrapping_add(self.stride);
         self.header.m = false;
@@ -80,7 +80,7 @@ impl Call {
     }
 
     /// A silence of so many strides, after which the marker is set.
-    fn silence(&mut self, strides: u32) {
+    pub(crate) fn silence(&mut self, strides: u32) {
         self.header.ts = self.header.ts.wrapping_add(self.stride * strides);
         self.header.m = true;
         self.time += 20_000_000 * u64::from(strides);

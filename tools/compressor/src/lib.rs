@@ -12,6 +12,7 @@ pub mod header;
 pub mod ir;
 pub mod learn;
 pub mod live;
+pub mod load;
 pub mod lossy;
 pub mod lsb;
 pub mod pcap;

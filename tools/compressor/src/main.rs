@@ -7,10 +7,11 @@ use compressor::fault::{lines, write, Fault};
 use compressor::feedback::feedback;
 use compressor::gap;
 use compressor::generate::packets;
+use compressor::load;
 use compressor::pcap::{written, Capture};
 use compressor::results::table;
 use compressor::script::{run, Plan};
-use compressor::words::{order, Lossy, Making, Order, Script, HELP};
+use compressor::words::{order, Load, Lossy, Making, Order, Script, HELP};
 
 fn script(words: Script) -> Result<u8, Fault> {
     let capture = Capture::of_files(&words.captures)?;
@@ -54,6 +55,14 @@ fn lossy(words: &Lossy) -> Result<u8, Fault> {
     Ok(0)
 }
 
+fn make_load(words: &Load) -> Result<u8, Fault> {
+    let made = load::written(&words.load);
+    for (file, text) in words.files.iter().zip([made.script, made.expected, made.links]) {
+        write(file, text.as_bytes())?;
+    }
+    Ok(0)
+}
+
 fn obey(order: Order) -> Result<u8, Fault> {
     match order {
         Order::Help => write("-", format!("{HELP}\n").as_bytes()).map(|()| 0),
@@ -61,6 +70,7 @@ fn obey(order: Order) -> Result<u8, Fault> {
         Order::Script(words) => script(*words),
         Order::Check { expected, answers } => check(&expected, &answers),
         Order::Lossy(words) => lossy(&words),
+        Order::Load(words) => make_load(&words),
         Order::Generate { kind, file, making } => generate(&kind, &file, &making),
     }
 }

@@ -8,7 +8,7 @@ use crate::pcap::Packet;
 
 const CLEAN: Path = Path { loss: 0.0, errors: 0.0, late: 0.0, twice: 0.0 };
 const LOSSES: [(&str, f64); 5] = [("0", 0.0), ("0.1%", 0.001), ("1%", 0.01), ("3%", 0.03), ("10%", 0.1)];
-const ERRORS: [(&str, f64); 4] = [("0", 0.0), ("1e-6", 1e-6), ("1e-5", 1e-5), ("1e-4", 1e-4)];
+const ERRORS: [(&str, f64); 3] = [("0", 0.0), ("1e-5", 1e-5), ("1e-4", 1e-4)];
 
 /// The rows, each with what stands before its numbers.
 fn paths() -> Vec<(String, Path)> {

@@ -4,6 +4,7 @@ use crate::fault::Fault;
 use crate::flow::Link;
 use crate::formats::names;
 use crate::generate::KINDS;
+use crate::load;
 use crate::lossy::{Delays, Plan};
 use crate::pcap::Framing;
 use crate::sender::Settings;
@@ -17,6 +18,9 @@ usage: compressor script [OPTION..] CAPTURE..
            writes a capture of a kind
        compressor lossy PROGRAM [--packets N] [--seed N] [--kind KIND] [--delay MS] [--feedback-delay MS]
            sends a call to a rohcd over a link that loses and damages, both ways, and writes a table of what came out
+       compressor load ORDER [--links N] [--streams N] [--packets N] [--seed N] --files SCRIPT,EXPECT,LINKS
+           writes an honest load for benchmarks, in the order rounds, scattered or coming: a script, the packets that
+           must come out, and a links file
        compressor --help | --version
 
 options of script:
@@ -46,7 +50,11 @@ options of script:
   --seed N             of what is lost and picked (1)
 
 lossy sends 10000 packets of g729 in U mode and in O mode for each row, with the sender as script has it, and an IR in
-O mode until one is acknowledged. The delays are 40 and 60 milliseconds. The same seed gives the same table.";
+O mode until one is acknowledged. The delays are 40 and 60 milliseconds. The same seed gives the same table.
+
+load has 10000 packets of 1 call on each of 1 link. In rounds the calls take turns. In the orders scattered and coming
+nothing is in order: calls begin and go on at random, and CIDs and numbers of links are random. In the order coming calls
+end, and others begin with CIDs that are free.";
 
 /// What is to be done.
 pub enum Order {
@@ -56,6 +64,14 @@ pub enum Order {
     Check { expected: String, answers: String },
     Generate { kind: String, file: String, making: Making },
     Lossy(Box<Lossy>),
+    Load(Box<Load>),
+}
+
+/// The words of `load`.
+pub struct Load {
+    pub load: load::Load,
+    /// The files for its script, the packets that must come out, and its links file.
+    pub files: [String; 3],
 }
 
 /// The words of `lossy`.
@@ -285,6 +301,27 @@ fn lossy(said: &[String]) -> Result<Order, Fault> {
     })))
 }
 
+fn load(said: &[String]) -> Result<Order, Fault> {
+    let options = Options::of(said, &["--links", "--streams", "--packets", "--seed", "--files"], &[])?;
+    let orders = [load::Order::Rounds, load::Order::Scattered, load::Order::Coming];
+    let place = options.rest.first().and_then(|word| load::ORDERS.iter().position(|one| one == word));
+    let (Some(place), 1) = (place, options.rest.len()) else {
+        return words(format!("load wants one of {}", load::ORDERS.join(", ")));
+    };
+    let files: Vec<String> = options.text("--files").unwrap_or_default().split(',').map(str::to_string).collect();
+    let Ok(files) = <[String; 3]>::try_from(files) else {
+        return words("--files wants three files".to_string());
+    };
+    let load = load::Load {
+        order: orders[place],
+        links: options.number("--links", 1, 256, 1)? as u16,
+        streams: options.number("--streams", 1, 16_384, 1)? as u16,
+        packets: options.number("--packets", 0, 10_000_000, 10_000)?,
+        seed: options.number("--seed", 0, u64::MAX, 1)?,
+    };
+    Ok(Order::Load(Box::new(Load { load, files })))
+}
+
 /// What the words after the program's name order.
 pub fn order(said: &[String]) -> Result<Order, Fault> {
     let Some((first, rest)) = said.split_first() else {
@@ -296,6 +333,7 @@ pub fn order(said: &[String]) -> Result<Order, Fault> {
         ("script", _) => script(rest),
         ("generate", _) => generate(rest),
         ("lossy", _) => lossy(rest),
+        ("load", _) => load(rest),
         ("check", [expected, answers]) => Ok(Order::Check { expected: expected.clone(), answers: answers.clone() }),
         ("check", _) => words("check wants two files".to_string()),
         _ => words(format!("unknown command {first}; see --help")),
@@ -314,7 +352,7 @@ mod tests {
     #[test]
     fn good_words() {
         for text in
-            ["--help", "--version", "script a b --w 8 --cid large", "check a b", "generate g711 a --big", "lossy a"]
+            ["--help", "--version", "script a b --w 8 --cid large", "check a b", "lossy a", "load coming --files a,b,c"]
         {
             assert_eq!(fault(text), "none", "{text}");
         }
@@ -337,6 +375,8 @@ mod tests {
             ("check a", "check wants two files"),
             ("generate g711", "generate wants a kind and a file"),
             ("lossy", "lossy wants a program"),
+            ("load", "load wants one of rounds, scattered, coming"),
+            ("load rounds --files a,b", "--files wants three files"),
             ("lossy a --delay 10001", "--delay 10001 is no number from 0 to 10000"),
         ];
         for (text, said) in all {

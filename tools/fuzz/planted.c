@@ -1,0 +1,59 @@
+/*
+ * Bugs that the fuzzer must find, one for each value of PLANTED. It is linked with --wrap=rohc_arrive,--wrap=rohc_new, and
+ * alters the library's answers in one rare case each.
+ */
+#include <stdbool.h>
+#include <stdint.h>
+#include <string.h>
+
+#include "rohc.h"
+
+uint8_t __real_rohc_new(struct rohc_gateway *gateway, const struct rohc_link *links, size_t count, size_t *place);
+uint8_t __real_rohc_arrive(struct rohc_gateway *gateway, uint16_t link, uint64_t moment, const uint8_t *octets, size_t count,
+                           uint8_t *packet, size_t packet_room, uint8_t *feedback, size_t feedback_room, uint8_t *relayed,
+                           size_t relayed_room, struct rohc_arrival *arrival);
+
+/* Whether a context of this gateway has fallen to No Context, and which. */
+static bool fell;
+static uint16_t fallen;
+
+uint8_t __wrap_rohc_new(struct rohc_gateway *gateway, const struct rohc_link *links, size_t count, size_t *place) {
+    fell = false;
+    return __real_rohc_new(gateway, links, count, place);
+}
+
+/* The Acktype of feedback, or 3 if it has none. */
+static unsigned acktype(const uint8_t *feedback, const struct rohc_arrival *arrival) {
+    size_t at = arrival->cid > 0 ? 2 : 1;
+    return arrival->has_feedback && arrival->feedback_length > at + 1 ? feedback[at] >> 6 : 3;
+}
+
+static void plant(const uint8_t *octets, uint8_t *packet, uint8_t *feedback, struct rohc_arrival *arrival) {
+    unsigned said = acktype(feedback, arrival);
+#if PLANTED == 1
+    /* The check of a NACK for a CID other than 0. */
+    if (said == 1 && arrival->cid > 0) feedback[arrival->feedback_length - 1] ^= 1;
+    (void)octets, (void)packet;
+#elif PLANTED == 2
+    /* A context that fell to No Context changes the payload of the next packet of another. */
+    if (fell && arrival->has_packet && arrival->cid != fallen && arrival->packet_length > 0) {
+        packet[arrival->packet_length - 1] ^= 1;
+        fell = false;
+    }
+    if (said == 2) fell = true, fallen = arrival->cid;
+    (void)octets;
+#else
+    /* An IR-DYN that is refused for its check hands on one octet too many. */
+    if (octets[0] == 0xf8 && arrival->outcome == 28) arrival->packet_length = 1;
+    (void)said, (void)packet;
+#endif
+}
+
+uint8_t __wrap_rohc_arrive(struct rohc_gateway *gateway, uint16_t link, uint64_t moment, const uint8_t *octets, size_t count,
+                           uint8_t *packet, size_t packet_room, uint8_t *feedback, size_t feedback_room, uint8_t *relayed,
+                           size_t relayed_room, struct rohc_arrival *arrival) {
+    uint8_t status = __real_rohc_arrive(gateway, link, moment, octets, count, packet, packet_room, feedback, feedback_room,
+                                        relayed, relayed_room, arrival);
+    if (status == ROHC_ARRIVED) plant(octets, packet, feedback, arrival);
+    return status;
+}
