@@ -1,5 +1,7 @@
-/* Runs a script and prints its answer lines, as `rohcd replay` does:  gateway LINKS < SCRIPT
- * LINKS is the output of tools/link_lines.py for a links file. docs/FORMATS.md describes scripts and answer lines. */
+/* Runs a script and prints its answer lines, as `rohcd replay` does:  gateway LINKS [STATE] < SCRIPT
+ * LINKS is the output of tools/link_lines.py for a links file. docs/FORMATS.md describes scripts and answer lines. If there is
+ * a file STATE, the calls go on from what it has; in the end they are saved there. The statuses are those of `rohcd replay`;
+ * 6 is a state that is refused. */
 #include <inttypes.h>
 #include <stdio.h>
 #include <stdlib.h>
@@ -12,6 +14,8 @@ enum { PACKET = 65535, LINE = 131200 };
 
 static struct rohc_gateway gateway;
 static struct rohc_link links[ROHC_LINKS];
+/* The time of the last arrival. */
+static uint64_t latest;
 
 static void print_octets(const uint8_t *octets, size_t count) {
     if (count == 0) putchar('-');
@@ -29,6 +33,7 @@ static void arrive(unsigned link, uint64_t moment, const uint8_t *octets, size_t
     uint8_t feedback[ROHC_FEEDBACK_ROOM];
     struct rohc_arrival a;
     char cid[8] = "-";
+    latest = moment;
     if (rohc_arrive(&gateway, (uint16_t)link, moment, octets, count, packet, sizeof packet, feedback, sizeof feedback,
                     relayed, sizeof relayed, &a) != ROHC_ARRIVED) exit(4);
     for (size_t at = 0; at < a.relayed_length; at += 1 + relayed[at]) {
@@ -77,13 +82,49 @@ static bool run(const char *line, size_t length) {
     return true;
 }
 
+/* Goes on from the calls in a file, if it is there. */
+static void restore(const char *path, size_t count) {
+    FILE *file = fopen(path, "rb");
+    struct rohc_restored restored;
+    size_t length, place, room = 53 + 8 * (size_t)ROHC_LINKS + 77 * 65536;
+    uint8_t *octets, status;
+    if (!file) return;
+    octets = malloc(room);
+    if (!octets) exit(5);
+    length = fread(octets, 1, room, file);
+    fclose(file);
+    status = rohc_restore(&gateway, links, count, octets, length, &restored, &place);
+    free(octets);
+    if (status == ROHC_MADE) return;
+    fprintf(stderr, "gateway: %s: refused with %u at octet %zu\n", path, status, place);
+    exit(6);
+}
+
+/* Saves the calls in a new file beside that of before, which it then replaces. */
+static void save(const char *path) {
+    char *name = malloc(strlen(path) + 5);
+    size_t length = 0;
+    uint8_t *octets, none = 0;
+    FILE *file;
+    if (!name || rohc_save(&gateway, latest, &none, 0, &length) != ROHC_SAVED_NO_ROOM) exit(5);
+    octets = malloc(length);
+    if (!octets || rohc_save(&gateway, latest, octets, length, &length) != ROHC_SAVED) exit(5);
+    file = fopen(strcat(strcpy(name, path), ".new"), "wb");
+    if (!file || fwrite(octets, 1, length, file) != length || fclose(file) != 0 || rename(name, path) != 0) exit(4);
+    free(octets);
+    free(name);
+}
+
 int main(int count, char **words) {
     static char line[LINE + 2];
-    FILE *file = count == 2 ? fopen(words[1], "r") : NULL;
-    size_t length = 0, place;
+    FILE *file = count == 2 || count == 3 ? fopen(words[1], "r") : NULL;
+    size_t length = 0, place, links_count;
     int octet;
-    if (!file || rohc_new(&gateway, links, read_links(file, links), &place) != ROHC_MADE) return 3;
+    if (!file) return 3;
+    links_count = read_links(file, links);
     fclose(file);
+    if (rohc_new(&gateway, links, links_count, &place) != ROHC_MADE) return 3;
+    if (count == 3) restore(words[2], links_count);
     do {
         octet = getchar();
         if (octet != '\n' && octet != EOF) {
@@ -95,6 +136,7 @@ int main(int count, char **words) {
             length = 0;
         }
     } while (octet != EOF);
+    if (count == 3) save(words[2]);
     rohc_free(&gateway);
     return 0;
 }

@@ -48,6 +48,26 @@ enum rohc_made {
     ROHC_NO_MEMORY = 6        /**< There is no memory. */
 };
 
+/** What rohc_save() returns. */
+enum rohc_saved {
+    ROHC_SAVED = 0,           /**< The octets stand in the buffer. */
+    ROHC_SAVED_NONE = 1,      /**< There is no concentrator. */
+    ROHC_SAVED_NO_ROOM = 2,   /**< The buffer is too short. */
+    ROHC_SAVED_NO_MEMORY = 3  /**< There is no memory. */
+};
+
+/** What rohc_restore() returns, beside ROHC_MADE to ROHC_NO_MEMORY of enum rohc_made. */
+enum rohc_not_restored {
+    ROHC_NOT_SAVED = 7,    /**< The octets don't begin as those of a saved concentrator do. */
+    ROHC_VERSION = 8,      /**< They are of another version. */
+    ROHC_SHORT = 9,        /**< They end too soon. */
+    ROHC_BAD_LINK = 10,    /**< A bad value of a link. */
+    ROHC_BAD_CONTEXT = 11, /**< A bad value of a context. */
+    ROHC_BAD_ORDER = 12,   /**< A link or a CID for the second time, or a CID above the greatest of its link. */
+    ROHC_DIGEST = 13,      /**< The digest isn't that of the octets before it. */
+    ROHC_LONG = 14         /**< Octets follow the digest. */
+};
+
 /** What rohc_arrive() returns. */
 enum rohc_arrived {
     ROHC_ARRIVED = 0,      /**< The packet was taken, and the answer stands in the buffers. */
@@ -133,6 +153,17 @@ struct rohc_context_info {
     uint64_t accepted; /**< The time of its last accepted arrival, in milliseconds. */
 };
 
+/** What was restored, and what was left out. */
+struct rohc_restored {
+    uint64_t moment;        /**< The moment of saving, in milliseconds. */
+    uint64_t links;         /**< Links that were taken. */
+    uint64_t unknown_links; /**< Links that aren't in the settings, and were left out. */
+    uint64_t other_links;   /**< Links of another CID kind in the settings, which were left out. */
+    uint64_t contexts;      /**< Contexts that were taken. */
+    uint64_t left_contexts; /**< Contexts that were left out with their link. */
+    uint64_t high_contexts; /**< Contexts of taken links that were left out, above the greatest CID of the settings. */
+};
+
 /**
  * Makes a concentrator with these links, in this order and without contexts, in place of what the gateway had.
  *
@@ -209,6 +240,37 @@ bool rohc_link_at(struct rohc_gateway *gateway, size_t place, uint16_t *link);
 bool rohc_context_at(struct rohc_gateway *gateway, uint16_t link, size_t place, struct rohc_context_info *context);
 
 /**
+ * Writes all that the concentrator keeps into a buffer, so that rohc_restore() goes on from there. The gateway stays as it
+ * was. docs/FORMATS.md describes the octets: at most 77 for a context, 8 for a link, and 53.
+ *
+ * @param gateway the gateway
+ * @param moment the moment of saving, in milliseconds, of the clock of the arrivals
+ * @param octets gets the octets
+ * @param room the buffer's length
+ * @param count is set to how many octets are needed, at ROHC_SAVED and ROHC_SAVED_NO_ROOM
+ * @return one of enum rohc_saved; at all but ROHC_SAVED the buffer stays as it was
+ */
+uint8_t rohc_save(struct rohc_gateway *gateway, uint64_t moment, uint8_t *octets, size_t room, size_t *count);
+
+/**
+ * Makes a concentrator with these links that goes on from what was saved, in place of what the gateway had.
+ *
+ * Saved links that aren't among these, or are of another CID kind, are left out, and so are contexts above the greatest
+ * CID of their link; other settings may differ. After a fault the gateway and @p restored stay as they were.
+ *
+ * @param gateway the gateway
+ * @param links the links
+ * @param count how many links there are
+ * @param octets what rohc_save() wrote
+ * @param octets_count how many octets these are
+ * @param restored gets what was taken and left out
+ * @param place is set to the place of the link at fault, counted from 1, or of the octet, counted from 0; else to 0
+ * @return 0, or one of enum rohc_made or enum rohc_not_restored: the first fault, of the links and then of the octets
+ */
+uint8_t rohc_restore(struct rohc_gateway *gateway, const struct rohc_link *links, size_t count, const uint8_t *octets,
+                     size_t octets_count, struct rohc_restored *restored, size_t *place);
+
+/**
  * Writes the name of a refusal, followed by an octet 0, into a buffer.
  *
  * @param number the refusal's number, 1 to 30
@@ -247,6 +309,10 @@ ROHC_LAYOUT(offsetof(struct rohc_arrival, cid) == 2 && offsetof(struct rohc_arri
 ROHC_LAYOUT(offsetof(struct rohc_arrival, has_feedback) == 5 && offsetof(struct rohc_arrival, packet_length) == 8);
 ROHC_LAYOUT(offsetof(struct rohc_arrival, feedback_length) == 16 && offsetof(struct rohc_arrival, relayed_length) == 24);
 ROHC_LAYOUT(offsetof(struct rohc_arrival, relayed_count) == 32);
+ROHC_LAYOUT(sizeof(struct rohc_restored) == 56 && offsetof(struct rohc_restored, links) == 8);
+ROHC_LAYOUT(offsetof(struct rohc_restored, unknown_links) == 16 && offsetof(struct rohc_restored, other_links) == 24);
+ROHC_LAYOUT(offsetof(struct rohc_restored, contexts) == 32 && offsetof(struct rohc_restored, left_contexts) == 40);
+ROHC_LAYOUT(offsetof(struct rohc_restored, high_contexts) == 48);
 ROHC_LAYOUT(sizeof(struct rohc_context_info) == 16 && offsetof(struct rohc_context_info, profile) == 2);
 ROHC_LAYOUT(offsetof(struct rohc_context_info, state) == 4 && offsetof(struct rohc_context_info, accepted) == 8);
 

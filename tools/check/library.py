@@ -3,8 +3,8 @@
 examples/gateway.c must answer each example and each whole script as expected, octet for octet, and random scripts as the
 program does. tools/library_calls.c calls the library at its limits. Both run under the address sanitizer and under
 valgrind, if these are installed. tools/library_memory.c counts the memory that calls ask for and give back. The header
-is compiled as C99, C11 and C++. examples/udp_gateway.c takes a packet, the package in Python runs the examples, and
-pkg-config finds the installed library.
+is compiled as C99, C11 and C++. Scripts go on in other processes from saved calls. examples/udp_gateway.c takes a packet,
+the package in Python runs the examples, and pkg-config finds the installed library.
 """
 
 import os
@@ -12,6 +12,7 @@ import shutil
 from dataclasses import dataclass
 from pathlib import Path
 
+import restarts
 from examples import LONG, SCRIPTS, WORKED, Example, make_long, names_in, with_links
 from trial import Trial
 
@@ -164,6 +165,15 @@ def check_random(library: Library, gateway: Path) -> None:
         library.is_answered(gateway, Example(f"random script {seed}", links, script, answers))
 
 
+def check_restarts(library: Library, gateway: Path) -> None:
+    """Calls that go on in another process."""
+    found = all_examples(library.trial)
+    files = {example.links for example in found}
+    tool = library.trial.top / "tools/link_lines.py"
+    lines_of = {file: library.trial.made(f"links-{number}", tool, file) for number, file in enumerate(sorted(files))}
+    restarts.check(library.trial, gateway, found, lines_of)
+
+
 def check_beside(library: Library) -> None:
     """The gateway on sockets, and the package in Python."""
     trial = library.trial
@@ -212,6 +222,7 @@ def check(trial: Trial) -> None:
         check_sanitized(library)
         check_valgrind(library, gateway, calls)
         check_random(library, gateway)
+        check_restarts(library, gateway)
         check_beside(library)
         check_installed(library)
     except NotBuilt:

@@ -4,3 +4,4 @@ pub mod RelayLemmas
 pub mod SetupLemmas
 pub mod PacketLemmas
 pub mod PayloadLemmas
+mod SavedLemmas

@@ -6,3 +6,4 @@ pub mod Relay
 pub mod Written
 pub mod Calls
 pub mod Names
+pub mod Saved

@@ -1,6 +1,6 @@
 //! The functions that C calls.
 
-ghost use Rattle.std.specs.Prelude.{◌≡◌, ◌≢◌, ◌⊎◌, ◌↔◌, length, IsTrue, Some, None, true, false, IfSome, IsSome};
+ghost use Rattle.std.specs.Prelude.{◌≡◌, ◌≢◌, ◌≤◌, ◌⊎◌, ◌↔◌, length, IsTrue, Some, None, true, false, IfSome, IsSome};
 ghost use Rattle.rohc_c.specs.Setup.{IsNew, IsNewFault, fault_number, fault_place};
 ghost use Rattle.rohc_c.specs.declared.setup.NewFault.{NewFault};
 
@@ -9,6 +9,7 @@ use crate::gateway::Gateway;
 use crate::link::RohcLink;
 use crate::names::{put_name, refusal_of};
 use crate::room::has_room;
+use crate::saved::{RohcRestored, put_octets, rebuild, saved_octets};
 use crate::setup::build;
 use crate::standing::{RohcContextInfo, context_at};
 use crate::taking::take_packet;
@@ -232,4 +233,81 @@ pub extern "C" fn rohc_refusal_name(number: u8, name: &mut [u8]) -> usize
     }
     put_name(text, name);
     text.len()
+}
+
+ghost use Rattle.rohc_c.specs.Saved.{IsStored, TooShort, IsBack, IsNotBack, not_back_number, not_back_place};
+ghost use Rattle.rohc_c.specs.declared.saved.BackFault.{BackFault};
+
+/// Writes all that the concentrator keeps into a buffer (docs/FORMATS.md), as it is saved at this moment, in milliseconds of
+/// the clock of the arrivals.
+///
+/// Returns 0 if that is done, 1 if there is no concentrator, 2 if the buffer is too short, and 3 for lack of memory.
+/// `length` is set to the number of octets that are needed, at 0 and 2. Nothing else is changed at 1, 2 and 3.
+#[unsafe(no_mangle)]
+pub extern "C" fn rohc_save(
+    alloc: Global,
+    gateway: &mut Gateway,
+    moment: u64,
+    octets: &mut [u8],
+    length: &mut usize,
+) -> u8
+    ensures saved { result ≡ 0 → IfSome gateway.old.handle.concentrator (λ k. IsStored k moment octets.new length.new) }
+    ensures short { result ≡ 2 → IfSome gateway.old.handle.concentrator (λ k. TooShort k moment octets.old length.new) }
+    ensures absent { (result ≡ 1) ↔ (gateway.old.handle.concentrator ≡ None) }
+    ensures kept { gateway.new.handle.concentrator ≡ gateway.old.handle.concentrator }
+    ensures untouched { result ≢ 0 → octets.new ≡ octets.old }
+    ensures unknown { (result ≡ 1) ⊎ (result ≡ 3) → length.new ≡ length.old }
+    ensures within { result ≤ 3 }
+{
+    if !gateway.live {
+        return 1;
+    }
+    let concentrator = gateway.take(alloc);
+    let saved = saved_octets(alloc, &concentrator, moment);
+    gateway.put(concentrator);
+    let Some(saved) = saved else {
+        return 3;
+    };
+    *length = saved.len();
+    if put_octets(saved.as_slice(), octets) {
+        0
+    } else {
+        2
+    }
+}
+
+/// Makes a concentrator with these links that goes on from what these octets spell, in place of what the gateway had.
+///
+/// Links that aren't among these, or are of another CID kind, are left out, and contexts above the greatest CID; `restored`
+/// counts them. Returns 0, or why none is made: 1 to 6 as of `rohc_new`; then the first fault of the octets: 7 if they are
+/// no saved concentrator, 8 for another version, 9 if they end too soon, 10 for a bad value of a link, 11 for one of a
+/// context, 12 for a link or a CID for the second time, or a CID above the greatest of its link, 13 for another digest, 14
+/// for octets behind the end. `place` is set to the place of the link at fault, counted from 1, or of the octet, counted
+/// from 0; else to 0. After a fault the gateway and `restored` stay as they were.
+#[unsafe(no_mangle)]
+pub extern "C" fn rohc_restore(
+    alloc: Global,
+    gateway: &mut Gateway,
+    links: &[RohcLink],
+    octets: &[u8],
+    restored: &mut RohcRestored,
+    place: &mut usize,
+) -> u8
+    ensures back { result ≡ 0 → IsSome gateway.new.handle.concentrator × IfSome gateway.new.handle.concentrator
+        (λ k. IsBack links.now octets.now k restored.new) × (place.new ≡ 0) }
+    ensures fault { result ≢ 0 → (e : BackFault) × IsNotBack links.now octets.now e × (result ≡ not_back_number e) × (place.new ≡ not_back_place e) }
+    ensures kept { result ≢ 0 → (gateway.new ≡ gateway.old) × (restored.new ≡ restored.old) }
+{
+    let (concentrator, told) = match rebuild(alloc, links, octets) {
+        Ok(back) => back,
+        Err(fault) => {
+            *place = fault.place();
+            return fault.number();
+        }
+    };
+    rohc_free(alloc, gateway);
+    gateway.put(concentrator);
+    *restored = told;
+    *place = 0;
+    0
 }

@@ -14,6 +14,7 @@ mod names;
 mod payload;
 mod relay;
 mod room;
+pub mod saved;
 pub mod setup;
 pub mod standing;
 mod taking;

@@ -62,7 +62,7 @@ impl From<AllocError> for NewFault {
 }
 
 /// Finds more than 256 links, or else the first link that counts more than eight ranges.
-fn judge(links: &[RohcLink]) -> Result<(), NewFault>
+pub(crate) fn judge(links: &[RohcLink]) -> Result<(), NewFault>
     ensures few { OnOk result (All HasFewRanges links.now) }
     ensures within { OnOk result (length links.now ≤ 256) }
     ensures fault { IfErr result (λ e. IsNewFault links.now e) }
