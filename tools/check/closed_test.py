@@ -18,6 +18,10 @@ REFUSED = (
     # Forbidden uses, in each way of writing them.
     (SPECS, "use Rattle.rohc_context.specs.Step.{Steps}"),
     (SPECS, "use Rattle.rohc_context.specs.Step.{LoneStep, Steps}"),
+    (SPECS, "use Rattle.rohc_context.specs.SavedReading.{saved_at, state_at}"),
+    (SPECS, "use Rattle.rohc_context.specs.SavedText.{state_text}"),
+    (PROOFS, "use Rattle.rohc_context.proofs.SavedLemmas.{state_back}"),
+    (PROOFS, "use Rattle.rohc_context.specs.SavedReading.{saved_at}\nlemma : saved_at [] ≡ saved_at []\nunfolding saved_at\nlemma = refl"),
     (SPECS, "use Rattle.rohc_context.specs.Step.{\n  LoneStep,\n  Steps,\n}"),
     (SPECS, "use Rattle.rohc_context.specs.Step"),
     (SPECS, "use Rattle.rohc_context.specs.Step as step"),
@@ -124,6 +128,8 @@ ACCEPTED = (
         "use Rattle.rohc_context.specs.Step.{LoneStep}\nuse Rattle.rohc_context.specs.Record.{Record, record_of}\nuse Rattle.rohc_context.specs.AtOnce.{NeedsStep}\nuse Rattle.rohc_context.specs.Good.{AreGoodValues, IsGoodRecord}\nuse Rattle.rohc_context.specs.declared.record.Context.{Context}\nuse Rattle.rohc_context.specs.declared.reply.Outcome.TheVariants as outcomes\n-- LoneStep, which no crate above unfolds",
     ),
     (PROOFS, "use Rattle.rohc_context.proofs.StepLaws.{has_answer, keeps_good}"),
+    (PROOFS, "use Rattle.rohc_context.proofs.SavedLemmas.{comes_back, is_spelled}"),
+    (SPECS, "use Rattle.rohc_context.specs.SavedText.{saved_text}\nuse Rattle.rohc_context.specs.SavedReading.{saved_at}"),
     (PROOFS, "unfoldable pub own : ℕ\nlemma : own ≡ 1\nunfolding own\nlemma = refl"),
     (
         CODE,
