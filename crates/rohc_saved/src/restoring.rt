@@ -54,7 +54,7 @@ fn limit(concentrator: &Concentrator, number: u16, link: &SavedLink) -> Option<u
 }
 
 /// Puts a context of a link into a concentrator, if its CID is at most the greatest.
-#[tactic(auto, using(crate::proofs::RestoringLemmas::puts_adds, crate::proofs::RestoringLemmas::adds_none))]
+#[tactic(auto, using(crate::proofs::RestoringLemmas::adds_none))]
 fn put_context(
     concentrator: &mut Concentrator,
     number: u16,
@@ -70,6 +70,7 @@ fn put_context(
     if cid > greatest {
         return Ok(());
     }
+    // The link is there, the CID is within its greatest, and the reader lets no CID stand twice.
     match concentrator.put(number, cid, context) {
         Ok(()) => Ok(()),
         Err(_) => Err(SavedFault::NoMemory),
