@@ -1,6 +1,10 @@
 """Runs rohctl on answers and scripts whose totals and traces were counted by hand, and to each of its statuses."""
 
 import json
+import os
+import pty
+import subprocess
+from collections import Counter
 from collections.abc import Sequence
 from pathlib import Path
 
@@ -10,6 +14,8 @@ from trial import Trial
 PROGRAM = "crates/rohctl/out/rohctl"
 PLAIN = "examples/plain-call"
 LINKS = "examples/links.toml"
+SCRIPTS = "examples/scripts"
+SHOWN = 120
 
 # The call of plain-call.answers: two packets, FEEDBACK-1, and refusals since its line 4. Line 5 is a bad line.
 PLAIN_ROWS = (
@@ -136,16 +142,72 @@ def check_hostile(trial: Trial) -> None:
     trial.demand("no answer 5" in table.text, "not 5 lines that are no answer lines", table.call)
 
 
+def counted(answers: str) -> Counter[str]:
+    """The lines of each call, by the word that says what they are; refusals by their names too."""
+    words = [line.split() for line in answers.splitlines()]
+    kinds = [(link, cid, " ".join([kind, *rest][: 2 if kind == "refused" else 1])) for link, cid, kind, *rest in words]
+    return Counter(" ".join(kind) for kind in kinds if kind[1] != "-")
+
+
+def told(text: str) -> Counter[str]:
+    """What --json says of the calls, in the same way."""
+    found: Counter[str] = Counter()
+    for row in filter(lambda row: "cid" in row, map(json.loads, text.splitlines())):
+        pair = f"{row['link']} {row['cid']}"
+        counts = {"ip": row["delivered"], "stored": row["stored"], "feedback": sum(row["feedback"].values())}
+        counts |= {f"refused {name}": count for name, count in row["refused"].items()}
+        found += Counter({f"{pair} {kind}": count for kind, count in counts.items()})
+    return found
+
+
+def shown(line: bytes) -> str:
+    """What a trace shows of a line."""
+    front = "".join(chr(octet) if 32 <= octet < 127 else f"\\x{octet:02x}" for octet in line[:SHOWN])
+    return front + ".." * (len(line) > SHOWN)
+
+
+def check_whole(trial: Trial) -> None:
+    """The totals of the whole scripts' answers, against a count of their words; their traces, against the answers."""
+    files = sorted((trial.top / SCRIPTS).glob("*.script"))
+    trial.demand(bool(files), "there is no whole script")
+    for script in files:
+        answers = script.with_suffix(".answers")
+        totals = call(trial, "totals", "--json", answers)
+        lacks = counted(answers.read_text()) - told(totals.text)
+        more = told(totals.text) - counted(answers.read_text())
+        trial.demand(not lacks and not more, f"{answers.name}: lacks {lacks}, has more {more}", totals.call)
+        traced = call(trial, "trace", "--links", script.with_suffix(".toml"), script)
+        lines = script.read_bytes().removesuffix(b"\n").split(b"\n")
+        heads = Counter(f"{number} {shown(line)}" for number, line in enumerate(lines, 1))
+        left = Counter(traced.text.splitlines()) - heads
+        trial.demand(left == Counter(answers.read_text().splitlines()), f"{script.name}: other answers", traced.call)
+
+
 def check_trace(trial: Trial) -> None:
-    """The trace of a script, and of each whole script without its own lines: the answers of rohcd."""
+    """The trace of a script."""
     ended = call(trial, "trace", "--links", LINKS, given=SCRIPT)
     ends(trial, ended, 0)
     trial.same("the trace", TRACE, ended.text, ended.call)
-    script = trial.top / f"{PLAIN}.script"
-    traced = call(trial, "trace", "--links", LINKS, script)
-    heads = [f"{n} {line}" for n, line in enumerate(script.read_text().splitlines(), 1)]
-    answers = [line for line in traced.text.splitlines() if line not in heads]
-    trial.same("the answers in a trace", (trial.top / f"{PLAIN}.answers").read_text(), "".join(f"{a}\n" for a in answers))
+
+
+def on_terminal(trial: Trial, environment: dict[str, str]) -> bytes:
+    """What rohctl writes to a terminal for the plain call."""
+    ours, theirs = pty.openpty()
+    everything = {name: text for name, text in os.environ.items() if name != "NO_COLOR"} | environment
+    words = [trial.top / PROGRAM, "totals", trial.top / f"{PLAIN}.answers"]
+    subprocess.run(words, stdout=theirs, env=everything, check=False)
+    os.close(theirs)
+    written = os.read(ours, 1 << 16)
+    os.close(ours)
+    return written
+
+
+def check_colour(trial: Trial) -> None:
+    """A silent call is red on a terminal alone, and never with NO_COLOR."""
+    trial.demand(on_terminal(trial, {}).count(b"\x1b[31m") == 1, "a silent call isn't red on a terminal")
+    trial.demand(b"\x1b" not in on_terminal(trial, {"NO_COLOR": "1"}), "NO_COLOR: a colour on a terminal")
+    ended = call(trial, "totals", f"{PLAIN}.answers")
+    trial.demand(b"\x1b" not in ended.output, "a colour in a pipe", ended.call)
 
 
 def check_ends(trial: Trial) -> None:
@@ -165,5 +227,5 @@ def check_ends(trial: Trial) -> None:
 
 def check(trial: Trial) -> None:
     """All of it, on the program that the gate left."""
-    for part in (check_totals, check_json, check_metrics, check_hostile, check_trace, check_ends):
+    for part in (check_totals, check_json, check_metrics, check_hostile, check_trace, check_whole, check_colour, check_ends):
         part(trial)
