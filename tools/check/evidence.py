@@ -159,7 +159,7 @@ def tshark(evidence: Evidence) -> None:
 
 def fuzz(evidence: Evidence) -> None:
     """libFuzzer on the library, and planted bugs."""
-    evidence.runs("tools/fuzz/run", "--test", evidence.size("20", "60"))
+    evidence.runs("tools/fuzz/run", "--test", evidence.size("10", "60"))
 
 
 def bench(evidence: Evidence) -> None:
