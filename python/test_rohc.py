@@ -28,6 +28,7 @@ from rohc import (  # noqa: E402
     Link,
     NoLink,
     Range,
+    SavedError,
     SetupError,
     State,
 )
@@ -169,6 +170,25 @@ class Calls(unittest.TestCase):
             for other in ("fc00", 5, None, [0xFC]):
                 with self.assertRaises(TypeError):
                     concentrator.arrive(1, 0, other)  # type: ignore[arg-type]
+
+    def test_saved_and_restored(self) -> None:
+        with Concentrator([Link(1), Link(2)]) as concentrator:
+            self.assertEqual(concentrator.arrive(1, 3, self.IR).packet, b"\x45\xaa")
+            octets = concentrator.save(5)
+        # 21 octets, 8 for each link, 11 for the context, and a digest of 32.
+        self.assertEqual((octets[:11], len(octets)), (b"Polorowan\0\1", 21 + 2 * 8 + 11 + 32))
+        again, told = Concentrator.restored([Link(1), Link(3)], octets)
+        with again:
+            self.assertEqual((told.moment, told.links, told.unknown_links, told.contexts), (5, 1, 1, 1))
+            self.assertEqual(again.arrive(1, 9, b"\x45\xab").packet, b"\x45\xab")
+        with self.assertRaises(Closed):
+            again.save(9)
+        for bad, status, place in ((octets + b"x", 14, len(octets)), (octets[:-1], 9, len(octets) - 1)):
+            with self.assertRaises(SavedError) as caught:
+                Concentrator.restored([Link(1)], bad)
+            self.assertEqual((caught.exception.status, caught.exception.place), (status, place))
+        with self.assertRaises(SetupError):
+            Concentrator.restored([], octets)
 
     def test_no_copy(self) -> None:
         with Concentrator([Link(1)]) as concentrator:

@@ -274,6 +274,64 @@ static void want_of_memory(void) {
     rohc_free(&g);
 }
 
+/* The octets of a gateway, saved at this moment, in a block of exactly their number. */
+static uint8_t *saved(struct rohc_gateway *g, uint64_t moment, size_t *count) {
+    uint8_t one = 0x55, *octets;
+    CHECK(rohc_save(g, moment, &one, 0, count) == ROHC_SAVED_NO_ROOM && one == 0x55);
+    octets = __real_malloc(*count);
+    memset(octets, 0x55, *count);
+    CHECK(rohc_save(g, moment, octets, *count - 1, count) == ROHC_SAVED_NO_ROOM && octets[0] == 0x55);
+    CHECK(rohc_save(g, moment, octets, *count, count) == ROHC_SAVED);
+    return octets;
+}
+
+/* What is saved of a plain call on the first of two links: 21 octets, 8 for each link, 11 for the context, a digest of 32. */
+static void saved_and_restored(void) {
+    struct rohc_link links[3] = {link_of(1), link_of(2), link_of(3)};
+    struct rohc_gateway g = gateway_of(links, 2), other = {0};
+    struct rohc_restored told = {.links = 0x77};
+    size_t count = 7, place = 7;
+    uint8_t *octets, one = 0x55;
+    CHECK(rohc_save(&other, 5, &one, 1, &count) == ROHC_SAVED_NONE && count == 7 && one == 0x55);
+    CHECK(arrives(&g, 3, PLAIN_IR, 5, ROHC_DELIVERED));
+    octets = saved(&g, 5, &count);
+    CHECK(count == 21 + 2 * 8 + 11 + 32 && !memcmp(octets, "Polorowan\0\1\0\0\0\0\0\0\0\5\0\2\0\1", 23));
+    CHECK(rohc_restore(&other, links, 3, octets, count, &told, &place) == ROHC_MADE && place == 0);
+    CHECK(told.moment == 5 && told.links == 2 && told.contexts == 1 && told.unknown_links == 0 && told.other_links == 0);
+    CHECK(told.left_contexts == 0 && told.high_contexts == 0 && is_context(&other, 0, 0, 0x0000, ROHC_FULL_CONTEXT, 3));
+    CHECK(rohc_restore(&other, links + 1, 1, octets, count, &told, &place) == ROHC_MADE);
+    CHECK(told.links == 1 && told.unknown_links == 1 && told.contexts == 0 && told.left_contexts == 1);
+    links[0].large = true;
+    CHECK(rohc_restore(&other, links, 2, octets, count, &told, &place) == ROHC_MADE);
+    CHECK(told.links == 1 && told.other_links == 1 && told.left_contexts == 1 && !rohc_has_context(&other, 1, 0));
+    links[0].large = false;
+    told.links = 0x77;
+    CHECK(rohc_restore(&g, links, 0, octets, count, &told, &place) == ROHC_NO_LINKS && place == 0);
+    CHECK(rohc_restore(&g, links, 2, octets, count - 1, &told, &place) == ROHC_SHORT && place == count - 1);
+    octets[0] ^= 1;
+    CHECK(rohc_restore(&g, links, 2, octets, count, &told, &place) == ROHC_NOT_SAVED && place == 0);
+    octets[0] ^= 1;
+    octets[10] = 2;
+    CHECK(rohc_restore(&g, links, 2, octets, count, &told, &place) == ROHC_VERSION && place == 9);
+    octets[10] = 1;
+    octets[18] ^= 1;
+    CHECK(rohc_restore(&g, links, 2, octets, count, &told, &place) == ROHC_DIGEST && place == count - 32);
+    CHECK(told.links == 0x77 && is_context(&g, 0, 0, 0x0000, ROHC_FULL_CONTEXT, 3));
+    octets[18] ^= 1;
+    for (unsigned long request = 1;; request++) {
+        refused = request;
+        uint8_t made = rohc_restore(&other, links, 2, octets, count, &told, &place);
+        if (refused != 0) break;
+        CHECK(made == ROHC_NO_MEMORY && place == 0 && !rohc_has_context(&other, 1, 0) && told.links == 0x77);
+    }
+    refused = 1;
+    CHECK(rohc_has_context(&other, 1, 0) && rohc_save(&g, 5, &one, 1, &place) == ROHC_SAVED_NO_MEMORY && one == 0x55);
+    refused = 0;
+    free(octets);
+    rohc_free(&g);
+    rohc_free(&other);
+}
+
 int main(void) {
     without_a_concentrator();
     freed_twice();
@@ -284,6 +342,7 @@ int main(void) {
     places();
     names();
     want_of_memory();
+    saved_and_restored();
     puts(failed ? "calls at the edges: NOT as wanted" : "calls at the edges as wanted");
     return failed != 0;
 }

@@ -19,7 +19,7 @@ from enum import IntEnum
 from typing import NoReturn, TypeVar
 
 from . import _library
-from ._errors import Closed, Error, NoLink, SetupError
+from ._errors import NOT_RESTORED, Closed, Error, NoLink, SavedError, SetupError
 
 T = TypeVar("T")
 
@@ -33,6 +33,8 @@ __all__ = [
     "Link",
     "NoLink",
     "Range",
+    "Restored",
+    "SavedError",
     "SetupError",
     "State",
 ]
@@ -118,6 +120,23 @@ class Answer:
         return self.kind == Kind.CONTEXT and self.packet is None and self.refusal is None
 
 
+@dataclass(frozen=True)
+class Restored:
+    """The moment of saving, and how much of what was saved was taken or left out."""
+
+    moment: int
+    links: int
+    unknown_links: int
+    """Links that aren't in the settings."""
+    other_links: int
+    """Links of another CID kind in the settings."""
+    contexts: int
+    left_contexts: int
+    """Contexts that were left out with their link."""
+    high_contexts: int
+    """Contexts above the greatest CID of the settings."""
+
+
 class Concentrator:
     """The contexts of all links. `close` or a `with` block frees it, and then every other call raises `Closed`.
 
@@ -129,6 +148,31 @@ class Concentrator:
         status, place = _library.new(self._room.gateway, [_link(link) for link in links])
         if status != 0:
             raise SetupError(status, place)
+
+    @classmethod
+    def restored(
+        cls, links: Iterable[Link], octets: bytes | bytearray | memoryview
+    ) -> tuple[Concentrator, Restored]:
+        """A concentrator with these links that goes on from what `save` gave, and what was taken and left out.
+
+        The error is `SetupError` or `SavedError`.
+        """
+        new = cls.__new__(cls)
+        new._room = _library.Room()
+        raw = [_link(link) for link in links]
+        status, place, told = _library.restore(new._room.gateway, raw, memoryview(octets).tobytes())
+        if status != 0:
+            raise SavedError(status, place) if status in NOT_RESTORED else SetupError(status, place)
+        return new, Restored(*(getattr(told, name) for name, _ in told._fields_))
+
+    def save(self, moment: int) -> bytes:
+        """All that is kept, as octets (docs/FORMATS.md). The moment is of the clock of the arrivals, in milliseconds."""
+        time = _within(moment, 64)
+        with self._room as room:
+            status, octets = _library.save(room.gateway, time)
+        if status != 0:
+            raise MemoryError
+        return octets
 
     def arrive(self, link: int, moment: int, octets: bytes | bytearray | memoryview) -> Answer:
         """Takes one packet of a link, with its arrival time in milliseconds, and returns the answer.

@@ -10,6 +10,16 @@ MADE = {
     5: "the number of an earlier link",
     6: "there is no memory",
 }
+NOT_RESTORED = {
+    7: "no saved concentrator",
+    8: "an unknown version",
+    9: "the octets end too soon",
+    10: "a bad value of a link",
+    11: "a bad value of a context",
+    12: "a link or a CID out of order",
+    13: "another digest",
+    14: "octets behind the end",
+}
 
 
 class Error(Exception):
@@ -22,6 +32,15 @@ class SetupError(Error, ValueError):
     def __init__(self, status: int, place: int) -> None:
         where = f" at link {place}" if place else ""
         super().__init__(f"{MADE.get(status, status)}{where}")
+        self.status = status
+        self.place = place
+
+
+class SavedError(Error, ValueError):
+    """Octets are refused. `status` is one of enum rohc_not_restored; `place` is that of the octet at fault, from 0."""
+
+    def __init__(self, status: int, place: int) -> None:
+        super().__init__(f"{NOT_RESTORED.get(status, status)}, at octet {place}")
         self.status = status
         self.place = place
 

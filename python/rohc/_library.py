@@ -13,6 +13,7 @@ from threading import Lock
 from ._errors import Closed
 
 HEAD_ROOM, FEEDBACK_ROOM, NAME_ROOM = 40, 8, 16
+NO_ROOM = 2
 
 
 class Gateway(ctypes.Structure):
@@ -59,6 +60,21 @@ class ContextInfo(ctypes.Structure):
     _fields_ = [("cid", c_uint16), ("profile", c_uint16), ("state", c_uint8), ("accepted", c_uint64)]
 
 
+class Restored(ctypes.Structure):
+    _fields_ = [
+        (name, c_uint64)
+        for name in (
+            "moment",
+            "links",
+            "unknown_links",
+            "other_links",
+            "contexts",
+            "left_contexts",
+            "high_contexts",
+        )
+    ]
+
+
 def _path() -> str:
     """Where the library is."""
     given = os.environ.get("ROHC_LIBRARY")
@@ -88,6 +104,11 @@ def _functions() -> ctypes.PyDLL:
         "rohc_link_at": (c_bool, [POINTER(Gateway), c_size_t, POINTER(c_uint16)]),
         "rohc_context_at": (c_bool, [POINTER(Gateway), c_uint16, c_size_t, POINTER(ContextInfo)]),
         "rohc_refusal_name": (c_size_t, [c_uint8, octets, c_size_t]),
+        "rohc_save": (c_uint8, [POINTER(Gateway), c_uint64, octets, c_size_t, POINTER(c_size_t)]),
+        "rohc_restore": (
+            c_uint8,
+            [POINTER(Gateway), POINTER(Link), c_size_t, octets, c_size_t, POINTER(Restored), POINTER(c_size_t)],
+        ),
     }
     for name, (result, arguments) in types.items():
         function = getattr(library, name)
@@ -100,6 +121,27 @@ def new(gateway: Gateway, links: list[Link]) -> tuple[int, int]:
     place = c_size_t()
     array = (Link * max(len(links), 1))(*links)
     return _functions().rohc_new(byref(gateway), array, len(links), byref(place)), place.value
+
+
+def restore(gateway: Gateway, links: list[Link], octets: bytes) -> tuple[int, int, Restored]:
+    """Makes a concentrator from saved octets. Returns the status, the place of the fault, and what was restored."""
+    place, restored = c_size_t(), Restored()
+    array = (Link * max(len(links), 1))(*links)
+    status = _functions().rohc_restore(
+        byref(gateway), array, len(links), octets, len(octets), byref(restored), byref(place)
+    )
+    return status, place.value, restored
+
+
+def save(gateway: Gateway, moment: int) -> tuple[int, bytes]:
+    """The status, and the octets of a concentrator that is saved at this moment."""
+    count, none = c_size_t(), ctypes.create_string_buffer(1)
+    status = _functions().rohc_save(byref(gateway), moment, none, 0, byref(count))
+    if status != NO_ROOM:
+        return status, b""
+    octets = ctypes.create_string_buffer(count.value)
+    status = _functions().rohc_save(byref(gateway), moment, octets, count.value, byref(count))
+    return status, octets.raw
 
 
 class Room:
