@@ -8,6 +8,7 @@ from collections import Counter
 from collections.abc import Sequence
 from pathlib import Path
 
+from installation import COMPLETE
 from program import Call, Ended, run
 from trial import Trial
 
@@ -47,6 +48,16 @@ MIXED_ROWS = (
 )
 MIXED_LINES = "lines 12 relayed 1 bad 0 long 1 no answer 2"
 HOSTILE = b"\x1b[31m\n1 0 ip \x00\n\xff\xfe refused Check\n1 0 refused \"}\n" + b"1 0 ip " + b"0" * 131_200
+
+# What bash completes, and behind which words.
+COMPLETIONS = (
+    ("totals trace", ("",)),
+    ("totals", ("to",)),
+    ("--json --prometheus", ("totals", "--")),
+    ("--links", ("trace", "--l")),
+    ("links.toml", ("trace", "--links", "li")),
+    ("answers links.toml", ("totals", "")),
+)
 
 # A script of one packet, a line with an escape, and a last line without a newline.
 SCRIPT = b"arrive 1 0 fc00b745aa\n\x1b[2J\nreset 9"
@@ -210,6 +221,18 @@ def check_colour(trial: Trial) -> None:
     trial.demand(b"\x1b" not in ended.output, "a colour in a pipe", ended.call)
 
 
+def check_completion(trial: Trial) -> None:
+    """What bash completes."""
+    for name in ("links.toml", "answers"):
+        trial.write(f"typing/{name}", "")
+    script = trial.top / "completion/rohctl.bash"
+    for wanted, words in COMPLETIONS:
+        complete = COMPLETE.replace("_rohcd", "_rohctl")
+        ended = run(Call(("bash", "-c", complete, script, "rohctl", *words), folder=trial.scratch / "typing"))
+        found = ended.text.removesuffix("\n").rstrip(" ")
+        trial.demand(found == wanted, f"completion of '{' '.join(words)}': '{found}'; wanted '{wanted}'", ended.call)
+
+
 def check_ends(trial: Trial) -> None:
     """The statuses of wrong words and files; help and version."""
     for words in (("--help",), ("--version",), ("totals", "--help"), ("trace", "--help")):
@@ -227,5 +250,5 @@ def check_ends(trial: Trial) -> None:
 
 def check(trial: Trial) -> None:
     """All of it, on the program that the gate left."""
-    for part in (check_totals, check_json, check_metrics, check_hostile, check_trace, check_whole, check_colour, check_ends):
+    for part in (check_totals, check_json, check_metrics, check_hostile, check_trace, check_whole, check_colour, check_completion, check_ends):
         part(trial)
