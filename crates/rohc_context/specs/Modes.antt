@@ -53,7 +53,7 @@ HasOneTry = (r : Record) (fixed : Static) (reference : Reference) (previous : Op
     LoneStep (Some r) s moment h response next → response.outcome ≡ Delivered →
     (e : Explained) × Fits fixed (unshifted reference) c e × (response ≡ delivered e.octets c.payload None)
 
--- In profile 0x0000 a packet of kind Other is always taken at once, if the record counts and any packet may be.
+-- In profile 0x0000 a packet of kind Other is always taken at once, if the record counts and any may be.
 abbrev pub PlainAtOnce : Type 0
 PlainAtOnce = (idle_ms moment : ℕ) (r : Record) (h : Header) → r.state ≡ Plain →
     counts_within idle_ms moment r ≡ true → ¬ NeedsStep Any idle_ms moment r h

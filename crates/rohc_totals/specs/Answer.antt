@@ -60,10 +60,10 @@ is_hex octets = bytes_eq octets (codes "-") || is_pairs octets
 -- the refusals in the order of their numbers
 abbrev pub all_refusals : List Refusal
 all_refusals =
-    Empty ∷ FeedbackShort ∷ AfterAddCid ∷ Segment ∷ ReservedType ∷ AddCidOnLarge ∷ LargeCid ∷ CidRange ∷ NoHeader
-    ∷ NoContext ∷ Profile ∷ ProfileChange ∷ Truncated ∷ IpVersion ∷ Protocol ∷ ExtensionList ∷ RtpVersion ∷ Csrc
-    ∷ ZeroStride ∷ ReliableMode ∷ OuterHeader ∷ NoStride ∷ RndInUo1 ∷ IpIdTwice ∷ Trailing ∷ TooLong ∷ StateTooLow
-    ∷ Check ∷ NoLink ∷ NoMemory ∷ []
+    Empty ∷ FeedbackShort ∷ AfterAddCid ∷ Segment ∷ ReservedType ∷ AddCidOnLarge ∷ LargeCid ∷ CidRange
+    ∷ NoHeader ∷ NoContext ∷ Profile ∷ ProfileChange ∷ Truncated ∷ IpVersion ∷ Protocol ∷ ExtensionList
+    ∷ RtpVersion ∷ Csrc ∷ ZeroStride ∷ ReliableMode ∷ OuterHeader ∷ NoStride ∷ RndInUo1 ∷ IpIdTwice
+    ∷ Trailing ∷ TooLong ∷ StateTooLow ∷ Check ∷ NoLink ∷ NoMemory ∷ []
 
 -- The kind of feedback in this hex text: that of the element for this CID, whose octets these are, on a link
 -- of small or of large CIDs. Any other text is of no kind that rohcd writes. An element has at most 8 octets.

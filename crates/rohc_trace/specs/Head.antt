@@ -6,7 +6,8 @@ use Rattle.hex.specs.Hex.{encode_lower}
 
 -- a character of ASCII as it is, any other octet as `\x` and two digits
 abbrev pub shown_octet : ℕ → List ℕ
-shown_octet octet = if nat_le 32 octet && nat_lt octet 127 then octet ∷ [] else codes "\\x" ++ encode_lower (octet ∷ [])
+shown_octet octet =
+    if nat_le 32 octet && nat_lt octet 127 then octet ∷ [] else codes "\\x" ++ encode_lower (octet ∷ [])
 
 -- the first 120 octets of a line, and `..` if there are more
 abbrev pub shown : List ℕ → List ℕ

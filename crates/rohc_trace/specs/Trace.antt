@@ -13,7 +13,7 @@ use Rattle.rohc_trace.specs.declared.tracer.Tracer.{Tracer}
 abbrev pub front_of : List ℕ → List ℕ
 front_of line = take (longest_line + 1) line
 
--- The lines of a script, of which the first has this number's successor, each with its answer lines behind it.
+-- The lines of a script, the first with this number's successor, each with its answer lines behind it.
 -- Without what is shown of the script, these are the answer lines.
 abbrev pub traced : ℕ → List (List ℕ) → List (List (List ℕ)) → List ℕ
 traced n [] answers = []
