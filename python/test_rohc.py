@@ -4,8 +4,10 @@
 from __future__ import annotations
 
 import copy
+import hashlib
 import io
 import pickle
+import random
 import re
 import struct
 import sys
@@ -195,6 +197,92 @@ class Calls(unittest.TestCase):
             for copy_of in (copy.copy, copy.deepcopy, pickle.dumps):
                 with self.assertRaises(TypeError):
                     copy_of(concentrator)
+
+
+class Saved(unittest.TestCase):
+    """Octets that are no saved concentrator are refused, and others are those of what is restored."""
+
+    STATIC = bytes.fromhex("40110a0000010a0000021388138a00000001")
+    DYNAMIC = bytes.fromhex("004000012000000090000001000000a0000980a0")
+    # A Normal call; Static Context; Full Context with a previous reference; No Context after two checks that failed.
+    CALLS = (
+        ("fc00b745aa",),
+        ("fc01de" + STATIC.hex(),),
+        ("fd012b" + STATIC.hex() + DYNAMIC.hex() + "ab", "10ac"),
+        ("fd012b" + STATIC.hex() + DYNAMIC.hex() + "ab", "11ac", "11ac", "c00000"),
+    )
+    LINKS = tuple(Link(number, k1=1, n1=1, k2=1, n2=1) for number in range(1, 5))
+
+    def setUp(self) -> None:
+        with Concentrator(self.LINKS) as concentrator:
+            for number, packets in enumerate(self.CALLS, start=1):
+                for moment, packet in enumerate(packets):
+                    concentrator.arrive(number, moment, bytes.fromhex(packet))
+            states = [concentrator.contexts(link.link)[0].state for link in self.LINKS]
+            self.octets = concentrator.save(9)
+        wanted = [State.FULL_CONTEXT, State.STATIC_CONTEXT, State.FULL_CONTEXT, State.NO_CONTEXT]
+        self.assertEqual(states, wanted)
+
+    def judge(self, octets: bytes) -> int:
+        """The fault of octets, or 0. What is restored whole is saved as the same octets, but for a link's greatest CID."""
+        try:
+            restored, told = Concentrator.restored(self.LINKS, octets)
+        except SavedError as fault:
+            self.assertIn(fault.place, range(len(octets) + 1))
+            return fault.status
+        with restored:
+            if told.unknown_links == told.other_links == told.high_contexts == 0 and told.links == len(self.LINKS):
+                again = restored.save(told.moment)
+                self.assertEqual(len(again), len(octets))
+                changes = [pair for pair in zip(octets[:-32], again[:-32], strict=True) if pair[0] != pair[1]]
+                self.assertTrue(all(before < 15 and after == 15 for before, after in changes), changes)
+        return 0
+
+    def test_every_octet_changed(self) -> None:
+        body, found = self.octets[:-32], set()
+        for at in range(len(self.octets)):
+            for value in range(256):
+                changed = bytearray(self.octets)
+                changed[at] = value
+                self.assertEqual(self.judge(changed) == 0, value == self.octets[at])
+                if at < len(body):
+                    found.add(self.judge(changed[:-32] + hashlib.sha256(changed[:-32]).digest()))
+        self.assertTrue({0, 7, 8, 10, 11, 12, 13} <= found, found)
+
+    def test_every_cut(self) -> None:
+        for count in range(len(self.octets)):
+            self.assertNotEqual(self.judge(self.octets[:count]), 0)
+
+    def test_random_octets(self) -> None:
+        chance = random.Random(7)
+        for _ in range(100_000):
+            text = bytearray(self.octets[: chance.randrange(len(self.octets))])
+            text += chance.randbytes(chance.randrange(60))
+            self.judge(text + hashlib.sha256(text).digest())
+
+    def test_many_contexts(self) -> None:
+        links = [Link(number, max_cid=63, large=True) for number in range(256)]
+        with Concentrator(links) as concentrator:
+            for number in range(256):
+                for cid in range(64):
+                    packet = bytearray(b"\xfc\x00\x00\x45")
+                    packet[2] = crc_8(b"\xfc" + bytes([cid]) + b"\x00")
+                    concentrator.arrive(number, cid, b"\xfc" + bytes([cid]) + bytes(packet[1:]))
+            octets = concentrator.save(1)
+        restored, told = Concentrator.restored(links, octets)
+        with restored:
+            self.assertEqual((told.links, told.contexts), (256, 16_384))
+            self.assertEqual(restored.save(1), octets)
+
+
+def crc_8(octets: bytes) -> int:
+    """The 8-bit check of RFC 3095 5.9.1, bit by bit."""
+    register = 0xFF
+    for octet in octets:
+        register ^= octet
+        for _ in range(8):
+            register = register >> 1 ^ (0xE0 if register & 1 else 0)
+    return register
 
 
 class Capture(unittest.TestCase):

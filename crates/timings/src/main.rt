@@ -2,11 +2,12 @@
 //!
 //!     timings arrivals LINKS SCRIPT [TURNS]
 //!     timings copies LINKS SCRIPT [TURNS]
+//!     timings saved LINKS SCRIPT [TURNS]
 //!     timings digits SCRIPT ANSWERS [TURNS]
 //!     timings parts [TURNS]
 //!
 //! `arrivals` times the arrivals of a script, without the reading of its lines. `copies` also puts each delivered
-//! packet into one buffer. `digits` times what a replay asks of `hex`, and nothing else. `parts` times the 8-bit check,
+//! packet into one buffer. `saved` times saving and restoring the contexts that a script leaves. `digits` times what a replay asks of `hex`, and nothing else. `parts` times the 8-bit check,
 //! and the rebuilding of headers with their 3-bit check.
 //!
 //! Standard output gets the results, and standard error the nanoseconds. Files are read before the clock starts.
@@ -17,6 +18,7 @@ mod arrivals;
 mod digits;
 mod input;
 mod parts;
+mod saved;
 mod script;
 
 use arrivals::Target;
@@ -26,7 +28,7 @@ use std::rt::{Clock, Files};
 
 /// What the program prints without words.
 const USAGE: &str =
-    "timings arrivals|copies LINKS SCRIPT [TURNS], digits SCRIPT ANSWERS [TURNS] or parts [TURNS]";
+    "timings arrivals|copies|saved LINKS SCRIPT [TURNS], digits SCRIPT ANSWERS [TURNS] or parts [TURNS]";
 
 /// What is timed.
 #[derive(Clone, Copy, Debug, PartialEq, Eq)]
@@ -35,6 +37,8 @@ enum Mode {
     Arrivals,
     /// The same, with each delivered packet put into one buffer.
     Copies,
+    /// Saving and restoring.
+    Saved,
     /// The calls of `hex` that a replay makes.
     Digits,
     /// Checks and headers.
@@ -47,6 +51,7 @@ impl Mode {
         match word {
             "arrivals" => Ok(Mode::Arrivals),
             "copies" => Ok(Mode::Copies),
+            "saved" => Ok(Mode::Saved),
             "digits" => Ok(Mode::Digits),
             "parts" => Ok(Mode::Parts),
             _ => Err(bad_words()),
@@ -62,6 +67,14 @@ where
     let target = match mode {
         Mode::Arrivals => Target::Answer,
         Mode::Copies => Target::Buffer,
+        Mode::Saved => {
+            return saved::time(
+                rt,
+                word_at(words, 1)?,
+                word_at(words, 2)?,
+                turns_at(words, 3, 1),
+            );
+        }
         Mode::Digits => {
             return digits::time(
                 rt,
