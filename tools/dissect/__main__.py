@@ -37,9 +37,10 @@ SCAPY = Path(__file__).resolve().parent / "scapy_view.py"
 
 def python_of_scapy() -> str:
     """A Python that has scapy, or nothing."""
-    tries = (python for python in PYTHONS if Path(python).exists())
-    asked = (python for python in tries if not subprocess.run([python, "-c", "import scapy"], capture_output=True).returncode)
-    return next(asked, "")
+    for python in filter(lambda python: Path(python).exists(), PYTHONS):
+        if subprocess.run([python, "-c", "import scapy"], capture_output=True).returncode == 0:
+            return python
+    return ""
 
 
 def with_bit_turned(octets: bytes) -> bytes:

@@ -10,7 +10,7 @@ from wireshark import View
 
 @dataclass
 class Seen:
-    """What was seen before a packet: the CID of the last IR or IR-DYN, and the last Mode of each CID, by the dissector."""
+    """What the dissector read before a packet: the CID of the last IR or IR-DYN, and the last Mode of each CID."""
 
     is_small: bool
     last_ir: str = ""

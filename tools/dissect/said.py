@@ -131,7 +131,7 @@ def of_packet(setting: Setting, octets: bytes, told: list[str], record: Record |
 
 
 def all_said(setting: Setting, script: bytes) -> Iterator[tuple[Said, list[str]]]:
-    """What is said of each packet of a script, with the lines by which it is answered, and of each element of feedback."""
+    """What is said of each packet of a script, with the lines that answer it, and of each element of feedback."""
     concentrator = Concentrator({setting.number: setting})
     for line in script.splitlines():
         arrives = ARRIVE.fullmatch(line)

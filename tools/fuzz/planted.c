@@ -1,6 +1,6 @@
 /*
- * Bugs that the fuzzer must find, one for each value of PLANTED. It is linked with --wrap=rohc_arrive,--wrap=rohc_new, and
- * alters the library's answers in one rare case each.
+ * Bugs that the fuzzer must find, one for each value of PLANTED. It is linked with --wrap=rohc_arrive,--wrap=rohc_new,
+ * and alters the library's answers in one rare case each.
  */
 #include <stdbool.h>
 #include <stdint.h>

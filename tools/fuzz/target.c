@@ -6,13 +6,13 @@
  *
  *   01     the link of large CIDs, else of small ones
  *   02     the link is reset before
- *   04     an IR or IR-DYN at the start of the packet gets its right check, if its chains are as long as RFC 3095 has them
+ *   04     an IR or IR-DYN at the start of the packet gets its right check, if its chains end within the packet
  *   08     the call is made first with a buffer that is an octet too short
  *   30     milliseconds since the event before: 0, 20, 400 or 70,000
  *
- * The answers are judged by what must hold of all of them (judge_*). Then each pair of a link and a CID is run apart, in a
- * gateway of its own, and must be answered as before. What the answers are is also what libFuzzer is told to vary, beside
- * the counters that the library has if it was built with them.
+ * The answers are judged by what must hold of all of them (judge_*). Then each pair of a link and a CID is run apart,
+ * in a gateway of its own, and must be answered as before. What the answers are is also what libFuzzer is told to vary,
+ * beside the counters that the library has if it was built with them.
  */
 #include <stdbool.h>
 #include <stdint.h>
