@@ -1,6 +1,6 @@
 /*
- * Bugs that the fuzzer must find, one for each value of PLANTED. It is linked with --wrap=rohc_arrive,--wrap=rohc_new,
- * and alters the library's answers in one rare case each.
+ * Bugs that the fuzzer must find, one for each value of PLANTED. It is linked with --wrap for rohc_arrive, rohc_new and
+ * rohc_restore, and alters the library's answers in one rare case each.
  */
 #include <stdbool.h>
 #include <stdint.h>
@@ -13,13 +13,22 @@ uint8_t __real_rohc_arrive(struct rohc_gateway *gateway, uint16_t link, uint64_t
                            uint8_t *packet, size_t packet_room, uint8_t *feedback, size_t feedback_room, uint8_t *relayed,
                            size_t relayed_room, struct rohc_arrival *arrival);
 
-/* Whether a context of this gateway has fallen to No Context, and which. */
-static bool fell;
+uint8_t __real_rohc_restore(struct rohc_gateway *gateway, const struct rohc_link *links, size_t count, const uint8_t *octets,
+                            size_t octets_count, struct rohc_restored *restored, size_t *place);
+
+/* Whether a context of this gateway has fallen to No Context, and which; and whether the gateway was restored. */
+static bool fell, is_restored;
 static uint16_t fallen;
 
 uint8_t __wrap_rohc_new(struct rohc_gateway *gateway, const struct rohc_link *links, size_t count, size_t *place) {
-    fell = false;
+    fell = is_restored = false;
     return __real_rohc_new(gateway, links, count, place);
+}
+
+uint8_t __wrap_rohc_restore(struct rohc_gateway *gateway, const struct rohc_link *links, size_t count, const uint8_t *octets,
+                            size_t octets_count, struct rohc_restored *restored, size_t *place) {
+    is_restored = true;
+    return __real_rohc_restore(gateway, links, count, octets, octets_count, restored, place);
 }
 
 /* The Acktype of feedback, or 3 if it has none. */
@@ -30,10 +39,10 @@ static unsigned acktype(const uint8_t *feedback, const struct rohc_arrival *arri
 
 static void plant(const uint8_t *octets, uint8_t *packet, uint8_t *feedback, struct rohc_arrival *arrival) {
     unsigned said = acktype(feedback, arrival);
+    (void)said, (void)octets, (void)packet, (void)fell, (void)fallen, (void)is_restored;
 #if PLANTED == 1
     /* The check of a NACK for a CID other than 0. */
     if (said == 1 && arrival->cid > 0) feedback[arrival->feedback_length - 1] ^= 1;
-    (void)octets, (void)packet;
 #elif PLANTED == 2
     /* A context that fell to No Context changes the payload of the next packet of another. */
     if (fell && arrival->has_packet && arrival->cid != fallen && arrival->packet_length > 0) {
@@ -41,11 +50,12 @@ static void plant(const uint8_t *octets, uint8_t *packet, uint8_t *feedback, str
         fell = false;
     }
     if (said == 2) fell = true, fallen = arrival->cid;
-    (void)octets;
+#elif PLANTED == 3
+    /* After a restoration a packet that isn't an IR isn't delivered whole. */
+    if (is_restored && octets[0] < 0xe0 && arrival->has_packet) packet[arrival->packet_length - 1] ^= 1;
 #else
     /* An IR-DYN that is refused for its check hands on one octet too many. */
     if (octets[0] == 0xf8 && arrival->outcome == 28) arrival->packet_length = 1;
-    (void)said, (void)packet;
 #endif
 }
 

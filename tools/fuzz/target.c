@@ -9,6 +9,8 @@
  *   04     an IR or IR-DYN at the start of the packet gets its right check, if its chains end within the packet
  *   08     the call is made first with a buffer that is an octet too short
  *   30     milliseconds since the event before: 0, 20, 400 or 70,000
+ *   40     the concentrator is saved and restored before, and goes on from there
+ *   80     what was saved is also restored with one octet changed, which the packet says, and must be refused
  *
  * The answers are judged by what must hold of all of them (judge_*). Then each pair of a link and a CID is run apart,
  * in a gateway of its own, and must be answered as before. What the answers are is also what libFuzzer is told to vary,
@@ -24,8 +26,8 @@
 
 #define HOLDS(fact) ((fact) ? (void)0 : broken(#fact, __LINE__))
 
-enum { EVENTS = 96, LONGEST = 255, GUARD = 8, COUNTERS = 4096 };
-enum { LARGE = 0x01, RESET = 0x02, FIX = 0x04, NO_ROOM = 0x08 };
+enum { EVENTS = 96, LONGEST = 255, GUARD = 8, COUNTERS = 4096, SAVED = 16384 };
+enum { LARGE = 0x01, RESET = 0x02, FIX = 0x04, NO_ROOM = 0x08, SAVE = 0x40, BEND = 0x80 };
 enum { SMALL_CIDS = 16, ADD_CID = 0xe0, IR_DYN = 0xf8, IR = 0xfc, IR_WITH_DYNAMIC = 0xfd };
 
 /* libFuzzer reads these as it reads counters of code. */
@@ -252,6 +254,56 @@ static void judge(const struct event *event, unsigned before, unsigned after) {
     if (a->has_feedback) judge_feedback(event);
 }
 
+static size_t contexts_of(struct rohc_gateway *gateway, uint16_t link) {
+    struct rohc_context_info context;
+    size_t place = 0;
+    while (rohc_context_at(gateway, link, place, &context)) place++;
+    return place;
+}
+
+/* Saves a gateway into a buffer of exactly the length that it needs. With an octet less nothing is written. */
+static size_t save(struct rohc_gateway *gateway, uint64_t moment, uint8_t *octets) {
+    size_t needed = 0, count = 0;
+    memset(octets, 0x55, SAVED);
+    HOLDS(rohc_save(gateway, moment, octets, 1, &needed) == ROHC_SAVED_NO_ROOM && needed > 1 && needed < SAVED);
+    HOLDS(rohc_save(gateway, moment, octets, needed - 1, &count) == ROHC_SAVED_NO_ROOM && count == needed);
+    for (size_t i = 0; i < needed; i++) HOLDS(octets[i] == 0x55);
+    HOLDS(rohc_save(gateway, moment, octets, needed, &count) == ROHC_SAVED && count == needed);
+    for (size_t i = 0; i < GUARD; i++) HOLDS(octets[needed + i] == 0x55);
+    return count;
+}
+
+/* What was saved is refused with one octet changed, and the gateway stays without a concentrator. */
+static void restore_bent(const struct event *event, const struct rohc_link *links, const uint8_t *saved, size_t count) {
+    static uint8_t bent[SAVED];
+    struct rohc_gateway gateway = {0};
+    struct rohc_restored restored;
+    size_t place, at = ((size_t)event->octets[0] << 8 | event->octets[1]) % count;
+    memcpy(bent, saved, count);
+    bent[at] ^= event->octets[2] ? event->octets[2] : 1;
+    uint8_t status = rohc_restore(&gateway, links, 2, bent, count, &restored, &place);
+    HOLDS(status >= ROHC_NOT_SAVED && status <= ROHC_LONG && place <= count);
+    HOLDS(rohc_reset(&gateway, 0) == ROHC_FORGOT_NONE);
+    HOLDS(rohc_restore(&gateway, links, 2, saved, count - 1, &restored, &place) == ROHC_SHORT);
+    vary(4, status);
+}
+
+/* Saves and restores a gateway. All contexts are taken, and saved again they are the same octets. */
+static void save_and_restore(const struct event *event, uint8_t settings, struct rohc_gateway *gateway) {
+    static uint8_t saved[SAVED], again[SAVED];
+    struct rohc_link links[2] = {link_of(settings, false), link_of(settings, true)};
+    struct rohc_restored restored;
+    size_t place, contexts = contexts_of(gateway, 0) + contexts_of(gateway, 1);
+    size_t count = save(gateway, event->moment, saved);
+    if (event->flags & BEND) restore_bent(event, links, saved, count);
+    rohc_free(gateway);
+    HOLDS(rohc_restore(gateway, links, 2, saved, count, &restored, &place) == ROHC_MADE && place == 0);
+    HOLDS(restored.moment == event->moment && restored.links == 2 && restored.contexts == contexts);
+    HOLDS(restored.unknown_links + restored.other_links + restored.left_contexts + restored.high_contexts == 0);
+    HOLDS(save(gateway, event->moment, again) == count && memcmp(saved, again, count) == 0);
+    vary(5, (unsigned)contexts);
+}
+
 /* Runs the events of an input in one gateway. */
 static void run(uint8_t settings) {
     struct rohc_gateway gateway;
@@ -264,6 +316,7 @@ static void run(uint8_t settings) {
             struct rohc_context_info context;
             HOLDS(rohc_reset(&gateway, link) == ROHC_FORGOT && !rohc_context_at(&gateway, link, 0, &context));
         }
+        if (event->flags & SAVE) save_and_restore(event, settings, &gateway);
         if (event->flags & NO_ROOM) HOLDS(arrive(&gateway, event, &none, 1) == ROHC_NO_ROOM);
         for (uint16_t cid = 0; cid < SMALL_CIDS; cid++) before[cid] = state_of(&gateway, link, cid);
         HOLDS(arrive(&gateway, event, &event->answer, 0) == ROHC_ARRIVED);
