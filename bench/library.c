@@ -8,7 +8,7 @@
 #include <time.h>
 
 #include "../examples/link_lines.h"
-#include "rohc.h"
+#include "polorowan.h"
 
 enum { LINE = 131202, PACKET = 65535 };
 
@@ -18,7 +18,7 @@ struct packet {
     size_t start, count;
 };
 
-static struct rohc_link links[ROHC_LINKS];
+static struct polorowan_link links[POLOROWAN_LINKS];
 
 static void *grown(void *place, size_t size) {
     place = realloc(place, size);
@@ -41,8 +41,8 @@ static uint64_t now(void) {
 
 int main(int words, char **word) {
     static char line[LINE];
-    static uint8_t packet[PACKET + ROHC_HEAD_ROOM], relayed[PACKET];
-    uint8_t feedback[ROHC_FEEDBACK_ROOM], *octets = NULL;
+    static uint8_t packet[PACKET + POLOROWAN_HEAD_ROOM], relayed[PACKET];
+    uint8_t feedback[POLOROWAN_FEEDBACK_ROOM], *octets = NULL;
     struct packet *packets = NULL;
     size_t count = 0, length = 0, delivered = 0, place;
     uint64_t best = UINT64_MAX;
@@ -64,20 +64,20 @@ int main(int words, char **word) {
     }
     fclose(file);
     for (int turn = 0; turn < atoi(word[3]); turn++) {
-        struct rohc_gateway gateway = {0};
-        struct rohc_arrival a;
-        if (rohc_new(&gateway, links, number, &place) != ROHC_MADE) return 3;
+        struct polorowan_gateway gateway = {0};
+        struct polorowan_arrival a;
+        if (polorowan_new(&gateway, links, number, &place) != POLOROWAN_MADE) return 3;
         uint64_t start = now();
         delivered = 0;
         for (size_t i = 0; i < count; i++) {
             const struct packet *p = &packets[i];
-            if (rohc_arrive(&gateway, p->link, p->moment, octets + p->start, p->count, packet, sizeof packet, feedback,
-                            sizeof feedback, relayed, sizeof relayed, &a) != ROHC_ARRIVED) return 4;
+            if (polorowan_arrive(&gateway, p->link, p->moment, octets + p->start, p->count, packet, sizeof packet, feedback,
+                            sizeof feedback, relayed, sizeof relayed, &a) != POLOROWAN_ARRIVED) return 4;
             delivered += a.has_packet;
         }
         uint64_t took = now() - start;
         if (took < best) best = took;
-        rohc_free(&gateway);
+        polorowan_free(&gateway);
     }
     printf("packets %zu delivered %zu nanoseconds %" PRIu64 "\n", count, delivered, best);
     return 0;

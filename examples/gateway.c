@@ -8,12 +8,12 @@
 #include <string.h>
 
 #include "link_lines.h"
-#include "rohc.h"
+#include "polorowan.h"
 
 enum { PACKET = 65535, LINE = 131200 };
 
-static struct rohc_gateway gateway;
-static struct rohc_link links[ROHC_LINKS];
+static struct polorowan_gateway gateway;
+static struct polorowan_link links[POLOROWAN_LINKS];
 /* The time of the last arrival. */
 static uint64_t latest;
 
@@ -24,27 +24,27 @@ static void print_octets(const uint8_t *octets, size_t count) {
 }
 
 static void print_refusal(unsigned link, const char *cid, uint8_t number) {
-    uint8_t name[ROHC_NAME_ROOM];
-    if (rohc_refusal_name(number, name, sizeof name) > 0) printf("%u %s refused %s\n", link, cid, (const char *)name);
+    uint8_t name[POLOROWAN_NAME_ROOM];
+    if (polorowan_refusal_name(number, name, sizeof name) > 0) printf("%u %s refused %s\n", link, cid, (const char *)name);
 }
 
 static void arrive(unsigned link, uint64_t moment, const uint8_t *octets, size_t count) {
-    static uint8_t packet[PACKET + ROHC_HEAD_ROOM], relayed[PACKET];
-    uint8_t feedback[ROHC_FEEDBACK_ROOM];
-    struct rohc_arrival a;
+    static uint8_t packet[PACKET + POLOROWAN_HEAD_ROOM], relayed[PACKET];
+    uint8_t feedback[POLOROWAN_FEEDBACK_ROOM];
+    struct polorowan_arrival a;
     char cid[8] = "-";
     latest = moment;
-    if (rohc_arrive(&gateway, (uint16_t)link, moment, octets, count, packet, sizeof packet, feedback, sizeof feedback,
-                    relayed, sizeof relayed, &a) != ROHC_ARRIVED) exit(4);
+    if (polorowan_arrive(&gateway, (uint16_t)link, moment, octets, count, packet, sizeof packet, feedback, sizeof feedback,
+                    relayed, sizeof relayed, &a) != POLOROWAN_ARRIVED) exit(4);
     for (size_t at = 0; at < a.relayed_length; at += 1 + relayed[at]) {
         printf("%u - relay ", link);
         print_octets(relayed + at + 1, relayed[at]);
     }
-    if (a.kind == ROHC_CONTEXT) sprintf(cid, "%u", a.cid);
+    if (a.kind == POLOROWAN_CONTEXT) sprintf(cid, "%u", a.cid);
     if (a.has_packet) printf("%u %s ip ", link, cid), print_octets(packet, a.packet_length);
-    if (a.outcome == ROHC_STORED) printf("%u %s stored\n", link, cid);
+    if (a.outcome == POLOROWAN_STORED) printf("%u %s stored\n", link, cid);
     if (a.has_feedback) printf("%u %s feedback ", link, cid), print_octets(feedback, a.feedback_length);
-    if (a.outcome != ROHC_DELIVERED && a.outcome != ROHC_STORED) print_refusal(link, cid, a.outcome);
+    if (a.outcome != POLOROWAN_DELIVERED && a.outcome != POLOROWAN_STORED) print_refusal(link, cid, a.outcome);
 }
 
 /* Reads pairs of lower case digits up to the first other character, and returns how many octets they are. */
@@ -78,24 +78,24 @@ static bool run(const char *line, size_t length) {
     if (sscanf(line, "reset %u", &link) != 1 || link > UINT16_MAX) return false;
     at = (size_t)sprintf(text, "reset %u", link);
     if (at != length || memcmp(line, text, length) != 0) return false;
-    if (rohc_reset(&gateway, (uint16_t)link) == ROHC_FORGOT_LINK) print_refusal(link, "-", 29);
+    if (polorowan_reset(&gateway, (uint16_t)link) == POLOROWAN_FORGOT_LINK) print_refusal(link, "-", 29);
     return true;
 }
 
 /* Goes on from the calls in a file, if it is there. */
 static void restore(const char *path, size_t count) {
     FILE *file = fopen(path, "rb");
-    struct rohc_restored restored;
-    size_t length, place, room = 53 + 8 * (size_t)ROHC_LINKS + 77 * 65536;
+    struct polorowan_restored restored;
+    size_t length, place, room = 53 + 8 * (size_t)POLOROWAN_LINKS + 77 * 65536;
     uint8_t *octets, status;
     if (!file) return;
     octets = malloc(room);
     if (!octets) exit(5);
     length = fread(octets, 1, room, file);
     fclose(file);
-    status = rohc_restore(&gateway, links, count, octets, length, &restored, &place);
+    status = polorowan_restore(&gateway, links, count, octets, length, &restored, &place);
     free(octets);
-    if (status == ROHC_MADE) return;
+    if (status == POLOROWAN_MADE) return;
     fprintf(stderr, "gateway: %s: refused with %u at octet %zu\n", path, status, place);
     exit(6);
 }
@@ -106,9 +106,9 @@ static void save(const char *path) {
     size_t length = 0;
     uint8_t *octets, none = 0;
     FILE *file;
-    if (!name || rohc_save(&gateway, latest, &none, 0, &length) != ROHC_SAVED_NO_ROOM) exit(5);
+    if (!name || polorowan_save(&gateway, latest, &none, 0, &length) != POLOROWAN_SAVED_NO_ROOM) exit(5);
     octets = malloc(length);
-    if (!octets || rohc_save(&gateway, latest, octets, length, &length) != ROHC_SAVED) exit(5);
+    if (!octets || polorowan_save(&gateway, latest, octets, length, &length) != POLOROWAN_SAVED) exit(5);
     file = fopen(strcat(strcpy(name, path), ".new"), "wb");
     if (!file || fwrite(octets, 1, length, file) != length || fclose(file) != 0 || rename(name, path) != 0) exit(4);
     free(octets);
@@ -123,7 +123,7 @@ int main(int count, char **words) {
     if (!file) return 3;
     links_count = read_links(file, links);
     fclose(file);
-    if (rohc_new(&gateway, links, links_count, &place) != ROHC_MADE) return 3;
+    if (polorowan_new(&gateway, links, links_count, &place) != POLOROWAN_MADE) return 3;
     if (count == 3) restore(words[2], links_count);
     do {
         octet = getchar();
@@ -137,6 +137,6 @@ int main(int count, char **words) {
         }
     } while (octet != EOF);
     if (count == 3) save(words[2]);
-    rohc_free(&gateway);
+    polorowan_free(&gateway);
     return 0;
 }

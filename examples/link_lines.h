@@ -10,15 +10,15 @@
 #include <stdlib.h>
 #include <string.h>
 
-#include "rohc.h"
+#include "polorowan.h"
 
-static void read_range(FILE *file, struct rohc_range *r) {
+static void read_range(FILE *file, struct polorowan_range *r) {
     char mode;
     if (fscanf(file, "%" SCNu16 "%" SCNu16 " %c", &r->first, &r->last, &mode) != 3) exit(3);
     r->optimistic = mode == 'O';
 }
 
-static void read_link(FILE *file, struct rohc_link *l) {
+static void read_link(FILE *file, struct polorowan_link *l) {
     char size[8], mode;
     if (fscanf(file, "%" SCNu16 "%7s%" SCNu16 " %c%" SCNu8 "%" SCNu8 "%" SCNu8 "%" SCNu8 "%" SCNu32 "%" SCNu32 "%" SCNu32,
                &l->link, size, &l->max_cid, &mode, &l->k1, &l->n1, &l->k2, &l->n2, &l->packet_ms, &l->static_nack_ms,
@@ -28,15 +28,15 @@ static void read_link(FILE *file, struct rohc_link *l) {
 }
 
 /* Reads lines into links that are all zeros, and returns how many links there are. It exits with 3 if a line is wrong. */
-static size_t read_links(FILE *file, struct rohc_link *links) {
+static size_t read_links(FILE *file, struct polorowan_link *links) {
     char word[8];
     size_t count = 0;
     while (fscanf(file, "%7s", word) == 1) {
-        if (strcmp(word, "link") == 0 && count < ROHC_LINKS) {
+        if (strcmp(word, "link") == 0 && count < POLOROWAN_LINKS) {
             read_link(file, &links[count++]);
         } else {
-            struct rohc_link *l = count > 0 ? &links[count - 1] : NULL;
-            if (strcmp(word, "range") != 0 || !l || l->range_count == ROHC_RANGES) exit(3);
+            struct polorowan_link *l = count > 0 ? &links[count - 1] : NULL;
+            if (strcmp(word, "range") != 0 || !l || l->range_count == POLOROWAN_RANGES) exit(3);
             read_range(file, &l->ranges[l->range_count++]);
         }
     }

@@ -20,7 +20,7 @@
 #include <unistd.h>
 
 #include "link_lines.h"
-#include "rohc.h"
+#include "polorowan.h"
 
 enum { PACKET = 65535, BATCH = 32, GREATEST_COUNT = 1000000000 };
 enum { BAD_WORDS = 2, BAD_LINKS = 3, BAD_SOCKET = 4, NO_MEMORY = 5 };
@@ -39,7 +39,7 @@ struct targets {
 };
 
 static volatile sig_atomic_t stopped;
-static uint64_t refused[ROHC_STORED];
+static uint64_t refused[POLOROWAN_STORED];
 
 static void stop(int number) {
     (void)number;
@@ -100,56 +100,56 @@ static size_t receive(int socket, struct batch *batch, size_t most) {
 }
 
 /* Takes one packet of a link, and sends what it gives. */
-static void take(struct rohc_gateway *gateway, uint16_t link, int socket, const uint8_t *octets, size_t count,
+static void take(struct polorowan_gateway *gateway, uint16_t link, int socket, const uint8_t *octets, size_t count,
                  const struct sockaddr_in *peer, const struct targets *to) {
-    static uint8_t packet[PACKET + ROHC_HEAD_ROOM], relayed[PACKET];
-    uint8_t feedback[ROHC_FEEDBACK_ROOM];
-    struct rohc_arrival a;
-    if (rohc_arrive(gateway, link, milliseconds(), octets, count, packet, sizeof packet, feedback, sizeof feedback, relayed,
-                    sizeof relayed, &a) != ROHC_ARRIVED) abort(); /* there is a concentrator, and the buffers have room */
+    static uint8_t packet[PACKET + POLOROWAN_HEAD_ROOM], relayed[PACKET];
+    uint8_t feedback[POLOROWAN_FEEDBACK_ROOM];
+    struct polorowan_arrival a;
+    if (polorowan_arrive(gateway, link, milliseconds(), octets, count, packet, sizeof packet, feedback, sizeof feedback, relayed,
+                    sizeof relayed, &a) != POLOROWAN_ARRIVED) abort(); /* there is a concentrator, and the buffers have room */
     for (size_t at = 0; at < a.relayed_length; at += 1 + relayed[at])
         send_octets(socket, &to->relay, relayed + at + 1, relayed[at]);
     if (a.has_packet) send_octets(socket, &to->deliver, packet, a.packet_length);
     if (a.has_feedback) send_octets(socket, peer, feedback, a.feedback_length);
-    if (a.outcome != ROHC_DELIVERED && a.outcome < ROHC_STORED) refused[a.outcome]++;
+    if (a.outcome != POLOROWAN_DELIVERED && a.outcome < POLOROWAN_STORED) refused[a.outcome]++;
 }
 
 /* Prints each context of each link, and how many packets were refused by each name. */
-static void show(struct rohc_gateway *gateway) {
+static void show(struct polorowan_gateway *gateway) {
     static const char *const states[] = {"No Context", "Static Context", "Full Context"};
-    struct rohc_context_info context;
-    uint8_t name[ROHC_NAME_ROOM];
+    struct polorowan_context_info context;
+    uint8_t name[POLOROWAN_NAME_ROOM];
     uint16_t link;
-    for (size_t i = 0; rohc_link_at(gateway, i, &link); i++)
-        for (size_t j = 0; rohc_context_at(gateway, link, j, &context); j++)
+    for (size_t i = 0; polorowan_link_at(gateway, i, &link); i++)
+        for (size_t j = 0; polorowan_context_at(gateway, link, j, &context); j++)
             printf("link %u CID %u: profile 0x%04x, %s\n", link, context.cid, context.profile, states[context.state]);
-    for (uint8_t number = 0; number < ROHC_STORED; number++)
+    for (uint8_t number = 0; number < POLOROWAN_STORED; number++)
         if (refused[number] > 0) {
-            size_t length = rohc_refusal_name(number, name, sizeof name);
+            size_t length = polorowan_refusal_name(number, name, sizeof name);
             printf("refused %.*s: %" PRIu64 "\n", (int)length, (const char *)name, refused[number]);
         }
 }
 
 /* Makes the concentrator, and returns how many links it has. */
-static size_t make(struct rohc_gateway *gateway, const char *path, struct rohc_link *links) {
+static size_t make(struct polorowan_gateway *gateway, const char *path, struct polorowan_link *links) {
     FILE *file = fopen(path, "r");
     if (!file) {
         fprintf(stderr, "udp_gateway: %s: %s\n", path, strerror(errno));
         exit(BAD_LINKS);
     }
     size_t place, count = read_links(file, links);
-    uint8_t fault = rohc_new(gateway, links, count, &place);
+    uint8_t fault = polorowan_new(gateway, links, count, &place);
     fclose(file);
-    if (fault == ROHC_MADE) return count;
-    if (fault == ROHC_NO_MEMORY) fprintf(stderr, "udp_gateway: there is no memory\n");
-    else if (place == 0) fprintf(stderr, "udp_gateway: %s has no links, or more than %d\n", path, ROHC_LINKS);
+    if (fault == POLOROWAN_MADE) return count;
+    if (fault == POLOROWAN_NO_MEMORY) fprintf(stderr, "udp_gateway: there is no memory\n");
+    else if (place == 0) fprintf(stderr, "udp_gateway: %s has no links, or more than %d\n", path, POLOROWAN_LINKS);
     else fprintf(stderr, "udp_gateway: %s: link %zu has a bad setting, or the number of one before it\n", path, place);
-    exit(fault == ROHC_NO_MEMORY ? NO_MEMORY : BAD_LINKS);
+    exit(fault == POLOROWAN_NO_MEMORY ? NO_MEMORY : BAD_LINKS);
 }
 
 /* Takes what comes at the sockets, until so many packets came or a signal does. A signal comes while the program waits, and
  * at no other time. */
-static void run(struct rohc_gateway *gateway, const struct rohc_link *links, struct pollfd *sockets, size_t count,
+static void run(struct polorowan_gateway *gateway, const struct polorowan_link *links, struct pollfd *sockets, size_t count,
                 const struct targets *to, unsigned long left) {
     static struct batch batch;
     sigset_t none;
@@ -172,9 +172,9 @@ static void end_at(int number, sigset_t *blocked) {
 }
 
 int main(int count, char **words) {
-    static struct rohc_link links[ROHC_LINKS];
-    static struct pollfd sockets[ROHC_LINKS];
-    struct rohc_gateway gateway = {0};
+    static struct polorowan_link links[POLOROWAN_LINKS];
+    static struct pollfd sockets[POLOROWAN_LINKS];
+    struct polorowan_gateway gateway = {0};
     sigset_t blocked;
     if (count != 5 && count != 6) {
         fprintf(stderr, "usage: udp_gateway LINKS PORT DELIVER RELAY [COUNT]\n");
@@ -196,6 +196,6 @@ int main(int count, char **words) {
     run(&gateway, links, sockets, link_count, &to, left);
     for (size_t i = 0; i < link_count; i++) close(sockets[i].fd);
     show(&gateway);
-    rohc_free(&gateway);
+    polorowan_free(&gateway);
     return 0;
 }

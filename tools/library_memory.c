@@ -7,7 +7,7 @@
 #include <stdlib.h>
 #include <string.h>
 
-#include "rohc.h"
+#include "polorowan.h"
 
 #define CHECK(fact) check((fact), #fact, __LINE__)
 
@@ -78,11 +78,11 @@ void __wrap_free(void *old) {
 static bool is_as(struct memory then) { return live.blocks == then.blocks && live.octets == then.octets; }
 
 /* Links 0 to 256, with small CIDs in O mode: one more than a gateway takes. */
-static struct rohc_link links[ROHC_LINKS + 1];
+static struct polorowan_link links[POLOROWAN_LINKS + 1];
 
 static void set_links(void) {
     memset(links, 0, sizeof links);
-    for (unsigned i = 0; i <= ROHC_LINKS; i++) {
+    for (unsigned i = 0; i <= POLOROWAN_LINKS; i++) {
         links[i].link = (uint16_t)i;
         links[i].max_cid = 15;
         links[i].optimistic = true;
@@ -94,9 +94,9 @@ static void set_links(void) {
 }
 
 /* The status of making a gateway with the first links. */
-static uint8_t made(struct rohc_gateway *g, size_t count) {
+static uint8_t made(struct polorowan_gateway *g, size_t count) {
     size_t place;
-    return rohc_new(g, links, count, &place);
+    return polorowan_new(g, links, count, &place);
 }
 
 /* A whole IR of profile 0x0001, and IRs of profile 0x0000 for CID 0 and CID 5, each with a packet. */
@@ -107,87 +107,87 @@ static uint8_t made(struct rohc_gateway *g, size_t count) {
 #define PLAIN_IR_5 "\xe5\xfc\x00\xf2\x45\xaa"
 
 /* The outcome of a packet. */
-static uint8_t arrives(struct rohc_gateway *g, uint16_t link, const char *octets, size_t count) {
-    uint8_t packet[128], feedback[ROHC_FEEDBACK_ROOM], relayed[128];
-    struct rohc_arrival arrival = {.outcome = 0x77};
-    CHECK(rohc_arrive(g, link, 0, (const uint8_t *)octets, count, packet, sizeof packet, feedback, sizeof feedback, relayed,
-                      sizeof relayed, &arrival) == ROHC_ARRIVED);
+static uint8_t arrives(struct polorowan_gateway *g, uint16_t link, const char *octets, size_t count) {
+    uint8_t packet[128], feedback[POLOROWAN_FEEDBACK_ROOM], relayed[128];
+    struct polorowan_arrival arrival = {.outcome = 0x77};
+    CHECK(polorowan_arrive(g, link, 0, (const uint8_t *)octets, count, packet, sizeof packet, feedback, sizeof feedback, relayed,
+                      sizeof relayed, &arrival) == POLOROWAN_ARRIVED);
     return arrival.outcome;
 }
 
 /* Makes two contexts of link 0 and one of link 1. */
-static void fill(struct rohc_gateway *g) {
-    CHECK(arrives(g, 0, WHOLE_IR, sizeof WHOLE_IR - 1) == ROHC_DELIVERED);
-    CHECK(arrives(g, 0, PLAIN_IR_5, sizeof PLAIN_IR_5 - 1) == ROHC_DELIVERED);
-    CHECK(arrives(g, 1, PLAIN_IR, sizeof PLAIN_IR - 1) == ROHC_DELIVERED);
+static void fill(struct polorowan_gateway *g) {
+    CHECK(arrives(g, 0, WHOLE_IR, sizeof WHOLE_IR - 1) == POLOROWAN_DELIVERED);
+    CHECK(arrives(g, 0, PLAIN_IR_5, sizeof PLAIN_IR_5 - 1) == POLOROWAN_DELIVERED);
+    CHECK(arrives(g, 1, PLAIN_IR, sizeof PLAIN_IR - 1) == POLOROWAN_DELIVERED);
 }
 
 /* A gateway that is made, filled and freed leaves nothing. */
 static void made_and_freed(void) {
-    static const size_t counts[] = {2, 3, ROHC_LINKS, 2};
+    static const size_t counts[] = {2, 3, POLOROWAN_LINKS, 2};
     for (size_t i = 0; i < sizeof counts / sizeof counts[0]; i++) {
-        struct rohc_gateway g = {0};
-        CHECK(made(&g, counts[i]) == ROHC_MADE && live.blocks > 0);
+        struct polorowan_gateway g = {0};
+        CHECK(made(&g, counts[i]) == POLOROWAN_MADE && live.blocks > 0);
         if (i > 0) fill(&g);
-        rohc_free(&g);
+        polorowan_free(&g);
         CHECK(is_as(none));
-        rohc_free(&g);
+        polorowan_free(&g);
         CHECK(is_as(none));
     }
 }
 
 /* A gateway that is made in place of another leaves nothing of it. */
 static void made_over(void) {
-    struct rohc_gateway g = {0};
-    CHECK(made(&g, 2) == ROHC_MADE);
+    struct polorowan_gateway g = {0};
+    CHECK(made(&g, 2) == POLOROWAN_MADE);
     struct memory fresh = live;
     for (size_t count = 3; count > 1; count--) {
         fill(&g);
-        CHECK(made(&g, count) == ROHC_MADE);
+        CHECK(made(&g, count) == POLOROWAN_MADE);
     }
     CHECK(is_as(fresh));
-    rohc_free(&g);
+    polorowan_free(&g);
     CHECK(is_as(none));
 }
 
 /* Each fault, and each refused request for memory, leaves what there was. */
-static void not_made(struct rohc_gateway *g) {
+static void not_made(struct polorowan_gateway *g) {
     struct memory then = live;
     unsigned long request = 1;
-    CHECK(made(g, 0) == ROHC_NO_LINKS && is_as(then));
-    CHECK(made(g, ROHC_LINKS + 1) == ROHC_TOO_MANY_LINKS && is_as(then));
-    links[2].range_count = ROHC_RANGES + 1;
-    CHECK(made(g, 3) == ROHC_TOO_MANY_RANGES && is_as(then));
+    CHECK(made(g, 0) == POLOROWAN_NO_LINKS && is_as(then));
+    CHECK(made(g, POLOROWAN_LINKS + 1) == POLOROWAN_TOO_MANY_LINKS && is_as(then));
+    links[2].range_count = POLOROWAN_RANGES + 1;
+    CHECK(made(g, 3) == POLOROWAN_TOO_MANY_RANGES && is_as(then));
     links[2].range_count = 0;
     links[2].k1 = 4;
-    CHECK(made(g, 3) == ROHC_BAD_SETTING && is_as(then));
+    CHECK(made(g, 3) == POLOROWAN_BAD_SETTING && is_as(then));
     links[2] = links[1];
-    CHECK(made(g, 3) == ROHC_DUPLICATE_LINK && is_as(then));
+    CHECK(made(g, 3) == POLOROWAN_DUPLICATE_LINK && is_as(then));
     set_links();
     for (;; request++) {
         refused = request;
         uint8_t status = made(g, 3);
         if (refused != 0) break;
-        CHECK(status == ROHC_NO_MEMORY && is_as(then));
+        CHECK(status == POLOROWAN_NO_MEMORY && is_as(then));
     }
     refused = 0;
     CHECK(request > 3);
-    rohc_free(g);
+    polorowan_free(g);
     CHECK(is_as(none));
 }
 
 /* Contexts that are forgotten and made anew take no more than before. */
 static void reset(void) {
-    struct rohc_gateway g = {0};
-    CHECK(made(&g, 2) == ROHC_MADE);
+    struct polorowan_gateway g = {0};
+    CHECK(made(&g, 2) == POLOROWAN_MADE);
     fill(&g);
     struct memory filled = live;
     for (int i = 0; i < 3; i++) {
-        CHECK(rohc_reset(&g, 0) == ROHC_FORGOT && rohc_reset(&g, 1) == ROHC_FORGOT);
+        CHECK(polorowan_reset(&g, 0) == POLOROWAN_FORGOT && polorowan_reset(&g, 1) == POLOROWAN_FORGOT);
         fill(&g);
         CHECK(is_as(filled));
     }
-    rohc_free(&g);
+    polorowan_free(&g);
     CHECK(is_as(none));
 }
 
@@ -195,14 +195,14 @@ static void reset(void) {
 static void first_ir_without_memory(void) {
     unsigned long request = 1;
     for (bool served = false; !served; request++) {
-        struct rohc_gateway g = {0};
-        CHECK(made(&g, 2) == ROHC_MADE);
+        struct polorowan_gateway g = {0};
+        CHECK(made(&g, 2) == POLOROWAN_MADE);
         refused = request;
         uint8_t outcome = arrives(&g, 0, WHOLE_IR, sizeof WHOLE_IR - 1);
         served = refused != 0;
         refused = 0;
-        CHECK(outcome == (served ? ROHC_DELIVERED : 30));
-        rohc_free(&g);
+        CHECK(outcome == (served ? POLOROWAN_DELIVERED : 30));
+        polorowan_free(&g);
         CHECK(is_as(none));
     }
     CHECK(request > 2);
@@ -210,34 +210,34 @@ static void first_ir_without_memory(void) {
 
 /* Calls that make no context ask for nothing. */
 static void asks_for_nothing(void) {
-    struct rohc_gateway g = {0};
-    struct rohc_context_info context;
+    struct polorowan_gateway g = {0};
+    struct polorowan_context_info context;
     uint16_t link;
-    uint8_t name[ROHC_NAME_ROOM];
-    CHECK(made(&g, 2) == ROHC_MADE);
+    uint8_t name[POLOROWAN_NAME_ROOM];
+    CHECK(made(&g, 2) == POLOROWAN_MADE);
     fill(&g);
     struct memory then = live;
     unsigned long before = requests;
-    CHECK(arrives(&g, 0, "\x10\xac", 2) == ROHC_DELIVERED && arrives(&g, 0, "\x11\xad", 2) == 28);
-    CHECK(arrives(&g, 1, "\x45\xab", 2) == ROHC_DELIVERED && arrives(&g, 1, "\xe1\x10\xac", 3) == 10);
+    CHECK(arrives(&g, 0, "\x10\xac", 2) == POLOROWAN_DELIVERED && arrives(&g, 0, "\x11\xad", 2) == 28);
+    CHECK(arrives(&g, 1, "\x45\xab", 2) == POLOROWAN_DELIVERED && arrives(&g, 1, "\xe1\x10\xac", 3) == 10);
     fill(&g);
-    CHECK(rohc_has_context(&g, 0, 5) && !rohc_has_context(&g, 0, 6));
-    CHECK(rohc_link_at(&g, 1, &link) && !rohc_link_at(&g, 2, &link));
-    CHECK(rohc_context_at(&g, 0, 1, &context) && !rohc_context_at(&g, 0, 2, &context));
-    CHECK(rohc_refusal_name(30, name, sizeof name) > 0 && rohc_refusal_name(30, name, 1) == 0);
-    CHECK(rohc_reset(&g, 2) == ROHC_FORGOT_LINK);
+    CHECK(polorowan_has_context(&g, 0, 5) && !polorowan_has_context(&g, 0, 6));
+    CHECK(polorowan_link_at(&g, 1, &link) && !polorowan_link_at(&g, 2, &link));
+    CHECK(polorowan_context_at(&g, 0, 1, &context) && !polorowan_context_at(&g, 0, 2, &context));
+    CHECK(polorowan_refusal_name(30, name, sizeof name) > 0 && polorowan_refusal_name(30, name, 1) == 0);
+    CHECK(polorowan_reset(&g, 2) == POLOROWAN_FORGOT_LINK);
     CHECK(requests == before && is_as(then));
-    rohc_free(&g);
+    polorowan_free(&g);
     CHECK(is_as(none));
 }
 
 int main(void) {
-    struct rohc_gateway g = {0};
+    struct polorowan_gateway g = {0};
     set_links();
     made_and_freed();
     made_over();
     not_made(&g);
-    CHECK(made(&g, 2) == ROHC_MADE);
+    CHECK(made(&g, 2) == POLOROWAN_MADE);
     fill(&g);
     not_made(&g);
     reset();

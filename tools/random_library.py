@@ -30,7 +30,7 @@ def build(folder):
     subprocess.run([TOP / "bin/lib", folder], check=True)
     flags = ["-std=c99", "-g", "-O1", "-fsanitize=address,undefined", "-fno-sanitize-recover=all", "-I", TOP / "include"]
     gateway = folder / "gateway"
-    library = ["-L", folder, "-l:librohc.a"]
+    library = ["-L", folder, "-l:libpolorowan.a"]
     subprocess.run(["cc", *flags, "-o", gateway, TOP / "examples/gateway.c", *library], check=True)
     lines = subprocess.run([TOP / "tools/link_lines.py", LINKS], check=True, capture_output=True).stdout
     (folder / "links").write_bytes(lines)

@@ -13,7 +13,7 @@ import sys
 from collections.abc import Iterator
 from typing import BinaryIO
 
-from rohc import Concentrator, Link
+from polorowan import Concentrator, Link
 
 ROHC = 0x22F1
 ETHERNET, RAW_IP = 1, 101

@@ -50,7 +50,7 @@ class Evidence:
     @property
     def environment(self) -> dict[str, str]:
         """What tells scripts of a compressor that is built, and bin/lib whether the gate ran just before."""
-        over_gate = {"ROHC_OVER_GATE": "1" if self.trial.over_gate else ""}
+        over_gate = {"POLOROWAN_OVER_GATE": "1" if self.trial.over_gate else ""}
         return {**over_gate, "COMPRESSOR": str(self.compressor)} if self.compressor else over_gate
 
     def size(self, few: str, many: str) -> str:

@@ -27,7 +27,7 @@ EDGES = "-std=c11 -Wl,--wrap=malloc,--wrap=realloc"
 COUNTING = "-std=c11 -Wl,--wrap=malloc,--wrap=calloc,--wrap=realloc,--wrap=free"
 SANITIZER = "-g -fsanitize=address,undefined -fno-sanitize-recover=all"
 VALGRIND = ("valgrind", "-q", "--error-exitcode=9", "--leak-check=full")
-INSTALLED = ("lib/librohc.a", "lib/pkgconfig/rohc.pc", "include/rohc.h", "share/doc/rohc/LIBRARY.md")
+INSTALLED = ("lib/libpolorowan.a", "lib/pkgconfig/polorowan.pc", "include/polorowan.h", "share/doc/polorowan/LIBRARY.md")
 SECONDS = 3600
 
 
@@ -59,7 +59,7 @@ class Library:
 
     def make(self) -> None:
         """Builds it."""
-        environment = {"ROHC_OVER_GATE": "1" if self.trial.over_gate else ""}
+        environment = {"POLOROWAN_OVER_GATE": "1" if self.trial.over_gate else ""}
         if not self.trial.must_run(self.trial.top / "bin/lib", self.folder, environment=environment, seconds=SECONDS):
             raise NotBuilt
 
@@ -67,7 +67,7 @@ class Library:
         """Builds a program in C with the library."""
         made = self.folder / program
         words = [self.compiler, *WARNINGS, *flags.split(), "-I", "include", "-o", made, source, "-L", self.folder]
-        if not self.trial.must_run(*words, "-l:librohc.a"):
+        if not self.trial.must_run(*words, "-l:libpolorowan.a"):
             raise NotBuilt
         return made
 
@@ -87,8 +87,8 @@ def check_header(library: Library) -> None:
     """The header alone, in each language that it supports."""
     for language in LANGUAGES:
         words = (library.compiler, *WARNINGS, *language.split(), "-I", "include", "-fsyntax-only", "-")
-        ended = library.trial.ran(*words, given=b'#include "rohc.h"\n')
-        library.trial.demand(ended.status == 0, f"include/rohc.h with {language}: NOT read: {ended.said}", ended.call)
+        ended = library.trial.ran(*words, given=b'#include "polorowan.h"\n')
+        library.trial.demand(ended.status == 0, f"include/polorowan.h with {language}: NOT read: {ended.said}", ended.call)
 
 
 def all_examples(trial: Trial) -> list[Example]:
@@ -179,17 +179,17 @@ def check_beside(library: Library) -> None:
     trial = library.trial
     gateway = library.build("-std=c99 -O2", "examples/udp_gateway.c", "udp_gateway")
     must_end_well(library, trial.top / "tools/udp_gateway_test.py", gateway, library.links(library.call_of_example.links))
-    if (library.folder / "librohc.so").is_file():
-        environment = {"ROHC_LIBRARY": str(library.folder)}
-        ended = trial.ran("python3", trial.top / "python/test_rohc.py", environment=environment, seconds=SECONDS)
+    if (library.folder / "libpolorowan.so").is_file():
+        environment = {"POLOROWAN_LIBRARY": str(library.folder)}
+        ended = trial.ran("python3", trial.top / "python/test_polorowan.py", environment=environment, seconds=SECONDS)
         trial.say(ended.all)
-        trial.demand(ended.status == 0, f"python/test_rohc.py: status {ended.status}", ended.call)
+        trial.demand(ended.status == 0, f"python/test_polorowan.py: status {ended.status}", ended.call)
 
 
 def check_installed(library: Library) -> None:
     """The installed library, as pkg-config finds it."""
     trial, prefix = library.trial, library.folder / "prefix"
-    environment = {"ROHC_OVER_GATE": "1" if trial.over_gate else ""}
+    environment = {"POLOROWAN_OVER_GATE": "1" if trial.over_gate else ""}
     ended = trial.ran(trial.top / "bin/install", "--library", prefix, environment=environment, seconds=SECONDS)
     trial.demand(ended.status == 0, f"bin/install --library: {ended.all}", ended.call)
     for name in INSTALLED:
@@ -198,7 +198,7 @@ def check_installed(library: Library) -> None:
     if not shutil.which("pkg-config"):
         trial.leave_out("pkg-config is not installed, the library was not run with it")
         return
-    found = trial.ran("pkg-config", "--cflags", "--libs", "rohc", environment={"PKG_CONFIG_PATH": f"{prefix}/lib/pkgconfig"})
+    found = trial.ran("pkg-config", "--cflags", "--libs", "polorowan", environment={"PKG_CONFIG_PATH": f"{prefix}/lib/pkgconfig"})
     trial.demand(found.status == 0, f"pkg-config: {found.end()}", found.call)
     installed = library.folder / "installed"
     flags = (*found.text.split(), f"-Wl,-rpath,{prefix}/lib")

@@ -103,7 +103,7 @@ def run_on_program(checks: list[Check], order: Order) -> Iterator[Result]:
     """Runs checks on the program that is given, or on the one that was proved from these sources, if it stands.
 
     Right after a gate that passed, bin/lib takes the crates below rohc_c as the gate has just left them
-    (ROHC_OVER_GATE). At any other time they may be older than their sources, and it proves them.
+    (POLOROWAN_OVER_GATE). At any other time they may be older than their sources, and it proves them.
     """
     stands = not checks or order.is_given or subprocess.run(["bin/sources", "stands"], cwd=TOP).returncode == 0
     ready = [check for check in checks if stands or (check.can_do_without and not order.is_all)]

@@ -1,43 +1,43 @@
 /*
- * Bugs that the fuzzer must find, one for each value of PLANTED. It is linked with --wrap for rohc_arrive, rohc_new and
- * rohc_restore, and alters the library's answers in one rare case each.
+ * Bugs that the fuzzer must find, one for each value of PLANTED. It is linked with --wrap for polorowan_arrive, polorowan_new and
+ * polorowan_restore, and alters the library's answers in one rare case each.
  */
 #include <stdbool.h>
 #include <stdint.h>
 #include <string.h>
 
-#include "rohc.h"
+#include "polorowan.h"
 
-uint8_t __real_rohc_new(struct rohc_gateway *gateway, const struct rohc_link *links, size_t count, size_t *place);
-uint8_t __real_rohc_arrive(struct rohc_gateway *gateway, uint16_t link, uint64_t moment, const uint8_t *octets, size_t count,
+uint8_t __real_rohc_new(struct polorowan_gateway *gateway, const struct polorowan_link *links, size_t count, size_t *place);
+uint8_t __real_rohc_arrive(struct polorowan_gateway *gateway, uint16_t link, uint64_t moment, const uint8_t *octets, size_t count,
                            uint8_t *packet, size_t packet_room, uint8_t *feedback, size_t feedback_room, uint8_t *relayed,
-                           size_t relayed_room, struct rohc_arrival *arrival);
+                           size_t relayed_room, struct polorowan_arrival *arrival);
 
-uint8_t __real_rohc_restore(struct rohc_gateway *gateway, const struct rohc_link *links, size_t count, const uint8_t *octets,
-                            size_t octets_count, struct rohc_restored *restored, size_t *place);
+uint8_t __real_rohc_restore(struct polorowan_gateway *gateway, const struct polorowan_link *links, size_t count, const uint8_t *octets,
+                            size_t octets_count, struct polorowan_restored *restored, size_t *place);
 
 /* Whether a context of this gateway has fallen to No Context, and which; and whether the gateway was restored. */
 static bool fell, is_restored;
 static uint16_t fallen;
 
-uint8_t __wrap_rohc_new(struct rohc_gateway *gateway, const struct rohc_link *links, size_t count, size_t *place) {
+uint8_t __wrap_rohc_new(struct polorowan_gateway *gateway, const struct polorowan_link *links, size_t count, size_t *place) {
     fell = is_restored = false;
     return __real_rohc_new(gateway, links, count, place);
 }
 
-uint8_t __wrap_rohc_restore(struct rohc_gateway *gateway, const struct rohc_link *links, size_t count, const uint8_t *octets,
-                            size_t octets_count, struct rohc_restored *restored, size_t *place) {
+uint8_t __wrap_rohc_restore(struct polorowan_gateway *gateway, const struct polorowan_link *links, size_t count, const uint8_t *octets,
+                            size_t octets_count, struct polorowan_restored *restored, size_t *place) {
     is_restored = true;
     return __real_rohc_restore(gateway, links, count, octets, octets_count, restored, place);
 }
 
 /* The Acktype of feedback, or 3 if it has none. */
-static unsigned acktype(const uint8_t *feedback, const struct rohc_arrival *arrival) {
+static unsigned acktype(const uint8_t *feedback, const struct polorowan_arrival *arrival) {
     size_t at = arrival->cid > 0 ? 2 : 1;
     return arrival->has_feedback && arrival->feedback_length > at + 1 ? feedback[at] >> 6 : 3;
 }
 
-static void plant(const uint8_t *octets, uint8_t *packet, uint8_t *feedback, struct rohc_arrival *arrival) {
+static void plant(const uint8_t *octets, uint8_t *packet, uint8_t *feedback, struct polorowan_arrival *arrival) {
     unsigned said = acktype(feedback, arrival);
     (void)said, (void)octets, (void)packet, (void)fell, (void)fallen, (void)is_restored;
 #if PLANTED == 1
@@ -59,11 +59,11 @@ static void plant(const uint8_t *octets, uint8_t *packet, uint8_t *feedback, str
 #endif
 }
 
-uint8_t __wrap_rohc_arrive(struct rohc_gateway *gateway, uint16_t link, uint64_t moment, const uint8_t *octets, size_t count,
+uint8_t __wrap_rohc_arrive(struct polorowan_gateway *gateway, uint16_t link, uint64_t moment, const uint8_t *octets, size_t count,
                            uint8_t *packet, size_t packet_room, uint8_t *feedback, size_t feedback_room, uint8_t *relayed,
-                           size_t relayed_room, struct rohc_arrival *arrival) {
+                           size_t relayed_room, struct polorowan_arrival *arrival) {
     uint8_t status = __real_rohc_arrive(gateway, link, moment, octets, count, packet, packet_room, feedback, feedback_room,
                                         relayed, relayed_room, arrival);
-    if (status == ROHC_ARRIVED) plant(octets, packet, feedback, arrival);
+    if (status == POLOROWAN_ARRIVED) plant(octets, packet, feedback, arrival);
     return status;
 }

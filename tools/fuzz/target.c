@@ -22,7 +22,7 @@
 #include <stdlib.h>
 #include <string.h>
 
-#include "rohc.h"
+#include "polorowan.h"
 
 #define HOLDS(fact) ((fact) ? (void)0 : broken(#fact, __LINE__))
 
@@ -35,8 +35,8 @@ __attribute__((section("__libfuzzer_extra_counters"))) static uint8_t counters[C
 
 /* An answer with all that it has. */
 struct answer {
-    struct rohc_arrival arrival;
-    uint8_t packet[LONGEST + ROHC_HEAD_ROOM], feedback[ROHC_FEEDBACK_ROOM], relayed[LONGEST];
+    struct polorowan_arrival arrival;
+    uint8_t packet[LONGEST + POLOROWAN_HEAD_ROOM], feedback[POLOROWAN_FEEDBACK_ROOM], relayed[LONGEST];
 };
 
 /* An event, and what became of it. */
@@ -64,9 +64,9 @@ static uint8_t crc8(uint8_t register_, const uint8_t *octets, size_t count) {
     return register_;
 }
 
-static struct rohc_link link_of(uint8_t settings, bool large) {
+static struct polorowan_link link_of(uint8_t settings, bool large) {
     static const uint32_t idle[] = {0, 500, 60000, 1000000};
-    struct rohc_link link;
+    struct polorowan_link link;
     memset(&link, 0, sizeof link);
     link.link = large;
     link.large = large;
@@ -88,11 +88,11 @@ static struct rohc_link link_of(uint8_t settings, bool large) {
     return link;
 }
 
-static void open_gateway(struct rohc_gateway *gateway, uint8_t settings) {
-    struct rohc_link links[2] = {link_of(settings, false), link_of(settings, true)};
+static void open_gateway(struct polorowan_gateway *gateway, uint8_t settings) {
+    struct polorowan_link links[2] = {link_of(settings, false), link_of(settings, true)};
     size_t place;
     memset(gateway, 0, sizeof *gateway);
-    HOLDS(rohc_new(gateway, links, 2, &place) == ROHC_MADE && place == 0);
+    HOLDS(polorowan_new(gateway, links, 2, &place) == POLOROWAN_MADE && place == 0);
 }
 
 /* The octets of a large CID. */
@@ -153,34 +153,34 @@ static void read_events(const uint8_t *data, size_t size) {
     }
 }
 
-/* The state of the context of a CID: 0 for none, else one more than its number in enum rohc_state, and 4 for profile 0. */
-static unsigned state_of(struct rohc_gateway *gateway, uint16_t link, uint16_t cid) {
-    struct rohc_context_info context;
-    for (size_t place = 0; rohc_context_at(gateway, link, place, &context); place++) {
+/* The state of the context of a CID: 0 for none, else one more than its number in enum polorowan_state, and 4 for profile 0. */
+static unsigned state_of(struct polorowan_gateway *gateway, uint16_t link, uint16_t cid) {
+    struct polorowan_context_info context;
+    for (size_t place = 0; polorowan_context_at(gateway, link, place, &context); place++) {
         if (context.cid == cid) return context.profile == 0 ? 4 : 1u + context.state;
     }
     return 0;
 }
 
 /* Makes the call of an event with buffers of these lengths. Octets behind their ends must stay. */
-static uint8_t arrive(struct rohc_gateway *gateway, const struct event *event, struct answer *answer, size_t less) {
-    static uint8_t packet[LONGEST + ROHC_HEAD_ROOM + GUARD], feedback[ROHC_FEEDBACK_ROOM + GUARD], relayed[LONGEST + GUARD];
+static uint8_t arrive(struct polorowan_gateway *gateway, const struct event *event, struct answer *answer, size_t less) {
+    static uint8_t packet[LONGEST + POLOROWAN_HEAD_ROOM + GUARD], feedback[POLOROWAN_FEEDBACK_ROOM + GUARD], relayed[LONGEST + GUARD];
     uint8_t octets[LONGEST + 1];
-    size_t rooms[3] = {event->count + (size_t)ROHC_HEAD_ROOM, ROHC_FEEDBACK_ROOM, event->count};
+    size_t rooms[3] = {event->count + (size_t)POLOROWAN_HEAD_ROOM, POLOROWAN_FEEDBACK_ROOM, event->count};
     memset(answer, 0, sizeof *answer);
     memset(packet, 0x55, sizeof packet);
     memset(feedback, 0x55, sizeof feedback);
     memset(relayed, 0x55, sizeof relayed);
     memcpy(octets, event->octets, event->count);
     rooms[0] -= less;
-    uint8_t status = rohc_arrive(gateway, event->flags & LARGE, event->moment, octets, event->count, packet, rooms[0],
+    uint8_t status = polorowan_arrive(gateway, event->flags & LARGE, event->moment, octets, event->count, packet, rooms[0],
                                  feedback, rooms[1], relayed, rooms[2], &answer->arrival);
     HOLDS(memcmp(octets, event->octets, event->count) == 0);
     for (size_t i = 0; i < GUARD; i++) {
         HOLDS(packet[rooms[0] + i] == 0x55 && feedback[rooms[1] + i] == 0x55 && relayed[rooms[2] + i] == 0x55);
     }
-    if (status != ROHC_ARRIVED) return status;
-    const struct rohc_arrival *a = &answer->arrival;
+    if (status != POLOROWAN_ARRIVED) return status;
+    const struct polorowan_arrival *a = &answer->arrival;
     HOLDS(a->packet_length <= rooms[0] && a->feedback_length <= rooms[1] && a->relayed_length <= rooms[2]);
     memcpy(answer->packet, packet, a->packet_length);
     memcpy(answer->feedback, feedback, a->feedback_length);
@@ -220,7 +220,7 @@ static void judge_feedback(const struct event *event) {
         HOLDS(data[at] == 0);
         return;
     }
-    uint8_t check = data[length - 2], covered[ROHC_FEEDBACK_ROOM];
+    uint8_t check = data[length - 2], covered[POLOROWAN_FEEDBACK_ROOM];
     memcpy(covered, data, length - 1);
     covered[length - 2] = 0;
     HOLDS(data[at] >> 6 < 3 && (data[at] >> 4 & 3) == 2 && data[length - 3] == 0x11);
@@ -236,68 +236,68 @@ static void judge_relayed(const struct answer *answer) {
 
 /* The answer to an event, by the state of its context before and after. */
 static void judge(const struct event *event, unsigned before, unsigned after) {
-    const struct rohc_arrival *a = &event->answer.arrival;
-    HOLDS(a->kind <= ROHC_REFUSED && a->outcome <= ROHC_STORED);
+    const struct polorowan_arrival *a = &event->answer.arrival;
+    HOLDS(a->kind <= POLOROWAN_REFUSED && a->outcome <= POLOROWAN_STORED);
     judge_relayed(&event->answer);
-    if (a->kind != ROHC_CONTEXT) {
+    if (a->kind != POLOROWAN_CONTEXT) {
         HOLDS(a->cid == 0 && !a->has_packet && !a->has_feedback);
-        HOLDS((a->kind == ROHC_FEEDBACK) == (a->outcome == ROHC_DELIVERED) && a->outcome != ROHC_STORED);
+        HOLDS((a->kind == POLOROWAN_FEEDBACK) == (a->outcome == POLOROWAN_DELIVERED) && a->outcome != POLOROWAN_STORED);
         return;
     }
-    HOLDS(a->has_packet == (a->outcome == ROHC_DELIVERED));
+    HOLDS(a->has_packet == (a->outcome == POLOROWAN_DELIVERED));
     HOLDS(a->has_packet || a->packet_length == 0);
     HOLDS(a->has_feedback == (a->feedback_length > 0));
     if (a->has_packet && after != 4) judge_header(event->answer.packet, a->packet_length);
     if (a->has_packet) HOLDS(after >= 3);
-    if (a->outcome == ROHC_STORED) HOLDS(after == 2 || after == 4);
-    if (a->outcome != ROHC_DELIVERED && a->outcome != ROHC_STORED) HOLDS(after <= before && (before == 4) == (after == 4));
+    if (a->outcome == POLOROWAN_STORED) HOLDS(after == 2 || after == 4);
+    if (a->outcome != POLOROWAN_DELIVERED && a->outcome != POLOROWAN_STORED) HOLDS(after <= before && (before == 4) == (after == 4));
     if (a->has_feedback) judge_feedback(event);
 }
 
-static size_t contexts_of(struct rohc_gateway *gateway, uint16_t link) {
-    struct rohc_context_info context;
+static size_t contexts_of(struct polorowan_gateway *gateway, uint16_t link) {
+    struct polorowan_context_info context;
     size_t place = 0;
-    while (rohc_context_at(gateway, link, place, &context)) place++;
+    while (polorowan_context_at(gateway, link, place, &context)) place++;
     return place;
 }
 
 /* Saves a gateway into a buffer of exactly the length that it needs. With an octet less nothing is written. */
-static size_t save(struct rohc_gateway *gateway, uint64_t moment, uint8_t *octets) {
+static size_t save(struct polorowan_gateway *gateway, uint64_t moment, uint8_t *octets) {
     size_t needed = 0, count = 0;
     memset(octets, 0x55, SAVED);
-    HOLDS(rohc_save(gateway, moment, octets, 1, &needed) == ROHC_SAVED_NO_ROOM && needed > 1 && needed < SAVED);
-    HOLDS(rohc_save(gateway, moment, octets, needed - 1, &count) == ROHC_SAVED_NO_ROOM && count == needed);
+    HOLDS(polorowan_save(gateway, moment, octets, 1, &needed) == POLOROWAN_SAVED_NO_ROOM && needed > 1 && needed < SAVED);
+    HOLDS(polorowan_save(gateway, moment, octets, needed - 1, &count) == POLOROWAN_SAVED_NO_ROOM && count == needed);
     for (size_t i = 0; i < needed; i++) HOLDS(octets[i] == 0x55);
-    HOLDS(rohc_save(gateway, moment, octets, needed, &count) == ROHC_SAVED && count == needed);
+    HOLDS(polorowan_save(gateway, moment, octets, needed, &count) == POLOROWAN_SAVED && count == needed);
     for (size_t i = 0; i < GUARD; i++) HOLDS(octets[needed + i] == 0x55);
     return count;
 }
 
 /* What was saved is refused with one octet changed, and the gateway stays without a concentrator. */
-static void restore_bent(const struct event *event, const struct rohc_link *links, const uint8_t *saved, size_t count) {
+static void restore_bent(const struct event *event, const struct polorowan_link *links, const uint8_t *saved, size_t count) {
     static uint8_t bent[SAVED];
-    struct rohc_gateway gateway = {0};
-    struct rohc_restored restored;
+    struct polorowan_gateway gateway = {0};
+    struct polorowan_restored restored;
     size_t place, at = ((size_t)event->octets[0] << 8 | event->octets[1]) % count;
     memcpy(bent, saved, count);
     bent[at] ^= event->octets[2] ? event->octets[2] : 1;
-    uint8_t status = rohc_restore(&gateway, links, 2, bent, count, &restored, &place);
-    HOLDS(status >= ROHC_NOT_SAVED && status <= ROHC_LONG && place <= count);
-    HOLDS(rohc_reset(&gateway, 0) == ROHC_FORGOT_NONE);
-    HOLDS(rohc_restore(&gateway, links, 2, saved, count - 1, &restored, &place) == ROHC_SHORT);
+    uint8_t status = polorowan_restore(&gateway, links, 2, bent, count, &restored, &place);
+    HOLDS(status >= POLOROWAN_NOT_SAVED && status <= POLOROWAN_LONG && place <= count);
+    HOLDS(polorowan_reset(&gateway, 0) == POLOROWAN_FORGOT_NONE);
+    HOLDS(polorowan_restore(&gateway, links, 2, saved, count - 1, &restored, &place) == POLOROWAN_SHORT);
     vary(4, status);
 }
 
 /* Saves and restores a gateway. All contexts are taken, and saved again they are the same octets. */
-static void save_and_restore(const struct event *event, uint8_t settings, struct rohc_gateway *gateway) {
+static void save_and_restore(const struct event *event, uint8_t settings, struct polorowan_gateway *gateway) {
     static uint8_t saved[SAVED], again[SAVED];
-    struct rohc_link links[2] = {link_of(settings, false), link_of(settings, true)};
-    struct rohc_restored restored;
+    struct polorowan_link links[2] = {link_of(settings, false), link_of(settings, true)};
+    struct polorowan_restored restored;
     size_t place, contexts = contexts_of(gateway, 0) + contexts_of(gateway, 1);
     size_t count = save(gateway, event->moment, saved);
     if (event->flags & BEND) restore_bent(event, links, saved, count);
-    rohc_free(gateway);
-    HOLDS(rohc_restore(gateway, links, 2, saved, count, &restored, &place) == ROHC_MADE && place == 0);
+    polorowan_free(gateway);
+    HOLDS(polorowan_restore(gateway, links, 2, saved, count, &restored, &place) == POLOROWAN_MADE && place == 0);
     HOLDS(restored.moment == event->moment && restored.links == 2 && restored.contexts == contexts);
     HOLDS(restored.unknown_links + restored.other_links + restored.left_contexts + restored.high_contexts == 0);
     HOLDS(save(gateway, event->moment, again) == count && memcmp(saved, again, count) == 0);
@@ -306,39 +306,39 @@ static void save_and_restore(const struct event *event, uint8_t settings, struct
 
 /* Runs the events of an input in one gateway. */
 static void run(uint8_t settings) {
-    struct rohc_gateway gateway;
+    struct polorowan_gateway gateway;
     struct answer none;
     open_gateway(&gateway, settings);
     for (struct event *event = events; event < events + event_count; event++) {
         uint16_t link = event->flags & LARGE;
         unsigned before[SMALL_CIDS];
         if (event->flags & RESET) {
-            struct rohc_context_info context;
-            HOLDS(rohc_reset(&gateway, link) == ROHC_FORGOT && !rohc_context_at(&gateway, link, 0, &context));
+            struct polorowan_context_info context;
+            HOLDS(polorowan_reset(&gateway, link) == POLOROWAN_FORGOT && !polorowan_context_at(&gateway, link, 0, &context));
         }
         if (event->flags & SAVE) save_and_restore(event, settings, &gateway);
-        if (event->flags & NO_ROOM) HOLDS(arrive(&gateway, event, &none, 1) == ROHC_NO_ROOM);
+        if (event->flags & NO_ROOM) HOLDS(arrive(&gateway, event, &none, 1) == POLOROWAN_NO_ROOM);
         for (uint16_t cid = 0; cid < SMALL_CIDS; cid++) before[cid] = state_of(&gateway, link, cid);
-        HOLDS(arrive(&gateway, event, &event->answer, 0) == ROHC_ARRIVED);
-        const struct rohc_arrival *a = &event->answer.arrival;
-        if (a->kind != ROHC_CONTEXT || a->cid < SMALL_CIDS) {
-            unsigned after = a->kind == ROHC_CONTEXT ? state_of(&gateway, link, a->cid) : 0;
-            unsigned held = a->kind == ROHC_CONTEXT ? before[a->cid] : 0;
+        HOLDS(arrive(&gateway, event, &event->answer, 0) == POLOROWAN_ARRIVED);
+        const struct polorowan_arrival *a = &event->answer.arrival;
+        if (a->kind != POLOROWAN_CONTEXT || a->cid < SMALL_CIDS) {
+            unsigned after = a->kind == POLOROWAN_CONTEXT ? state_of(&gateway, link, a->cid) : 0;
+            unsigned held = a->kind == POLOROWAN_CONTEXT ? before[a->cid] : 0;
             judge(event, held, after);
             vary(1, held * 8 + after + 64 * a->outcome + 2048 * a->has_feedback);
             vary(2, after + 8 * (a->has_feedback ? event->answer.feedback[a->feedback_length > 4] : 0) + 4096u * link);
             vary(3, a->kind + 4u * (a->relayed_count < 4 ? (unsigned)a->relayed_count : 4) + 32u * a->outcome);
         }
         for (uint16_t cid = 0; cid < SMALL_CIDS; cid++) {
-            bool is_own = a->kind == ROHC_CONTEXT && a->cid == cid;
+            bool is_own = a->kind == POLOROWAN_CONTEXT && a->cid == cid;
             if (!is_own) HOLDS(state_of(&gateway, link, cid) == before[cid]);
         }
     }
-    rohc_free(&gateway);
+    polorowan_free(&gateway);
 }
 
 static bool is_same(const struct answer *one, const struct answer *other) {
-    const struct rohc_arrival *a = &one->arrival, *b = &other->arrival;
+    const struct polorowan_arrival *a = &one->arrival, *b = &other->arrival;
     return a->kind == b->kind && a->outcome == b->outcome && a->cid == b->cid && a->has_packet == b->has_packet &&
            a->has_feedback == b->has_feedback && a->packet_length == b->packet_length &&
            a->feedback_length == b->feedback_length && a->relayed_length == b->relayed_length &&
@@ -349,16 +349,16 @@ static bool is_same(const struct answer *one, const struct answer *other) {
 
 /* Runs the events of one pair apart, with the resets of its link. They must be answered as they were among all others. */
 static void run_apart(uint8_t settings, uint16_t link, uint16_t cid) {
-    struct rohc_gateway gateway;
+    struct polorowan_gateway gateway;
     struct answer answer;
     open_gateway(&gateway, settings);
     for (const struct event *event = events; event < events + event_count; event++) {
         if ((event->flags & LARGE) != link) continue;
-        if (event->flags & RESET) HOLDS(rohc_reset(&gateway, link) == ROHC_FORGOT);
-        if (event->answer.arrival.kind != ROHC_CONTEXT || event->answer.arrival.cid != cid) continue;
-        HOLDS(arrive(&gateway, event, &answer, 0) == ROHC_ARRIVED && is_same(&answer, &event->answer));
+        if (event->flags & RESET) HOLDS(polorowan_reset(&gateway, link) == POLOROWAN_FORGOT);
+        if (event->answer.arrival.kind != POLOROWAN_CONTEXT || event->answer.arrival.cid != cid) continue;
+        HOLDS(arrive(&gateway, event, &answer, 0) == POLOROWAN_ARRIVED && is_same(&answer, &event->answer));
     }
-    rohc_free(&gateway);
+    polorowan_free(&gateway);
 }
 
 int LLVMFuzzerTestOneInput(const uint8_t *data, size_t size) {
@@ -366,12 +366,12 @@ int LLVMFuzzerTestOneInput(const uint8_t *data, size_t size) {
     read_events(data + 1, size - 1);
     run(data[0]);
     for (size_t i = 0; i < event_count; i++) {
-        const struct rohc_arrival *a = &events[i].answer.arrival;
+        const struct polorowan_arrival *a = &events[i].answer.arrival;
         uint16_t link = events[i].flags & LARGE;
-        bool is_first = a->kind == ROHC_CONTEXT;
+        bool is_first = a->kind == POLOROWAN_CONTEXT;
         for (size_t earlier = 0; earlier < i && is_first; earlier++) {
             const struct event *other = &events[earlier];
-            is_first = (other->flags & LARGE) != link || other->answer.arrival.kind != ROHC_CONTEXT ||
+            is_first = (other->flags & LARGE) != link || other->answer.arrival.kind != POLOROWAN_CONTEXT ||
                        other->answer.arrival.cid != a->cid;
         }
         if (is_first) run_apart(data[0], link, a->cid);

@@ -1,4 +1,4 @@
--- What `rohc_new` makes, and why it fails. Words: IsNew; IsNewFault; fault_number, fault_place.
+-- What `polorowan_new` makes, and why it fails. Words: IsNew; IsNewFault; fault_number, fault_place.
 use Rattle.std.specs.Prelude.{◌≡◌, ℕ, ◌+◌, ◌<◌, ◌≤◌, List, [], length, take, slice_get, All, Some, None}
 use Rattle.rohc_concentrator.specs.declared.concentrator.Concentrator.{Concentrator}
 use Rattle.rohc_concentrator.specs.declared.setup.SetupFault.{SetupFault}

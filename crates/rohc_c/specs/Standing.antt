@@ -16,7 +16,7 @@ abbrev pub profile_number : Profile → ℕ
 profile_number profiles.Uncompressed = 0x0000
 profile_number profiles.Rtp = 0x0001
 
--- the number of a state: of enum rohc_state
+-- the number of a state: of enum polorowan_state
 abbrev pub state_number : ContextState → ℕ
 state_number states.NoContext = 0
 state_number states.StaticContext = 1

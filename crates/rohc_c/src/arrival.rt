@@ -14,7 +14,7 @@ use rohc_concentrator::Answer;
 use rohc_context::{Delivered, Outcome, Reply};
 use rohc_frame::Elements;
 
-/// The answer to an arrival: `struct rohc_arrival` of include/rohc.h. Its octets stand in the caller's buffers.
+/// The answer to an arrival: `struct polorowan_arrival` of include/polorowan.h. Its octets stand in the caller's buffers.
 #[repr(C)]
 #[derive(Clone, Copy, Debug, Default, Drop)]
 pub struct RohcArrival {

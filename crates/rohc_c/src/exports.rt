@@ -22,7 +22,7 @@ use std::alloc::Global;
 /// for lack of memory. `place` is set to the place of that link, counted from 1, or to 0 if the fault is of no single
 /// link. After a fault the gateway stays as it was.
 #[unsafe(no_mangle)]
-pub extern "C" fn rohc_new(
+pub extern "C" fn polorowan_new(
     alloc: Global,
     gateway: &mut Gateway,
     links: &[RohcLink],
@@ -35,7 +35,7 @@ pub extern "C" fn rohc_new(
 {
     match build(alloc, links) {
         Ok(concentrator) => {
-            rohc_free(alloc, gateway);
+            polorowan_free(alloc, gateway);
             gateway.put(concentrator);
             *place = 0;
             0
@@ -49,7 +49,7 @@ pub extern "C" fn rohc_new(
 
 /// Frees the concentrator, if there is one, and leaves none.
 #[unsafe(no_mangle)]
-pub extern "C" fn rohc_free(alloc: Global, gateway: &mut Gateway)
+pub extern "C" fn polorowan_free(alloc: Global, gateway: &mut Gateway)
     ensures { gateway.new.handle.concentrator ≡ None }
 {
     if gateway.live {
@@ -66,7 +66,7 @@ ghost use Rattle.rohc_c.specs.Calls.{HasRoom, HasArrived};
 /// need: 40 octets more than the packet for the rebuilt packet, 8 octets for feedback, and as many octets as the
 /// packet for relayed feedback. At 1 and 2 nothing is changed.
 #[unsafe(no_mangle)]
-pub extern "C" fn rohc_arrive(
+pub extern "C" fn polorowan_arrive(
     alloc: Global,
     gateway: &mut Gateway,
     link: u16,
@@ -113,7 +113,7 @@ ghost use Rattle.rohc_c.specs.Calls.{HasReset, has_link, has_record};
 /// Forgets every record of a link, and no other record. Returns 0 if that is done, 1 if there is no concentrator, and
 /// 2 if it has no such link.
 #[unsafe(no_mangle)]
-pub extern "C" fn rohc_reset(alloc: Global, gateway: &mut Gateway, link: u16) -> u8
+pub extern "C" fn polorowan_reset(alloc: Global, gateway: &mut Gateway, link: u16) -> u8
     ensures done { result ≢ 1 → HasReset (record { old = gateway.old.handle.concentrator; new = gateway.new.handle.concentrator }) link }
     ensures known { (result ≡ 0) ↔ IsTrue (has_link gateway.old.handle.concentrator link) }
     ensures unknown { result ≢ 0 → result ≢ 1 → result ≡ 2 }
@@ -135,7 +135,7 @@ pub extern "C" fn rohc_reset(alloc: Global, gateway: &mut Gateway, link: u16) ->
 /// Whether a CID of a link has a record, even one that counts as none because it was idle too long; false if there is
 /// no concentrator.
 #[unsafe(no_mangle)]
-pub extern "C" fn rohc_has_context(
+pub extern "C" fn polorowan_has_context(
     alloc: Global,
     gateway: &mut Gateway,
     link: u16,
@@ -159,7 +159,7 @@ ghost use Rattle.rohc_c.specs.Standing.{link_at, identifier_at, IsContextAt};
 ///
 /// After the last link, and without a concentrator, `link` stays as it was.
 #[unsafe(no_mangle)]
-pub extern "C" fn rohc_link_at(
+pub extern "C" fn polorowan_link_at(
     alloc: Global,
     gateway: &mut Gateway,
     place: usize,
@@ -187,7 +187,7 @@ pub extern "C" fn rohc_link_at(
 ///
 /// After the last one, without such a link, and without a concentrator, `context` stays as it was.
 #[unsafe(no_mangle)]
-pub extern "C" fn rohc_context_at(
+pub extern "C" fn polorowan_context_at(
     alloc: Global,
     gateway: &mut Gateway,
     link: u16,
@@ -219,7 +219,7 @@ ghost use Rattle.rohc_c.specs.Names.{IsNamed, IsUnnamed};
 /// Returns 0 if no refusal has the number, or if there is no room; then the buffer stays as it was. 16 octets are enough
 /// for each name.
 #[unsafe(no_mangle)]
-pub extern "C" fn rohc_refusal_name(number: u8, name: &mut [u8]) -> usize
+pub extern "C" fn polorowan_refusal_name(number: u8, name: &mut [u8]) -> usize
     ensures named { result ≢ 0 → IsNamed number result name.new }
     ensures unnamed { result ≡ 0 → IsUnnamed number name.old }
     ensures kept { result ≡ 0 → name.new ≡ name.old }
@@ -244,7 +244,7 @@ ghost use Rattle.rohc_c.specs.declared.saved.BackFault.{BackFault};
 /// Returns 0 if that is done, 1 if there is no concentrator, 2 if the buffer is too short, and 3 for lack of memory.
 /// `length` is set to the number of octets that are needed, at 0 and 2. Nothing else is changed at 1, 2 and 3.
 #[unsafe(no_mangle)]
-pub extern "C" fn rohc_save(
+pub extern "C" fn polorowan_save(
     alloc: Global,
     gateway: &mut Gateway,
     moment: u64,
@@ -279,13 +279,13 @@ pub extern "C" fn rohc_save(
 /// Makes a concentrator with these links that goes on from what these octets spell, in place of what the gateway had.
 ///
 /// Links that aren't among these, or are of another CID kind, are left out, and contexts above the greatest CID; `restored`
-/// counts them. Returns 0, or why none is made: 1 to 6 as of `rohc_new`; then the first fault of the octets: 7 if they are
+/// counts them. Returns 0, or why none is made: 1 to 6 as of `polorowan_new`; then the first fault of the octets: 7 if they are
 /// no saved concentrator, 8 for another version, 9 if they end too soon, 10 for a bad value of a link, 11 for one of a
 /// context, 12 for a link or a CID for the second time, or a CID above the greatest of its link, 13 for another digest, 14
 /// for octets behind the end. `place` is set to the place of the link at fault, counted from 1, or of the octet, counted
 /// from 0; else to 0. After a fault the gateway and `restored` stay as they were.
 #[unsafe(no_mangle)]
-pub extern "C" fn rohc_restore(
+pub extern "C" fn polorowan_restore(
     alloc: Global,
     gateway: &mut Gateway,
     links: &[RohcLink],
@@ -305,7 +305,7 @@ pub extern "C" fn rohc_restore(
             return fault.number();
         }
     };
-    rohc_free(alloc, gateway);
+    polorowan_free(alloc, gateway);
     gateway.put(concentrator);
     *restored = told;
     *place = 0;

@@ -7,8 +7,8 @@ use crate::loose::Loose;
 use rohc_concentrator::Concentrator;
 use std::alloc::Global;
 
-/// A concentrator, or none if all octets of the struct are 0: `struct rohc_gateway` of
-/// include/rohc.h.
+/// A concentrator, or none if all octets of the struct are 0: `struct polorowan_gateway` of
+/// include/polorowan.h.
 #[repr(C)]
 #[derive(Drop)]
 pub struct Gateway {

@@ -1,6 +1,6 @@
 //! The concentrator as a library for C.
 //!
-//! Each exported function restates the contract clauses of the safe function that it calls. include/rohc.h declares
+//! Each exported function restates the contract clauses of the safe function that it calls. include/polorowan.h declares
 //! the functions, and says what the caller must guarantee. tools/library_calls.c tests each of them from C.
 #![tactic(auto)]
 

@@ -9,7 +9,7 @@ use rohc_context::{Mode, Settings};
 use rohc_frame::CidKind;
 use std::alloc::{AllocError, Global};
 
-/// A range of CIDs with a mode of its own: `struct rohc_range` of include/rohc.h.
+/// A range of CIDs with a mode of its own: `struct polorowan_range` of include/polorowan.h.
 #[repr(C)]
 #[derive(Clone, Copy, Debug)]
 pub struct RohcRange {
@@ -21,7 +21,7 @@ pub struct RohcRange {
     pub optimistic: bool,
 }
 
-/// The setting of a link: `struct rohc_link` of include/rohc.h. Its fields are those of `Settings` and
+/// The setting of a link: `struct polorowan_link` of include/polorowan.h. Its fields are those of `Settings` and
 /// `LinkSetting`.
 #[repr(C)]
 #[derive(Clone, Copy, Debug)]

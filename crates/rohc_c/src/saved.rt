@@ -11,7 +11,7 @@ use rohc_concentrator::{Concentrator, SetupFault};
 use rohc_saved::{Restored, SavedFault, restore, save};
 use std::alloc::Global;
 
-/// What was restored: `struct rohc_restored` of include/rohc.h. Each count stays at the greatest number of 64 bits.
+/// What was restored: `struct polorowan_restored` of include/polorowan.h. Each count stays at the greatest number of 64 bits.
 #[repr(C)]
 #[derive(Clone, Copy, Debug, Default, Drop)]
 pub struct RohcRestored {
@@ -49,7 +49,7 @@ fn tell(restored: Restored) -> RohcRestored
 /// Why nothing is restored: why no concentrator is made from the links, or the first fault of the octets.
 #[derive(Clone, Copy, Debug, PartialEq, Eq)]
 pub enum BackFault {
-    /// As of `rohc_new`.
+    /// As of `polorowan_new`.
     New(NewFault),
     /// The octets don't begin as those of a saved concentrator do.
     NotSaved,

@@ -6,7 +6,7 @@ ghost use Rattle.rohc_c.specs.Standing.{profile_number, state_number, identifier
 use rohc_concentrator::Concentrator;
 use rohc_context::{ContextState, Profile};
 
-/// A context: `struct rohc_context_info` of include/rohc.h.
+/// A context: `struct polorowan_context_info` of include/polorowan.h.
 #[repr(C)]
 #[derive(Clone, Copy, Debug, Default, Drop)]
 pub struct RohcContextInfo {

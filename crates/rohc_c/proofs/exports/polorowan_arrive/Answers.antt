@@ -1,5 +1,5 @@
 use Rattle.std.proofs.Common.{refl, Some, ap, sym, ◌∙◌}
-use Rattle.rohc_c.proofs.exports.rohc_arrive.Goals as goal
+use Rattle.rohc_c.proofs.exports.polorowan_arrive.Goals as goal
 
 pub returns-then-not-has_room-clause-kept : goal.returns-then-not-has_room-clause-kept
 returns-then-not-has_room-clause-kept c = λ _. (refl, refl, refl, refl, refl)

@@ -1,4 +1,4 @@
-"""The library for C, by ctypes: its structs, as in include/rohc.h, and its functions."""
+"""The library for C, by ctypes: its structs, as in include/polorowan.h, and its functions."""
 
 from __future__ import annotations
 
@@ -77,13 +77,13 @@ class Restored(ctypes.Structure):
 
 def _path() -> str:
     """Where the library is."""
-    given = os.environ.get("ROHC_LIBRARY")
+    given = os.environ.get("POLOROWAN_LIBRARY")
     if given:
-        return str(Path(given) / "librohc.so") if Path(given).is_dir() else given
-    built = Path(__file__).resolve().parents[2] / "out" / "librohc.so"
-    found = str(built) if built.exists() else ctypes.util.find_library("rohc")
+        return str(Path(given) / "libpolorowan.so") if Path(given).is_dir() else given
+    built = Path(__file__).resolve().parents[2] / "out" / "libpolorowan.so"
+    found = str(built) if built.exists() else ctypes.util.find_library("polorowan")
     if found is None:
-        raise OSError("there is no librohc.so: build it by bin/lib, or name it in ROHC_LIBRARY")
+        raise OSError("there is no libpolorowan.so: build it by bin/lib, or name it in POLOROWAN_LIBRARY")
     return found
 
 
@@ -93,19 +93,19 @@ def _functions() -> ctypes.PyDLL:
     library = ctypes.PyDLL(_path())
     octets = ctypes.c_void_p
     types = {
-        "rohc_new": (c_uint8, [POINTER(Gateway), POINTER(Link), c_size_t, POINTER(c_size_t)]),
-        "rohc_free": (None, [POINTER(Gateway)]),
-        "rohc_arrive": (
+        "polorowan_new": (c_uint8, [POINTER(Gateway), POINTER(Link), c_size_t, POINTER(c_size_t)]),
+        "polorowan_free": (None, [POINTER(Gateway)]),
+        "polorowan_arrive": (
             c_uint8,
             [POINTER(Gateway), c_uint16, c_uint64, *[octets, c_size_t] * 4, POINTER(Arrival)],
         ),
-        "rohc_reset": (c_uint8, [POINTER(Gateway), c_uint16]),
-        "rohc_has_context": (c_bool, [POINTER(Gateway), c_uint16, c_uint16]),
-        "rohc_link_at": (c_bool, [POINTER(Gateway), c_size_t, POINTER(c_uint16)]),
-        "rohc_context_at": (c_bool, [POINTER(Gateway), c_uint16, c_size_t, POINTER(ContextInfo)]),
-        "rohc_refusal_name": (c_size_t, [c_uint8, octets, c_size_t]),
-        "rohc_save": (c_uint8, [POINTER(Gateway), c_uint64, octets, c_size_t, POINTER(c_size_t)]),
-        "rohc_restore": (
+        "polorowan_reset": (c_uint8, [POINTER(Gateway), c_uint16]),
+        "polorowan_has_context": (c_bool, [POINTER(Gateway), c_uint16, c_uint16]),
+        "polorowan_link_at": (c_bool, [POINTER(Gateway), c_size_t, POINTER(c_uint16)]),
+        "polorowan_context_at": (c_bool, [POINTER(Gateway), c_uint16, c_size_t, POINTER(ContextInfo)]),
+        "polorowan_refusal_name": (c_size_t, [c_uint8, octets, c_size_t]),
+        "polorowan_save": (c_uint8, [POINTER(Gateway), c_uint64, octets, c_size_t, POINTER(c_size_t)]),
+        "polorowan_restore": (
             c_uint8,
             [POINTER(Gateway), POINTER(Link), c_size_t, octets, c_size_t, POINTER(Restored), POINTER(c_size_t)],
         ),
@@ -120,14 +120,14 @@ def new(gateway: Gateway, links: list[Link]) -> tuple[int, int]:
     """Makes a concentrator, and returns the status and the place of the link at fault."""
     place = c_size_t()
     array = (Link * max(len(links), 1))(*links)
-    return _functions().rohc_new(byref(gateway), array, len(links), byref(place)), place.value
+    return _functions().polorowan_new(byref(gateway), array, len(links), byref(place)), place.value
 
 
 def restore(gateway: Gateway, links: list[Link], octets: bytes) -> tuple[int, int, Restored]:
     """Makes a concentrator from saved octets. Returns the status, the place of the fault, and what was restored."""
     place, restored = c_size_t(), Restored()
     array = (Link * max(len(links), 1))(*links)
-    status = _functions().rohc_restore(
+    status = _functions().polorowan_restore(
         byref(gateway), array, len(links), octets, len(octets), byref(restored), byref(place)
     )
     return status, place.value, restored
@@ -136,11 +136,11 @@ def restore(gateway: Gateway, links: list[Link], octets: bytes) -> tuple[int, in
 def save(gateway: Gateway, moment: int) -> tuple[int, bytes]:
     """The status, and the octets of a concentrator that is saved at this moment."""
     count, none = c_size_t(), ctypes.create_string_buffer(1)
-    status = _functions().rohc_save(byref(gateway), moment, none, 0, byref(count))
+    status = _functions().polorowan_save(byref(gateway), moment, none, 0, byref(count))
     if status != NO_ROOM:
         return status, b""
     octets = ctypes.create_string_buffer(count.value)
-    status = _functions().rohc_save(byref(gateway), moment, octets, count.value, byref(count))
+    status = _functions().polorowan_save(byref(gateway), moment, octets, count.value, byref(count))
     return status, octets.raw
 
 
@@ -177,16 +177,16 @@ class Room:
     def free(self) -> None:
         """Frees the concentrator, if there is one."""
         with self._lock:
-            _functions().rohc_free(byref(self.gateway))
+            _functions().polorowan_free(byref(self.gateway))
 
     def arrive(self, link: int, moment: int, octets: bytes) -> None:
         """Takes a packet. There is a concentrator."""
         count = len(octets)
         if count > self._count:
             self._grow(count)
-        status = _functions().rohc_arrive(byref(self.gateway), link, moment, octets, count, *self._told)
+        status = _functions().polorowan_arrive(byref(self.gateway), link, moment, octets, count, *self._told)
         if status != 0:
-            raise RuntimeError(f"rohc_arrive answered {status}")
+            raise RuntimeError(f"polorowan_arrive answered {status}")
 
     @property
     def packet(self) -> bytes | None:
@@ -216,28 +216,28 @@ def _elements(octets: bytes) -> tuple[bytes, ...]:
 
 
 def reset(gateway: Gateway, link: int) -> int:
-    return _functions().rohc_reset(byref(gateway), link)
+    return _functions().polorowan_reset(byref(gateway), link)
 
 
 def has_context(gateway: Gateway, link: int, cid: int) -> bool:
-    return _functions().rohc_has_context(byref(gateway), link, cid)
+    return _functions().polorowan_has_context(byref(gateway), link, cid)
 
 
 def link_at(gateway: Gateway, place: int) -> int | None:
     """The number of the link at a place, or None if there is none."""
     link = c_uint16()
-    return link.value if _functions().rohc_link_at(byref(gateway), place, byref(link)) else None
+    return link.value if _functions().polorowan_link_at(byref(gateway), place, byref(link)) else None
 
 
 def context_at(gateway: Gateway, link: int, place: int) -> ContextInfo | None:
     """The context at a place among those of a link, or None if there is none."""
     context = ContextInfo()
-    return context if _functions().rohc_context_at(byref(gateway), link, place, byref(context)) else None
+    return context if _functions().polorowan_context_at(byref(gateway), link, place, byref(context)) else None
 
 
 def _refusal_name(number: int) -> str | None:
     name = ctypes.create_string_buffer(NAME_ROOM)
-    length = _functions().rohc_refusal_name(number, name, len(name))
+    length = _functions().polorowan_refusal_name(number, name, len(name))
     return name.raw[:length].decode("ascii") if length else None
 
 

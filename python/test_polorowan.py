@@ -1,5 +1,5 @@
 #!/usr/bin/env python3
-"""Runs the examples through the package, and a capture. ROHC_LIBRARY names the folder of librohc.so, if it isn't out/."""
+"""Runs the examples through the package, and a capture. POLOROWAN_LIBRARY names the folder of libpolorowan.so, if it isn't out/."""
 
 from __future__ import annotations
 
@@ -20,7 +20,7 @@ TOP = Path(__file__).resolve().parent.parent
 sys.path[:0] = [str(TOP / "python"), str(TOP / "python/examples")]
 
 import pcap  # noqa: E402
-from rohc import (  # noqa: E402
+from polorowan import (  # noqa: E402
     Answer,
     Closed,
     Concentrator,

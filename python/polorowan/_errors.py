@@ -27,7 +27,7 @@ class Error(Exception):
 
 
 class SetupError(Error, ValueError):
-    """No concentrator is made. `status` is one of enum rohc_made; `place` is the place of the link at fault from 1, or 0."""
+    """No concentrator is made. `status` is one of enum polorowan_made; `place` is the place of the link at fault from 1, or 0."""
 
     def __init__(self, status: int, place: int) -> None:
         where = f" at link {place}" if place else ""
@@ -37,7 +37,7 @@ class SetupError(Error, ValueError):
 
 
 class SavedError(Error, ValueError):
-    """Octets are refused. `status` is one of enum rohc_not_restored; `place` is that of the octet at fault, from 0."""
+    """Octets are refused. `status` is one of enum polorowan_not_restored; `place` is that of the octet at fault, from 0."""
 
     def __init__(self, status: int, place: int) -> None:
         super().__init__(f"{NOT_RESTORED.get(status, status)}, at octet {place}")

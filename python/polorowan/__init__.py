@@ -1,10 +1,10 @@
 """A ROHC decompressor for many links: packets in, IP packets and feedback out.
 
-A thin layer over the library for C, librohc.so, which `bin/lib` builds. It is taken from the folder or file that the
-environment variable ROHC_LIBRARY names, else from the folder out/ of this repository, else from the system's libraries. The
+A thin layer over the library for C, libpolorowan.so, which `bin/lib` builds. It is taken from the folder or file that the
+environment variable POLOROWAN_LIBRARY names, else from the folder out/ of this repository, else from the system's libraries. The
 library is proved; this layer isn't.
 
-    from rohc import Concentrator, Link
+    from polorowan import Concentrator, Link
 
     with Concentrator([Link(1)]) as concentrator:
         answer = concentrator.arrive(1, 0, bytes.fromhex("fc00b745aa"))
@@ -82,7 +82,7 @@ class Range:
 
 @dataclass(frozen=True)
 class Link:
-    """The settings of a link. The fields are those of `struct rohc_link` in include/rohc.h."""
+    """The settings of a link. The fields are those of `struct polorowan_link` in include/polorowan.h."""
 
     link: int
     max_cid: int = 15

@@ -1,5 +1,5 @@
 use Rattle.std.proofs.Common.{rules}
-use Rattle.rohc_c.proofs.exports.rohc_link_at.Goals as goal
+use Rattle.rohc_c.proofs.exports.polorowan_context_at.Goals as goal
 
 pub returns-clause-shown : goal.returns-clause-shown
 returns-clause-shown c = search rules

@@ -1,5 +1,5 @@
 use Rattle.std.proofs.Common.{rules, Some, ap, sym, ◌∙◌}
-use Rattle.rohc_c.proofs.exports.rohc_reset.Goals as goal
+use Rattle.rohc_c.proofs.exports.polorowan_reset.Goals as goal
 
 pub returns-in-Ok-clause-done : goal.returns-in-Ok-clause-done
 returns-in-Ok-clause-done c = λ _.

@@ -1,0 +1,321 @@
+/**
+ * @file polorowan.h
+ * @brief A ROHC decompressor for many links: packets in, IP packets and feedback out.
+ *
+ * Profiles 0x0000 and 0x0001 of RFC 3095 in U and O mode, with the framing and feedback of RFC 5795. docs/LIBRARY.md says
+ * what is proved of the library. The proof holds only if the caller guarantees the following:
+ *
+ * - A gateway is all zeros before its first call. It is never copied, and neither of its fields is read or written.
+ * - No pointer is null or dangling, even if its length is 0, and each is aligned for its type.
+ * - No buffer of a call overlaps another, or a struct of the same call; @p octets and @p links may only be read meanwhile.
+ * - Each buffer has as many octets as its length says, and each `bool` is 0 or 1.
+ * - A gateway serves one call at a time. Between calls it may go to another thread, ordered by a lock or a join.
+ * - No call is made from a signal handler, or in the forked child of a process with threads.
+ * - malloc, realloc and free are of one allocator, and align blocks as C asks.
+ *
+ * A gateway with other octets, or one that was freed by other means, can't be told from a good one.
+ */
+#ifndef POLOROWAN_H
+#define POLOROWAN_H
+
+#include <stdbool.h>
+#include <stddef.h>
+#include <stdint.h>
+
+#ifdef __cplusplus
+extern "C" {
+#endif
+
+/** How many octets longer a rebuilt packet may be than the packet that arrived. */
+#define POLOROWAN_HEAD_ROOM 40
+/** The length of the longest feedback for a compressor. */
+#define POLOROWAN_FEEDBACK_ROOM 8
+/** A length of a buffer that is enough for the name of each refusal. */
+#define POLOROWAN_NAME_ROOM 16
+/** The greatest number of links. */
+#define POLOROWAN_LINKS 256
+/** The greatest number of ranges of a link. */
+#define POLOROWAN_RANGES 8
+
+/** What polorowan_new() returns. */
+enum polorowan_made {
+    POLOROWAN_MADE = 0,            /**< There is a concentrator. */
+    POLOROWAN_NO_LINKS = 1,        /**< There are no links. */
+    POLOROWAN_TOO_MANY_LINKS = 2,  /**< There are more than #POLOROWAN_LINKS. */
+    POLOROWAN_TOO_MANY_RANGES = 3, /**< A link counts more than #POLOROWAN_RANGES ranges. */
+    POLOROWAN_BAD_SETTING = 4,     /**< A link's settings or ranges are outside their limits. */
+    POLOROWAN_DUPLICATE_LINK = 5,  /**< A link has the number of an earlier link. */
+    POLOROWAN_NO_MEMORY = 6        /**< There is no memory. */
+};
+
+/** What polorowan_save() returns. */
+enum polorowan_saved {
+    POLOROWAN_SAVED = 0,           /**< The octets stand in the buffer. */
+    POLOROWAN_SAVED_NONE = 1,      /**< There is no concentrator. */
+    POLOROWAN_SAVED_NO_ROOM = 2,   /**< The buffer is too short. */
+    POLOROWAN_SAVED_NO_MEMORY = 3  /**< There is no memory. */
+};
+
+/** What polorowan_restore() returns, beside POLOROWAN_MADE to POLOROWAN_NO_MEMORY of enum polorowan_made. */
+enum polorowan_not_restored {
+    POLOROWAN_NOT_SAVED = 7,    /**< The octets don't begin as those of a saved concentrator do. */
+    POLOROWAN_VERSION = 8,      /**< They are of another version. */
+    POLOROWAN_SHORT = 9,        /**< They end too soon. */
+    POLOROWAN_BAD_LINK = 10,    /**< A bad value of a link. */
+    POLOROWAN_BAD_CONTEXT = 11, /**< A bad value of a context. */
+    POLOROWAN_BAD_ORDER = 12,   /**< A link or a CID for the second time, or a CID above the greatest of its link. */
+    POLOROWAN_DIGEST = 13,      /**< The digest isn't that of the octets before it. */
+    POLOROWAN_LONG = 14         /**< Octets follow the digest. */
+};
+
+/** What polorowan_arrive() returns. */
+enum polorowan_arrived {
+    POLOROWAN_ARRIVED = 0,      /**< The packet was taken, and the answer stands in the buffers. */
+    POLOROWAN_ARRIVED_NONE = 1, /**< There is no concentrator. */
+    POLOROWAN_NO_ROOM = 2       /**< A buffer is below its bound. Nothing was changed. */
+};
+
+/** What polorowan_reset() returns. */
+enum polorowan_forgot {
+    POLOROWAN_FORGOT = 0,      /**< The link's contexts are forgotten. */
+    POLOROWAN_FORGOT_NONE = 1, /**< There is no concentrator. */
+    POLOROWAN_FORGOT_LINK = 2  /**< There is no such link. */
+};
+
+/** The kind of an answer. */
+enum polorowan_kind {
+    POLOROWAN_CONTEXT = 0,  /**< The packet has a CID, and its context answers. */
+    POLOROWAN_FEEDBACK = 1, /**< The packet has only padding and feedback. */
+    POLOROWAN_REFUSED = 2   /**< The packet was refused, and has no CID. */
+};
+
+/** What became of a packet. The numbers between these are those of refusals; see polorowan_refusal_name(). */
+enum polorowan_outcome {
+    POLOROWAN_DELIVERED = 0, /**< A packet was rebuilt. */
+    POLOROWAN_STORED = 31    /**< The context was made or renewed without a packet. */
+};
+
+/** The state of a decompressor for one context (RFC 3095 4.3.2). */
+enum polorowan_state {
+    POLOROWAN_NO_CONTEXT = 0,     /**< Only an IR is taken. */
+    POLOROWAN_STATIC_CONTEXT = 1, /**< The static part is known. */
+    POLOROWAN_FULL_CONTEXT = 2    /**< Every packet may be taken. Profile 0x0000 is always in this state. */
+};
+
+/** A gateway: a concentrator, or none. All zeros is none. */
+struct polorowan_gateway {
+    bool live; /**< The library's own. */
+    void *at;  /**< The library's own. */
+};
+
+/** A range of CIDs with a mode of its own. */
+struct polorowan_range {
+    uint16_t first;  /**< The least CID of the range. */
+    uint16_t last;   /**< The greatest CID of the range, inclusive. */
+    bool optimistic; /**< O mode, else U mode. */
+};
+
+/** The settings of a link. */
+struct polorowan_link {
+    uint16_t link;            /**< Its number. */
+    uint16_t max_cid;         /**< The greatest CID: at most 15, or 16,383 for large CIDs. */
+    bool large;               /**< Large CIDs, else small ones. */
+    bool optimistic;          /**< O mode, else U mode, in which no feedback is sent. */
+    uint8_t k1;               /**< Failures among the last n1 outcomes that lead to Static Context: 1 to n1. */
+    uint8_t n1;               /**< At most 64. */
+    uint8_t k2;               /**< Failures among the last n2 outcomes that lead to No Context: 1 to n2. */
+    uint8_t n2;               /**< At most 64. */
+    uint8_t range_count;      /**< How many of the ranges are used. */
+    uint32_t packet_ms;       /**< Milliseconds between two packets of a sender: 1 to 60,000. */
+    uint32_t static_nack_ms;  /**< Least milliseconds between STATIC-NACKs in No Context: at most 3,600,000. */
+    uint32_t idle_ms;         /**< Idle milliseconds after which a context counts as none: at most 86,400,000; 0 is never. */
+    struct polorowan_range ranges[POLOROWAN_RANGES]; /**< In ascending order, without overlap, within max_cid. */
+};
+
+/** The answer to a packet. Its octets stand in the caller's buffers. Parts that it doesn't have are false or 0. */
+struct polorowan_arrival {
+    uint8_t kind;           /**< One of enum polorowan_kind. */
+    uint8_t outcome;        /**< One of enum polorowan_outcome, or a refusal's number, 1 to 30; 0 for POLOROWAN_FEEDBACK. */
+    uint16_t cid;           /**< The CID, or 0 if the packet has none. */
+    bool has_packet;        /**< A packet was rebuilt. */
+    bool has_feedback;      /**< There is feedback for the compressor. */
+    size_t packet_length;   /**< The length of the rebuilt packet. */
+    size_t feedback_length; /**< The length of the feedback. */
+    size_t relayed_length;  /**< The length of the relayed feedback. */
+    size_t relayed_count;   /**< How many elements are relayed. Each is one octet, which counts its data, and the data. */
+};
+
+/** What is shown of a context. */
+struct polorowan_context_info {
+    uint16_t cid;      /**< Its CID. */
+    uint16_t profile;  /**< Its profile: 0x0000 or 0x0001. */
+    uint8_t state;     /**< One of enum polorowan_state. */
+    uint64_t accepted; /**< The time of its last accepted arrival, in milliseconds. */
+};
+
+/** What was restored, and what was left out. */
+struct polorowan_restored {
+    uint64_t moment;        /**< The moment of saving, in milliseconds. */
+    uint64_t links;         /**< Links that were taken. */
+    uint64_t unknown_links; /**< Links that aren't in the settings, and were left out. */
+    uint64_t other_links;   /**< Links of another CID kind in the settings, which were left out. */
+    uint64_t contexts;      /**< Contexts that were taken. */
+    uint64_t left_contexts; /**< Contexts that were left out with their link. */
+    uint64_t high_contexts; /**< Contexts of taken links that were left out, above the greatest CID of the settings. */
+};
+
+/**
+ * Makes a concentrator with these links, in this order and without contexts, in place of what the gateway had.
+ *
+ * The first fault is returned: the order is that of their numbers, but POLOROWAN_BAD_SETTING and POLOROWAN_DUPLICATE_LINK are judged
+ * link by link. POLOROWAN_NO_MEMORY may come before any of POLOROWAN_NO_LINKS, POLOROWAN_BAD_SETTING and POLOROWAN_DUPLICATE_LINK. After a
+ * fault the gateway stays as it was.
+ *
+ * @param gateway the gateway
+ * @param links the links
+ * @param count how many links there are
+ * @param place is set to the place of the link at fault, counted from 1, or to 0 if the fault is of no single link
+ * @return one of enum polorowan_made
+ */
+uint8_t polorowan_new(struct polorowan_gateway *gateway, const struct polorowan_link *links, size_t count, size_t *place);
+
+/** Frees the concentrator, if there is one. The gateway then has none. */
+void polorowan_free(struct polorowan_gateway *gateway);
+
+/**
+ * Takes one packet of a link, and writes the whole answer into the struct and the buffers.
+ *
+ * The lengths of the buffers are checked before the packet is taken, so no answer is lost. Octets after an answer in its
+ * buffer mean nothing. At POLOROWAN_ARRIVED_NONE and POLOROWAN_NO_ROOM nothing is changed, not even the buffers and the struct.
+ *
+ * @param gateway the gateway
+ * @param link the link's number
+ * @param moment the arrival time, in milliseconds
+ * @param octets the packet
+ * @param count its length
+ * @param packet gets the rebuilt packet
+ * @param packet_room at least @p count + #POLOROWAN_HEAD_ROOM
+ * @param feedback gets the feedback for the compressor
+ * @param feedback_room at least #POLOROWAN_FEEDBACK_ROOM
+ * @param relayed gets the feedback that the packet carried for this side's compressor
+ * @param relayed_room at least @p count
+ * @param arrival gets the rest of the answer
+ * @return one of enum polorowan_arrived
+ */
+uint8_t polorowan_arrive(struct polorowan_gateway *gateway, uint16_t link, uint64_t moment, const uint8_t *octets, size_t count,
+                    uint8_t *packet, size_t packet_room, uint8_t *feedback, size_t feedback_room, uint8_t *relayed,
+                    size_t relayed_room, struct polorowan_arrival *arrival);
+
+/** Forgets every context of a link, and no other context. @return one of enum polorowan_forgot */
+uint8_t polorowan_reset(struct polorowan_gateway *gateway, uint16_t link);
+
+/**
+ * Whether there is a context for a CID of a link, even one that counts as none because it was idle too long. The gateway
+ * stays as it was.
+ */
+bool polorowan_has_context(struct polorowan_gateway *gateway, uint16_t link, uint16_t cid);
+
+/**
+ * Gives the number of the link at a place. The gateway stays as it was.
+ *
+ * @param gateway the gateway
+ * @param place the place, counted from 0 in the order of polorowan_new()'s links
+ * @param link gets the number
+ * @return whether there is a link at the place; if not, @p link stays as it was
+ */
+bool polorowan_link_at(struct polorowan_gateway *gateway, size_t place, uint16_t *link);
+
+/**
+ * Gives the context at a place among those of a link. The gateway stays as it was.
+ *
+ * Contexts are in the order of their first IR. A context has its place even if it counts as none because it was idle too
+ * long. A renewed context keeps its place. polorowan_reset() forgets all contexts of a link.
+ *
+ * @param gateway the gateway
+ * @param link the link's number
+ * @param place the place, counted from 0
+ * @param context gets the context
+ * @return whether there is a context at the place; if not, @p context stays as it was
+ */
+bool polorowan_context_at(struct polorowan_gateway *gateway, uint16_t link, size_t place, struct polorowan_context_info *context);
+
+/**
+ * Writes all that the concentrator keeps into a buffer, so that polorowan_restore() goes on from there. The gateway stays as it
+ * was. docs/FORMATS.md describes the octets: at most 77 for a context, 8 for a link, and 53.
+ *
+ * @param gateway the gateway
+ * @param moment the moment of saving, in milliseconds, of the clock of the arrivals
+ * @param octets gets the octets
+ * @param room the buffer's length
+ * @param count is set to how many octets are needed, at POLOROWAN_SAVED and POLOROWAN_SAVED_NO_ROOM
+ * @return one of enum polorowan_saved; at all but POLOROWAN_SAVED the buffer stays as it was
+ */
+uint8_t polorowan_save(struct polorowan_gateway *gateway, uint64_t moment, uint8_t *octets, size_t room, size_t *count);
+
+/**
+ * Makes a concentrator with these links that goes on from what was saved, in place of what the gateway had.
+ *
+ * Saved links that aren't among these, or are of another CID kind, are left out, and so are contexts above the greatest
+ * CID of their link; other settings may differ. After a fault the gateway and @p restored stay as they were.
+ *
+ * @param gateway the gateway
+ * @param links the links
+ * @param count how many links there are
+ * @param octets what polorowan_save() wrote
+ * @param octets_count how many octets these are
+ * @param restored gets what was taken and left out
+ * @param place is set to the place of the link at fault, counted from 1, or of the octet, counted from 0; else to 0
+ * @return 0, or one of enum polorowan_made or enum polorowan_not_restored: the first fault, of the links and then of the octets
+ */
+uint8_t polorowan_restore(struct polorowan_gateway *gateway, const struct polorowan_link *links, size_t count, const uint8_t *octets,
+                     size_t octets_count, struct polorowan_restored *restored, size_t *place);
+
+/**
+ * Writes the name of a refusal, followed by an octet 0, into a buffer.
+ *
+ * @param number the refusal's number, 1 to 30
+ * @param name gets the name
+ * @param room the buffer's length; #POLOROWAN_NAME_ROOM is enough for each name
+ * @return the name's length without the octet 0; 0 if there is no such refusal, or no room: then @p name stays as it was
+ */
+size_t polorowan_refusal_name(uint8_t number, uint8_t *name, size_t room);
+
+#ifdef __cplusplus
+}
+#endif
+
+/* The layout that the library was proved with, on machines of 64 bits. */
+#if defined(__cplusplus) && __cplusplus >= 201103L
+#define POLOROWAN_LAYOUT(fact) static_assert(fact, "the layout of polorowan.h")
+#elif defined(__STDC_VERSION__) && __STDC_VERSION__ >= 201112L
+#define POLOROWAN_LAYOUT(fact) _Static_assert(fact, "the layout of polorowan.h")
+#else
+#define POLOROWAN_LAYOUT(fact) struct polorowan_layout
+#endif
+
+POLOROWAN_LAYOUT(sizeof(size_t) == 8 && sizeof(bool) == 1);
+POLOROWAN_LAYOUT(sizeof(struct polorowan_gateway) == 16 && offsetof(struct polorowan_gateway, at) == 8);
+POLOROWAN_LAYOUT(sizeof(struct polorowan_range) == 6 && offsetof(struct polorowan_range, last) == 2);
+POLOROWAN_LAYOUT(offsetof(struct polorowan_range, optimistic) == 4);
+POLOROWAN_LAYOUT(sizeof(struct polorowan_link) == 72 && offsetof(struct polorowan_link, max_cid) == 2);
+POLOROWAN_LAYOUT(offsetof(struct polorowan_link, large) == 4 && offsetof(struct polorowan_link, optimistic) == 5);
+POLOROWAN_LAYOUT(offsetof(struct polorowan_link, k1) == 6 && offsetof(struct polorowan_link, n1) == 7);
+POLOROWAN_LAYOUT(offsetof(struct polorowan_link, k2) == 8 && offsetof(struct polorowan_link, n2) == 9);
+POLOROWAN_LAYOUT(offsetof(struct polorowan_link, range_count) == 10 && offsetof(struct polorowan_link, packet_ms) == 12);
+POLOROWAN_LAYOUT(offsetof(struct polorowan_link, static_nack_ms) == 16 && offsetof(struct polorowan_link, idle_ms) == 20);
+POLOROWAN_LAYOUT(offsetof(struct polorowan_link, ranges) == 24);
+POLOROWAN_LAYOUT(sizeof(struct polorowan_arrival) == 40 && offsetof(struct polorowan_arrival, outcome) == 1);
+POLOROWAN_LAYOUT(offsetof(struct polorowan_arrival, cid) == 2 && offsetof(struct polorowan_arrival, has_packet) == 4);
+POLOROWAN_LAYOUT(offsetof(struct polorowan_arrival, has_feedback) == 5 && offsetof(struct polorowan_arrival, packet_length) == 8);
+POLOROWAN_LAYOUT(offsetof(struct polorowan_arrival, feedback_length) == 16 && offsetof(struct polorowan_arrival, relayed_length) == 24);
+POLOROWAN_LAYOUT(offsetof(struct polorowan_arrival, relayed_count) == 32);
+POLOROWAN_LAYOUT(sizeof(struct polorowan_restored) == 56 && offsetof(struct polorowan_restored, links) == 8);
+POLOROWAN_LAYOUT(offsetof(struct polorowan_restored, unknown_links) == 16 && offsetof(struct polorowan_restored, other_links) == 24);
+POLOROWAN_LAYOUT(offsetof(struct polorowan_restored, contexts) == 32 && offsetof(struct polorowan_restored, left_contexts) == 40);
+POLOROWAN_LAYOUT(offsetof(struct polorowan_restored, high_contexts) == 48);
+POLOROWAN_LAYOUT(sizeof(struct polorowan_context_info) == 16 && offsetof(struct polorowan_context_info, profile) == 2);
+POLOROWAN_LAYOUT(offsetof(struct polorowan_context_info, state) == 4 && offsetof(struct polorowan_context_info, accepted) == 8);
+
+#undef POLOROWAN_LAYOUT
+
+#endif
