@@ -8,7 +8,7 @@ use Rattle.rohc_frame.specs.Header.{Header, placed}
 use Rattle.rohc_frame.specs.Items.{all_spelled}
 use Rattle.rohc_frame.specs.Laws.{IsOctet}
 use Rattle.rohc_frame.specs.Parts.{parts_of}
-use Rattle.rohc_frame.specs.Reading.{Reading, IsReading, Ends}
+use Rattle.rohc_frame.specs.Reading.{Reading, IsReading, EndsInHeader}
 use Rattle.rohc_frame.specs.declared.refusal.FrameRefusal.{FrameRefusal}
 use Rattle.rohc_frame.proofs.LawLemmas.{reading_from_parts, header_is_good}
 use Rattle.rohc_context.specs.Record.{Record}
@@ -26,7 +26,7 @@ rest_within Large cid_octets first rest = omega (arith, length-append cid_octets
 
 header_within : (size : CidKind) (max_cid : ℕ) (octets : List ℕ) (r : Reading) (h : Header) → IsReading size max_cid octets r → r.header ≡ Some h → length h.rest ≤ length octets
 header_within size max_cid octets r h is e =
-    let ends = subst (Ends size max_cid is.after) e is.ends in
+    let ends = subst (EndsInHeader size max_cid is.after) e is.ends in
     omega (arith, rest_within h.size h.cid_octets h.first h.rest, ap length ends.whole, ap length is.whole, length-append (all_spelled is.items) is.after)
 
 -- an identifier's own answer

@@ -14,7 +14,7 @@ use Rattle.rohc_frame.proofs.LawLemmas.{reading_from_parts}
 use Rattle.rohc_context.specs.Record.{Record}
 use Rattle.rohc_concentrator.specs.declared.setting.LinkSetting.{LinkSetting}
 use Rattle.rohc_concentrator.specs.Report.{Report, IsCut, IsRead, IsAnswered}
-use Rattle.rohc_c.specs.Relay.{told, Fits}
+use Rattle.rohc_c.specs.Relay.{told, FitsInRoom}
 use Rattle.rohc_c.specs.Written.{relayed_in}
 
 -- the front and the back of a list of octets
@@ -25,14 +25,14 @@ back_octets : (xs ys : List ℕ) → All IsOctet (xs ++ ys) → All IsOctet ys
 back_octets xs ys all = subst (All IsOctet) (drop-append_seam xs ys) (All-drop IsOctet (length xs) (xs ++ ys) all)
 
 -- one more element, of fewer than 256 octets
-one_more : (x : List ℕ) (xs : List (List ℕ)) (room : ℕ) → length x < 256 → Fits xs room → (more : ℕ) → 1 + length x + room ≤ more → Fits (x ∷ xs) more
+one_more : (x : List ℕ) (xs : List (List ℕ)) (room : ℕ) → length x < 256 → FitsInRoom xs room → (more : ℕ) → 1 + length x + room ≤ more → FitsInRoom (x ∷ xs) more
 one_more x xs room short fits more within = record {
   short = All-cons (λ (octets : List ℕ). length octets < 256) x xs short fits.short;
   within = omega (arith, length-append x (told xs), fits.within);
 }
 
 -- the elements among items fit into as many octets as the items have
-items_fit : (items : List Item) → All IsItem items → All IsOctet (all_spelled items) → Fits (all_contents items) (length (all_spelled items))
+items_fit : (items : List Item) → All IsItem items → All IsOctet (all_spelled items) → FitsInRoom (all_contents items) (length (all_spelled items))
 items_fit [] are all = record { short = All-nil (λ (octets : List ℕ). length octets < 256); within = omega arith }
 items_fit (Padding ∷ items) are all =
     let rest = items_fit items (All-tail IsItem Padding items are) (All-tail IsOctet 0xe0 (all_spelled items) all) in
@@ -51,33 +51,33 @@ items_fit (Sized octets ∷ items) are all =
 
 -- and so do those of a packet's reading into as many octets as the packet has
 reading_fits : (octets : List ℕ) (items : List Item) (after : List ℕ) (elements : List (List ℕ)) → All IsOctet octets → All IsItem items →
-    octets ≡ all_spelled items ++ after → elements ≡ all_contents items → Fits elements (length octets)
+    octets ≡ all_spelled items ++ after → elements ≡ all_contents items → FitsInRoom elements (length octets)
 reading_fits octets items after elements all are whole is =
     let spelled_all = front_octets (all_spelled items) after (subst (All IsOctet) whole all) in
     let fits = items_fit items are spelled_all in
-    subst (λ (es : List (List ℕ)). Fits es (length octets)) (sym is) (record {
+    subst (λ (es : List (List ℕ)). FitsInRoom es (length octets)) (sym is) (record {
       short = fits.short;
       within = omega (arith, fits.within, ap length whole, length-append (all_spelled items) after);
     })
 
-nothing_fits : (room : ℕ) → Fits [] room
+nothing_fits : (room : ℕ) → FitsInRoom [] room
 nothing_fits room = record { short = All-nil (λ (octets : List ℕ). length octets < 256); within = omega arith }
 
 -- and so does what is relayed by the answer to it
 abbrev RelayFits : ℕ → Report → Type 0
-RelayFits room report = Fits (relayed_in report) room
+RelayFits room report = FitsInRoom (relayed_in report) room
 
 module _ (s : LinkSetting) (m room : ℕ) (before after : ℕ → Option Record) (report : Report) where
-  cut_fits : (relayed : List (List ℕ)) (header : Option Header) → Fits relayed room → IsCut s m relayed header before report after → RelayFits room report
+  cut_fits : (relayed : List (List ℕ)) (header : Option Header) → FitsInRoom relayed room → IsCut s m relayed header before report after → RelayFits room report
   cut_fits relayed None fits a = subst (RelayFits room) (sym a) fits
   cut_fits relayed (Some h) fits a = subst (RelayFits room) (sym a.1) fits
 
-  read_fits : (parts : Result Reading FrameRefusal) → ((r : Reading) → parts ≡ Ok r → Fits r.elements room) → IsRead s m parts before report after → RelayFits room report
+  read_fits : (parts : Result Reading FrameRefusal) → ((r : Reading) → parts ≡ Ok r → FitsInRoom r.elements room) → IsRead s m parts before report after → RelayFits room report
   read_fits (Ok r) fits a = cut_fits r.elements r.header (fits r refl) a
   read_fits (Err refusal) fits a = subst (RelayFits room) (sym a) (nothing_fits room)
 
 pub relay_fits : (set : Option LinkSetting) (m : ℕ) (octets : List ℕ) (before after : ℕ → Option Record) (report : Report) → All IsOctet octets →
-    IsAnswered set before m octets report after → Fits (relayed_in report) (length octets)
+    IsAnswered set before m octets report after → FitsInRoom (relayed_in report) (length octets)
 relay_fits None m octets before after report all a = subst (RelayFits (length octets)) (sym a) (nothing_fits (length octets))
 relay_fits (Some s) m octets before after report all a =
     read_fits s m (length octets) before after report (parts_of s.settings.size s.settings.max_cid octets) (λ r e.
@@ -85,7 +85,7 @@ relay_fits (Some s) m octets before after report all a =
     reading_fits octets is.items is.after r.elements all is.are_items is.whole is.elements) a
 
 -- a larger buffer has room too
-pub wider : (elements : List (List ℕ)) (room more : ℕ) → room ≤ more → Fits elements room → Fits elements more
+pub wider : (elements : List (List ℕ)) (room more : ℕ) → room ≤ more → FitsInRoom elements room → FitsInRoom elements more
 wider elements room more within fits = record { short = fits.short; within = omega (arith, fits.within) }
 
 -- the items of a slice of octets are octets

@@ -1,4 +1,4 @@
--- Feedback in a packet for this side's compressor, as C reads it. Words: told; Fits.
+-- Feedback in a packet for this side's compressor, as C reads it. Words: told; FitsInRoom.
 use Rattle.std.specs.Prelude.{ℕ, ◌<◌, ◌≤◌, List, [], ◌∷◌, ◌++◌, length, All}
 
 -- the data of each element, after one octet that counts it
@@ -7,6 +7,6 @@ told [] = []
 told (octets ∷ elements) = length octets ∷ octets ++ told elements
 
 -- one octet can count each element's data, and there is room for all these octets
-pub record Fits (elements : List (List ℕ)) (room : ℕ) : Type 0 where
+pub record FitsInRoom (elements : List (List ℕ)) (room : ℕ) : Type 0 where
   pub short : All (λ octets. length octets < 256) elements
   pub within : length (told elements) ≤ room

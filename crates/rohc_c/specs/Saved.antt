@@ -6,11 +6,11 @@ use Rattle.rohc_concentrator.specs.declared.setup.SetupFault.TheVariants as setu
 use Rattle.rohc_concentrator.specs.Setup.{AreFine, entry_of}
 use Rattle.rohc_saved.specs.Form.{Form, saved_form}
 use Rattle.rohc_saved.specs.Reading.{restored}
-use Rattle.rohc_saved.specs.Restoring.{Restores, IsTold, IsRefusal}
+use Rattle.rohc_saved.specs.Restoring.{Restores, IsToldOfForm, IsRefusal}
 use Rattle.rohc_saved.specs.declared.restored.Restored.{Restored}
 use Rattle.rohc_saved.specs.declared.fault.SavedFault.{SavedFault}
 use Rattle.rohc_saved.specs.declared.fault.SavedFault.TheVariants as saved
-use Rattle.rohc_c.specs.Settings.{settings_of, HasFewRanges}
+use Rattle.rohc_c.specs.Settings.{link_settings, HasFewRanges}
 use Rattle.rohc_c.specs.Written.{StandsIn}
 use Rattle.rohc_c.specs.Setup.{IsNewFault, fault_number, fault_place}
 use Rattle.rohc_c.specs.declared.link.RohcLink.{RohcLink}
@@ -58,12 +58,12 @@ fault_of_saved (saved.Long place) = Long place
 pub record IsBack (links : List RohcLink) (octets : List ℕ) (k : Concentrator) (r : RohcRestored) :
     Type 0 where
   pub few : All HasFewRanges links
-  pub fine : AreFine (settings_of links)
+  pub fine : AreFine (link_settings links)
   pub form : Form
   pub spelled : restored octets ≡ Ok form
-  pub restores : Restores (settings_of links) form k
+  pub restores : Restores (link_settings links) form k
   pub tally : Restored
-  pub counts : IsTold (λ link. entry_of link (settings_of links)) form tally
+  pub counts : IsToldOfForm (λ link. entry_of link (link_settings links)) form tally
   pub shown : r ≡ told tally
 
 -- Why nothing is restored: no concentrator is made from the links, by their number, their ranges or lack of
@@ -72,7 +72,7 @@ abbrev pub IsNotBack : List RohcLink → List ℕ → BackFault → Type 0
 IsNotBack links octets fault =
     ((e : NewFault) × IsNewFault links e × (fault ≡ New e))
     ⊎ (All HasFewRanges links
-    × ((e : SavedFault) × IsRefusal (settings_of links) octets e × (fault ≡ fault_of_saved e)))
+    × ((e : SavedFault) × IsRefusal (link_settings links) octets e × (fault ≡ fault_of_saved e)))
 
 -- the status of each fault
 abbrev pub not_back_number : BackFault → ℕ

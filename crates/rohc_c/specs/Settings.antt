@@ -1,4 +1,4 @@
--- Settings as C writes them. Words: setting_of, settings_of; HasFewRanges.
+-- Settings as C writes them. Words: setting_of, link_settings; HasFewRanges.
 use Rattle.std.specs.Prelude.{◌≤◌, List, map, take, Bool, true, false}
 use Rattle.rohc_frame.specs.declared.header.CidKind.{CidKind}
 use Rattle.rohc_frame.specs.declared.header.CidKind.TheVariants.{Small, Large}
@@ -43,8 +43,8 @@ setting_of l = record {
 }
 
 -- the settings of links, in their order
-abbrev pub settings_of : List RohcLink → List LinkSetting
-settings_of links = map setting_of links
+abbrev pub link_settings : List RohcLink → List LinkSetting
+link_settings links = map setting_of links
 
 -- a link counts at most eight ranges; there is room for no more
 abbrev pub HasFewRanges : RohcLink → Type 0

@@ -5,7 +5,7 @@ use Rattle.rohc_concentrator.specs.declared.setup.SetupFault.{SetupFault}
 use Rattle.rohc_concentrator.specs.declared.setup.SetupFault.TheVariants as setup
 use Rattle.rohc_concentrator.specs.Setup.{AreFine, IsFault, entry_of}
 use Rattle.rohc_concentrator.specs.Tables.{settings_in_order, setting_at, record_at}
-use Rattle.rohc_c.specs.Settings.{settings_of, HasFewRanges}
+use Rattle.rohc_c.specs.Settings.{link_settings, HasFewRanges}
 use Rattle.rohc_c.specs.declared.link.RohcLink.{RohcLink}
 use Rattle.rohc_c.specs.declared.setup.NewFault.{NewFault}
 use Rattle.rohc_c.specs.declared.setup.NewFault.TheVariants.{TooManyRanges, Setup}
@@ -13,9 +13,9 @@ use Rattle.rohc_c.specs.declared.setup.NewFault.TheVariants.{TooManyRanges, Setu
 -- a concentrator with these links, in this order, and without a record
 pub record IsNew (links : List RohcLink) (k : Concentrator) : Type 0 where
   pub few : All HasFewRanges links
-  pub fine : AreFine (settings_of links)
-  pub in_order : settings_in_order k ≡ settings_of links
-  pub each : (link : ℕ) → setting_at k link ≡ entry_of link (settings_of links)
+  pub fine : AreFine (link_settings links)
+  pub in_order : settings_in_order k ≡ link_settings links
+  pub each : (link : ℕ) → setting_at k link ≡ entry_of link (link_settings links)
   pub empty : (link cid : ℕ) → record_at k link cid ≡ None
 
 -- the first link that counts more than eight ranges stands at this place, counted from 1
@@ -33,9 +33,9 @@ abbrev pub IsSetupFault : List RohcLink → SetupFault → Type 0
 IsSetupFault links setup.NoLinks = links ≡ []
 IsSetupFault links setup.TooManyLinks = 256 < length links
 IsSetupFault links (setup.BadSetting place) =
-    All HasFewRanges links × IsFault (settings_of links) (setup.BadSetting place)
+    All HasFewRanges links × IsFault (link_settings links) (setup.BadSetting place)
 IsSetupFault links (setup.DuplicateLink place) =
-    All HasFewRanges links × IsFault (settings_of links) (setup.DuplicateLink place)
+    All HasFewRanges links × IsFault (link_settings links) (setup.DuplicateLink place)
 IsSetupFault links setup.NoMemory = All HasFewRanges links × (length links ≤ 256)
 
 -- why no concentrator is made from these links: their number, else their ranges, else their settings, else

@@ -4,8 +4,8 @@ ghost use Rattle.std.specs.Prelude.{◌≡◌, false, ℕ, ◌≤◌, ◌+◌, �
 ghost use Rattle.rohc_frame.specs.Reading.{elements_of};
 ghost use Rattle.rohc_context.specs.Response.{response_of, delivered};
 ghost use Rattle.rohc_concentrator.specs.Report.{report_of, Arrived};
-ghost use Rattle.rohc_c.specs.Relay.{Fits};
-ghost use Rattle.rohc_c.specs.Written.{outcome_number, packet_octets, relayed_in, StandsIn, IsTold, IsWritten, IsPacketWithin, IsWithin};
+ghost use Rattle.rohc_c.specs.Relay.{FitsInRoom};
+ghost use Rattle.rohc_c.specs.Written.{outcome_number, whole_packet, relayed_in, StandsIn, IsPartTold, IsAnswerWritten, IsPacketWithin, IsWithin};
 
 use crate::payload::put_payload;
 use crate::relay::{put_behind, put_elements};
@@ -105,7 +105,7 @@ pub(crate) fn put_long(long: &Delivered<'_>, place: &mut [u8]) -> usize
 fn tell_packet(reply: &Reply<'_>, place: &mut [u8]) -> (bool, usize)
     requires head { 40 ≤ length place.old }
     requires within { IsPacketWithin (length place.old - 40) (response_of reply.now).packet }
-    ensures { IsTold (packet_octets (response_of reply.now).packet) place.new result.0 result.1 }
+    ensures { IsPartTold (whole_packet (response_of reply.now).packet) place.new result.0 result.1 }
 {
     match &reply.packet {
         Some(delivered) => (true, put_packet(delivered, place)),
@@ -117,7 +117,7 @@ fn tell_packet(reply: &Reply<'_>, place: &mut [u8]) -> (bool, usize)
 #[inline(always)]
 fn tell_feedback(reply: &Reply<'_>, place: &mut [u8]) -> (bool, usize)
     requires { 8 ≤ length place.old }
-    ensures { IsTold (response_of reply.now).feedback place.new result.0 result.1 }
+    ensures { IsPartTold (response_of reply.now).feedback place.new result.0 result.1 }
 {
     match &reply.feedback {
         Some(element) => {
@@ -141,8 +141,8 @@ fn tell_reply(
     requires head { 40 ≤ length packet.old }
     requires packet { IsPacketWithin (length packet.old - 40) (response_of reply.now).packet }
     requires feedback { 8 ≤ length feedback.old }
-    requires relayed { Fits (elements_of elements) (length relayed.old) }
-    ensures { IsWritten (Arrived cid (response_of reply.now) (elements_of elements.entry))
+    requires relayed { FitsInRoom (elements_of elements) (length relayed.old) }
+    ensures { IsAnswerWritten (Arrived cid (response_of reply.now) (elements_of elements.entry))
         (record { packet = packet.new; feedback = feedback.new; relayed = relayed.new }) result }
 {
     let (has_packet, packet_length) = tell_packet(reply, packet);
@@ -172,8 +172,8 @@ pub(crate) fn write(
     requires head { 40 ≤ length packet.old }
     requires packet { IsWithin (length packet.old - 40) (report_of answer.now) }
     requires feedback { 8 ≤ length feedback.old }
-    requires relayed { Fits (relayed_in (report_of answer.now)) (length relayed.old) }
-    ensures { IsWritten (report_of answer.now)
+    requires relayed { FitsInRoom (relayed_in (report_of answer.now)) (length relayed.old) }
+    ensures { IsAnswerWritten (report_of answer.now)
         (record { packet = packet.new; feedback = feedback.new; relayed = relayed.new }) result }
 {
     match answer {
@@ -232,7 +232,7 @@ pub(crate) fn relays(answer: &Answer<'_>) -> bool
 #[inline(always)]
 pub(crate) fn tell_alone(cid: u16, packet_length: usize) -> RohcArrival
     ensures { (head payload packet feedback relayed : List ℕ) → StandsIn (head ++ payload) packet_length packet →
-        IsWritten (Arrived cid (delivered head payload None) []) (record { packet = packet; feedback = feedback; relayed = relayed }) result }
+        IsAnswerWritten (Arrived cid (delivered head payload None) []) (record { packet = packet; feedback = feedback; relayed = relayed }) result }
 {
     RohcArrival {
         cid,

@@ -1,7 +1,7 @@
 //! The settings of links, as a caller in C gives them.
 
 ghost use Rattle.std.specs.Prelude.{◌≡◌, ◌≤◌, length, map, All, IfOk};
-ghost use Rattle.rohc_c.specs.Settings.{mode_of, size_of, range_of, setting_of, settings_of, HasFewRanges};
+ghost use Rattle.rohc_c.specs.Settings.{mode_of, size_of, range_of, setting_of, link_settings, HasFewRanges};
 
 use arrayvec::ArrayVec;
 use rohc_concentrator::{CidRange, LinkSetting};
@@ -100,9 +100,9 @@ fn setting_of(link: &RohcLink) -> LinkSetting
 }
 
 /// The settings of links, in their order.
-pub(crate) fn settings_of(alloc: Global, links: &[RohcLink]) -> Result<Vec<LinkSetting>, AllocError>
+pub(crate) fn link_settings(alloc: Global, links: &[RohcLink]) -> Result<Vec<LinkSetting>, AllocError>
     requires { All HasFewRanges links.now }
-    ensures { IfOk result (λ v. v.items ≡ settings_of links.now) }
+    ensures { IfOk result (λ v. v.items ≡ link_settings links.now) }
 {
     let mut settings = Vec::new(alloc);
     for link in links {

@@ -2,7 +2,7 @@
 
 ghost use Rattle.std.specs.Prelude.{◌≡◌, ◌≤◌, ◌+◌, ◌++◌, length, take};
 ghost use Rattle.rohc_frame.specs.Reading.{elements_of};
-ghost use Rattle.rohc_c.specs.Relay.{told, Fits};
+ghost use Rattle.rohc_c.specs.Relay.{told, FitsInRoom};
 ghost use Rattle.rohc_c.specs.Written.{StandsIn};
 
 use rohc_frame::Elements;
@@ -29,7 +29,7 @@ pub(crate) struct Relayed {
 /// Writes the data of each element into a buffer, after one octet that counts it.
 #[inline(always)]
 pub(crate) fn put_elements(elements: Elements<'_>, place: &mut [u8]) -> Relayed
-    requires { Fits (elements_of elements) (length place.old) }
+    requires { FitsInRoom (elements_of elements) (length place.old) }
     ensures count { result.count ≡ length (elements_of elements.entry) }
     ensures told { StandsIn (told (elements_of elements.entry)) result.length place.new }
 {

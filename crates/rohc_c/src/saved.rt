@@ -5,7 +5,7 @@ ghost use Rattle.rohc_saved.specs.Form.{saved_form};
 ghost use Rattle.rohc_c.specs.Written.{StandsIn};
 ghost use Rattle.rohc_c.specs.Saved.{IsBack, IsNotBack, told};
 
-use crate::link::{RohcLink, settings_of};
+use crate::link::{RohcLink, link_settings};
 use crate::setup::{NewFault, judge};
 use rohc_concentrator::{Concentrator, SetupFault};
 use rohc_saved::{Restored, SavedFault, restore, save};
@@ -145,7 +145,7 @@ pub(crate) fn rebuild(
     if let Err(fault) = judge(links) {
         return Err(BackFault::New(fault));
     }
-    let Ok(settings) = settings_of(alloc, links) else {
+    let Ok(settings) = link_settings(alloc, links) else {
         return Err(poor());
     };
     let (concentrator, restored) = match restore(alloc, settings.as_slice(), octets) {

@@ -4,7 +4,7 @@ ghost use Rattle.std.specs.Prelude.{◌≡◌, ◌≤◌, length, All, IfOk, OnO
 ghost use Rattle.rohc_c.specs.Settings.{HasFewRanges};
 ghost use Rattle.rohc_c.specs.Setup.{IsNew, IsNewFault};
 
-use crate::link::{RohcLink, settings_of};
+use crate::link::{RohcLink, link_settings};
 use rohc_concentrator::{Concentrator, SetupFault};
 use std::alloc::{AllocError, Global};
 
@@ -84,7 +84,7 @@ pub(crate) fn build(alloc: Global, links: &[RohcLink]) -> Result<Box<Concentrato
     ensures fault { IfErr result (λ e. IsNewFault links.now e) }
 {
     judge(links)?;
-    let settings = settings_of(alloc, links)?;
+    let settings = link_settings(alloc, links)?;
     let concentrator = Concentrator::new(alloc, settings.as_slice()).map_err(NewFault::Setup)?;
     Box::new(alloc, concentrator).map_err(|_| NewFault::Setup(SetupFault::NoMemory))
 }

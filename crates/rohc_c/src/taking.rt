@@ -4,8 +4,8 @@ ghost use Rattle.std.specs.Prelude.{◌≤◌, ◌-◌, length};
 ghost use Rattle.rohc_concentrator.specs.Report.{Report, report_of};
 ghost use Rattle.rohc_concentrator.specs.Events.{Arrives};
 ghost use Rattle.rohc_c.specs.Calls.{HasRoom};
-ghost use Rattle.rohc_c.specs.Relay.{Fits};
-ghost use Rattle.rohc_c.specs.Written.{relayed_in, IsWithin, IsWritten};
+ghost use Rattle.rohc_c.specs.Relay.{FitsInRoom};
+ghost use Rattle.rohc_c.specs.Written.{relayed_in, IsWithin, IsAnswerWritten};
 
 use crate::arrival::{RohcArrival, packet_in, put_long, put_packet, relays, tell_alone, write};
 use crate::room::HEAD;
@@ -29,7 +29,7 @@ pub(crate) fn take_packet(
 )
     requires { HasRoom octets.now (record { packet = packet.old; feedback = feedback.old; relayed = relayed.old }) }
     ensures { (report : Report) × Arrives concentrator.old link moment octets.now report concentrator.new
-        × IsWritten report (record { packet = packet.new; feedback = feedback.new; relayed = relayed.new }) arrival.new }
+        × IsAnswerWritten report (record { packet = packet.new; feedback = feedback.new; relayed = relayed.new }) arrival.new }
 {
     let mut answer = Answer::blank();
     if !concentrator.take_at_once(AtOnce::Rebuilt, link, moment, octets, &mut answer) {
@@ -65,8 +65,8 @@ fn write_other(
     requires head { 40 ≤ length packet.old }
     requires packet { IsWithin (length packet.old - 40) (report_of answer) }
     requires feedback { 8 ≤ length feedback.old }
-    requires relayed { Fits (relayed_in (report_of answer)) (length relayed.old) }
-    ensures { IsWritten (report_of answer.entry)
+    requires relayed { FitsInRoom (relayed_in (report_of answer)) (length relayed.old) }
+    ensures { IsAnswerWritten (report_of answer.entry)
         (record { packet = packet.new; feedback = feedback.new; relayed = relayed.new }) arrival.new }
 {
     *arrival = write(&answer, packet, feedback, relayed);
@@ -87,7 +87,7 @@ fn take_longer(
 )
     requires { HasRoom octets.now (record { packet = packet.old; feedback = feedback.old; relayed = relayed.old }) }
     ensures { (report : Report) × Arrives concentrator.old link moment octets.now report concentrator.new
-        × IsWritten report (record { packet = packet.new; feedback = feedback.new; relayed = relayed.new }) arrival.new }
+        × IsAnswerWritten report (record { packet = packet.new; feedback = feedback.new; relayed = relayed.new }) arrival.new }
 {
     let mut answer = Answer::blank();
     concentrator.arrive_into(link, moment, octets, &mut answer);

@@ -8,7 +8,7 @@ use Rattle.rohc_frame.specs.declared.header.HeadKind.TheVariants.{Other}
 use Rattle.rohc_context.specs.declared.settings.Settings.{Settings}
 use Rattle.rohc_context.specs.Good.{AreGoodValues, IsGoodRecord, IsGoodHeader}
 use Rattle.rohc_context.specs.Settings.{AreGood}
-use Rattle.rohc_context.specs.Honest.{Held, held_by, HoldsInFull, Written, IsWrittenFor, delivery_of}
+use Rattle.rohc_context.specs.Honest.{Held, held_by, HoldsInFull, Written, IsHonestPacket, delivery_of}
 use Rattle.rohc_context.specs.Record.{Record}
 use Rattle.rohc_context.specs.Response.{Response}
 use Rattle.rohc_context.proofs.StepLaws.{has_answer, leaves_good, delivers_written_packet}
@@ -59,7 +59,7 @@ module _ (s : Settings) (w : ℕ) (first : Held) (sent : List Written) where
       let earlier = past ++ lost in
       let split = behind_lost sent past lost rest p later g.split g.reaches.2 in
       let few : length (map (reference_of first) lost) < w = subst (λ n. n < w) (sym (length-map lost (reference_of first))) g.reaches.3 in
-      let written : IsWrittenFor held p = honest earlier later p older (map (reference_of first) lost) held split (lost_behind first held past lost older g.last) few (All-head (λ (b : Arrived). IsOrdinary b.written) a arrivals g.ordinary) in
+      let written : IsHonestPacket held p = honest earlier later p older (map (reference_of first) lost) held split (lost_behind first held past lost older g.last) few (All-head (λ (b : Arrived). IsOrdinary b.written) a arrivals g.ordinary) in
       let (answer, (next, is, moment, full)) = delivers_written_packet held before s a.moment p reply mid g.full written g.in_time.0 step in
       let on : Goes (earlier ++ p ∷ []) later (references first earlier) (held_by first p.header) next arrivals = record {
         split = split ∙ sym (append_assoc earlier (p ∷ []) later);
@@ -108,7 +108,7 @@ has_honest_run s before arrivals good settings all = run_from s (Some before) ar
 abbrev AreWritten : Held → List Held → List Written → Type 0
 AreWritten first held_before [] = Unit {0}
 AreWritten first held_before (p ∷ later) =
-    All (λ (held : Held). IsWrittenFor held p) held_before × AreWritten first (held_before ++ held_by first p.header ∷ []) later
+    All (λ (held : Held). IsHonestPacket held p) held_before × AreWritten first (held_before ++ held_by first p.header ∷ []) later
 
 -- what holds of all holds of one between others
 of_one : {X : Type 0} (P : X → Type 0) (older newer : List X) (x : X) → All P (older ++ x ∷ newer) → P x
@@ -131,14 +131,14 @@ asks_ordinary_alone w first sent all earlier later p older newer held split last
 -- one of them, and one of the references before it
 is_written : (first : Held) (held_before : List Held) (sent earlier later : List Written) (p : Written) (older newer : List Held) (held : Held)
     → AreWritten first held_before sent → sent ≡ earlier ++ p ∷ later
-    → held_before ++ map (reference_of first) earlier ≡ older ++ held ∷ newer → IsWrittenFor held p
+    → held_before ++ map (reference_of first) earlier ≡ older ++ held ∷ newer → IsHonestPacket held p
 is_written first held_before [] [] later p older newer held all split last = absurd (let e : ◌≡◌ {A = List Written} [] (p ∷ later) = split in cc)
 is_written first held_before [] (x ∷ earlier) later p older newer held all split last =
     absurd (let e : ◌≡◌ {A = List Written} [] (x ∷ (earlier ++ p ∷ later)) = split in cc)
 is_written first held_before (q ∷ sent) [] later p older newer held all split last =
     let same : q ≡ p = (let e : ◌≡◌ {A = List Written} (q ∷ sent) (p ∷ later) = split in cc) in
     let its : held_before ≡ older ++ held ∷ newer = sym (append-nil held_before) ∙ last in
-    subst (λ w. IsWrittenFor held w) same (of_one (λ (h : Held). IsWrittenFor h q) older newer held (subst (λ l. All (λ (h : Held). IsWrittenFor h q) l) its all.0))
+    subst (λ w. IsHonestPacket held w) same (of_one (λ (h : Held). IsHonestPacket h q) older newer held (subst (λ l. All (λ (h : Held). IsHonestPacket h q) l) its all.0))
 is_written first held_before (q ∷ sent) (x ∷ earlier) later p older newer held all split last =
     let e : ◌≡◌ {A = List Written} (q ∷ sent) (x ∷ (earlier ++ p ∷ later)) = split in
     let same : q ≡ x = cc in
@@ -148,7 +148,7 @@ is_written first held_before (q ∷ sent) (x ∷ earlier) later p older newer he
     ∙ ap (λ (y : Written). held_before ++ held_by first y.header ∷ map (reference_of first) earlier) same ∙ last)
 
 -- a packet that is written for a reference is ordinary
-is_ordinary : (held : Held) (p : Written) → IsWrittenFor held p → IsOrdinary p
+is_ordinary : (held : Held) (p : Written) → IsHonestPacket held p → IsOrdinary p
 is_ordinary held p written =
     let few : length p.content.payload ≤ 65495 = written.few in
     record { kind = written.kind; octets = written.octets; no_values = written.no_values; few = omega (arith, few) }
@@ -169,14 +169,14 @@ module _ (s : Settings) (before : Record) (first : Held) (p q r : Written) (call
   arrivals = arrived p ∷ arrived r ∷ []
 
   are_written : AreWritten first (first ∷ []) (p ∷ q ∷ r ∷ [])
-  are_written = (All-cons (λ (h : Held). IsWrittenFor h p) first [] call.p_written (All-nil (λ (h : Held). IsWrittenFor h p)), (call.q_written, (call.r_written, tt)))
+  are_written = (All-cons (λ (h : Held). IsHonestPacket h p) first [] call.p_written (All-nil (λ (h : Held). IsHonestPacket h p)), (call.q_written, (call.r_written, tt)))
 
   is_honest : IsHonest 14 first (p ∷ q ∷ r ∷ [])
   is_honest earlier later w older newer held split last few ordinary = is_written first (first ∷ []) (p ∷ q ∷ r ∷ []) earlier later w older newer held are_written split last
 
   are_ordinary : All (λ (a : Arrived). IsOrdinary a.written) arrivals
   are_ordinary =
-      let r_written : IsWrittenFor first r = All-head (λ (h : Held). IsWrittenFor h r) first (held_by first p.header ∷ held_by first q.header ∷ []) call.r_written in
+      let r_written : IsHonestPacket first r = All-head (λ (h : Held). IsHonestPacket h r) first (held_by first p.header ∷ held_by first q.header ∷ []) call.r_written in
       All-cons (λ (a : Arrived). IsOrdinary a.written) (arrived p) (arrived r ∷ []) (is_ordinary first p call.p_written)
       (All-cons (λ (a : Arrived). IsOrdinary a.written) (arrived r) [] (is_ordinary first r r_written) (All-nil (λ (a : Arrived). IsOrdinary a.written)))
 

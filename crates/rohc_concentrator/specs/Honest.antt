@@ -7,7 +7,7 @@ use Rattle.rohc_frame.specs.Laws.{IsOctet}
 use Rattle.rohc_context.specs.declared.settings.Settings.{Settings}
 use Rattle.rohc_context.specs.Good.{IsGoodRecord, IsGoodHeader}
 use Rattle.rohc_context.specs.Settings.{AreGood}
-use Rattle.rohc_context.specs.Honest.{Held, held_by, HoldsInFull, Written, IsWrittenFor, delivery_of, IsInTime}
+use Rattle.rohc_context.specs.Honest.{Held, held_by, HoldsInFull, Written, IsHonestPacket, delivery_of, IsInTime}
 use Rattle.rohc_context.specs.Record.{Record}
 use Rattle.rohc_context.specs.Response.{Response}
 use Rattle.rohc_concentrator.specs.LoneRun.{LoneEvent, Arrival, LoneRun}
@@ -31,7 +31,7 @@ abbrev pub IsHonest : (w : ℕ) → (first : Held) → List Written → Type 0
 IsHonest w first sent =
     (earlier later : List Written) (p : Written) (older newer : List Held) (held : Held) →
     sent ≡ earlier ++ p ∷ later → references first earlier ≡ older ++ held ∷ newer → length newer < w →
-    IsOrdinary p → IsWrittenFor held p
+    IsOrdinary p → IsHonestPacket held p
 
 -- a packet and its arrival time
 pub record Arrived : Type 0 where

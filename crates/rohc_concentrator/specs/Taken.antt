@@ -1,4 +1,4 @@
--- What an arrival does to the records of its link. Words: Takes, Stays, IsFor; MayBeTaken, IsMissed.
+-- What an arrival does to the records of its link. Words: TakesOnLink, Stays, IsFor; MayBeTaken, IsMissed.
 use Rattle.std.specs.Prelude.{◌≡◌, ◌≢◌, ◌<◌, ℕ, List, [], Option, Some, IfSome, Ok}
 use Rattle.indexmap.specs.IndexMap.{keys}
 use Rattle.rohc_frame.specs.declared.header.HeadKind.TheVariants.{Other}
@@ -16,8 +16,8 @@ use Rattle.rohc_concentrator.specs.Bears.{borne}
 
 -- a packet arrives on the link and is answered; its setting stays, and each record of a CID that the packet
 -- doesn't bear
-pub record Takes (old : LinkRecords) (moment : ℕ) (octets : List ℕ) (report : Report) (new : LinkRecords) :
-    Type 0 where
+pub record TakesOnLink (old : LinkRecords) (moment : ℕ) (octets : List ℕ) (report : Report)
+    (new : LinkRecords) : Type 0 where
   pub answer : IsAnswered (Some old.setting) (record_in old) moment octets report (record_in new)
   pub setting : new.setting ≡ old.setting
   pub others : (cid : ℕ) → borne (Some old.setting) octets ≢ Some cid →

@@ -10,7 +10,7 @@ ghost use Rattle.rohc_context.specs.AtOnce.{NeedsStep};
 ghost use Rattle.rohc_concentrator.specs.Setting.{settings_of};
 ghost use Rattle.rohc_concentrator.specs.Tables.{record_in, KeepsPlace, IsPlaceOf};
 ghost use Rattle.rohc_concentrator.specs.Report.{report_of, OwnStep};
-ghost use Rattle.rohc_concentrator.specs.Taken.{Takes, Stays, IsFor, IsMissed};
+ghost use Rattle.rohc_concentrator.specs.Taken.{TakesOnLink, Stays, IsFor, IsMissed};
 
 use crate::answer::Answer;
 use crate::place::{Places, place_by_hash, stands_at};
@@ -28,7 +28,7 @@ pub(crate) fn arrive_on<'a>(
     octets: &'a [u8],
     answer: &mut Answer<'a>,
 )
-    ensures { Takes records.old moment octets.entry.now (report_of answer.new) records.new }
+    ensures { TakesOnLink records.old moment octets.entry.now (report_of answer.new) records.new }
 {
     if !take_short(AtOnce::Any, records, moment, octets, answer) {
         take_any(records, moment, octets, answer);
@@ -48,7 +48,7 @@ pub(crate) fn take_short<'a>(
     octets: &'a [u8],
     answer: &mut Answer<'a>,
 ) -> bool
-    ensures taken { result ≡ true → Takes records.old moment octets.entry.now (report_of answer.new) records.new }
+    ensures taken { result ≡ true → TakesOnLink records.old moment octets.entry.now (report_of answer.new) records.new }
     ensures alone { result ≡ true → (cid : ℕ) × IsFor cid (report_of answer.new) }
     ensures missed { result ≡ false → IsMissed which records.old.setting (record_in records.old) moment octets.entry.now }
     ensures stays { result ≡ false → Stays records.old records.new }
@@ -93,7 +93,7 @@ fn prepare(answer: &mut Answer<'_>, cid: u16)
 #[cold]
 #[inline(never)]
 fn take_any<'a>(records: &mut LinkRecords, moment: u64, octets: &'a [u8], answer: &mut Answer<'a>)
-    ensures { Takes records.old moment octets.entry.now (report_of answer.new) records.new }
+    ensures { TakesOnLink records.old moment octets.entry.now (report_of answer.new) records.new }
 {
     let settings = &records.setting.settings;
     let framed = match cut(settings.size, settings.max_cid, octets) {

@@ -7,7 +7,7 @@ use Rattle.rohc_context.specs.Window.{and_outcome}
 use Rattle.rohc_context.specs.NextReference.{without_marker, with_numbers, is_uo1_id, counts_once, next_reference, next_previous}
 use Rattle.rohc_header.specs.declared.fields.Dynamic.{Dynamic}
 use Rattle.rohc_context.specs.InForce.{in_force}
-use Rattle.rohc_context.specs.Honest.{Held, held_by, Written, IsWrittenFor, IsInTime}
+use Rattle.rohc_context.specs.Honest.{Held, held_by, Written, IsHonestPacket, IsInTime}
 use Rattle.rohc_frame.specs.declared.header.HeadKind.{HeadKind}
 use Rattle.rohc_frame.specs.declared.header.HeadKind.TheVariants.{Ir, IrDyn, Other}
 use Rattle.rohc_frame.specs.Header.{Header}
@@ -105,7 +105,7 @@ not_once c e = which (is_uo1_id c.kind) where
   which false = refl
 
 -- the reference after a packet without an extension 3 is its header taken as the reference
-next_is_held : (held : Held) (p : Written) → IsWrittenFor held p
+next_is_held : (held : Held) (p : Written) → IsHonestPacket held p
     → next_reference (record { content = p.content; reference = held.reference; header = p.header }) ≡ (held_by held p.header).reference
 next_is_held held p w =
     let kept = held.reference.moving in

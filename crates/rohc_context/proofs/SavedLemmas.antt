@@ -23,7 +23,7 @@ use Rattle.rohc_context.specs.declared.context_fault.ContextFault.{ContextFault}
 use Rattle.rohc_context.specs.declared.context_fault.ContextFault.TheVariants.{Bad}
 use Rattle.rohc_context.specs.SavedText.{long_text, flag_text, window_text, static_text, numbers_text, marks_text, fields_text, stride_text, shared_text, reference_text, held_text, previous_text, state_text, saved_text}
 use Rattle.rohc_context.specs.SavedReading.{Read, given, octet_at, word_at, quad_at, long_at, flag_at, window_at, address_at, static_at, numbers_at, payload_type_at, marks_at, fields_at, stride_by, stride_at, blank, shared_at, reference_at, held_by, held_at, previous_by, previous_at, no_context_at, static_context_at, full_context_at, state_by, state_at, saved_at, ended, restored}
-use Rattle.rohc_context.specs.SavedLaws.{ComesBack, IsSpelled}
+use Rattle.rohc_context.specs.SavedLaws.{ComesBack, RecordIsSpelled}
 
 -- ---- What is appended
 
@@ -479,7 +479,7 @@ saved_spells text y all e =
     subst (λ y. (text ≡ saved_text y.0 ++ y.1) × Any y.0) (ok_is {E = ContextFault} (record { accepted = a.value; state = b.value }, b.mid) y b.more)
     (behind text (long_text a.value) a.mid (state_text b.value) b.mid a.whole b.whole, tt)
 
-pub is_spelled : IsSpelled
+pub is_spelled : RecordIsSpelled
 is_spelled text rest r all e = (saved_spells text (r, rest) all e).0
 
 -- ---- Whole texts

@@ -19,7 +19,7 @@ use Rattle.rohc_context.specs.declared.settings.Mode.TheVariants.{U}
 use Rattle.rohc_context.specs.declared.settings.Settings.{Settings}
 use Rattle.rohc_context.specs.Explains.{AreInForce, Means}
 use Rattle.rohc_context.specs.Good.{IsGoodRecord, IsGoodHeader}
-use Rattle.rohc_context.specs.Honest.{Held, held_by, HoldsInFull, Written, IsWrittenFor}
+use Rattle.rohc_context.specs.Honest.{Held, held_by, HoldsInFull, Written, IsHonestPacket}
 use Rattle.rohc_context.specs.Record.{Reference, FullContext, Record}
 use Rattle.rohc_context.specs.Settings.{AreGood}
 use Rattle.rohc_context.specs.Update.{said_under}
@@ -160,7 +160,7 @@ means_4 = record {
 -- ---- They are written
 
 written_3 : (reference : Reference) → said_under sn_3.packet reference ≡ Ok sn_3.content → Means reference 0 sn_3.content (moving 3)
-    → IsWrittenFor (record { fixed = call.fixed; reference = reference }) sn_3
+    → IsHonestPacket (record { fixed = call.fixed; reference = reference }) sn_3
 written_3 reference said means = record {
   kind = refl;
   octets = is_octets;
@@ -171,7 +171,7 @@ written_3 reference said means = record {
 }
 
 written_4 : (reference : Reference) → said_under sn_4.packet reference ≡ Ok sn_4.content → Means reference 0 sn_4.content (moving 4)
-    → IsWrittenFor (record { fixed = call.fixed; reference = reference }) sn_4
+    → IsHonestPacket (record { fixed = call.fixed; reference = reference }) sn_4
 written_4 reference said means = record {
   kind = refl;
   octets = is_octets;
@@ -183,7 +183,7 @@ written_4 reference said means = record {
 
 -- each of these packets is written for every reference before it
 abbrev written_for : Written → Held → Type 0
-written_for p held = IsWrittenFor held p
+written_for p held = IsHonestPacket held p
 
 all_written_3 : All (written_for sn_3) (call ∷ after_2 ∷ [])
 all_written_3 = All-cons (written_for sn_3) call (after_2 ∷ []) (written_3 call.reference said_3 means_3)
@@ -280,9 +280,9 @@ pub record IsWrittenCall (s : Settings) (before : Record) (first : Held) (p q r 
   pub good_record : IsGoodRecord before
   pub held : HoldsInFull first before
   pub good_headers : All (λ (w : Written). IsGoodHeader s w.packet) (p ∷ q ∷ r ∷ [])
-  pub p_written : IsWrittenFor first p
-  pub q_written : All (λ (held : Held). IsWrittenFor held q) (first ∷ held_by first p.header ∷ [])
-  pub r_written : All (λ (held : Held). IsWrittenFor held r) (first ∷ held_by first p.header ∷ held_by first q.header ∷ [])
+  pub p_written : IsHonestPacket first p
+  pub q_written : All (λ (held : Held). IsHonestPacket held q) (first ∷ held_by first p.header ∷ [])
+  pub r_written : All (λ (held : Held). IsHonestPacket held r) (first ∷ held_by first p.header ∷ held_by first q.header ∷ [])
   pub apart : (p.header.octets ≢ q.header.octets) × (p.header.octets ≢ r.header.octets) × (q.header.octets ≢ r.header.octets)
 
 -- the low octet of the sequence number

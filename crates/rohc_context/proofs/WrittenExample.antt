@@ -19,7 +19,7 @@ use Rattle.rohc_forms.specs.Content.{Content, Same}
 use Rattle.rohc_context.specs.Explains.{AreInForce, Means, Explains}
 use Rattle.rohc_context.specs.Tries.{Fits, unshifted}
 use Rattle.rohc_context.specs.Update.{said_under}
-use Rattle.rohc_context.specs.Honest.{Held, Written, IsWrittenFor}
+use Rattle.rohc_context.specs.Honest.{Held, Written, IsHonestPacket}
 
 -- from 10.0.0.1, port 5000, to 10.0.0.2, port 5002
 abbrev fixed : Static
@@ -109,7 +109,7 @@ checked = refl
 fits : Fits fixed (unshifted call.reference) content packet.header
 fits = record { explained = explains; checked = checked }
 
-pub is_written : IsWrittenFor call packet
+pub is_written : IsHonestPacket call packet
 is_written = record {
   kind = refl;
   octets = All-cons IsOctet 172 [] (omega (arith)) (All-nil IsOctet);

@@ -19,8 +19,8 @@ MissesFirst fixed reference (Err refusal) = Unit {0}
 MissesFirst fixed reference (Ok c) =
     (longest_payload < length c.payload) ⊎ Misses fixed (unshifted reference) c
 
--- In profile 0x0000 a packet is taken at once, unless only rebuilt ones are. In Full Context a packet isn't if
--- it has an extension (RFC 3095 5.7.5), or if it misses by the first try. No other state takes a packet at once.
+-- In profile 0x0000 a packet is taken at once, unless only rebuilt ones are. In Full Context one isn't if it
+-- has an extension (RFC 3095 5.7.5), or misses by the first try. No other state takes a packet at once.
 abbrev pub MissesAtOnce : AtOnce → State → Header → Type 0
 MissesAtOnce which Plain h = which ≡ Rebuilt
 MissesAtOnce which (NoContext nacked) h = Unit {0}

@@ -1,5 +1,5 @@
 -- What a sender writes for a receiver that may have lost packets (RFC 3095 4.5.2).
--- Words: Held, held_by, HoldsInFull; Written, IsWrittenFor, delivery_of; IsInTime.
+-- Words: Held, held_by, HoldsInFull; Written, IsHonestPacket, delivery_of; IsInTime.
 use Rattle.std.specs.Prelude.{◌≡◌, ℕ, ◌-◌, ◌<◌, ◌≤◌, List, length, Bool, All, ◌⊎◌, Option, None, Ok}
 use Rattle.rohc_bits.specs.Bits.{IsOctet}
 use Rattle.rohc_frame.specs.declared.header.HeadKind.TheVariants.{Other}
@@ -48,7 +48,7 @@ pub record Written : Type 0 where
 
 -- A packet of kind Other without an extension 3, whose rebuilt packet isn't too long. Against what is held it
 -- says this, means the header and carries the header's check.
-pub record IsWrittenFor (held : Held) (p : Written) : Type 0 where
+pub record IsHonestPacket (held : Held) (p : Written) : Type 0 where
   pub kind : p.packet.kind ≡ Other
   pub octets : All IsOctet p.packet.rest
   pub said : said_under p.packet held.reference ≡ Ok p.content

@@ -25,7 +25,7 @@ use Rattle.rohc_context.specs.Tries.{Try, Acceptance, Verdict, Fits, unshifted}
 use Rattle.rohc_context.specs.Update.{said_under, promoted, updated}
 use Rattle.rohc_context.specs.declared.due.Due.TheVariants.{Ack}
 use Rattle.rohc_context.specs.Due.{sent}
-use Rattle.rohc_context.specs.Honest.{Held, held_by, HoldsInFull, Written, IsWrittenFor, delivery_of, IsInTime}
+use Rattle.rohc_context.specs.Honest.{Held, held_by, HoldsInFull, Written, IsHonestPacket, delivery_of, IsInTime}
 use Rattle.rohc_context.specs.Outcomes.{Fails}
 use Rattle.rohc_context.specs.Step.{LoneStep, counts, counting}
 
@@ -193,11 +193,11 @@ PromotesHonest =
 abbrev pub DeliversWritten : Type 0
 DeliversWritten = (held : Held) (before : Record) (s : Settings) (moment : ℕ) (p : Written)
     (response : Response) (next : Option Record) →
-    HoldsInFull held before → IsWrittenFor held p → IsInTime s before.accepted moment →
+    HoldsInFull held before → IsHonestPacket held p → IsInTime s before.accepted moment →
     LoneStep (Some before) s moment p.packet response next →
     (response ≡ delivery_of p) × ((after : Record) × (next ≡ Some after) × (after.accepted ≡ moment) ×
     HoldsInFull (held_by held p.header) after)
 
 -- There is a packet that is written for a header.
 abbrev pub HasWritten : Type 0
-HasWritten = (held : Held) × (p : Written) × IsWrittenFor held p
+HasWritten = (held : Held) × (p : Written) × IsHonestPacket held p

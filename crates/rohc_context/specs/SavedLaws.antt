@@ -1,4 +1,4 @@
--- Laws of saved contexts. Words: ComesBack, IsSpelled.
+-- Laws of saved contexts. Words: ComesBack, RecordIsSpelled.
 use Rattle.std.specs.Prelude.{◌≡◌, ℕ, List, ◌++◌, All, Ok}
 use Rattle.rohc_bits.specs.Bits.{IsOctet}
 use Rattle.rohc_context.specs.Good.{IsGoodRecord}
@@ -12,6 +12,6 @@ ComesBack = (r : Record) (behind : List ℕ) → IsGoodRecord r →
     saved_at (saved_text r ++ behind) ≡ Ok (r, behind)
 
 -- Octets that are read as a record are what is saved of it, and those that follow.
-abbrev pub IsSpelled : Type 0
-IsSpelled = (text behind : List ℕ) (r : Record) → All IsOctet text → saved_at text ≡ Ok (r, behind) →
+abbrev pub RecordIsSpelled : Type 0
+RecordIsSpelled = (text behind : List ℕ) (r : Record) → All IsOctet text → saved_at text ≡ Ok (r, behind) →
     text ≡ saved_text r ++ behind

@@ -4,7 +4,7 @@ ghost use Rattle.rohc_context.specs.Counts.{WindowsCount, FallsFromFull, FallsFr
 ghost use Rattle.rohc_context.specs.Modes.{IsSilentInU, KeepsPrevious, HasOneTry, PlainAtOnce, FitsAtOnce, SavesByReference, KeepsFlags, MeansOneUnrefused};
 ghost use Rattle.rohc_context.specs.Waits.{NacksAfterWait, WaitsToNack, IdleIsNone, CountsUntilIdle, TriesAfterWait, WaitsToTry};
 ghost use Rattle.rohc_context.specs.Laws.{HasAnswer, HasNoOther, LeavesGood, BeginsByIr, LeavesNone, NeverPoor, KeepsGood, KeepsRefused, LendsPayload, ChecksChange, LowStatesChange, LowStatesRefuse, ComesToOne, MeansOne, TakesPlain, DeliversHonest, PromotesHonest, DeliversWritten, HasWritten};
-ghost use Rattle.rohc_context.specs.SavedLaws.{ComesBack, IsSpelled};
+ghost use Rattle.rohc_context.specs.SavedLaws.{ComesBack, RecordIsSpelled};
 
 /// A step from good values has exactly one answer, and exactly one record after it, or none.
 pub fn one_answer()
@@ -141,5 +141,5 @@ pub fn written_is_delivered()
 /// What is saved of a good record is read as that record, and octets that are read as a record are what is saved of it.
 pub fn saved_comes_back()
     ensures back { ComesBack }
-    ensures spelled { IsSpelled }
+    ensures spelled { RecordIsSpelled }
 {}

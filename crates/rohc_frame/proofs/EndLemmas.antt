@@ -11,7 +11,7 @@ use Rattle.rohc_frame.specs.declared.refusal.FrameRefusal.TheVariants.{CidRange}
 use Rattle.rohc_frame.specs.Header.{Header, is_within, is_kind, is_identifier, is_header, placed}
 use Rattle.rohc_frame.specs.Items.{first_item}
 use Rattle.rohc_frame.specs.Parts.{kind_of, large_cid, small_header, behind_add_cid, large_header, behind_kind, header_parts, small_parts, large_parts}
-use Rattle.rohc_frame.specs.Reading.{Ends}
+use Rattle.rohc_frame.specs.Reading.{EndsInHeader}
 use Rattle.rohc_frame.proofs.HeaderLemmas.{kind_fits, large_fits}
 
 -- What stands after the items: nothing or a header, exactly where the definition by cases says so.
@@ -19,14 +19,14 @@ use Rattle.rohc_frame.proofs.HeaderLemmas.{kind_fits, large_fits}
 -- one way: what the cases give
 small_ends_by : (max_cid cid : ℕ) (cid_octets : List ℕ) (first : ℕ) (rest r : List ℕ) (kind : Result HeadKind FrameRefusal) (header : Option Header) →
     cid ≤ max_cid → is_identifier Small cid cid_octets ≡ true → r ≡ cid_octets ++ first ∷ rest → kind_of first ≡ kind →
-    small_header cid cid_octets first rest kind ≡ Ok header → Ends Small max_cid r header
+    small_header cid cid_octets first rest kind ≡ Ok header → EndsInHeader Small max_cid r header
 small_ends_by max_cid cid cid_octets first rest r (Err refusal) header within identifier whole kinds e = cc
 small_ends_by max_cid cid cid_octets first rest r (Ok kind) header within identifier whole kinds e =
     let is : Some (record { cid = cid; size = Small; kind = kind; first = first; cid_octets = cid_octets; rest = rest }) ≡ header = cc in
     rw (← is) (record { sized = refl; within = within; spelled = rw (identifier, kind_fits first kind kinds) refl; whole = whole })
 
 behind_add_cid_ends : (max_cid add_cid : ℕ) (rest : List ℕ) (header : Option Header) → is_within 225 239 add_cid ≡ true → add_cid - 224 ≤ max_cid →
-    behind_add_cid add_cid rest ≡ Ok header → Ends Small max_cid (add_cid ∷ rest) header
+    behind_add_cid add_cid rest ≡ Ok header → EndsInHeader Small max_cid (add_cid ∷ rest) header
 behind_add_cid_ends max_cid add_cid [] header within low e = cc
 behind_add_cid_ends max_cid add_cid (first ∷ rest) header within low e =
     let plain : is_within 224 239 first ≡ false = grind (arith, nat_tests) in
@@ -38,7 +38,7 @@ chosen : {A : Type 0} (test : Bool) (a b : Result A FrameRefusal) (x : A) → (i
 chosen true a b x e = inl (refl, e)
 chosen false a b x e = inr (refl, e)
 
-small_ends : (max_cid : ℕ) (r : List ℕ) (header : Option Header) → small_parts max_cid r ≡ Ok header → Ends Small max_cid r header
+small_ends : (max_cid : ℕ) (r : List ℕ) (header : Option Header) → small_parts max_cid r ≡ Ok header → EndsInHeader Small max_cid r header
 small_ends max_cid [] header e = let none : None ≡ header = cc in rw (← none) refl
 small_ends max_cid (first ∷ rest) header e = ⊎_elim
     (λ added. ⊎_elim
@@ -49,7 +49,7 @@ small_ends max_cid (first ∷ rest) header e = ⊎_elim
     (chosen (is_within 225 239 first) (if nat_lt max_cid (first - 224) then Err CidRange else behind_add_cid first rest) (small_header 0 [] first rest (kind_of first)) header e)
 
 large_ends_by : (max_cid first : ℕ) (kind : HeadKind) (octets : List ℕ) (identifier : Result (ℕ × ℕ) FrameRefusal) (header : Option Header) →
-    kind_of first ≡ Ok kind → large_cid octets ≡ identifier → large_header max_cid kind first octets identifier ≡ Ok header → Ends Large max_cid (first ∷ octets) header
+    kind_of first ≡ Ok kind → large_cid octets ≡ identifier → large_header max_cid kind first octets identifier ≡ Ok header → EndsInHeader Large max_cid (first ∷ octets) header
 large_ends_by max_cid first kind octets (Err refusal) header kinds identifier e = cc
 large_ends_by max_cid first kind octets (Ok (cid, count)) header kinds identifier e =
     let test : nat_lt max_cid cid ≡ false = grind (arith, nat_tests) in
@@ -63,15 +63,15 @@ large_ends_by max_cid first kind octets (Ok (cid, count)) header kinds identifie
     })
 
 large_ends_kind : (max_cid first : ℕ) (octets : List ℕ) (kind : Result HeadKind FrameRefusal) (header : Option Header) →
-    kind_of first ≡ kind → behind_kind max_cid first octets kind ≡ Ok header → Ends Large max_cid (first ∷ octets) header
+    kind_of first ≡ kind → behind_kind max_cid first octets kind ≡ Ok header → EndsInHeader Large max_cid (first ∷ octets) header
 large_ends_kind max_cid first octets (Err refusal) header kinds e = cc
 large_ends_kind max_cid first octets (Ok kind) header kinds e = large_ends_by max_cid first kind octets (large_cid octets) header kinds refl e
 
-large_ends : (max_cid : ℕ) (r : List ℕ) (header : Option Header) → large_parts max_cid r ≡ Ok header → Ends Large max_cid r header
+large_ends : (max_cid : ℕ) (r : List ℕ) (header : Option Header) → large_parts max_cid r ≡ Ok header → EndsInHeader Large max_cid r header
 large_ends max_cid [] header e = let none : None ≡ header = cc in rw (← none) refl
 large_ends max_cid (first ∷ octets) header e = large_ends_kind max_cid first octets (kind_of first) header refl e
 
-pub ends_from_parts : (size : CidKind) (max_cid : ℕ) (r : List ℕ) (header : Option Header) → header_parts size max_cid r ≡ Ok header → Ends size max_cid r header
+pub ends_from_parts : (size : CidKind) (max_cid : ℕ) (r : List ℕ) (header : Option Header) → header_parts size max_cid r ≡ Ok header → EndsInHeader size max_cid r header
 unfolding header_parts
 ends_from_parts Small max_cid r header e = small_ends max_cid r header e
 ends_from_parts Large max_cid r header e = large_ends max_cid r header e
@@ -96,7 +96,7 @@ unfolding header_parts
 placed_parts Small max_cid cid kind first cid_octets rest within spelled = small_from max_cid cid kind first cid_octets rest within spelled
 placed_parts Large max_cid cid kind first cid_octets rest within spelled = large_from max_cid cid kind first cid_octets rest within spelled
 
-pub parts_from_ends : (size : CidKind) (max_cid : ℕ) (r : List ℕ) (header : Option Header) → Ends size max_cid r header → header_parts size max_cid r ≡ Ok header
+pub parts_from_ends : (size : CidKind) (max_cid : ℕ) (r : List ℕ) (header : Option Header) → EndsInHeader size max_cid r header → header_parts size max_cid r ≡ Ok header
 unfolding header_parts
 parts_from_ends Small max_cid r None e = rw e refl
 parts_from_ends Large max_cid r None e = rw e refl
@@ -118,7 +118,7 @@ placed_no_item Small cid kind first (a ∷ []) rest spelled = grind (arith, nat_
 placed_no_item Small cid kind first (a ∷ b ∷ octets) rest spelled = cc
 placed_no_item Large cid kind first octets rest spelled = kind_no_item kind first (octets ++ rest) (grind (arith, nat_tests))
 
-pub ends_no_item : (size : CidKind) (max_cid : ℕ) (r : List ℕ) (header : Option Header) → Ends size max_cid r header → first_item r ≡ None
+pub ends_no_item : (size : CidKind) (max_cid : ℕ) (r : List ℕ) (header : Option Header) → EndsInHeader size max_cid r header → first_item r ≡ None
 unfolding first_item
 ends_no_item size max_cid r None e = rw e refl
 ends_no_item size max_cid r (Some h) is = rw is.whole (placed_no_item h.size h.cid h.kind h.first h.cid_octets h.rest is.spelled)

@@ -10,7 +10,7 @@ use Rattle.rohc_frame.specs.Header.{Header, placed}
 use Rattle.rohc_frame.specs.Laws.{IsOctet, IsGood}
 use Rattle.rohc_frame.specs.Items.{first_item, elements_in, all_contents, all_spelled, longest_items, after_items}
 use Rattle.rohc_frame.specs.Parts.{header_parts, with_elements, parts_of}
-use Rattle.rohc_frame.specs.Reading.{Reading, IsReading, IsHeader, Ends, option_header, header_of}
+use Rattle.rohc_frame.specs.Reading.{Reading, IsReading, IsHeader, EndsInHeader, option_header, header_of}
 use Rattle.rohc_frame.specs.Refused.{IsRefused, StopsBy}
 use Rattle.rohc_frame.proofs.ItemLemmas.{divided, longest_items_only, first_item_none, none_first_item}
 use Rattle.rohc_frame.proofs.EndLemmas.{ends_from_parts, parts_from_ends, ends_no_item}
@@ -157,7 +157,7 @@ good_from_ends size max_cid after h is all =
     let octets = placed_octets h.size h.cid_octets h.first h.rest (rw is.whole at all) in
     record { sized = is.sized; within = is.within; spelled = is.spelled; first = octets.start; cid_octets = octets.identifier; rest = octets.behind }
 
-good_from_some : (size : CidKind) (max_cid : ℕ) (after : List ℕ) (header : Option Header) (h : Header) → header ≡ Some h → Ends size max_cid after header → All IsOctet after → IsGood size max_cid h
+good_from_some : (size : CidKind) (max_cid : ℕ) (after : List ℕ) (header : Option Header) (h : Header) → header ≡ Some h → EndsInHeader size max_cid after header → All IsOctet after → IsGood size max_cid h
 good_from_some size max_cid after header h same ends all = good_from_ends size max_cid after h (rw same at ends) all
 
 pub header_is_good : (size : CidKind) (max_cid : ℕ) (octets : List ℕ) (r : Reading) (h : Header) → parts_of size max_cid octets ≡ Ok r → r.header ≡ Some h → All IsOctet octets → IsGood size max_cid h

@@ -40,9 +40,9 @@ pub record IsHeader (size : CidKind) (max_cid : ℕ) (octets : List ℕ) (h : He
   pub whole : octets ≡ header_octets h
 
 -- after the items comes a header or nothing
-abbrev pub Ends : CidKind → ℕ → List ℕ → Option Header → Type 0
-Ends size max_cid octets None = octets ≡ []
-Ends size max_cid octets (Some h) = IsHeader size max_cid octets h
+abbrev pub EndsInHeader : CidKind → ℕ → List ℕ → Option Header → Type 0
+EndsInHeader size max_cid octets None = octets ≡ []
+EndsInHeader size max_cid octets (Some h) = IsHeader size max_cid octets h
 
 -- A reading of a packet (RFC 5795 5): its octets are those of items, followed by those of a header or
 -- nothing.
@@ -53,4 +53,4 @@ pub record IsReading (size : CidKind) (max_cid : ℕ) (octets : List ℕ) (readi
   pub are_items : All IsItem items
   pub whole : octets ≡ all_spelled items ++ after
   pub elements : reading.elements ≡ all_contents items
-  pub ends : Ends size max_cid after reading.header
+  pub ends : EndsInHeader size max_cid after reading.header

@@ -7,13 +7,13 @@ use Rattle.rohc_concentrator.specs.declared.concentrator.Concentrator.{Concentra
 use Rattle.rohc_replay.specs.declared.counts.Counts.{Counts}
 use Rattle.rohc_replay.specs.Script.{lines_of}
 use Rattle.rohc_replay.specs.AnswerLines.{text_of}
-use Rattle.rohc_replay.specs.Run.{Change, change, ReadFails, WriteFault, Stops}
-use Rattle.rohc_replay.specs.Stream.{Stands, Ends, StopsWithin}
+use Rattle.rohc_replay.specs.Run.{ReplayChange, change, ReadFails, WriteOrFlushFails, Stops}
+use Rattle.rohc_replay.specs.Stream.{StandsInScript, EndsWithText, StopsWithin}
 use Rattle.rohc_replay.proofs.SplitLemmas.{lines_of-front}
 
 -- a read fails where a replay stands
 pub fails_reading : (first : Concentrator) (held a b : Option (List ℕ)) (seen kept : List ℕ) (long : Bool) (now : Concentrator) (holding : Option (List ℕ)) (counts : Counts) →
-    Consumes a b seen → Stands (change first held now holding) seen kept long counts → ReadFails (change first held now holding) a b counts.answers.taken
+    Consumes a b seen → StandsInScript (change first held now holding) seen kept long counts → ReadFails (change first held now holding) a b counts.answers.taken
 fails_reading first held a b seen kept long now holding counts consumed s = record {
   seen = seen;
   consumed = consumed;
@@ -30,7 +30,7 @@ fails_reading first held a b seen kept long now holding counts consumed s = reco
 -- a write fails at a line that ended
 pub fails_writing : (first : Concentrator) (held a b : Option (List ℕ)) (seen : List ℕ) (now : Concentrator) (holding : Option (List ℕ)) (counts : Counts) →
     Consumes a b seen → StopsWithin (change first held now holding) seen counts →
-    IfSome a (λ text. WriteFault (change first held now holding) text counts.answers.taken)
+    IfSome a (λ text. WriteOrFlushFails (change first held now holding) text counts.answers.taken)
 fails_writing first held None b seen now holding counts consumed stops = tt
 fails_writing first held (Some text) None seen now holding counts consumed stops = absurd consumed
 fails_writing first held (Some text) (Some left) seen now holding counts consumed stops = inl (record {
@@ -41,11 +41,11 @@ fails_writing first held (Some text) (Some left) seen now holding counts consume
 })
 
 -- a write fails at the last line
-pub last_line_fails : (c : Change) (seen : List ℕ) (written : ℕ) → Stops c (lines_of seen) written → WriteFault c seen written
+pub last_line_fails : (c : ReplayChange) (seen : List ℕ) (written : ℕ) → Stops c (lines_of seen) written → WriteOrFlushFails c seen written
 last_line_fails c seen written stops = inl (record { texts = lines_of seen; others = []; first_lines = sym (append-nil (lines_of seen)); stops = stops })
 
 -- the flush fails
 pub flush_fails : (first : Concentrator) (held : Option (List ℕ)) (seen : List ℕ) (now : Concentrator) (holding flushed : Option (List ℕ)) (counts : Counts) →
-    Ends (change first held now holding) seen counts → Keeps holding flushed → WriteFault (change first held now flushed) seen counts.answers.taken
+    EndsWithText (change first held now holding) seen counts → Keeps holding flushed → WriteOrFlushFails (change first held now flushed) seen counts.answers.taken
 flush_fails first held seen now holding flushed counts e kept =
     inr (record { lines = e.lines; script = e.are_lines; answers = e.answers; run = e.run; taken = (Appends-kept held holding flushed (flat_map text_of e.answers) e.taken.0 kept, e.taken.1) })

@@ -4,7 +4,7 @@ use Rattle.std.proofs.lemmas.List.{take-append-drop, take_rest}
 use Rattle.std.proofs.Math.Seq.{take-add}
 use Rattle.std.specs.Prelude.{IsErr}
 use Rattle.std.specs.Io.KnownBytes.{Appends}
-use Rattle.rohc_replay.specs.Offers.{TakesAll, TakesPart, Offers}
+use Rattle.rohc_replay.specs.Offers.{TakesAll, TakesPart, OffersText}
 use Rattle.rohc_replay.specs.declared.output.Stopped.{Stopped}
 
 -- nothing was taken
@@ -59,13 +59,13 @@ part_more held mid holding before between after a b ha hb = record {
 
 -- Where all of a text was taken and then another is offered, the two are offered as one.
 pub offers_more : (held mid holding : Option (List ℕ)) (before between after : ℕ) (a b : List ℕ) (r : Result Unit Stopped)
-    → TakesAll held mid before between a → Offers mid holding between after b r → Offers held holding before after (a ++ b) r
+    → TakesAll held mid before between a → OffersText mid holding between after b r → OffersText held holding before after (a ++ b) r
 offers_more held mid holding before between after a b (Ok done) ha hb = takes_more held mid holding before between after a b ha hb
 offers_more held mid holding before between after a b (Err stopped) ha hb = part_more held mid holding before between after a b ha hb
 
 -- a part was taken, and the answer says so
 pub offers_stopped : (held holding : Option (List ℕ)) (before after : ℕ) (text : List ℕ) (r : Result Unit Stopped)
-    → IsErr r → TakesPart held holding before after text → Offers held holding before after text r
+    → IsErr r → TakesPart held holding before after text → OffersText held holding before after text r
 offers_stopped held holding before after text (Ok done) err h = cc err
 offers_stopped held holding before after text (Err stopped) err h = h
 

@@ -6,9 +6,9 @@ use Rattle.std.proofs.lemmas.List.{length-take-le}
 use Rattle.rohc_concentrator.specs.declared.concentrator.Concentrator.{Concentrator}
 use Rattle.rohc_replay.specs.declared.counts.Counts.{Counts}
 use Rattle.rohc_replay.specs.Run.{change}
-use Rattle.rohc_replay.specs.Stream.{Stands, StopsWithin}
+use Rattle.rohc_replay.specs.Stream.{StandsInScript, StopsWithin}
 use Rattle.rohc_replay.proofs.RangeLemmas.{range-none, drop-front, take-front}
-use Rattle.rohc_replay.proofs.StreamLemmas.{Stands-same}
+use Rattle.rohc_replay.proofs.StreamLemmas.{StandsInScript-same}
 
 -- a read that gave nothing consumed nothing
 pub Consumes-nothing : (a b c : Option (List ℕ)) (seen read : List ℕ) → Consumes a b seen → Consumes b c read → read ≡ [] → Consumes a c seen
@@ -22,16 +22,16 @@ whole_text a b c seen line len end P before last same at_end h =
     Consumes-whole a c seen P (Consumes-nothing a b c seen (slice_range line len end) before last nothing) at_end h
 
 -- and the octets that were kept are the last line
-pub Stands-kept : (first : Concentrator) (held : Option (List ℕ)) (seen line read : List ℕ) (len end : ℕ) (long : Bool) (now : Concentrator) (holding : Option (List ℕ)) (counts : Counts) →
-    end ≡ len → take len read ≡ take len line → Stands (change first held now holding) seen (take len line) long counts → Stands (change first held now holding) seen (take end read) long counts
-Stands-kept first held seen line read len end long now holding counts same kept s =
-    Stands-same first held seen seen (take len line) (take end read) long now holding counts refl (sym kept ∙ ap (λ n. take n read) (sym same)) s
+pub StandsInScript-kept : (first : Concentrator) (held : Option (List ℕ)) (seen line read : List ℕ) (len end : ℕ) (long : Bool) (now : Concentrator) (holding : Option (List ℕ)) (counts : Counts) →
+    end ≡ len → take len read ≡ take len line → StandsInScript (change first held now holding) seen (take len line) long counts → StandsInScript (change first held now holding) seen (take end read) long counts
+StandsInScript-kept first held seen line read len end long now holding counts same kept s =
+    StandsInScript-same first held seen seen (take len line) (take end read) long now holding counts refl (sym kept ∙ ap (λ n. take n read) (sym same)) s
 
 -- the octets that were kept stand before a piece
-pub Stands-before : (first : Concentrator) (held : Option (List ℕ)) (seen line read : List ℕ) (len end : ℕ) (long : Bool) (now : Concentrator) (holding : Option (List ℕ)) (counts : Counts) →
-    len ≤ end → take len read ≡ take len line → Stands (change first held now holding) seen (take len line) long counts → Stands (change first held now holding) seen (take len (take end read)) long counts
-Stands-before first held seen line read len end long now holding counts within kept s =
-    Stands-same first held seen seen (take len line) (take len (take end read)) long now holding counts refl (sym kept ∙ sym (take-front read len end within)) s
+pub StandsInScript-before : (first : Concentrator) (held : Option (List ℕ)) (seen line read : List ℕ) (len end : ℕ) (long : Bool) (now : Concentrator) (holding : Option (List ℕ)) (counts : Counts) →
+    len ≤ end → take len read ≡ take len line → StandsInScript (change first held now holding) seen (take len line) long counts → StandsInScript (change first held now holding) seen (take len (take end read)) long counts
+StandsInScript-before first held seen line read len end long now holding counts within kept s =
+    StandsInScript-same first held seen seen (take len line) (take len (take end read)) long now holding counts refl (sym kept ∙ sym (take-front read len end within)) s
 
 -- the octets of a piece that are kept were moved to the front
 moved_last : (read moved : List ℕ) (n end : ℕ) → n ≤ length (take end read) → end ≤ length read → take n moved ≡ slice_range read (end - n) end →
@@ -41,12 +41,12 @@ moved_last read moved n end few within same =
     let order : end - n ≤ end = omega arith in
     ap (λ m. drop (m - n) (take end read)) bound ∙ drop-front read (end - n) end order ∙ sym same
 
-pub Stands-moved : (first : Concentrator) (held : Option (List ℕ)) (seen read moved : List ℕ) (len n end : ℕ) (long : Bool) (now : Concentrator) (holding : Option (List ℕ)) (counts : Counts) →
+pub StandsInScript-moved : (first : Concentrator) (held : Option (List ℕ)) (seen read moved : List ℕ) (len n end : ℕ) (long : Bool) (now : Concentrator) (holding : Option (List ℕ)) (counts : Counts) →
     len ≤ end → n ≤ length (take end read) → end ≤ length read → take n moved ≡ slice_range read (end - n) end →
-    Stands (change first held now holding) (seen ++ drop len (take end read)) (drop (length (take end read) - n) (take end read)) long counts →
-    Stands (change first held now holding) (seen ++ slice_range read len end) (take n moved) long counts
-Stands-moved first held seen read moved len n end long now holding counts more few within same s =
-    Stands-same first held (seen ++ drop len (take end read)) (seen ++ slice_range read len end) (drop (length (take end read) - n) (take end read)) (take n moved) long now holding counts
+    StandsInScript (change first held now holding) (seen ++ drop len (take end read)) (drop (length (take end read) - n) (take end read)) long counts →
+    StandsInScript (change first held now holding) (seen ++ slice_range read len end) (take n moved) long counts
+StandsInScript-moved first held seen read moved len n end long now holding counts more few within same s =
+    StandsInScript-same first held (seen ++ drop len (take end read)) (seen ++ slice_range read len end) (drop (length (take end read) - n) (take end read)) (take n moved) long now holding counts
     (ap (λ t. seen ++ t) (drop-front read len end more)) (moved_last read moved n end few within same) s
 
 -- the writer stopped within a piece

@@ -15,7 +15,7 @@ use Rattle.rohc_concentrator.proofs.SameLemmas.{unmarked_with}
 use Rattle.rohc_replay.specs.declared.tally.Tally.{Tally}
 use Rattle.rohc_replay.specs.declared.fault.RunFault.{RunFault}
 use Rattle.rohc_replay.specs.AnswerLines.{response_lines, text_of}
-use Rattle.rohc_replay.specs.Isolation.{IsPair, Replay, is_pair_line, is_own_line, pair_lines, own_unmarked, own_line, own_marked, lines_left, left_of, IsToldAll, IsTold, IsToldAlike, Isolates}
+use Rattle.rohc_replay.specs.Isolation.{IsPair, Replay, is_pair_line, is_own_line, pair_lines, own_unmarked, own_line, own_marked, lines_left, left_of, IsToldAll, IsToldAlone, IsToldAlike, Isolates}
 use Rattle.rohc_replay.specs.Lines.{has_newline}
 use Rattle.rohc_replay.specs.Run.{Replays, marked_of}
 use Rattle.rohc_replay.specs.Script.{Line, IsLine, AreLines, IsScript, lines_of}
@@ -88,11 +88,11 @@ module _ (s : LinkSetting) (l c : ℕ) where
       ∙ line_own line (own_line s l c line) mark (left_lines marked) refl
 
 module _ (r : Replay) (p : Pair) where
-  pub told_alike : (marked : List (Line × Bool)) → IsScript r.text (map (λ (m : Line × Bool). m.0) marked) → IsTold r (own_unmarked p.setting p.link p.cid marked) p → IsToldAlike r marked p
+  pub told_alike : (marked : List (Line × Bool)) → IsScript r.text (map (λ (m : Line × Bool). m.0) marked) → IsToldAlone r (own_unmarked p.setting p.link p.cid marked) p → IsToldAlike r marked p
   told_alike marked script told = record {
     lines = left_lines p.setting p.link p.cid marked;
     script = script_left p.setting p.link p.cid r.text marked script;
-    alike = subst (λ es. IsTold r es p) (own_left p.setting p.link p.cid marked) told;
+    alike = subst (λ es. IsToldAlone r es p) (own_left p.setting p.link p.cid marked) told;
   }
 
 -- What a run of events is to a pair, its lines tell the pair.
@@ -105,7 +105,7 @@ module _ (r : Replay) (p : Pair) (turns : List (Event × Option Report)) (marked
     told = told;
   }
 
-  told_alone : IsTold r (own_unmarked p.setting p.link p.cid marked) p
+  told_alone : IsToldAlone r (own_unmarked p.setting p.link p.cid marked) p
   told_alone = record {
     replies = filter is_rich (own_replies p.link p.cid turns);
     run = subst (λ es. LoneRun (settings_of p.setting p.cid) (record_at r.before p.link p.cid) (unmarked es) (filter is_rich (own_replies p.link p.cid turns)) (record_at r.after p.link p.cid)) own_lines one.alone;
@@ -126,7 +126,7 @@ replay_isolates old text held holding t new r =
     let isolated = isolated_events (record { before = old; after = new; turns = turns }) (turns_run old r.lines r.answers new r.run) in
     let told : (l c : ℕ) → l < 2 ^ 16 → c < 2 ^ 16 → pair_lines l c written ≡ flat_map (response_lines l c) (own_replies l c turns) =
     λ l c lf cf. ap (filter (is_pair_line l c)) lines ∙ run_told l c lf cf old r.lines r.answers new r.run fit in
-    let alone : (p : Pair) → IsPair old p → IsTold replay (own_unmarked p.setting p.link p.cid marked) p =
+    let alone : (p : Pair) → IsPair old p → IsToldAlone replay (own_unmarked p.setting p.link p.cid marked) p =
     λ p is. told_alone replay p turns marked (isolated.pairs p is.set) (own_turns p.setting p.link p.cid old r.lines r.answers new r.run) (told p.link p.cid is.link_fits is.cid_fits) in (
       written,
       r.written,

@@ -15,7 +15,7 @@ use Rattle.rohc_links.specs.Limits.{counted}
 use Rattle.rohc_replay.specs.Offers.{TakesAll, TakesPart}
 use Rattle.rohc_replay.specs.Run.{change, RunsLine, Runs, IsTally, Replays, Stops, is_good_line}
 use Rattle.rohc_replay.specs.Turn.{with_line, TakesTurn, TakesLongTurn}
-use Rattle.rohc_replay.specs.Stream.{Stands, Ends, IsKept, StopsAt}
+use Rattle.rohc_replay.specs.Stream.{StandsInScript, EndsWithText, IsUnfinished, StopsAt}
 use Rattle.rohc_replay.specs.Lines.{has_newline}
 use Rattle.rohc_replay.proofs.RangeLemmas.{range-append, range-one, range-none, range-end}
 use Rattle.rohc_replay.proofs.SplitLemmas.{Splits-more, Splits-newline, AreLines-push, lines_of-splits, last_line}
@@ -64,13 +64,13 @@ IsTally-push lines Long t u is eq =
     record { events = omega (arith, is.events); bad = omega (arith, is.bad) }
 
 -- octets without a newline are kept
-pub Stands-more : (first : Concentrator) (held : Option (List ℕ)) (seen kept more : List ℕ) (long : Bool) (now : Concentrator) (holding : Option (List ℕ)) (counts : Counts) →
-    Stands (change first held now holding) seen kept long counts → has_newline more ≡ false → Stands (change first held now holding) (seen ++ more) (kept ++ more) long counts
-Stands-more first held seen kept more long now holding counts s none = record {
+pub StandsInScript-more : (first : Concentrator) (held : Option (List ℕ)) (seen kept more : List ℕ) (long : Bool) (now : Concentrator) (holding : Option (List ℕ)) (counts : Counts) →
+    StandsInScript (change first held now holding) seen kept long counts → has_newline more ≡ false → StandsInScript (change first held now holding) (seen ++ more) (kept ++ more) long counts
+StandsInScript-more first held seen kept more long now holding counts s none = record {
   finished = s.finished;
   rest = s.rest ++ more;
   splits = Splits-more seen s.finished s.rest more s.splits none;
-  is_kept = IsKept-more long kept s.rest more s.is_kept;
+  is_kept = IsUnfinished-more long kept s.rest more s.is_kept;
   lines = s.lines;
   are_lines = s.are_lines;
   answers = s.answers;
@@ -79,22 +79,22 @@ Stands-more first held seen kept more long now holding counts s none = record {
   tally = s.tally;
 }
   where
-    IsKept-more : (l : Bool) (k r m : List ℕ) → IsKept l k r → IsKept l (k ++ m) (r ++ m)
-    IsKept-more false k r m e = ap (λ t. t ++ m) e
-    IsKept-more true k r m e = omega (arith, length-append r m)
+    IsUnfinished-more : (l : Bool) (k r m : List ℕ) → IsUnfinished l k r → IsUnfinished l (k ++ m) (r ++ m)
+    IsUnfinished-more false k r m e = ap (λ t. t ++ m) e
+    IsUnfinished-more true k r m e = omega (arith, length-append r m)
 
 -- a rest that is long already is a long line, and a kept one is the line that it spells
-IsLine-kept : (long : Bool) (kept rest : List ℕ) (line : Line) → IsKept long kept rest → (long ≡ false → IsLine kept line) → (long ≡ true → line ≡ Long) → IsLine rest line
+IsLine-kept : (long : Bool) (kept rest : List ℕ) (line : Line) → IsUnfinished long kept rest → (long ≡ false → IsLine kept line) → (long ≡ true → line ≡ Long) → IsLine rest line
 IsLine-kept false kept rest line is_kept short is_long = subst (λ t. IsLine t line) is_kept (short refl)
 IsLine-kept true kept rest line is_kept short is_long = rw (is_long refl) is_kept
 
 -- a newline ends the kept line, which is run
-pub Stands-newline : (first : Concentrator) (held : Option (List ℕ)) (seen kept : List ℕ) (long : Bool) (now : Concentrator) (holding : Option (List ℕ)) (counts : Counts)
+pub StandsInScript-newline : (first : Concentrator) (held : Option (List ℕ)) (seen kept : List ℕ) (long : Bool) (now : Concentrator) (holding : Option (List ℕ)) (counts : Counts)
     (line : Line) (more : List (List ℕ)) (new : Concentrator) (after : Option (List ℕ)) (counts_after : Counts) →
-    Stands (change first held now holding) seen kept long counts → (long ≡ false → IsLine kept line) → (long ≡ true → line ≡ Long) →
+    StandsInScript (change first held now holding) seen kept long counts → (long ≡ false → IsLine kept line) → (long ≡ true → line ≡ Long) →
     RunsLine now line more new → counts_after.tally ≡ with_line counts.tally line → TakesAll holding after counts.answers.taken counts_after.answers.taken (text_of more) →
-    Stands (change first held new after) (seen ++ 10 ∷ []) [] false counts_after
-Stands-newline first held seen kept long now holding counts line more new after counts_after s short is_long turns tally taken = record {
+    StandsInScript (change first held new after) (seen ++ 10 ∷ []) [] false counts_after
+StandsInScript-newline first held seen kept long now holding counts line more new after counts_after s short is_long turns tally taken = record {
   finished = s.finished ++ s.rest ∷ [];
   rest = [];
   splits = Splits-newline seen s.finished s.rest s.splits;
@@ -108,7 +108,7 @@ Stands-newline first held seen kept long now holding counts line more new after 
 }
 
 -- what isn't empty is a line
-some_rest : (l : Bool) (k r : List ℕ) → IsKept l k r → (l ≡ false → 0 < length k) → 0 < length r
+some_rest : (l : Bool) (k r : List ℕ) → IsUnfinished l k r → (l ≡ false → 0 < length k) → 0 < length r
 some_rest false k r e h = subst (λ t. 0 < length t) e (h refl)
 some_rest true k r e h = omega (arith, e)
 
@@ -117,12 +117,12 @@ last_line-some [] h = absurd (omega arith)
 last_line-some (x ∷ xs) h = refl
 
 -- a last line that isn't empty is run
-pub Ends-line : (first : Concentrator) (held : Option (List ℕ)) (seen kept : List ℕ) (long : Bool) (now : Concentrator) (holding : Option (List ℕ)) (counts : Counts)
+pub EndsWithText-line : (first : Concentrator) (held : Option (List ℕ)) (seen kept : List ℕ) (long : Bool) (now : Concentrator) (holding : Option (List ℕ)) (counts : Counts)
     (line : Line) (more : List (List ℕ)) (new : Concentrator) (after : Option (List ℕ)) (counts_after : Counts) →
-    Stands (change first held now holding) seen kept long counts → (long ≡ false → IsLine kept line) → (long ≡ true → line ≡ Long) → (long ≡ false → 0 < length kept) →
+    StandsInScript (change first held now holding) seen kept long counts → (long ≡ false → IsLine kept line) → (long ≡ true → line ≡ Long) → (long ≡ false → 0 < length kept) →
     RunsLine now line more new → counts_after.tally ≡ with_line counts.tally line → TakesAll holding after counts.answers.taken counts_after.answers.taken (text_of more) →
-    Ends (change first held new after) seen counts_after
-Ends-line first held seen kept long now holding counts line more new after counts_after s short is_long some turns tally taken = record {
+    EndsWithText (change first held new after) seen counts_after
+EndsWithText-line first held seen kept long now holding counts line more new after counts_after s short is_long some turns tally taken = record {
   lines = s.lines ++ line ∷ [];
   are_lines = subst (λ ls. AreLines ls (s.lines ++ line ∷ [])) (sym (lines_of-splits seen s.finished s.rest s.splits ∙ ap (λ ls. s.finished ++ ls) (last_line-some s.rest (some_rest long kept s.rest s.is_kept some))))
       (AreLines-push s.finished s.lines s.rest line s.are_lines (IsLine-kept long kept s.rest line s.is_kept short is_long));
@@ -133,9 +133,9 @@ Ends-line first held seen kept long now holding counts line more new after count
 }
 
 -- nothing is kept of an empty last line
-pub Ends-empty : (first : Concentrator) (held : Option (List ℕ)) (seen : List ℕ) (now : Concentrator) (holding : Option (List ℕ)) (counts : Counts) →
-    Stands (change first held now holding) seen [] false counts → Ends (change first held now holding) seen counts
-Ends-empty first held seen now holding counts s = record {
+pub EndsWithText-empty : (first : Concentrator) (held : Option (List ℕ)) (seen : List ℕ) (now : Concentrator) (holding : Option (List ℕ)) (counts : Counts) →
+    StandsInScript (change first held now holding) seen [] false counts → EndsWithText (change first held now holding) seen counts
+EndsWithText-empty first held seen now holding counts s = record {
   lines = s.lines;
   are_lines = subst (λ ls. AreLines ls s.lines) (sym (lines_of-splits seen s.finished s.rest s.splits ∙ ap (λ r. s.finished ++ last_line r) (sym s.is_kept) ∙ append-nil s.finished)) s.are_lines;
   answers = s.answers;
@@ -145,8 +145,8 @@ Ends-empty first held seen now holding counts s = record {
 }
 
 -- before anything is read
-pub Stands-first : (first : Concentrator) (held : Option (List ℕ)) (counts : Counts) → counts.answers.taken ≡ 0 → counts.tally ≡ record { events = 0; bad = 0 } → Stands (change first held first held) [] [] false counts
-Stands-first first held counts none nothing = record {
+pub StandsInScript-first : (first : Concentrator) (held : Option (List ℕ)) (counts : Counts) → counts.answers.taken ≡ 0 → counts.tally ≡ record { events = 0; bad = 0 } → StandsInScript (change first held first held) [] [] false counts
+StandsInScript-first first held counts none nothing = record {
   finished = [];
   rest = [];
   splits = record { whole = refl; each = tt; unfinished = refl };
@@ -163,66 +163,66 @@ Stands-first first held counts none nothing = record {
 
 pub newline_after_turn : (now new : Concentrator) (holding after : Option (List ℕ)) (counts counts_after : Counts) (kept : List ℕ) (result : Result Unit Stopped) →
     TakesTurn (change now holding new after) counts counts_after kept result →
-    IfOk result (λ _. (first : Concentrator) (held : Option (List ℕ)) (seen : List ℕ) → Stands (change first held now holding) seen kept false counts → Stands (change first held new after) (seen ++ 10 ∷ []) [] false counts_after)
+    IfOk result (λ _. (first : Concentrator) (held : Option (List ℕ)) (seen : List ℕ) → StandsInScript (change first held now holding) seen kept false counts → StandsInScript (change first held new after) (seen ++ 10 ∷ []) [] false counts_after)
 newline_after_turn now new holding after counts counts_after kept (Ok done) t = λ first held seen s.
-    Stands-newline first held seen kept false now holding counts t.line t.answers new after counts_after s (λ _. t.is_line) (λ e. cc) t.turns t.tally t.offers
+    StandsInScript-newline first held seen kept false now holding counts t.line t.answers new after counts_after s (λ _. t.is_line) (λ e. cc) t.turns t.tally t.offers
 newline_after_turn now new holding after counts counts_after kept (Err stopped) t = tt
 
 pub newline_after_long : (now : Concentrator) (holding after : Option (List ℕ)) (counts counts_after : Counts) (kept : List ℕ) (result : Result Unit Stopped) →
     TakesLongTurn holding after counts counts_after result →
-    IfOk result (λ _. (first : Concentrator) (held : Option (List ℕ)) (seen : List ℕ) → Stands (change first held now holding) seen kept true counts → Stands (change first held now after) (seen ++ 10 ∷ []) [] false counts_after)
+    IfOk result (λ _. (first : Concentrator) (held : Option (List ℕ)) (seen : List ℕ) → StandsInScript (change first held now holding) seen kept true counts → StandsInScript (change first held now after) (seen ++ 10 ∷ []) [] false counts_after)
 newline_after_long now holding after counts counts_after kept (Ok done) t = λ first held seen s.
-    Stands-newline first held seen kept true now holding counts Long (long_line ∷ []) now after counts_after s (λ e. cc) (λ _. refl) (refl, refl) t.tally t.offers
+    StandsInScript-newline first held seen kept true now holding counts Long (long_line ∷ []) now after counts_after s (λ e. cc) (λ _. refl) (refl, refl) t.tally t.offers
 newline_after_long now holding after counts counts_after kept (Err stopped) t = tt
 
 pub end_after_turn : (now new : Concentrator) (holding after : Option (List ℕ)) (counts counts_after : Counts) (kept : List ℕ) (result : Result Unit Stopped) → 0 < length kept →
     TakesTurn (change now holding new after) counts counts_after kept result →
-    IfOk result (λ _. (first : Concentrator) (held : Option (List ℕ)) (seen : List ℕ) → Stands (change first held now holding) seen kept false counts → Ends (change first held new after) seen counts_after)
+    IfOk result (λ _. (first : Concentrator) (held : Option (List ℕ)) (seen : List ℕ) → StandsInScript (change first held now holding) seen kept false counts → EndsWithText (change first held new after) seen counts_after)
 end_after_turn now new holding after counts counts_after kept (Ok done) some t = λ first held seen s.
-    Ends-line first held seen kept false now holding counts t.line t.answers new after counts_after s (λ _. t.is_line) (λ e. cc) (λ _. some) t.turns t.tally t.offers
+    EndsWithText-line first held seen kept false now holding counts t.line t.answers new after counts_after s (λ _. t.is_line) (λ e. cc) (λ _. some) t.turns t.tally t.offers
 end_after_turn now new holding after counts counts_after kept (Err stopped) some t = tt
 
 pub end_after_long : (now : Concentrator) (holding after : Option (List ℕ)) (counts counts_after : Counts) (kept : List ℕ) (result : Result Unit Stopped) →
     TakesLongTurn holding after counts counts_after result →
-    IfOk result (λ _. (first : Concentrator) (held : Option (List ℕ)) (seen : List ℕ) → Stands (change first held now holding) seen kept true counts → Ends (change first held now after) seen counts_after)
+    IfOk result (λ _. (first : Concentrator) (held : Option (List ℕ)) (seen : List ℕ) → StandsInScript (change first held now holding) seen kept true counts → EndsWithText (change first held now after) seen counts_after)
 end_after_long now holding after counts counts_after kept (Ok done) t = λ first held seen s.
-    Ends-line first held seen kept true now holding counts Long (long_line ∷ []) now after counts_after s (λ e. cc) (λ _. refl) (λ e. cc) (refl, refl) t.tally t.offers
+    EndsWithText-line first held seen kept true now holding counts Long (long_line ∷ []) now after counts_after s (λ e. cc) (λ _. refl) (λ e. cc) (refl, refl) t.tally t.offers
 end_after_long now holding after counts counts_after kept (Err stopped) t = tt
 
 -- Two parts of one piece: what was run up to `from` of the octets, and the octets from there to `to`.
 
-pub Stands-along : (first : Concentrator) (held : Option (List ℕ)) (seen octets : List ℕ) (searched start from to : ℕ) (long : Bool) (now : Concentrator) (holding : Option (List ℕ)) (counts : Counts) →
+pub StandsInScript-along : (first : Concentrator) (held : Option (List ℕ)) (seen octets : List ℕ) (searched start from to : ℕ) (long : Bool) (now : Concentrator) (holding : Option (List ℕ)) (counts : Counts) →
     start ≤ from → searched ≤ from → from ≤ to → has_newline (slice_range octets from to) ≡ false →
-    Stands (change first held now holding) (seen ++ slice_range octets searched from) (slice_range octets start from) long counts →
-    Stands (change first held now holding) (seen ++ slice_range octets searched to) (slice_range octets start to) long counts
-Stands-along first held seen octets searched start from to long now holding counts begun later ahead none s =
+    StandsInScript (change first held now holding) (seen ++ slice_range octets searched from) (slice_range octets start from) long counts →
+    StandsInScript (change first held now holding) (seen ++ slice_range octets searched to) (slice_range octets start to) long counts
+StandsInScript-along first held seen octets searched start from to long now holding counts begun later ahead none s =
     let all : (seen ++ slice_range octets searched from) ++ slice_range octets from to ≡ seen ++ slice_range octets searched to = append_assoc seen (slice_range octets searched from) (slice_range octets from to) ∙ ap (λ t. seen ++ t) (range-append octets searched from to later ahead) in
     let line : slice_range octets start from ++ slice_range octets from to ≡ slice_range octets start to = range-append octets start from to begun ahead in
-    subst (λ t. Stands (change first held now holding) t (slice_range octets start to) long counts) all
-    (subst (λ k. Stands (change first held now holding) ((seen ++ slice_range octets searched from) ++ slice_range octets from to) k long counts) line
-    (Stands-more first held (seen ++ slice_range octets searched from) (slice_range octets start from) (slice_range octets from to) long now holding counts s none))
+    subst (λ t. StandsInScript (change first held now holding) t (slice_range octets start to) long counts) all
+    (subst (λ k. StandsInScript (change first held now holding) ((seen ++ slice_range octets searched from) ++ slice_range octets from to) k long counts) line
+    (StandsInScript-more first held (seen ++ slice_range octets searched from) (slice_range octets start from) (slice_range octets from to) long now holding counts s none))
 
 -- a newline at a place was seen, and a new line begins behind it
-pub Stands-after : (first : Concentrator) (held : Option (List ℕ)) (seen octets : List ℕ) (searched stop : ℕ) (now : Concentrator) (holding : Option (List ℕ)) (counts : Counts) →
+pub StandsInScript-after : (first : Concentrator) (held : Option (List ℕ)) (seen octets : List ℕ) (searched stop : ℕ) (now : Concentrator) (holding : Option (List ℕ)) (counts : Counts) →
     searched ≤ stop → stop < length octets → get_or octets stop 0 ≡ 10 →
-    Stands (change first held now holding) ((seen ++ slice_range octets searched stop) ++ 10 ∷ []) [] false counts →
-    Stands (change first held now holding) (seen ++ slice_range octets searched (stop + 1)) (slice_range octets (stop + 1) (stop + 1)) false counts
-Stands-after first held seen octets searched stop now holding counts later within newline s =
+    StandsInScript (change first held now holding) ((seen ++ slice_range octets searched stop) ++ 10 ∷ []) [] false counts →
+    StandsInScript (change first held now holding) (seen ++ slice_range octets searched (stop + 1)) (slice_range octets (stop + 1) (stop + 1)) false counts
+StandsInScript-after first held seen octets searched stop now holding counts later within newline s =
     let one : slice_range octets stop (stop + 1) ≡ 10 ∷ [] = range-one octets stop within ∙ ap (λ o. o ∷ []) newline in
     let all : (seen ++ slice_range octets searched stop) ++ 10 ∷ [] ≡ seen ++ slice_range octets searched (stop + 1) =
     append_assoc seen (slice_range octets searched stop) (10 ∷ []) ∙ ap (λ t. seen ++ t) (ap (λ t. slice_range octets searched stop ++ t) (sym one) ∙ range-append octets searched stop (stop + 1) later (omega arith)) in
-    subst (λ t. Stands (change first held now holding) t (slice_range octets (stop + 1) (stop + 1)) false counts) all
-    (subst (λ k. Stands (change first held now holding) ((seen ++ slice_range octets searched stop) ++ 10 ∷ []) k false counts) (sym (range-none octets (stop + 1))) s)
+    subst (λ t. StandsInScript (change first held now holding) t (slice_range octets (stop + 1) (stop + 1)) false counts) all
+    (subst (λ k. StandsInScript (change first held now holding) ((seen ++ slice_range octets searched stop) ++ 10 ∷ []) k false counts) (sym (range-none octets (stop + 1))) s)
 
 -- A line is long where it was, or where more than the greatest length of it came. Nothing is kept of it.
-kept_over : (long : Bool) (kept rest : List ℕ) → (long ≡ true) ⊎ (longest_line < length kept) → IsKept long kept rest → longest_line < length rest
+kept_over : (long : Bool) (kept rest : List ℕ) → (long ≡ true) ⊎ (longest_line < length kept) → IsUnfinished long kept rest → longest_line < length rest
 kept_over false kept rest (inl was) k = cc was
 kept_over false kept rest (inr over) k = subst (λ t. longest_line < length t) k over
 kept_over true kept rest how k = k
 
-pub Stands-long : (first : Concentrator) (held : Option (List ℕ)) (seen kept any : List ℕ) (long : Bool) (now : Concentrator) (holding : Option (List ℕ)) (counts : Counts) →
-    (long ≡ true) ⊎ (longest_line < length kept) → Stands (change first held now holding) seen kept long counts → Stands (change first held now holding) seen any true counts
-Stands-long first held seen kept any long now holding counts how s = record {
+pub StandsInScript-long : (first : Concentrator) (held : Option (List ℕ)) (seen kept any : List ℕ) (long : Bool) (now : Concentrator) (holding : Option (List ℕ)) (counts : Counts) →
+    (long ≡ true) ⊎ (longest_line < length kept) → StandsInScript (change first held now holding) seen kept long counts → StandsInScript (change first held now holding) seen any true counts
+StandsInScript-long first held seen kept any long now holding counts how s = record {
   finished = s.finished;
   rest = s.rest;
   splits = s.splits;
@@ -236,31 +236,31 @@ Stands-long first held seen kept any long now holding counts how s = record {
 }
 
 -- and where it is neither, its octets are kept
-pub Stands-short : (first : Concentrator) (held : Option (List ℕ)) (seen octets : List ℕ) (start : ℕ) (long : Bool) (now : Concentrator) (holding : Option (List ℕ)) (counts : Counts) →
-    start ≤ length octets → long ≡ false → Stands (change first held now holding) seen (drop start octets) long counts →
-    Stands (change first held now holding) seen (drop (length octets - (length octets - start)) octets) false counts
-Stands-short first held seen octets start long now holding counts within short s =
+pub StandsInScript-short : (first : Concentrator) (held : Option (List ℕ)) (seen octets : List ℕ) (start : ℕ) (long : Bool) (now : Concentrator) (holding : Option (List ℕ)) (counts : Counts) →
+    start ≤ length octets → long ≡ false → StandsInScript (change first held now holding) seen (drop start octets) long counts →
+    StandsInScript (change first held now holding) seen (drop (length octets - (length octets - start)) octets) false counts
+StandsInScript-short first held seen octets start long now holding counts within short s =
     let back : start ≡ length octets - (length octets - start) = omega arith in
-    subst (λ l. Stands (change first held now holding) seen (drop (length octets - (length octets - start)) octets) l counts) short
-    (subst (λ n. Stands (change first held now holding) seen (drop n octets) long counts) back s)
+    subst (λ l. StandsInScript (change first held now holding) seen (drop (length octets - (length octets - start)) octets) l counts) short
+    (subst (λ n. StandsInScript (change first held now holding) seen (drop n octets) long counts) back s)
 
 -- at the end of the octets all of them were seen
-pub Stands-end : (first : Concentrator) (held : Option (List ℕ)) (seen octets : List ℕ) (searched start : ℕ) (long : Bool) (now : Concentrator) (holding : Option (List ℕ)) (counts : Counts) →
-    Stands (change first held now holding) (seen ++ slice_range octets searched (length octets)) (slice_range octets start (length octets)) long counts →
-    Stands (change first held now holding) (seen ++ drop searched octets) (drop start octets) long counts
-Stands-end first held seen octets searched start long now holding counts s =
-    subst (λ t. Stands (change first held now holding) (seen ++ t) (drop start octets) long counts) (range-end octets searched)
-    (subst (λ k. Stands (change first held now holding) (seen ++ slice_range octets searched (length octets)) k long counts) (range-end octets start) s)
+pub StandsInScript-end : (first : Concentrator) (held : Option (List ℕ)) (seen octets : List ℕ) (searched start : ℕ) (long : Bool) (now : Concentrator) (holding : Option (List ℕ)) (counts : Counts) →
+    StandsInScript (change first held now holding) (seen ++ slice_range octets searched (length octets)) (slice_range octets start (length octets)) long counts →
+    StandsInScript (change first held now holding) (seen ++ drop searched octets) (drop start octets) long counts
+StandsInScript-end first held seen octets searched start long now holding counts s =
+    subst (λ t. StandsInScript (change first held now holding) (seen ++ t) (drop start octets) long counts) (range-end octets searched)
+    (subst (λ k. StandsInScript (change first held now holding) (seen ++ slice_range octets searched (length octets)) k long counts) (range-end octets start) s)
 
 -- what is kept may be spelled otherwise
-pub Stands-same : (first : Concentrator) (held : Option (List ℕ)) (seen new_seen kept new_kept : List ℕ) (long : Bool) (now : Concentrator) (holding : Option (List ℕ)) (counts : Counts) →
-    seen ≡ new_seen → kept ≡ new_kept → Stands (change first held now holding) seen kept long counts → Stands (change first held now holding) new_seen new_kept long counts
-Stands-same first held seen new_seen kept new_kept long now holding counts same_seen same_kept s =
-    subst (λ t. Stands (change first held now holding) t new_kept long counts) same_seen (subst (λ k. Stands (change first held now holding) seen k long counts) same_kept s)
+pub StandsInScript-same : (first : Concentrator) (held : Option (List ℕ)) (seen new_seen kept new_kept : List ℕ) (long : Bool) (now : Concentrator) (holding : Option (List ℕ)) (counts : Counts) →
+    seen ≡ new_seen → kept ≡ new_kept → StandsInScript (change first held now holding) seen kept long counts → StandsInScript (change first held now holding) new_seen new_kept long counts
+StandsInScript-same first held seen new_seen kept new_kept long now holding counts same_seen same_kept s =
+    subst (λ t. StandsInScript (change first held now holding) t new_kept long counts) same_seen (subst (λ k. StandsInScript (change first held now holding) seen k long counts) same_kept s)
 
 -- a whole text was replayed, and the flush kept what was written
 pub Replays-end : (first : Concentrator) (held : Option (List ℕ)) (seen : List ℕ) (now : Concentrator) (holding flushed : Option (List ℕ)) (counts : Counts) →
-    Ends (change first held now holding) seen counts → Keeps holding flushed → Replays (change first held now flushed) seen counts.tally
+    EndsWithText (change first held now holding) seen counts → Keeps holding flushed → Replays (change first held now flushed) seen counts.tally
 Replays-end first held seen now holding flushed counts e kept = record {
   lines = e.lines;
   answers = e.answers;
@@ -275,7 +275,7 @@ Replays-end first held seen now holding flushed counts e kept = record {
 -- the kept line is the last of these lines, and its answers are taken in part
 Stops-line : (first : Concentrator) (held : Option (List ℕ)) (seen kept : List ℕ) (long : Bool) (now : Concentrator) (holding : Option (List ℕ)) (counts : Counts)
     (line : Line) (more : List (List ℕ)) (new : Concentrator) (after : Option (List ℕ)) (taken_after : ℕ)
-    (s : Stands (change first held now holding) seen kept long counts) → (long ≡ false → IsLine kept line) → (long ≡ true → line ≡ Long) →
+    (s : StandsInScript (change first held now holding) seen kept long counts) → (long ≡ false → IsLine kept line) → (long ≡ true → line ≡ Long) →
     RunsLine now line more new → TakesPart holding after counts.answers.taken taken_after (text_of more) →
     Stops (change first held new after) (s.finished ++ s.rest ∷ []) taken_after
 Stops-line first held seen kept long now holding counts line more new after taken_after s short is_long turns part = record {
@@ -294,7 +294,7 @@ Stops-line first held seen kept long now holding counts line more new after take
 
 pub stop_after_turn : (now new : Concentrator) (holding after : Option (List ℕ)) (counts counts_after : Counts) (kept : List ℕ) (result : Result Unit Stopped) →
     TakesTurn (change now holding new after) counts counts_after kept result →
-    IfErr result (λ _. (first : Concentrator) (held : Option (List ℕ)) (seen : List ℕ) → Stands (change first held now holding) seen kept false counts → StopsAt (change first held new after) (seen ++ 10 ∷ []) counts_after)
+    IfErr result (λ _. (first : Concentrator) (held : Option (List ℕ)) (seen : List ℕ) → StandsInScript (change first held now holding) seen kept false counts → StopsAt (change first held new after) (seen ++ 10 ∷ []) counts_after)
 stop_after_turn now new holding after counts counts_after kept (Ok done) t = tt
 stop_after_turn now new holding after counts counts_after kept (Err stopped) t = λ first held seen s. (
   s.finished ++ s.rest ∷ [],
@@ -304,7 +304,7 @@ stop_after_turn now new holding after counts counts_after kept (Err stopped) t =
 
 pub stop_after_long : (now : Concentrator) (holding after : Option (List ℕ)) (counts counts_after : Counts) (kept : List ℕ) (result : Result Unit Stopped) →
     TakesLongTurn holding after counts counts_after result →
-    IfErr result (λ _. (first : Concentrator) (held : Option (List ℕ)) (seen : List ℕ) → Stands (change first held now holding) seen kept true counts → StopsAt (change first held now after) (seen ++ 10 ∷ []) counts_after)
+    IfErr result (λ _. (first : Concentrator) (held : Option (List ℕ)) (seen : List ℕ) → StandsInScript (change first held now holding) seen kept true counts → StopsAt (change first held now after) (seen ++ 10 ∷ []) counts_after)
 stop_after_long now holding after counts counts_after kept (Ok done) t = tt
 stop_after_long now holding after counts counts_after kept (Err stopped) t = λ first held seen s. (
   s.finished ++ s.rest ∷ [],
@@ -314,12 +314,12 @@ stop_after_long now holding after counts counts_after kept (Err stopped) t = λ 
 
 -- a rest that isn't empty is the last line of the text
 last_of_lines : (first : Concentrator) (held : Option (List ℕ)) (seen kept : List ℕ) (long : Bool) (now : Concentrator) (holding : Option (List ℕ)) (counts : Counts)
-    (s : Stands (change first held now holding) seen kept long counts) → (long ≡ false → 0 < length kept) → s.finished ++ s.rest ∷ [] ≡ lines_of seen
+    (s : StandsInScript (change first held now holding) seen kept long counts) → (long ≡ false → 0 < length kept) → s.finished ++ s.rest ∷ [] ≡ lines_of seen
 last_of_lines first held seen kept long now holding counts s some = sym (lines_of-splits seen s.finished s.rest s.splits ∙ ap (λ ls. s.finished ++ ls) (last_line-some s.rest (some_rest long kept s.rest s.is_kept some)))
 
 pub last_after_turn : (now new : Concentrator) (holding after : Option (List ℕ)) (counts counts_after : Counts) (kept : List ℕ) (result : Result Unit Stopped) → 0 < length kept →
     TakesTurn (change now holding new after) counts counts_after kept result →
-    IfErr result (λ _. (first : Concentrator) (held : Option (List ℕ)) (seen : List ℕ) → Stands (change first held now holding) seen kept false counts → Stops (change first held new after) (lines_of seen) counts_after.answers.taken)
+    IfErr result (λ _. (first : Concentrator) (held : Option (List ℕ)) (seen : List ℕ) → StandsInScript (change first held now holding) seen kept false counts → Stops (change first held new after) (lines_of seen) counts_after.answers.taken)
 last_after_turn now new holding after counts counts_after kept (Ok done) some t = tt
 last_after_turn now new holding after counts counts_after kept (Err stopped) some t = λ first held seen s.
     subst (λ ls. Stops (change first held new after) ls counts_after.answers.taken) (last_of_lines first held seen kept false now holding counts s (λ _. some))
@@ -327,7 +327,7 @@ last_after_turn now new holding after counts counts_after kept (Err stopped) som
 
 pub last_after_long : (now : Concentrator) (holding after : Option (List ℕ)) (counts counts_after : Counts) (kept : List ℕ) (result : Result Unit Stopped) →
     TakesLongTurn holding after counts counts_after result →
-    IfErr result (λ _. (first : Concentrator) (held : Option (List ℕ)) (seen : List ℕ) → Stands (change first held now holding) seen kept true counts → Stops (change first held now after) (lines_of seen) counts_after.answers.taken)
+    IfErr result (λ _. (first : Concentrator) (held : Option (List ℕ)) (seen : List ℕ) → StandsInScript (change first held now holding) seen kept true counts → Stops (change first held now after) (lines_of seen) counts_after.answers.taken)
 last_after_long now holding after counts counts_after kept (Ok done) t = tt
 last_after_long now holding after counts counts_after kept (Err stopped) t = λ first held seen s.
     subst (λ ls. Stops (change first held now after) ls counts_after.answers.taken) (last_of_lines first held seen kept true now holding counts s (λ e. cc))

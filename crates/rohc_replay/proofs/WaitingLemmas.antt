@@ -5,7 +5,7 @@ use Rattle.std.specs.Io.KnownBytes.{Appends}
 use Rattle.hex.specs.Hex.{encode_with, encode_lower}
 use Rattle.rohc_replay.specs.Script.{hex_text}
 use Rattle.rohc_links.specs.Limits.{counted}
-use Rattle.rohc_replay.specs.Offers.{TakesAll, TakesPart, Offers}
+use Rattle.rohc_replay.specs.Offers.{TakesAll, TakesPart, OffersText}
 use Rattle.rohc_replay.specs.declared.output.Stopped.{Stopped}
 use Rattle.rohc_replay.proofs.DigitLemmas.{encode-append}
 use Rattle.rohc_replay.proofs.OfferLemmas.{appends_none, appends_more}
@@ -102,7 +102,7 @@ waits_part held mid holding before between after whole waiting rest h p = record
 
 -- What waits is offered, and nothing comes behind it.
 pub waits_offered : (held mid holding : Option (List ℕ)) (before between after : ℕ) (whole waiting : List ℕ) (r : Result Unit Stopped)
-    → Waits held mid before between whole waiting [] → Offers mid holding between after waiting r → Offers held holding before after whole r
+    → Waits held mid before between whole waiting [] → OffersText mid holding between after waiting r → OffersText held holding before after whole r
 waits_offered held mid holding before between after whole waiting (Ok done) h all =
     let parts = ap (λ (l : List ℕ). h.front ++ l) (sym (append-nil waiting)) ∙ h.parts in
     subst (λ (text : List ℕ). TakesAll held holding before after text) parts (

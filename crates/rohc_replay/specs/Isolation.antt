@@ -1,5 +1,6 @@
 -- Isolation: the answer lines for one CID of one link, whatever comes under the others. Words: IsPair,
--- Replay; own_unmarked, a pair's own events; pair_lines, own_lines; IsToldAll, IsTold, IsToldAlike; Isolates.
+-- Replay; own_unmarked, a pair's own events; pair_lines, own_lines; IsToldAll, IsToldAlone,
+-- IsToldAlike; Isolates.
 use Rattle.std.specs.Prelude.{◌≡◌, ℕ, ◌^◌, ◌<◌, List, [], ◌∷◌, ◌++◌, map, filter, Bool, true, false, not, ◌==◌, ◌&&◌, Option, Some, None, codes}
 use Rattle.std.specs.List.{flat_map}
 use Rattle.std.specs.Str.{bytes_eq}
@@ -76,7 +77,7 @@ pub record IsToldAll (r : Replay) (marked : List (Line × Bool)) (p : Pair) : Ty
 
 -- What a replay answered to one pair, lack of memory aside: the replies of one context, run alone under the
 -- link's settings for the CID, over the pair's own events, from its record before to its record after.
-pub record IsTold (r : Replay) (own_events : List LoneEvent) (p : Pair) : Type 0 where
+pub record IsToldAlone (r : Replay) (own_events : List LoneEvent) (p : Pair) : Type 0 where
   pub replies : List Response
   pub run : LoneRun (settings_of p.setting p.cid) (record_at r.before p.link p.cid)
       own_events replies (record_at r.after p.link p.cid)
@@ -100,7 +101,7 @@ lines_left s l c (octets ∷ texts) ((line, mark) ∷ marked) =
 pub record IsToldAlike (r : Replay) (marked : List (Line × Bool)) (p : Pair) : Type 0 where
   pub lines : List Line
   pub script : IsScript (text_of (lines_left p.setting p.link p.cid (lines_of r.text) marked)) lines
-  pub alike : IsTold r (flat_map (own_line p.setting p.link p.cid) lines) p
+  pub alike : IsToldAlone r (flat_map (own_line p.setting p.link p.cid) lines) p
 
 -- Isolation, for all pairs at once: the script's lines, each with its mark, and what was answered to each
 -- pair. The settings of each link stay, and a pair of a link that isn't there gets no line.
@@ -108,7 +109,7 @@ pub record IsIsolated (r : Replay) : Type 0 where
   pub marked : List (Line × Bool)
   pub script : IsScript r.text (map (λ (m : Line × Bool). m.0) marked)
   pub answered : (p : Pair) → IsPair r.before p → IsToldAll r marked p
-  pub alone : (p : Pair) → IsPair r.before p → IsTold r (own_unmarked p.setting p.link p.cid marked) p
+  pub alone : (p : Pair) → IsPair r.before p → IsToldAlone r (own_unmarked p.setting p.link p.cid marked) p
   pub taken_out : (p : Pair) → IsPair r.before p → IsToldAlike r marked p
   pub settings : (l : ℕ) → setting_at r.after l ≡ setting_at r.before l
   pub absent : (l c : ℕ) → l < 2 ^ 16 → c < 2 ^ 16 → setting_at r.before l ≡ None →

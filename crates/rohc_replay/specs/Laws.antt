@@ -11,7 +11,7 @@ use Rattle.rohc_concentrator.specs.Tables.{record_at}
 use Rattle.rohc_replay.specs.Script.{Line, IsScript}
 use Rattle.rohc_replay.specs.AnswerLines.{response_lines, text_of}
 use Rattle.rohc_replay.specs.Isolation.{Replay, IsPair, IsIsolated, own_unmarked, own_lines}
-use Rattle.rohc_replay.specs.Run.{Runs, marked_of, Change, ReadFails, WriteFails, FlushFails}
+use Rattle.rohc_replay.specs.Run.{Runs, marked_of, ReplayChange, ReadFails, WriteFails, FlushFails}
 
 -- the second list starts with the first
 abbrev pub IsFront : {X : Type 0} → List X → List X → Type 0
@@ -42,7 +42,7 @@ BeginsAlike = (a b after_a after_b : Concentrator) (text : List ℕ) (lines more
 -- What a failed read leaves written is a prefix of what a whole run of the text writes, if the same events
 -- find no memory.
 abbrev pub ReadLeavesFront : Type 0
-ReadLeavesFront = (c : Change) (whole_after : Concentrator) (text : List ℕ) (left : Option (List ℕ))
+ReadLeavesFront = (c : ReplayChange) (whole_after : Concentrator) (text : List ℕ) (left : Option (List ℕ))
     (written : ℕ) (f : ReadFails c (Some text) left written)
     (lines : List Line) (answers : List (List (List ℕ))) (whole : Runs c.before lines answers whole_after) →
     IsScript text lines →
@@ -52,7 +52,7 @@ ReadLeavesFront = (c : Change) (whole_after : Concentrator) (text : List ℕ) (l
 
 -- So is what a failed write leaves.
 abbrev pub WriteLeavesFront : Type 0
-WriteLeavesFront = (c : Change) (whole_after : Concentrator) (text : List ℕ) (written : ℕ)
+WriteLeavesFront = (c : ReplayChange) (whole_after : Concentrator) (text : List ℕ) (written : ℕ)
     (f : WriteFails c text written)
     (lines : List Line) (answers : List (List (List ℕ))) (whole : Runs c.before lines answers whole_after) →
     IsScript text lines →
@@ -63,7 +63,7 @@ WriteLeavesFront = (c : Change) (whole_after : Concentrator) (text : List ℕ) (
 
 -- What a failed flush leaves is all of it.
 abbrev pub FlushLeavesAll : Type 0
-FlushLeavesAll = (c : Change) (whole_after : Concentrator) (text : List ℕ) (written : ℕ)
+FlushLeavesAll = (c : ReplayChange) (whole_after : Concentrator) (text : List ℕ) (written : ℕ)
     (f : FlushFails c text written)
     (lines : List Line) (answers : List (List (List ℕ))) (whole : Runs c.before lines answers whole_after) →
     IsScript text lines →

@@ -1,4 +1,4 @@
--- How much of a text a writer took. Words: TakesAll, TakesPart; Offers.
+-- How much of a text a writer took. Words: TakesAll, TakesPart; OffersText.
 use Rattle.std.specs.Prelude.{◌≡◌, ℕ, ◌<◌, List, ◌++◌, length, Option, Result, Ok, Err}
 use Rattle.std.specs.Io.KnownBytes.{Appends}
 use Rattle.rohc_links.specs.Limits.{counted}
@@ -17,6 +17,6 @@ pub record TakesPart (held holding : Option (List ℕ)) (before after : ℕ) (te
   pub taken : TakesAll held holding before after part
 
 -- a text is offered to a writer, with the number of octets that it took before and after
-abbrev pub Offers : Option (List ℕ) → Option (List ℕ) → ℕ → ℕ → List ℕ → Result Unit Stopped → Type 0
-Offers held holding before after text (Ok done) = TakesAll held holding before after text
-Offers held holding before after text (Err stopped) = TakesPart held holding before after text
+abbrev pub OffersText : Option (List ℕ) → Option (List ℕ) → ℕ → ℕ → List ℕ → Result Unit Stopped → Type 0
+OffersText held holding before after text (Ok done) = TakesAll held holding before after text
+OffersText held holding before after text (Err stopped) = TakesPart held holding before after text

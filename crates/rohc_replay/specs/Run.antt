@@ -1,5 +1,5 @@
--- The run of a script, line by line. Words: RunsLine, Runs; marked_of; IsTally; Change; Replays; Work,
--- WriteFault, Fails.
+-- The run of a script, line by line. Words: RunsLine, Runs; marked_of; IsTally; ReplayChange; Replays; Work,
+-- WriteOrFlushFails, ReplayFails.
 use Rattle.std.specs.Prelude.{◌≡◌, ℕ, ◌-◌, ◌^◌, List, [], ◌∷◌, ◌++◌, Bool, true, false, not, count_by, min, length, ◌<◌, ◌⊎◌, Option, IfSome}
 use Rattle.std.specs.List.{flat_map}
 use Rattle.std.specs.Io.KnownBytes.{Appends, Consumes}
@@ -52,20 +52,20 @@ pub record IsTally (lines : List Line) (t : Tally) : Type 0 where
   pub bad : t.bad ≡ min (count_by (λ line. not (is_good_line line)) lines) (2 ^ 64 - 1)
 
 -- what a replay changes: the concentrator, and the octets that the writer holds, both before and after
-pub record Change : Type 0 where
+pub record ReplayChange : Type 0 where
   pub before : Concentrator
   pub after : Concentrator
   pub held : Option (List ℕ)
   pub holding : Option (List ℕ)
 
 -- the change from one concentrator and one content of the writer to another
-abbrev pub change : Concentrator → Option (List ℕ) → Concentrator → Option (List ℕ) → Change
+abbrev pub change : Concentrator → Option (List ℕ) → Concentrator → Option (List ℕ) → ReplayChange
 change before held after holding =
     record { before = before; after = after; held = held; holding = holding }
 
 -- A whole replay: the script of the text, its answer lines, which are all that was written, the tally, and
 -- the concentrator after all events.
-pub record Replays (c : Change) (text : List ℕ) (t : Tally) : Type 0 where
+pub record Replays (c : ReplayChange) (text : List ℕ) (t : Tally) : Type 0 where
   pub lines : List Line
   pub answers : List (List (List ℕ))
   pub script : IsScript text lines
@@ -75,7 +75,7 @@ pub record Replays (c : Change) (text : List ℕ) (t : Tally) : Type 0 where
 
 -- A read failed. Of the octets that were read before, the finished lines were run and answered, and the
 -- writer took all their answers.
-pub record ReadFails (c : Change) (unread left : Option (List ℕ)) (written : ℕ) : Type 0 where
+pub record ReadFails (c : ReplayChange) (unread left : Option (List ℕ)) (written : ℕ) : Type 0 where
   pub seen : List ℕ
   pub consumed : Consumes unread left seen
   pub finished : List (List ℕ)
@@ -89,7 +89,7 @@ pub record ReadFails (c : Change) (unread left : Option (List ℕ)) (written : �
 
 -- Lines were run one after the other. The writer took all answers of the lines before the last, and a part of
 -- the last line's answers but not all.
-pub record Stops (c : Change) (texts : List (List ℕ)) (written : ℕ) : Type 0 where
+pub record Stops (c : ReplayChange) (texts : List (List ℕ)) (written : ℕ) : Type 0 where
   pub earlier : List Line
   pub last : Line
   pub are_lines : AreLines texts (earlier ++ last ∷ [])
@@ -103,14 +103,14 @@ pub record Stops (c : Change) (texts : List (List ℕ)) (written : ℕ) : Type 0
   pub taken : TakesAll c.held c.holding 0 written (flat_map text_of answers ++ part)
 
 -- A write failed, at one of the first lines of the text.
-pub record WriteFails (c : Change) (text : List ℕ) (written : ℕ) : Type 0 where
+pub record WriteFails (c : ReplayChange) (text : List ℕ) (written : ℕ) : Type 0 where
   pub texts : List (List ℕ)
   pub others : List (List ℕ)
   pub first_lines : lines_of text ≡ texts ++ others
   pub stops : Stops c texts written
 
 -- The flush failed: all lines were run, and all their answers taken.
-pub record FlushFails (c : Change) (text : List ℕ) (written : ℕ) : Type 0 where
+pub record FlushFails (c : ReplayChange) (text : List ℕ) (written : ℕ) : Type 0 where
   pub lines : List Line
   pub script : IsScript text lines
   pub answers : List (List (List ℕ))
@@ -118,8 +118,8 @@ pub record FlushFails (c : Change) (text : List ℕ) (written : ℕ) : Type 0 wh
   pub taken : TakesAll c.held c.holding 0 written (flat_map text_of answers)
 
 -- what a write that failed leaves, or else a flush
-abbrev pub WriteFault : Change → List ℕ → ℕ → Type 0
-WriteFault c text written = WriteFails c text written ⊎ FlushFails c text written
+abbrev pub WriteOrFlushFails : ReplayChange → List ℕ → ℕ → Type 0
+WriteOrFlushFails c text written = WriteFails c text written ⊎ FlushFails c text written
 
 -- what a replay works on
 pub record Work (R W : Type 0) : Type 0 where
@@ -128,16 +128,16 @@ pub record Work (R W : Type 0) : Type 0 where
   pub writer : W
 
 -- the change by a replay, if the octets that the writer holds are known
-abbrev pub change_of : {R W : Type 0} → (W → Option (List ℕ)) → Work R W → Work R W → Change
+abbrev pub change_of : {R W : Type 0} → (W → Option (List ℕ)) → Work R W → Work R W → ReplayChange
 change_of contents old new =
     change old.concentrator (contents old.writer) new.concentrator (contents new.writer)
 
 -- What each fault leaves, if the reader's octets are known too. Without memory nothing is changed.
-abbrev pub Fails : {R W : Type 0} → (R → Option (List ℕ)) → (W → Option (List ℕ))
+abbrev pub ReplayFails : {R W : Type 0} → (R → Option (List ℕ)) → (W → Option (List ℕ))
     → Work R W → RunFault → Work R W → Type 0
-Fails remaining contents old NoMemory new = new ≡ old
-Fails remaining contents old (Read written) new =
+ReplayFails remaining contents old NoMemory new = new ≡ old
+ReplayFails remaining contents old (Read written) new =
     ReadFails (change_of contents old new) (remaining old.reader) (remaining new.reader) written
-Fails remaining contents old (Write written) new =
-    let c : Change = change_of contents old new in
+ReplayFails remaining contents old (Write written) new =
+    let c : ReplayChange = change_of contents old new in
     IfSome (remaining old.reader) (λ text. WriteFails c text written ⊎ FlushFails c text written)

@@ -6,8 +6,8 @@ use Rattle.rohc_replay.specs.declared.counts.Counts.{Counts}
 use Rattle.rohc_replay.specs.Script.{Line, Good, Bad, Long, IsLine}
 use Rattle.rohc_replay.specs.AnswerLines.{text_of, long_line}
 use Rattle.rohc_links.specs.Limits.{counted}
-use Rattle.rohc_replay.specs.Offers.{Offers}
-use Rattle.rohc_replay.specs.Run.{RunsLine, Change}
+use Rattle.rohc_replay.specs.Offers.{OffersText}
+use Rattle.rohc_replay.specs.Run.{RunsLine, ReplayChange}
 
 -- the tally with one more line
 abbrev pub with_line : Tally → Line → Tally
@@ -16,17 +16,18 @@ with_line t Bad = record t { bad = counted t.bad 1 }
 with_line t Long = record t { bad = counted t.bad 1 }
 
 -- a line is run, and its answers are offered: the writer takes all of them, or a part
-pub record TakesTurn (c : Change) (before after : Counts) (octets : List ℕ)
+pub record TakesTurn (c : ReplayChange) (before after : Counts) (octets : List ℕ)
     (result : Result Unit Stopped) : Type 0 where
   pub line : Line
   pub answers : List (List ℕ)
   pub is_line : IsLine octets line
   pub turns : RunsLine c.before line answers c.after
   pub tally : after.tally ≡ with_line before.tally line
-  pub offers : Offers c.held c.holding before.answers.taken after.answers.taken (text_of answers) result
+  pub offers : OffersText c.held c.holding before.answers.taken after.answers.taken (text_of answers) result
 
 -- a long line is answered, and nothing is run
 pub record TakesLongTurn (held holding : Option (List ℕ)) (before after : Counts)
     (result : Result Unit Stopped) : Type 0 where
   pub tally : after.tally ≡ with_line before.tally Long
-  pub offers : Offers held holding before.answers.taken after.answers.taken (text_of (long_line ∷ [])) result
+  pub offers : OffersText held holding before.answers.taken after.answers.taken
+      (text_of (long_line ∷ [])) result

@@ -5,7 +5,7 @@ ghost use Rattle.std.specs.Io.KnownBytes.{Appends};
 ghost use Rattle.rohc_context.specs.Response.{response_of};
 ghost use Rattle.rohc_replay.specs.AnswerLines.{text_of, stored_lines, feedback_lines, refused_lines};
 ghost use Rattle.rohc_replay.specs.LineText.{text_in};
-ghost use Rattle.rohc_replay.specs.Offers.{Offers};
+ghost use Rattle.rohc_replay.specs.Offers.{OffersText};
 ghost use Rattle.std.specs.Prelude.{◌++◌};
 
 use crate::line_text::{LineText, PART, ROOM};
@@ -105,7 +105,7 @@ impl Answers {
 
     /// Offers the octets of the line so far, by single writes, and counts the octets that are taken.
     fn offer_line<W: Write>(&mut self, writer: &mut W) -> Result<(), Stopped>
-        ensures { Offers (W.contents writer.old) (W.contents writer.new) self.old.taken self.new.taken
+        ensures { OffersText (W.contents writer.old) (W.contents writer.new) self.old.taken self.new.taken
             (text_in self.old.line) result }
     {
         let answers = &*self;
@@ -123,7 +123,7 @@ impl Answers {
         text: &[u8],
     ) -> Result<(), Stopped>
         requires { length text.now ≤ ROOM }
-        ensures { Offers (W.contents writer.old) (W.contents writer.new) self.old.taken self.new.taken
+        ensures { OffersText (W.contents writer.old) (W.contents writer.new) self.old.taken self.new.taken
             text.now result }
     {
         self.line.clear();
@@ -143,7 +143,7 @@ impl Answers {
     ) -> Result<(), Stopped>
         requires few { length head.now ≤ PART }
         requires room { self.old.line.len + 2 * PART < ROOM }
-        ensures { Offers (W.contents writer.old) (W.contents writer.new) self.old.taken self.new.taken
+        ensures { OffersText (W.contents writer.old) (W.contents writer.new) self.old.taken self.new.taken
             (text_in self.old.line ++ hex_text (head.now ++ rest.now) ++ 10 ∷ []) result }
     {
         if head.is_empty() && rest.is_empty() {
@@ -157,7 +157,7 @@ impl Answers {
     /// Offers the line so far, octets as pairs of lower case digits, and a newline.
     fn offer_digits<W: Write>(&mut self, writer: &mut W, octets: &[u8]) -> Result<(), Stopped>
         requires { self.old.line.len < ROOM }
-        ensures { Offers (W.contents writer.old) (W.contents writer.new) self.old.taken self.new.taken
+        ensures { OffersText (W.contents writer.old) (W.contents writer.new) self.old.taken self.new.taken
             (text_in self.old.line ++ encode_lower octets.now ++ 10 ∷ []) result }
     {
         for part in octets.chunks(PART) {
@@ -180,7 +180,7 @@ impl Answers {
         link: u16,
         feedback: &[u8],
     ) -> Result<(), Stopped>
-        ensures { Offers (W.contents writer.old) (W.contents writer.new) self.old.taken self.new.taken
+        ensures { OffersText (W.contents writer.old) (W.contents writer.new) self.old.taken self.new.taken
             (relay_line link feedback.now ++ 10 ∷ []) result }
     {
         self.line.clear();
@@ -198,7 +198,7 @@ impl Answers {
         link: u16,
         relayed: Elements<'_>,
     ) -> Result<(), Stopped>
-        ensures { Offers (W.contents writer.old) (W.contents writer.new) self.old.taken self.new.taken
+        ensures { OffersText (W.contents writer.old) (W.contents writer.new) self.old.taken self.new.taken
             (text_of (map (relay_line link) (elements_of relayed.entry))) result }
     {
         for feedback in relayed {
@@ -215,7 +215,7 @@ impl Answers {
         cid: u16,
         reply: &Reply<'_>,
     ) -> Result<(), Stopped>
-        ensures { Offers (W.contents writer.old) (W.contents writer.new) self.old.taken self.new.taken
+        ensures { OffersText (W.contents writer.old) (W.contents writer.new) self.old.taken self.new.taken
             (text_of (packet_lines link cid (response_of reply.now).packet)) result }
     {
         let Some(packet) = &reply.packet else {
@@ -235,7 +235,7 @@ impl Answers {
         cid: u16,
         reply: &Reply<'_>,
     ) -> Result<(), Stopped>
-        ensures { Offers (W.contents writer.old) (W.contents writer.new) self.old.taken self.new.taken
+        ensures { OffersText (W.contents writer.old) (W.contents writer.new) self.old.taken self.new.taken
             (text_of (response_lines link cid (response_of reply.now))) result }
     {
         self.offer_packet(writer, link, cid, reply)?;
@@ -256,7 +256,7 @@ impl Answers {
         link: u16,
         answer: &Answer<'_>,
     ) -> Result<(), Stopped>
-        ensures { Offers (W.contents writer.old) (W.contents writer.new) self.old.taken self.new.taken
+        ensures { OffersText (W.contents writer.old) (W.contents writer.new) self.old.taken self.new.taken
             (text_of (report_lines link (report_of answer.now))) result }
     {
         match answer {
@@ -280,7 +280,7 @@ impl Answers {
         link: u16,
         refusal: Refusal,
     ) -> Result<(), Stopped>
-        ensures { Offers (W.contents writer.old) (W.contents writer.new) self.old.taken self.new.taken
+        ensures { OffersText (W.contents writer.old) (W.contents writer.new) self.old.taken self.new.taken
             (text_of (link_refusal link refusal ∷ [])) result }
     {
         self.line.clear();

@@ -7,8 +7,8 @@ ghost use Rattle.rohc_concentrator.specs.declared.concentrator.Concentrator.{Con
 ghost use Rattle.rohc_links.specs.Limits.{longest_packet};
 ghost use Rattle.rohc_replay.specs.Script.{longest_line};
 ghost use Rattle.rohc_replay.specs.Isolation.{Isolates};
-ghost use Rattle.rohc_replay.specs.Run.{change, Replays, WriteFault, Fails};
-ghost use Rattle.rohc_replay.specs.Stream.{Stands};
+ghost use Rattle.rohc_replay.specs.Run.{change, Replays, WriteOrFlushFails, ReplayFails};
+ghost use Rattle.rohc_replay.specs.Stream.{StandsInScript};
 
 use crate::counts::Counts;
 use crate::fault::RunFault;
@@ -48,7 +48,7 @@ pub fn replay<R: Read, W: Write>(
         }) input tally)) }
     ensures isolated { IfOk result (λ tally. IfSome (R.remaining reader.old) (λ input.
         Isolates concentrator.old input (W.contents writer.old) (W.contents writer.new) concentrator.new)) }
-    ensures fault { IfErr result (λ e. Fails R.remaining W.contents
+    ensures fault { IfErr result (λ e. ReplayFails R.remaining W.contents
         (record { concentrator = concentrator.old; reader = reader.old; writer = writer.old }) e
         (record { concentrator = concentrator.new; reader = reader.new; writer = writer.new })) }
 {
@@ -80,7 +80,7 @@ fn run_script<R: Read, W: Write>(
     ensures whole { IfOk result (λ tally. IfSome (R.remaining reader.old) (λ input.
         Replays (change concentrator.old (W.contents writer.old) concentrator.new (W.contents writer.new)) input tally)) }
     ensures rich { IfErr result (λ e. e ≢ RunFault.NoMemory) }
-    ensures fault { IfErr result (λ e. Fails R.remaining W.contents
+    ensures fault { IfErr result (λ e. ReplayFails R.remaining W.contents
         (record { concentrator = concentrator.old; reader = reader.old; writer = writer.old }) e
         (record { concentrator = concentrator.new; reader = reader.new; writer = writer.new })) }
 {
@@ -119,11 +119,11 @@ fn finish<W: Write>(
     requires room { length packet.old ≡ longest_packet }
     requires short { length line.now ≤ longest_line }
     ensures whole { IfOk result (λ _. (first : State) (held : Option (List ℕ)) (seen : List ℕ) →
-        Stands (change first held concentrator.old (W.contents writer.old)) seen line.now long counts.old →
+        StandsInScript (change first held concentrator.old (W.contents writer.old)) seen line.now long counts.old →
         Replays (change first held concentrator.new (W.contents writer.new)) seen counts.new.tally) }
     ensures fault { IfErr result (λ _. (first : State) (held : Option (List ℕ)) (seen : List ℕ) →
-        Stands (change first held concentrator.old (W.contents writer.old)) seen line.now long counts.old →
-        WriteFault (change first held concentrator.new (W.contents writer.new)) seen counts.new.answers.taken) }
+        StandsInScript (change first held concentrator.old (W.contents writer.old)) seen line.now long counts.old →
+        WriteOrFlushFails (change first held concentrator.new (W.contents writer.new)) seen counts.new.answers.taken) }
 {
     let Ok(()) = end_script(concentrator, packet, writer, counts, long, line) else {
         return Err(Stopped);

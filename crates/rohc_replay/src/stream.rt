@@ -4,7 +4,7 @@ ghost use Rattle.std.specs.Prelude.{◌≡◌, ◌≤◌, ◌<◌, ◌+◌, ◌-
 ghost use Rattle.rohc_concentrator.specs.declared.concentrator.Concentrator.{Concentrator as State};
 ghost use Rattle.rohc_links.specs.Limits.{longest_packet};
 ghost use Rattle.rohc_replay.specs.Script.{longest_line, lines_of};
-ghost use Rattle.rohc_replay.specs.Stream.{Stands, Ends, StopsAt, StopsWithin};
+ghost use Rattle.rohc_replay.specs.Stream.{StandsInScript, EndsWithText, StopsAt, StopsWithin};
 ghost use Rattle.rohc_replay.specs.Run.{change, Stops};
 ghost use Rattle.rohc_replay.specs.Lines.{has_newline};
 
@@ -62,10 +62,10 @@ fn end_line<W: Write>(
     requires room { length packet.old ≡ longest_packet }
     requires short { length line.now ≤ longest_line }
     ensures stands { IfOk result (λ _. (first : State) (held : Option (List ℕ)) (seen : List ℕ) →
-        Stands (change first held concentrator.old (W.contents writer.old)) seen line.now long counts.old →
-        Stands (change first held concentrator.new (W.contents writer.new)) (seen ++ 10 ∷ []) [] false counts.new) }
+        StandsInScript (change first held concentrator.old (W.contents writer.old)) seen line.now long counts.old →
+        StandsInScript (change first held concentrator.new (W.contents writer.new)) (seen ++ 10 ∷ []) [] false counts.new) }
     ensures stops { IfErr result (λ _. (first : State) (held : Option (List ℕ)) (seen : List ℕ) →
-        Stands (change first held concentrator.old (W.contents writer.old)) seen line.now long counts.old →
+        StandsInScript (change first held concentrator.old (W.contents writer.old)) seen line.now long counts.old →
         StopsAt (change first held concentrator.new (W.contents writer.new)) (seen ++ 10 ∷ []) counts.new) }
 {
     if long {
@@ -93,10 +93,10 @@ pub(crate) fn run_lines<W: Write>(
     ensures used { IfOk result (λ next. next.len ≤ length octets.now) }
     ensures kept { IfOk result (λ next. next.len ≤ longest_line) }
     ensures stands { IfOk result (λ next. (first : State) (held : Option (List ℕ)) (seen : List ℕ) →
-        Stands (change first held concentrator.old (W.contents writer.old)) seen (take front.len octets.now) front.long counts.old →
-        Stands (change first held concentrator.new (W.contents writer.new)) (seen ++ drop front.len octets.now) (drop (length octets.now - next.len) octets.now) next.long counts.new) }
+        StandsInScript (change first held concentrator.old (W.contents writer.old)) seen (take front.len octets.now) front.long counts.old →
+        StandsInScript (change first held concentrator.new (W.contents writer.new)) (seen ++ drop front.len octets.now) (drop (length octets.now - next.len) octets.now) next.long counts.new) }
     ensures stops { IfErr result (λ _. (first : State) (held : Option (List ℕ)) (seen : List ℕ) →
-        Stands (change first held concentrator.old (W.contents writer.old)) seen (take front.len octets.now) front.long counts.old →
+        StandsInScript (change first held concentrator.old (W.contents writer.old)) seen (take front.len octets.now) front.long counts.old →
         StopsWithin (change first held concentrator.new (W.contents writer.new)) (seen ++ drop front.len octets.now) counts.new) }
 {
     let mut start = 0;
@@ -135,10 +135,10 @@ pub(crate) fn end_script<W: Write>(
     requires room { length packet.old ≡ longest_packet }
     requires short { length line.now ≤ longest_line }
     ensures ends { IfOk result (λ _. (first : State) (held : Option (List ℕ)) (seen : List ℕ) →
-        Stands (change first held concentrator.old (W.contents writer.old)) seen line.now long counts.old →
-        Ends (change first held concentrator.new (W.contents writer.new)) seen counts.new) }
+        StandsInScript (change first held concentrator.old (W.contents writer.old)) seen line.now long counts.old →
+        EndsWithText (change first held concentrator.new (W.contents writer.new)) seen counts.new) }
     ensures stops { IfErr result (λ _. (first : State) (held : Option (List ℕ)) (seen : List ℕ) →
-        Stands (change first held concentrator.old (W.contents writer.old)) seen line.now long counts.old →
+        StandsInScript (change first held concentrator.old (W.contents writer.old)) seen line.now long counts.old →
         Stops (change first held concentrator.new (W.contents writer.new)) (lines_of seen) counts.new.answers.taken) }
 {
     if long {

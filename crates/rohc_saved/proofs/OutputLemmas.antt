@@ -5,7 +5,7 @@ use Rattle.std.proofs.lemmas.List.{take-append-drop, take_rest, length-take-le, 
 use Rattle.std.proofs.lemmas.Bool.Decides.{nat_tests}
 use Rattle.std.proofs.Math.Seq.{take-add}
 use Rattle.std.specs.Io.KnownBytes.{Appends, Keeps}
-use Rattle.rohc_saved.specs.Output.{counted, IsWhole, IsWritten, IsTaken}
+use Rattle.rohc_saved.specs.Output.{counted, IsWhole, IsPartWritten, IsTaken}
 
 -- nothing was taken
 pub appends_none : (held : Option (List ℕ)) → Appends held held []
@@ -26,7 +26,7 @@ appends_front held mid holding text at count ha hb =
     rw take-add (appends_more held mid holding (take at text) (take count (drop at text)) ha (rw take_rest at hb))
 
 -- a part of a text was taken, so a part of a longer one
-pub written_longer : (held holding : Option (List ℕ)) (text more : List ℕ) (written : ℕ) → IsWritten held holding text written → IsWritten held holding (text ++ more) written
+pub written_longer : (held holding : Option (List ℕ)) (text more : List ℕ) (written : ℕ) → IsPartWritten held holding text written → IsPartWritten held holding (text ++ more) written
 written_longer held holding text more written h = record {
   part = h.part;
   rest = h.rest ++ more;
@@ -37,7 +37,7 @@ written_longer held holding text more written h = record {
 
 -- the whole text was taken, and then a front of another
 pub written_front : (held mid holding : Option (List ℕ)) (text part : List ℕ) (written between count : ℕ) → count ≤ length part → IsWhole held mid text between
-    → Appends mid holding (take count part) → written ≡ counted (between + count) → IsWritten held holding (text ++ part) written
+    → Appends mid holding (take count part) → written ≡ counted (between + count) → IsPartWritten held holding (text ++ part) written
 written_front held mid holding text part written between count within h more is = record {
   part = text ++ take count part;
   rest = drop count part;
@@ -59,7 +59,7 @@ taken_more false held mid holding text part written between count less within h 
     }
 
 -- the whole text is a part of it
-pub whole_written : (held holding : Option (List ℕ)) (text : List ℕ) (written : ℕ) → IsWhole held holding text written → IsWritten held holding text written
+pub whole_written : (held holding : Option (List ℕ)) (text : List ℕ) (written : ℕ) → IsWhole held holding text written → IsPartWritten held holding text written
 whole_written held holding text written h = record { part = text; rest = []; parts = sym (append-nil text); taken = h.taken; count = h.count }
 
 -- known octets stay

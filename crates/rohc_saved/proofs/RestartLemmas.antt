@@ -25,7 +25,7 @@ use Rattle.rohc_concentrator.specs.Report.{Report}
 use Rattle.rohc_concentrator.specs.Setup.{entry_of}
 use Rattle.rohc_concentrator.specs.Tables.{setting_at, record_in, record_at, identifiers_at, KeepsSettings, KeepsPlace, KeepsPlaces}
 use Rattle.rohc_concentrator.proofs.CutLemmas.{cut_run}
-use Rattle.rohc_saved.specs.Laws.{IsSound, IsMadeSound, StaysSound, IsKeptSound, CutByRestart}
+use Rattle.rohc_saved.specs.Laws.{IsInOrder, IsMadeSound, StaysSound, IsKeptSound, CutByRestart}
 use Rattle.rohc_saved.proofs.Distinct.{distinct_none, distinct_more}
 use Rattle.rohc_saved.proofs.RestoringLemmas.{holds_none}
 use Rattle.rohc_saved.proofs.SoundLemmas.{comes_back}
@@ -89,11 +89,11 @@ listed_places setting old new (Some cid) before h keeps none bound = listed_plac
 
 -- ---- Sound concentrators
 
-listed_of : (k : Concentrator) (l : ℕ) → IsSound k → AreListed (setting_at k l) (identifiers_at k l)
+listed_of : (k : Concentrator) (l : ℕ) → IsInOrder k → AreListed (setting_at k l) (identifiers_at k l)
 listed_of k l sound = record { apart = sound.apart l; within = sound.within l }
 
 -- with the same settings and good lists a concentrator is sound
-sound_by : (old new : Concentrator) → KeepsSettings old new → ((l : ℕ) → AreListed (setting_at old l) (identifiers_at new l)) → IsSound old → IsSound new
+sound_by : (old new : Concentrator) → KeepsSettings old new → ((l : ℕ) → AreListed (setting_at old l) (identifiers_at new l)) → IsInOrder old → IsInOrder new
 sound_by old new keeps listed sound = record {
   fine = rw keeps.in_order sound.fine;
   each = λ l. keeps.each l ∙ sound.each l ∙ ap (entry_of l) (sym keeps.in_order);
@@ -126,7 +126,7 @@ by_link P one here elsewhere n = by (nat_eq n one) refl
     by true e = let is : n ≡ one = grind (arith, nat_tests) in subst P (sym is) here
     by false e = elsewhere n (grind (arith, nat_tests))
 
-arrives_sound : (old new : Concentrator) (link moment : ℕ) (octets : List ℕ) (report : Report) → All IsOctet octets → Arrives old link moment octets report new → IsSound old → IsSound new
+arrives_sound : (old new : Concentrator) (link moment : ℕ) (octets : List ℕ) (report : Report) → All IsOctet octets → Arrives old link moment octets report new → IsInOrder old → IsInOrder new
 arrives_sound old new link moment octets report all a sound =
     sound_by old new a.settings
     (by_link (λ l. AreListed (setting_at old l) (identifiers_at new l)) link
@@ -136,7 +136,7 @@ arrives_sound old new link moment octets report all a sound =
     (λ l other. subst (AreListed (setting_at old l)) (sym (a.order.elsewhere l other)) (listed_of old l sound)))
     sound
 
-resets_sound : (old new : Concentrator) (link : ℕ) → Resets old link new → IsSound old → IsSound new
+resets_sound : (old new : Concentrator) (link : ℕ) → Resets old link new → IsInOrder old → IsInOrder new
 resets_sound old new link r sound =
     sound_by old new r.settings
     (by_link (λ l. AreListed (setting_at old l) (identifiers_at new l)) link
@@ -144,13 +144,13 @@ resets_sound old new link r sound =
     (λ l other. subst (AreListed (setting_at old l)) (sym (r.order l other)) (listed_of old l sound)))
     sound
 
-event_sound : (old new : Concentrator) (event : Event) (report : Option Report) → IsFit event → RunsEvent old event report new → IsSound old → IsSound new
+event_sound : (old new : Concentrator) (event : Event) (report : Option Report) → IsFit event → RunsEvent old event report new → IsInOrder old → IsInOrder new
 event_sound old new (Arrive link moment octets) None fit step sound = absurd step
 event_sound old new (Arrive link moment octets) (Some report) fit step sound = arrives_sound old new link moment octets report fit.1 step sound
 event_sound old new (Reset link) report fit step sound = resets_sound old new link step.0 sound
 
 pub stays_sound : StaysSound
-stays_sound old new [] fit run sound = subst IsSound (sym run) sound
+stays_sound old new [] fit run sound = subst IsInOrder (sym run) sound
 stays_sound old new ((event, report) ∷ turns) fit (mid, step, rest) sound = stays_sound mid new turns fit.1 rest (event_sound old mid event report fit.0 step sound)
 
 -- ---- Runs that are cut

@@ -20,7 +20,7 @@ use Rattle.rohc_concentrator.specs.Putting.{Puts}
 use Rattle.rohc_concentrator.specs.declared.setting.LinkSetting.{LinkSetting}
 use Rattle.rohc_saved.specs.Form.{Link, Form}
 use Rattle.rohc_saved.specs.Output.{counted}
-use Rattle.rohc_saved.specs.Restoring.{IsHeldAt, Adds, own, up_to, taken_of, told_of, Restores, IsTold, TellsOne, limit_of, taken_link, taken_contexts, left_contexts}
+use Rattle.rohc_saved.specs.Restoring.{IsHeldAt, AddsContexts, own, up_to, taken_of, told_of, Restores, IsToldOfForm, TellsOne, limit_of, taken_link, taken_contexts, left_contexts}
 
 -- what is looked up behind a list
 lookup_more : (cid : ℕ) (held more : List (ℕ × Record)) → lookup (nat_eq cid) held ≡ None → lookup (nat_eq cid) (held ++ more) ≡ lookup (nat_eq cid) more
@@ -42,16 +42,16 @@ same : (n : ℕ) → nat_eq n n ≡ true
 same n = grind (arith, nat_tests)
 
 -- nothing is put
-pub adds_none : (k : Concentrator) → Adds k k (λ link. [])
+pub adds_none : (k : Concentrator) → AddsContexts k k (λ link. [])
 adds_none k link held is = subst (IsHeldAt k link) (sym (append-nil held)) is
 
 -- a context is put, and then others
-pub adds_more : (a b c : Concentrator) (f g : ℕ → List (ℕ × Record)) → Adds a b f → Adds b c g → Adds a c (λ link. f link ++ g link)
+pub adds_more : (a b c : Concentrator) (f g : ℕ → List (ℕ × Record)) → AddsContexts a b f → AddsContexts b c g → AddsContexts a c (λ link. f link ++ g link)
 adds_more a b c f g first second link held is =
     subst (IsHeldAt c link) (append_assoc held (f link) (g link)) (second link (held ++ f link) (first link held is))
 
 -- the same, otherwise written
-pub adds_as : (a b : Concentrator) (f g : ℕ → List (ℕ × Record)) → ((link : ℕ) → f link ≡ g link) → Adds a b f → Adds a b g
+pub adds_as : (a b : Concentrator) (f g : ℕ → List (ℕ × Record)) → ((link : ℕ) → f link ≡ g link) → AddsContexts a b f → AddsContexts a b g
 adds_as a b f g same adds link held is = subst (λ more. IsHeldAt b link (held ++ more)) (same link) (adds link held is)
 
 -- nothing of a link is put
@@ -71,7 +71,7 @@ own_more number xs ys link = by (nat_eq number link) refl
     by false e = rw e refl
 
 -- a record was put
-pub puts_adds : (old new : Concentrator) (number cid : ℕ) (r : Record) → Puts old number cid r new → Adds old new (own number ((cid, r) ∷ []))
+pub puts_adds : (old new : Concentrator) (number cid : ℕ) (r : Record) → Puts old number cid r new → AddsContexts old new (own number ((cid, r) ∷ []))
 puts_adds old new number cid r p link held is = by (nat_eq number link) refl
   where
     here : number ≡ link → IsHeldAt new link (held ++ (cid, r) ∷ [])
@@ -118,8 +118,8 @@ up_to_more None xs ys = refl
 up_to_more (Some greatest) xs ys = sym (filter-append (λ (c : ℕ × Record). nat_le c.0 greatest) xs ys)
 
 -- contexts of one link were put, and then more
-pub own_adds : (a b c : Concentrator) (number : ℕ) (limit : Option ℕ) (xs ys : List (ℕ × Record)) → Adds a b (own number (up_to limit xs)) → Adds b c (own number (up_to limit ys))
-    → Adds a c (own number (up_to limit (xs ++ ys)))
+pub own_adds : (a b c : Concentrator) (number : ℕ) (limit : Option ℕ) (xs ys : List (ℕ × Record)) → AddsContexts a b (own number (up_to limit xs)) → AddsContexts b c (own number (up_to limit ys))
+    → AddsContexts a c (own number (up_to limit (xs ++ ys)))
 own_adds a b c number limit xs ys first second =
     adds_as a c (λ link. own number (up_to limit xs) link ++ own number (up_to limit ys) link) (own number (up_to limit (xs ++ ys)))
     (λ link. own_more number (up_to limit xs) (up_to limit ys) link ∙ ap (λ more. own number more link) (up_to_more limit xs ys))
@@ -130,8 +130,8 @@ abbrev pub taken_by : (ℕ → Option LinkSetting) → List (ℕ × Link) → �
 taken_by settings links link = flat_map (λ (l : ℕ × Link). own l.0 (taken_of (settings l.0) l.1) link) links
 
 -- links were taken, and then one more
-pub links_adds : (a b c : Concentrator) (settings : ℕ → Option LinkSetting) (links : List (ℕ × Link)) (one : ℕ × Link) → Adds a b (taken_by settings links)
-    → Adds b c (own one.0 (taken_of (settings one.0) one.1)) → Adds a c (taken_by settings (links ++ one ∷ []))
+pub links_adds : (a b c : Concentrator) (settings : ℕ → Option LinkSetting) (links : List (ℕ × Link)) (one : ℕ × Link) → AddsContexts a b (taken_by settings links)
+    → AddsContexts b c (own one.0 (taken_of (settings one.0) one.1)) → AddsContexts a c (taken_by settings (links ++ one ∷ []))
 links_adds a b c settings links one first second =
     adds_as a c (λ link. taken_by settings links link ++ own one.0 (taken_of (settings one.0) one.1) link) (taken_by settings (links ++ one ∷ []))
     (λ link. ap (λ more. taken_by settings links link ++ more) (sym (append-nil (own one.0 (taken_of (settings one.0) one.1) link)))
@@ -180,7 +180,7 @@ holds_none k link none = by (get nat_eq k.links link) refl
 
 -- what is held by what was put into a concentrator without a record
 pub restores : (settings : List LinkSetting) (form : Form) (old new : Concentrator) → settings_in_order old ≡ settings → ((link : ℕ) → setting_at old link ≡ entry_of link settings)
-    → ((link cid : ℕ) → record_at old link cid ≡ None) → KeepsSettings old new → Adds old new (taken_by (setting_at old) form.links) → Restores settings form new
+    → ((link cid : ℕ) → record_at old link cid ≡ None) → KeepsSettings old new → AddsContexts old new (taken_by (setting_at old) form.links) → Restores settings form new
 restores settings form old new in_order each none keeps adds = record {
   in_order = keeps.in_order ∙ in_order;
   each = λ link. keeps.each link ∙ each link;
@@ -188,8 +188,8 @@ restores settings form old new in_order each none keeps adds = record {
 }
 
 pub tells : (settings : List LinkSetting) (form : Form) (old new : Concentrator) (told : Restored) → ((link : ℕ) → setting_at old link ≡ entry_of link settings) → KeepsSettings old new
-    → IsTold (setting_at new) form told → IsTold (λ link. entry_of link settings) form told
-tells settings form old new told each keeps is = subst (λ (at : ℕ → Option LinkSetting). IsTold at form told) (λ i l. (keeps.each l ∙ each l) i) is
+    → IsToldOfForm (setting_at new) form told → IsToldOfForm (λ link. entry_of link settings) form told
+tells settings form old new told each keeps is = subst (λ (at : ℕ → Option LinkSetting). IsToldOfForm at form told) (λ i l. (keeps.each l ∙ each l) i) is
 
 -- with no link left, all were told of
 pub counts_all : (count : Option LinkSetting → Link → ℕ) (settings : ℕ → Option LinkSetting) (told : ℕ) (links all : List (ℕ × Link)) → links ≡ [] → Counts count settings told links all → told ≡ told_of count settings all

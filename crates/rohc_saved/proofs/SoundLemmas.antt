@@ -24,9 +24,9 @@ use Rattle.rohc_concentrator.specs.Setting.{IsGoodSetting}
 use Rattle.rohc_concentrator.specs.Setup.{entry_of}
 use Rattle.rohc_concentrator.specs.Tables.{setting_at, record_in, settings_in_order, IsLink, KeepsAll}
 use Rattle.rohc_saved.specs.declared.fault.SavedFault.{SavedFault}
-use Rattle.rohc_saved.specs.Form.{Link, contexts_of, link_of, form_of}
+use Rattle.rohc_saved.specs.Form.{Link, contexts_of, saved_link_of, form_of}
 use Rattle.rohc_saved.specs.Restoring.{is_same, up_to, taken_of, own, taken_at, IsHeldAt, Restores}
-use Rattle.rohc_saved.specs.Laws.{IsGoodContext, IsGoodLink, IsGoodForm, IsSound, ComesBack}
+use Rattle.rohc_saved.specs.Laws.{IsGoodContext, IsGoodLink, IsGoodForm, IsInOrder, ComesBack}
 use Rattle.rohc_saved.proofs.FormLemmas.{contexts_are}
 use Rattle.rohc_saved.proofs.BackLemmas.{read_back}
 use Rattle.rohc_saved.proofs.Distinct.{numbers, links_apart}
@@ -113,7 +113,7 @@ there : (o : Option LinkRecords) (s : LinkSetting) → option_map (λ (r : LinkR
 there None s e = absurd (let never : ◌≡◌ {A = Option LinkSetting} None (Some s) = e in cc)
 there (Some r) s e = (r, refl)
 
-contexts_seen : (k : Concentrator) (l : ℕ) (r : LinkRecords) → IsSound k → get nat_eq k.links l ≡ Some r → contexts_of k l ≡ seen r.contexts.entries
+contexts_seen : (k : Concentrator) (l : ℕ) (r : LinkRecords) → IsInOrder k → get nat_eq k.links l ≡ Some r → contexts_of k l ≡ seen r.contexts.entries
 contexts_seen k l r sound e = let is = is_link k l r e in contexts_are k l r is (subst (IsDistinct nat_eq) is.identifiers (sound.apart l))
 
 -- what is listed is within what all are within
@@ -129,7 +129,7 @@ greatest_few : (size : CidKind) → greatest_cid size ≤ 16383
 greatest_few Small = omega arith
 greatest_few Large = omega arith
 
-good_of : (k : Concentrator) (s : LinkSetting) → IsSound k → setting_at k s.link ≡ Some s → s.link < 65536 → IsGoodSetting s → IsGoodLink (link_of k s)
+good_of : (k : Concentrator) (s : LinkSetting) → IsInOrder k → setting_at k s.link ≡ Some s → s.link < 65536 → IsGoodSetting s → IsGoodLink (saved_link_of k s)
 good_of k s sound at number good =
     let (r, e) = there (get nat_eq k.links s.link) s at in
     let is = is_link k s.link r e in
@@ -154,7 +154,7 @@ distinct_behind : (front ss : List LinkSetting) → IsDistinct nat_eq (numbers (
 distinct_behind [] ss distinct = distinct
 distinct_behind (f ∷ front) ss distinct = distinct_behind front ss (IsDistinct-tail nat_eq f.link (numbers (front ++ ss)) distinct)
 
-module _ (k : Concentrator) (sound : IsSound k) where
+module _ (k : Concentrator) (sound : IsInOrder k) where
   distinct : IsDistinct nat_eq (numbers (settings_in_order k))
   distinct = links_apart (settings_in_order k) sound.fine.sound.apart
 
@@ -164,20 +164,20 @@ module _ (k : Concentrator) (sound : IsSound k) where
       let entry : entry_of s.link (settings_in_order k) ≡ Some s = ap (entry_of s.link) is ∙ found front ss s (subst (λ xs. IsDistinct nat_eq (numbers xs)) is distinct) in
       (sound.each s.link ∙ entry, entry)
 
-  all_good : (front ss : List LinkSetting) → settings_in_order k ≡ front ++ ss → All (λ (s : LinkSetting). s.link < 65536) ss → All IsGoodSetting ss → All IsGoodLink (map (link_of k) ss)
+  all_good : (front ss : List LinkSetting) → settings_in_order k ≡ front ++ ss → All (λ (s : LinkSetting). s.link < 65536) ss → All IsGoodSetting ss → All IsGoodLink (map (saved_link_of k) ss)
   all_good front [] is small good = all_none IsGoodLink
   all_good front (s ∷ ss) is small good =
-      all_cons IsGoodLink (link_of k s) (map (link_of k) ss)
+      all_cons IsGoodLink (saved_link_of k s) (map (saved_link_of k) ss)
       (good_of k s sound (stands front ss s is).0 (All-head (λ (s : LinkSetting). s.link < 65536) s ss small) (All-head IsGoodSetting s ss good))
       (all_good (front ++ s ∷ []) ss (is ∙ sym (append_assoc front (s ∷ []) ss)) (All-tail (λ (s : LinkSetting). s.link < 65536) s ss small) (All-tail IsGoodSetting s ss good))
 
-  numbers_kept : (ss : List LinkSetting) → map (λ (l : ℕ × Link). l.0) (map (link_of k) ss) ≡ numbers ss
+  numbers_kept : (ss : List LinkSetting) → map (λ (l : ℕ × Link). l.0) (map (saved_link_of k) ss) ≡ numbers ss
   numbers_kept [] = refl
   numbers_kept (s ∷ ss) = ap (λ ns. s.link ∷ ns) (numbers_kept ss)
 
   good_form : (moment : ℕ) → moment < 2 ^ 64 → IsGoodForm (form_of moment k)
   good_form moment small =
-      let count = length-map (settings_in_order k) (link_of k) in
+      let count = length-map (settings_in_order k) (saved_link_of k) in
       let few = sound.fine.few in
       record {
         moment = small;
@@ -187,25 +187,25 @@ module _ (k : Concentrator) (sound : IsSound k) where
       }
 
   -- of a link all is taken
-  takes_all : (s : LinkSetting) → entry_of s.link (settings_in_order k) ≡ Some s → IsGoodLink (link_of k s) → taken_of (entry_of s.link (settings_in_order k)) (link_of k s).1 ≡ contexts_of k s.link
+  takes_all : (s : LinkSetting) → entry_of s.link (settings_in_order k) ≡ Some s → IsGoodLink (saved_link_of k s) → taken_of (entry_of s.link (settings_in_order k)) (saved_link_of k s).1 ≡ contexts_of k s.link
   takes_all s entry good =
-      ap (λ o. taken_of o (link_of k s).1) entry
+      ap (λ o. taken_of o (saved_link_of k s).1) entry
       ∙ ap (λ b. up_to (if b then Some s.settings.max_cid else None) (contexts_of k s.link)) (same_size s.settings.size)
       ∙ all_up_to s.settings.max_cid (contexts_of k s.link) good.contexts
 
-  taken_is : (front ss : List LinkSetting) → settings_in_order k ≡ front ++ ss → All IsGoodLink (map (link_of k) ss) → (l : ℕ)
-      → taken_at (settings_in_order k) (map (link_of k) ss) l ≡ if_there (entry_of l ss) (contexts_of k l)
+  taken_is : (front ss : List LinkSetting) → settings_in_order k ≡ front ++ ss → All IsGoodLink (map (saved_link_of k) ss) → (l : ℕ)
+      → taken_at (settings_in_order k) (map (saved_link_of k) ss) l ≡ if_there (entry_of l ss) (contexts_of k l)
   taken_is front [] is good l = refl
   taken_is front (s ∷ ss) is good l =
-      by (takes_all s (stands front ss s is).1 (All-head IsGoodLink (link_of k s) (map (link_of k) ss) good))
-      (taken_is (front ++ s ∷ []) ss (is ∙ sym (append_assoc front (s ∷ []) ss)) (All-tail IsGoodLink (link_of k s) (map (link_of k) ss) good) l)
+      by (takes_all s (stands front ss s is).1 (All-head IsGoodLink (saved_link_of k s) (map (saved_link_of k) ss) good))
+      (taken_is (front ++ s ∷ []) ss (is ∙ sym (append_assoc front (s ∷ []) ss)) (All-tail IsGoodLink (saved_link_of k s) (map (saved_link_of k) ss) good) l)
       (nat_eq s.link l) refl
     where
       own_part : List (ℕ × Record)
-      own_part = taken_of (entry_of s.link (settings_in_order k)) (link_of k s).1
+      own_part = taken_of (entry_of s.link (settings_in_order k)) (saved_link_of k s).1
 
       rest_part : List (ℕ × Record)
-      rest_part = taken_at (settings_in_order k) (map (link_of k) ss) l
+      rest_part = taken_at (settings_in_order k) (map (saved_link_of k) ss) l
 
       later : s.link ≡ l → entry_of l ss ≡ None
       later e =

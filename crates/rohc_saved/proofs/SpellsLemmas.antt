@@ -17,7 +17,7 @@ use Rattle.rohc_saved.specs.declared.fault.SavedFault.{SavedFault}
 use Rattle.rohc_saved.specs.declared.fault.SavedFault.TheVariants.{NotSaved, Version, Short, BadLink, BadOrder, Digest, Long}
 use Rattle.rohc_saved.specs.Form.{Link, word, quad, long, size_octet, context_text, head_text, link_text, magic, start_text, form_text, signed}
 use Rattle.rohc_saved.specs.Reading.{Read, given, part_at, magic_at, octet_at, word_at, quad_at, long_at, version_at, has, record_text_at, cid_at, context_at, contexts_at, number_at, size_of, size_at, reserved_at, greatest_at, link_at, links_at, form_at, digest_at, restored}
-use Rattle.rohc_saved.specs.Laws.{IsSpelled}
+use Rattle.rohc_saved.specs.Laws.{FormIsSpelled}
 use Rattle.rohc_saved.proofs.KeptLemmas.{kept_spells}
 
 -- A reader reads only what a text spells, and such values.
@@ -332,7 +332,7 @@ nothing : (text : List ℕ) → (length text == 0) ≡ true → text ≡ []
 nothing [] e = refl
 nothing (x ∷ text) e = absurd (let none : length (x ∷ text) ≡ 0 = eqb-true (length (x ∷ text)) 0 e in omega (arith, none))
 
-pub spelled : IsSpelled
+pub spelled : FormIsSpelled
 unfolding restored signed
 spelled text form all e =
     let a = took (form_at (length text)) form_text Any (form_spells (length text)) _ text form all e in

@@ -1,5 +1,5 @@
 -- A saved concentrator (docs/FORMATS.md): what is saved, and the octets that spell it. Numbers stand with the
--- most significant octet first. Words: Link, Form; link_of, form_of; form_text, signed, saved_form.
+-- most significant octet first. Words: Link, Form; saved_link_of, form_of; form_text, signed, saved_form.
 use Rattle.std.specs.Prelude.{ℕ, ◌/◌, ◌%◌, ◌^◌, List, [], ◌∷◌, ◌++◌, map, filter_map, flat_map, length, codes}
 use Rattle.std.specs.Option.{option_map}
 use Rattle.sha2.specs.Sha256.{sha256}
@@ -35,15 +35,15 @@ contexts_of k link =
 abbrev pub contexts_in : {S : Type 0} → HashMap ℕ Context S → List (ℕ × Record)
 contexts_in m = map (λ e. (e.0, record_of e.1)) m.entries
 
-abbrev pub link_of : Concentrator → LinkSetting → ℕ × Link
-link_of k s = (
+abbrev pub saved_link_of : Concentrator → LinkSetting → ℕ × Link
+saved_link_of k s = (
   s.link,
   record { size = s.settings.size; greatest = s.settings.max_cid; contexts = contexts_of k s.link },
 )
 
 -- what is saved of a concentrator: each link in the order of their settings
 abbrev pub form_of : ℕ → Concentrator → Form
-form_of moment k = record { moment = moment; links = map (link_of k) (settings_in_order k) }
+form_of moment k = record { moment = moment; links = map (saved_link_of k) (settings_in_order k) }
 
 -- ---- Its octets
 
@@ -93,4 +93,4 @@ saved_form moment k = signed (form_text (form_of moment k))
 
 -- the octets of the link of this setting alone
 abbrev pub saved_link : ℕ → Concentrator → LinkSetting → List ℕ
-saved_link moment k s = signed (form_text (record { moment = moment; links = link_of k s ∷ [] }))
+saved_link moment k s = signed (form_text (record { moment = moment; links = saved_link_of k s ∷ [] }))

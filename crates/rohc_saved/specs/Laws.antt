@@ -1,5 +1,5 @@
--- Laws of saved concentrators. Words: IsGoodLink, IsGoodForm; IsSpelled, IsReadBack; IsSound, ComesBack;
--- IsMadeSound, StaysSound, IsKeptSound, IsRestoredSound; GoesOnRestored, CutByRestart.
+-- Laws of saved concentrators. Words: IsGoodLink, IsGoodForm; FormIsSpelled, IsReadBack; IsInOrder;
+-- ComesBack; IsMadeSound, StaysSound, IsKeptSound, IsRestoredSound; GoesOnRestored, CutByRestart.
 use Rattle.std.specs.Prelude.{◌≡◌, ◌++◌, ◌<◌, ◌≤◌, ◌^◌, ℕ, List, map, length, filter, nat_eq, All, Option, Some, None, Ok}
 use Rattle.std.specs.List.{AllByRecursion, IsDistinct}
 use Rattle.rohc_bits.specs.Bits.{IsOctet}
@@ -40,8 +40,8 @@ pub record IsGoodForm (form : Form) : Type 0 where
   pub apart : IsDistinct nat_eq (map (λ (l : ℕ × Link). l.0) form.links)
 
 -- Octets that are read as a form are those of that form.
-abbrev pub IsSpelled : Type 0
-IsSpelled = (text : List ℕ) (form : Form) → All IsOctet text → restored text ≡ Ok form →
+abbrev pub FormIsSpelled : Type 0
+FormIsSpelled = (text : List ℕ) (form : Form) → All IsOctet text → restored text ≡ Ok form →
     text ≡ signed (form_text form)
 
 -- The octets of a good form are read as that form.
@@ -50,7 +50,7 @@ IsReadBack = (form : Form) → IsGoodForm form → restored (signed (form_text f
 
 -- The settings are fine, and each stands for the link of its number, which has 16 bits. The CIDs of a link
 -- that have a record are apart, and within its greatest.
-pub record IsSound (k : Concentrator) : Type 0 where
+pub record IsInOrder (k : Concentrator) : Type 0 where
   pub fine : AreFine (settings_in_order k)
   pub each : (link : ℕ) → setting_at k link ≡ entry_of link (settings_in_order k)
   pub numbers : All (λ (s : LinkSetting). s.link < 65536) (settings_in_order k)
@@ -61,7 +61,7 @@ pub record IsSound (k : Concentrator) : Type 0 where
 -- What is saved of a sound concentrator is read. A concentrator that is restored from it under the same
 -- settings keeps the same settings and the same records, in the same order.
 abbrev pub ComesBack : Type 0
-ComesBack = (k : Concentrator) (moment : ℕ) → IsSound k → moment < 2 ^ 64 →
+ComesBack = (k : Concentrator) (moment : ℕ) → IsInOrder k → moment < 2 ^ 64 →
     (restored (saved_form moment k) ≡ Ok (form_of moment k))
     × ((form : Form) (new : Concentrator) → restored (saved_form moment k) ≡ Ok form →
     Restores (settings_in_order k) form new → KeepsAll k new)
@@ -73,20 +73,20 @@ abbrev pub IsMadeSound : Type 0
 IsMadeSound = (settings : List LinkSetting) (k : Concentrator) → AreFine settings →
     All (λ (s : LinkSetting). s.link < 65536) settings → settings_in_order k ≡ settings →
     ((link : ℕ) → setting_at k link ≡ entry_of link settings) →
-    ((link cid : ℕ) → record_at k link cid ≡ None) → IsSound k
+    ((link cid : ℕ) → record_at k link cid ≡ None) → IsInOrder k
 
 abbrev pub StaysSound : Type 0
 StaysSound = (old new : Concentrator) (turns : List (Event × Option Report)) →
     AllByRecursion (λ (turn : Event × Option Report). IsFit turn.0) turns →
-    RunsEvents old turns new → IsSound old → IsSound new
+    RunsEvents old turns new → IsInOrder old → IsInOrder new
 
 abbrev pub IsKeptSound : Type 0
-IsKeptSound = (old new : Concentrator) → KeepsAll old new → IsSound old → IsSound new
+IsKeptSound = (old new : Concentrator) → KeepsAll old new → IsInOrder old → IsInOrder new
 
 abbrev pub IsRestoredSound : Type 0
 IsRestoredSound = (settings : List LinkSetting) (text : List ℕ) (form : Form) (k : Concentrator) →
     AreFine settings → All (λ (s : LinkSetting). s.link < 65536) settings → restored text ≡ Ok form →
-    Restores settings form k → IsSound k
+    Restores settings form k → IsInOrder k
 
 -- A concentrator is saved at a cut of a run, and another, restored from it under the same settings, goes on.
 -- Its events for a CID are those that came behind the cut.
@@ -108,7 +108,7 @@ abbrev pub CutByRestart : Type 0
 CutByRestart = (whole : EventRun) (front behind : List (Event × Option Report)) →
     RunsEvents whole.before whole.turns whole.after → whole.turns ≡ front ++ behind →
     AllByRecursion (λ (turn : Event × Option Report). IsFit turn.0) front →
-    AllByRecursion (λ (turn : Event × Option Report). IsFit turn.0) behind → IsSound whole.before →
+    AllByRecursion (λ (turn : Event × Option Report). IsFit turn.0) behind → IsInOrder whole.before →
     (cut : Concentrator) × RunsEvents whole.before front cut ×
     ((other : EventRun) (l c : ℕ) → GoesOnRestored cut behind other l c →
     (filter is_rich (own_replies l c whole.turns)

@@ -1,4 +1,4 @@
--- What a writer took of a text. Words: counted; IsWritten, a part; IsWhole; IsPut; WriteFault, SavesLink.
+-- What a writer took of a text. Words: counted; IsPartWritten, a part; IsWhole; IsPut; SaveFails, SavesLink.
 use Rattle.std.specs.Prelude.{◌≡◌, ℕ, ◌-◌, ◌^◌, List, ◌++◌, length, min, Bool, true, false, Option, Some, None, Result, Ok, Err}
 use Rattle.std.specs.Io.KnownBytes.{Appends}
 use Rattle.sha2.specs.Hashers.{Holds256}
@@ -14,7 +14,7 @@ abbrev pub counted : ℕ → ℕ
 counted n = min n (2 ^ 64 - 1)
 
 -- the writer took the start of the text: this many octets
-pub record IsWritten (held holding : Option (List ℕ)) (text : List ℕ) (written : ℕ) : Type 0 where
+pub record IsPartWritten (held holding : Option (List ℕ)) (text : List ℕ) (written : ℕ) : Type 0 where
   pub part : List ℕ
   pub rest : List ℕ
   pub parts : text ≡ part ++ rest
@@ -29,7 +29,7 @@ pub record IsWhole (held holding : Option (List ℕ)) (text : List ℕ) (written
 -- the writer took the whole text, or a part if a write failed
 abbrev pub IsTaken : Bool → Option (List ℕ) → Option (List ℕ) → List ℕ → ℕ → Type 0
 IsTaken false held holding text written = IsWhole held holding text written
-IsTaken true held holding text written = IsWritten held holding text written
+IsTaken true held holding text written = IsPartWritten held holding text written
 
 -- the text was put out: the writer took it, or a part if a write failed, and all of it was hashed
 pub record IsPut (held holding : Option (List ℕ)) (text : List ℕ) (out : Output) : Type 0 where
@@ -37,13 +37,13 @@ pub record IsPut (held holding : Option (List ℕ)) (text : List ℕ) (out : Out
   pub hashed : Holds256 out.hasher text
 
 -- the fault of a save: a part was written
-abbrev pub WriteFault : Option (List ℕ) → Option (List ℕ) → List ℕ → SaveFault → Type 0
-WriteFault held holding text NoLink = ⊥
-WriteFault held holding text (Write written) = IsWritten held holding text written
+abbrev pub SaveFails : Option (List ℕ) → Option (List ℕ) → List ℕ → SaveFault → Type 0
+SaveFails held holding text NoLink = ⊥
+SaveFails held holding text (Write written) = IsPartWritten held holding text written
 
 -- the link of this setting alone was saved, if there is such a link
 abbrev pub SavesLink : (moment : ℕ) → Concentrator → Option LinkSetting → (held holding : Option (List ℕ))
     → Result ℕ SaveFault → Type 0
 SavesLink moment k None held holding result = result ≡ Err NoLink
 SavesLink moment k (Some s) held holding (Ok written) = IsWhole held holding (saved_link moment k s) written
-SavesLink moment k (Some s) held holding (Err fault) = WriteFault held holding (saved_link moment k s) fault
+SavesLink moment k (Some s) held holding (Err fault) = SaveFails held holding (saved_link moment k s) fault

@@ -1,5 +1,5 @@
 -- What is restored of what was saved, under settings. Words: limit_of, taken_of, taken_at; IsHeldAt;
--- IsTold; Restores, IsRefusal.
+-- IsToldOfForm; Restores, IsRefusal.
 use Rattle.std.specs.Prelude.{◌≡◌, ℕ, ◌+◌, ◌-◌, List, [], ◌++◌, map, filter, flat_map, length, sum_by, Bool, true, false, nat_eq, nat_le, if◌then◌else◌, Option, Some, None, is_some, ◌⊎◌, Err}
 use Rattle.std.specs.Map.{lookup}
 use Rattle.rohc_frame.specs.declared.header.CidKind.{CidKind}
@@ -52,8 +52,8 @@ pub record IsHeldAt (k : Concentrator) (link : ℕ) (contexts : List (ℕ × Rec
   pub records : (cid : ℕ) → record_at k link cid ≡ lookup (nat_eq cid) contexts
 
 -- behind the records of each link, these were put
-abbrev pub Adds : Concentrator → Concentrator → (ℕ → List (ℕ × Record)) → Type 0
-Adds old new more =
+abbrev pub AddsContexts : Concentrator → Concentrator → (ℕ → List (ℕ × Record)) → Type 0
+AddsContexts old new more =
     (link : ℕ) (held : List (ℕ × Record)) → IsHeldAt old link held → IsHeldAt new link (held ++ more link)
 
 -- ---- What is told of it: how many links and contexts were taken, and how many left out
@@ -102,7 +102,7 @@ pub record AddsUp (old more new : Restored) : Type 0 where
   pub high : new.high_contexts ≡ counted (old.high_contexts + more.high_contexts)
 
 -- what is told of all links of a form
-pub record IsTold (settings : ℕ → Option LinkSetting) (form : Form) (told : Restored) : Type 0 where
+pub record IsToldOfForm (settings : ℕ → Option LinkSetting) (form : Form) (told : Restored) : Type 0 where
   pub moment : told.moment ≡ form.moment
   pub links : told.links ≡ told_of taken_link settings form.links
   pub unknown : told.unknown_links ≡ told_of unknown_link settings form.links

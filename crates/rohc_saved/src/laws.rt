@@ -1,11 +1,11 @@
 //! Laws of saved concentrators, as contracts of functions that do nothing.
 
-ghost use Rattle.rohc_saved.specs.Laws.{IsSpelled, IsReadBack, ComesBack, CutByRestart};
+ghost use Rattle.rohc_saved.specs.Laws.{FormIsSpelled, IsReadBack, ComesBack, CutByRestart};
 ghost use Rattle.rohc_saved.specs.Laws.{IsMadeSound, StaysSound, IsKeptSound, IsRestoredSound};
 
 /// Octets that are read as a form are those of that form, and the octets of a good form are read as that form.
 pub fn spelled()
-    ensures spelled { IsSpelled }
+    ensures spelled { FormIsSpelled }
     ensures back { IsReadBack }
 {}
 

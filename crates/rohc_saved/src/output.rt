@@ -35,7 +35,7 @@ pub(crate) struct Output {
 impl Output {
     ghost use Rattle.std.specs.Prelude.{◌≡◌, ℕ, List, [], ◌++◌, Option, IfOk, IfErr};
     ghost use Rattle.rohc_saved.specs.Form.{signed};
-    ghost use Rattle.rohc_saved.specs.Output.{IsTaken, IsPut, IsWhole, IsWritten};
+    ghost use Rattle.rohc_saved.specs.Output.{IsTaken, IsPut, IsWhole, IsPartWritten};
 
     /// Nothing was put out.
     pub(crate) fn new() -> Self
@@ -80,7 +80,7 @@ impl Output {
             IsWhole held (W.contents writer.new) (signed text) written) }
         ensures fault { IfErr result (λ written. (held : Option (List ℕ)) (text : List ℕ) →
             IsPut held (W.contents writer.old) text self →
-            IsWritten held (W.contents writer.new) (signed text) written) }
+            IsPartWritten held (W.contents writer.new) (signed text) written) }
     {
         let digest = self.hasher.finalize_reset();
         self.write(writer, &digest);

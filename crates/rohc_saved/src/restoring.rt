@@ -5,7 +5,7 @@ ghost use Rattle.rohc_context.specs.Record.{record_of};
 ghost use Rattle.rohc_concentrator.specs.Tables.{setting_at, KeepsSettings};
 ghost use Rattle.rohc_saved.specs.Form.{Form, contexts_in};
 ghost use Rattle.rohc_saved.specs.Read.{link_in, links_in, form_in};
-ghost use Rattle.rohc_saved.specs.Restoring.{is_same, limit_of, up_to, taken_of, own, Adds, TellsOne, AddsUp, IsTold, Restores, IsRefusal};
+ghost use Rattle.rohc_saved.specs.Restoring.{is_same, limit_of, up_to, taken_of, own, AddsContexts, TellsOne, AddsUp, IsToldOfForm, Restores, IsRefusal};
 ghost use Rattle.rohc_saved.specs.Reading.{restored};
 ghost use Rattle.rohc_saved.specs.Output.{counted};
 ghost use Rattle.rohc_concentrator.specs.Setup.{entry_of, AreFine};
@@ -62,7 +62,7 @@ fn put_context(
     cid: u16,
     context: Context,
 ) -> Result<(), SavedFault>
-    ensures adds { OnOk result (Adds concentrator.old concentrator.new
+    ensures adds { OnOk result (AddsContexts concentrator.old concentrator.new
         (own number (up_to (Some greatest) ((cid, record_of context) ∷ [])))) }
     ensures settings { OnOk result (KeepsSettings concentrator.old concentrator.new) }
     ensures poor { IfErr result (λ e. e ≡ SavedFault.NoMemory) }
@@ -84,7 +84,7 @@ fn put_contexts(
     greatest: u16,
     contexts: &IndexMap<u16, Context>,
 ) -> Result<(), SavedFault>
-    ensures adds { OnOk result (Adds concentrator.old concentrator.new
+    ensures adds { OnOk result (AddsContexts concentrator.old concentrator.new
         (own number (up_to (Some greatest) (contexts_in contexts.now)))) }
     ensures settings { OnOk result (KeepsSettings concentrator.old concentrator.new) }
     ensures poor { IfErr result (λ e. e ≡ SavedFault.NoMemory) }
@@ -102,7 +102,7 @@ fn take_link(
     number: u16,
     link: &SavedLink,
 ) -> Result<(), SavedFault>
-    ensures adds { OnOk result (Adds concentrator.old concentrator.new
+    ensures adds { OnOk result (AddsContexts concentrator.old concentrator.new
         (own number (taken_of (setting_at concentrator.old number) (link_in link.now)))) }
     ensures settings { OnOk result (KeepsSettings concentrator.old concentrator.new) }
     ensures poor { IfErr result (λ e. e ≡ SavedFault.NoMemory) }
@@ -118,7 +118,7 @@ fn take_links(
     concentrator: &mut Concentrator,
     links: &IndexMap<u16, SavedLink>,
 ) -> Result<(), SavedFault>
-    ensures adds { OnOk result (Adds concentrator.old concentrator.new
+    ensures adds { OnOk result (AddsContexts concentrator.old concentrator.new
         (λ link. flat_map (λ l. own l.0 (taken_of (setting_at concentrator.old l.0) l.1) link) (links_in links.now))) }
     ensures settings { OnOk result (KeepsSettings concentrator.old concentrator.new) }
     ensures poor { IfErr result (λ e. e ≡ SavedFault.NoMemory) }
@@ -196,7 +196,7 @@ fn tally_at(concentrator: &Concentrator, number: u16, link: &SavedLink) -> Resto
 
 /// Tells what is taken of a form, and what is left out.
 fn tell(concentrator: &Concentrator, form: &SavedForm) -> Restored
-    ensures { IsTold (setting_at concentrator.now) (form_in form.now) result }
+    ensures { IsToldOfForm (setting_at concentrator.now) (form_in form.now) result }
 {
     let mut told = Restored {
         moment: form.moment,
@@ -221,7 +221,7 @@ pub fn restore(
 ) -> Result<(Concentrator, Restored), SavedFault>
     ensures fine { IfOk result (λ x. AreFine settings.now) }
     ensures restored { IfOk result (λ x. (form : Form) × (restored octets.now ≡ Ok form)
-        × Restores settings.now form x.0 × IsTold (λ link. entry_of link settings.now) form x.1) }
+        × Restores settings.now form x.0 × IsToldOfForm (λ link. entry_of link settings.now) form x.1) }
     ensures fault { IfErr result (IsRefusal settings.now octets.now) }
 {
     let mut concentrator = match Concentrator::new(alloc, settings) {

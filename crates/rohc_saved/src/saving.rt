@@ -3,8 +3,8 @@
 ghost use Rattle.std.specs.Prelude.{◌≡◌, ◌+◌, ◌≤◌, ◌++◌, ◌%◌, ◌^◌, ℕ, List, Option, flat_map, map, length, None, IfOk, IfErr};
 ghost use Rattle.rohc_context.specs.Record.{Record};
 ghost use Rattle.rohc_concentrator.specs.Tables.{settings_in_order, setting_at};
-ghost use Rattle.rohc_saved.specs.Form.{Link, contexts_in, long as long_text, size_octet, context_text, contexts_of, link_of, head_text, link_text, start_text, form_of, form_text, saved_form, saved_link};
-ghost use Rattle.rohc_saved.specs.Output.{IsPut, IsWhole, IsWritten, WriteFault, SavesLink};
+ghost use Rattle.rohc_saved.specs.Form.{Link, contexts_in, long as long_text, size_octet, context_text, contexts_of, saved_link_of, head_text, link_text, start_text, form_of, form_text, saved_form, saved_link};
+ghost use Rattle.rohc_saved.specs.Output.{IsPut, IsWhole, IsPartWritten, SaveFails, SavesLink};
 
 use crate::fault::SaveFault;
 use crate::output::Output;
@@ -95,7 +95,7 @@ fn put_link<W: Write>(
     setting: &LinkSetting,
 )
     ensures { (held : Option (List ℕ)) (text : List ℕ) → IsPut held (W.contents writer.old) text out.old →
-        IsPut held (W.contents writer.new) (text ++ link_text (link_of concentrator.now setting.now)) out.new }
+        IsPut held (W.contents writer.new) (text ++ link_text (saved_link_of concentrator.now setting.now)) out.new }
 {
     match concentrator.tables().get(&setting.link) {
         Some(records) => {
@@ -112,7 +112,7 @@ fn put_link<W: Write>(
 /// Puts out all links of a concentrator.
 fn put_links<W: Write>(out: &mut Output, writer: &mut W, concentrator: &Concentrator)
     ensures { (held : Option (List ℕ)) (text : List ℕ) → IsPut held (W.contents writer.old) text out.old →
-        IsPut held (W.contents writer.new) (text ++ flat_map link_text (map (link_of concentrator.now) (settings_in_order concentrator.now))) out.new }
+        IsPut held (W.contents writer.new) (text ++ flat_map link_text (map (saved_link_of concentrator.now) (settings_in_order concentrator.now))) out.new }
 {
     for (_, records) in concentrator.tables() {
         put_link(out, writer, concentrator, &records.setting);
@@ -124,7 +124,7 @@ fn put_links<W: Write>(out: &mut Output, writer: &mut W, concentrator: &Concentr
 fn write_all<W: Write>(concentrator: &Concentrator, moment: u64, writer: &mut W) -> Result<u64, u64>
     ensures whole { IfOk result (IsWhole (W.contents writer.old) (W.contents writer.new)
         (saved_form moment concentrator.now)) }
-    ensures fault { IfErr result (IsWritten (W.contents writer.old) (W.contents writer.new)
+    ensures fault { IfErr result (IsPartWritten (W.contents writer.old) (W.contents writer.new)
         (saved_form moment concentrator.now)) }
 {
     let mut out = Output::new();
@@ -144,7 +144,7 @@ fn write_link<W: Write>(
 ) -> Result<u64, u64>
     ensures whole { IfOk result (IsWhole (W.contents writer.old) (W.contents writer.new)
         (saved_link moment concentrator.now setting.now)) }
-    ensures fault { IfErr result (IsWritten (W.contents writer.old) (W.contents writer.new)
+    ensures fault { IfErr result (IsPartWritten (W.contents writer.old) (W.contents writer.new)
         (saved_link moment concentrator.now setting.now)) }
 {
     let mut out = Output::new();
@@ -165,7 +165,7 @@ pub fn save<W: Write>(
 ) -> Result<u64, SaveFault>
     ensures whole { IfOk result (IsWhole (W.contents writer.old) (W.contents writer.new)
         (saved_form moment concentrator.now)) }
-    ensures fault { IfErr result (WriteFault (W.contents writer.old) (W.contents writer.new)
+    ensures fault { IfErr result (SaveFails (W.contents writer.old) (W.contents writer.new)
         (saved_form moment concentrator.now)) }
 {
     match write_all(concentrator, moment, writer) {

@@ -9,7 +9,7 @@ use Rattle.rohc_concentrator.specs.Report.{Refused}
 use Rattle.rohc_concentrator.specs.Events.{Arrives}
 use Rattle.rohc_links.specs.Links.{Lists}
 use Rattle.rohc_serve.specs.Outgoing.{Outgoing, refused_for}
-use Rattle.rohc_serve.specs.Datagram.{AreSettingsOf, link_of, datagram_packet, ports_of, Answers}
+use Rattle.rohc_serve.specs.Datagram.{AreSettingsOf, named_link, datagram_packet, ports_of, Answers}
 
 arrives_nowhere : (k : Concentrator) (link moment : ℕ) (packet : List ℕ) → setting_at k link ≡ None →
     Arrives k link moment packet (Refused NoLink) k
@@ -21,7 +21,7 @@ arrives_nowhere k link moment packet none = record {
 }
 
 pub answers_absent : (links : Lists) (k : Concentrator) (moment link : ℕ) (octets : List ℕ) (outgoing : Outgoing) →
-    AreSettingsOf k links.settings → link_of octets ≡ Some link → entry_of link links.settings ≡ None →
+    AreSettingsOf k links.settings → named_link octets ≡ Some link → entry_of link links.settings ≡ None →
     ports_of link links ≡ None → outgoing ≡ refused_for None → Answers links k moment octets outgoing k
 answers_absent links k moment link octets outgoing settings named absent portless refused =
     rw named (Refused NoLink, arrives_nowhere k link moment (datagram_packet octets) (settings.each link ∙ absent), rw portless refused)

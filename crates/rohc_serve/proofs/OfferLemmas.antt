@@ -4,20 +4,20 @@ use Rattle.std.specs.Prelude.{Option, Some, None}
 use Rattle.std.proofs.lemmas.List.{map-append}
 use Rattle.std.proofs.lemmas.List.Sums.{sum_by-append}
 use Rattle.rohc_links.specs.Limits.{counted}
-use Rattle.rohc_serve.specs.Acts.{Attempt, Act, Sent, Adds}
+use Rattle.rohc_serve.specs.Acts.{Attempt, Act, Sent, AddsActs}
 use Rattle.rohc_links.specs.declared.ports.Ports.{Ports}
 use Rattle.rohc_serve.specs.Outgoing.{Outgoing}
-use Rattle.rohc_serve.specs.Sending.{Send, send, packet_sends, feedback_sends, too_long, sends_in, unsent, Offers, offered, failures}
+use Rattle.rohc_serve.specs.Sending.{Send, send, packet_sends, feedback_sends, too_long, sends_in, unsent, OffersSends, offered, failures}
 use Rattle.rohc_serve.specs.Tally.{one_if}
 
 -- nothing was asked
-pub adds_none : (acts : Option (List Act)) → Adds acts acts []
+pub adds_none : (acts : Option (List Act)) → AddsActs acts acts []
 adds_none None = tt
 adds_none (Some acts) = sym (append-nil acts)
 
 -- some was asked, and then more
-pub adds_more : (before mid after : Option (List Act)) (a b : List Act) → Adds before mid a → Adds mid after b →
-    Adds before after (a ++ b)
+pub adds_more : (before mid after : Option (List Act)) (a b : List Act) → AddsActs before mid a → AddsActs mid after b →
+    AddsActs before after (a ++ b)
 adds_more None None None a b ha hb = tt
 adds_more None None (Some z) a b ha hb = hb
 adds_more None (Some y) after a b ha hb = absurd ha
@@ -30,7 +30,7 @@ pub failures_append : (a b : List Attempt) → failures (a ++ b) ≡ failures a 
 failures_append a b = sum_by-append (λ (x : Attempt). cond (not x.gone) 1 0) a b
 
 -- nothing is offered
-pub offers_none : (lost : ℕ) (acts : Option (List Act)) → lost < 2 ^ 64 → Offers [] lost acts acts lost
+pub offers_none : (lost : ℕ) (acts : Option (List Act)) → lost < 2 ^ 64 → OffersSends [] lost acts acts lost
 offers_none lost acts small = record {
   attempts = [];
   in_order = refl;
@@ -40,8 +40,8 @@ offers_none lost acts small = record {
 
 -- one datagram is offered
 pub offers_one : (port : ℕ) (octets : List ℕ) (gone : Bool) (before after : Option (List Act)) (x : ℕ) →
-    Adds before after (Sent (record { port = port; octets = octets; gone = gone }) ∷ []) →
-    x ≡ counted 0 (one_if (not gone)) → Offers (send port octets ∷ []) 0 before after x
+    AddsActs before after (Sent (record { port = port; octets = octets; gone = gone }) ∷ []) →
+    x ≡ counted 0 (one_if (not gone)) → OffersSends (send port octets ∷ []) 0 before after x
 offers_one port octets true before after x told total = record {
   attempts = record { port = port; octets = octets; gone = true } ∷ [];
   in_order = refl;
@@ -57,7 +57,7 @@ offers_one port octets false before after x told total = record {
 
 -- sends are offered, and then others
 pub offers_more : (a b : List Send) (m n : ℕ) (before mid after : Option (List Act)) (x y z : ℕ) →
-    Offers a m before mid x → Offers b n mid after y → z ≡ counted x y → Offers (a ++ b) (m + n) before after z
+    OffersSends a m before mid x → OffersSends b n mid after y → z ≡ counted x y → OffersSends (a ++ b) (m + n) before after z
 offers_more a b m n before mid after x y z ha hb total = record {
   attempts = ha.attempts ++ hb.attempts;
   in_order = map-append offered ha.attempts hb.attempts ∙ ap (λ (l : List Send). l ++ map offered hb.attempts) ha.in_order ∙ ap (λ (l : List Send). a ++ l) hb.in_order;
@@ -66,14 +66,14 @@ offers_more a b m n before mid after x y z ha hb total = record {
 }
 
 offers_lost : (sends : List Send) (m n : ℕ) (before after : Option (List Act)) (x : ℕ) → m ≡ n →
-    Offers sends m before after x → Offers sends n before after x
-offers_lost sends m n before after x e h = subst (λ (k : ℕ). Offers sends k before after x) e h
+    OffersSends sends m before after x → OffersSends sends n before after x
+offers_lost sends m n before after x e h = subst (λ (k : ℕ). OffersSends sends k before after x) e h
 
 -- Relayed data is offered for a port, and this is what is left.
 pub record OffersFront (port : ℕ) (all left : List (List ℕ)) (before after : Option (List Act)) (failed : ℕ) : Type 0 where
   pub done : List (List ℕ)
   pub whole : done ++ left ≡ all
-  pub offers : Offers (map (send port) done) 0 before after failed
+  pub offers : OffersSends (map (send port) done) 0 before after failed
 
 -- nothing is offered yet
 pub front_none : (port : ℕ) (all : List (List ℕ)) (acts : Option (List Act)) → OffersFront port all all acts acts 0
@@ -82,7 +82,7 @@ front_none port all acts = record { done = []; whole = refl; offers = offers_non
 -- the next data is offered
 pub front_more : (port : ℕ) (all left rest : List (List ℕ)) (octets : List ℕ) (gone : Bool) (before mid after : Option (List Act)) (x y : ℕ) →
     OffersFront port all left before mid x → left ≡ octets ∷ rest →
-    Adds mid after (Sent (record { port = port; octets = octets; gone = gone }) ∷ []) → y ≡ counted x (one_if (not gone)) →
+    AddsActs mid after (Sent (record { port = port; octets = octets; gone = gone }) ∷ []) → y ≡ counted x (one_if (not gone)) →
     OffersFront port all rest before after y
 front_more port all left rest octets gone before mid after x y h cut told total = record {
   done = h.done ++ octets ∷ [];
@@ -92,17 +92,17 @@ front_more port all left rest octets gone before mid after x y h cut told total 
 
 -- all is offered
 pub front_all : (port : ℕ) (all left : List (List ℕ)) (before after : Option (List Act)) (x : ℕ) →
-    OffersFront port all left before after x → left ≡ [] → Offers (map (send port) all) 0 before after x
+    OffersFront port all left before after x → left ≡ [] → OffersSends (map (send port) all) 0 before after x
 front_all port all left before after x h none =
-    subst (λ (l : List (List ℕ)). Offers (map (send port) l) 0 before after x)
+    subst (λ (l : List (List ℕ)). OffersSends (map (send port) l) 0 before after x)
     (sym (append-nil h.done) ∙ ap (λ (l : List (List ℕ)). h.done ++ l) (sym none) ∙ h.whole) h.offers
 
 -- the three kinds of sends for a datagram, one behind the other
 pub offers_all : (outgoing : Outgoing) (ports : Ports) (first second third fourth : Option (List Act)) (x y z w v : ℕ) →
-    outgoing.ports ≡ Some ports → Offers (map (send ports.relay) outgoing.relayed) 0 first second x →
-    Offers (packet_sends ports.deliver outgoing.packet) (too_long outgoing.packet) second third y →
-    Offers (feedback_sends ports.feedback outgoing.feedback) 0 third fourth z →
-    w ≡ counted x y → v ≡ counted w z → Offers (sends_in outgoing) (unsent outgoing) first fourth v
+    outgoing.ports ≡ Some ports → OffersSends (map (send ports.relay) outgoing.relayed) 0 first second x →
+    OffersSends (packet_sends ports.deliver outgoing.packet) (too_long outgoing.packet) second third y →
+    OffersSends (feedback_sends ports.feedback outgoing.feedback) 0 third fourth z →
+    w ≡ counted x y → v ≡ counted w z → OffersSends (sends_in outgoing) (unsent outgoing) first fourth v
 offers_all outgoing ports first second third fourth x y z w v known a b c one all =
     let two = offers_more _ _ 0 (too_long outgoing.packet) first second third x y w a b one in
     rw known (offers_lost _ (0 + too_long outgoing.packet + 0) _ _ _ _ (omega arith) (offers_more _ _ (0 + too_long outgoing.packet) 0 first third fourth w z v two c all))

@@ -8,12 +8,12 @@ use Rattle.rohc_concentrator.specs.declared.concentrator.Concentrator.{Concentra
 use Rattle.rohc_links.specs.Links.{Lists}
 use Rattle.rohc_links.specs.Limits.{counted}
 use Rattle.rohc_serve.specs.declared.tally.ServeTally.{ServeTally}
-use Rattle.rohc_serve.specs.Acts.{Act, Received, Adds}
+use Rattle.rohc_serve.specs.Acts.{Act, Received, AddsActs}
 use Rattle.rohc_serve.specs.Outgoing.{Outgoing}
 use Rattle.rohc_serve.specs.Datagram.{Answers}
 use Rattle.rohc_serve.specs.Tally.{added, counts_of}
-use Rattle.rohc_serve.specs.Sending.{sends_in, unsent, failures, Offers}
-use Rattle.rohc_serve.specs.Turns.{Turn, Missed, Answered, acts_in, counts_in, ServesTurn, ServesTurns, IsTally, service, Serves, with_turn, TakesOne}
+use Rattle.rohc_serve.specs.Sending.{sends_in, unsent, failures, OffersSends}
+use Rattle.rohc_serve.specs.Turns.{ServeTurn, Missed, Answered, acts_in, counts_in, ServesTurn, ServesTurns, IsServeTally, service, Serves, with_turn, TakesOne}
 use Rattle.rohc_serve.proofs.OfferLemmas.{adds_none, adds_more}
 
 -- a tally with failed sends, counted before
@@ -26,8 +26,8 @@ added_failures t outgoing lost some failed e =
 -- a datagram is received, answered, and what goes out is offered
 pub one_turn : (links : Lists) (old new : Concentrator) (moment : ℕ) (octets : List ℕ) (outgoing : Outgoing)
     (before mid after : Option (List Act)) (t next : ServeTally) (failed : ℕ) →
-    Answers links old moment octets outgoing new → Adds before mid (Received (Some (moment, octets)) ∷ []) →
-    Offers (sends_in outgoing) (unsent outgoing) mid after failed → next ≡ added t (counts_of outgoing failed) →
+    Answers links old moment octets outgoing new → AddsActs before mid (Received (Some (moment, octets)) ∷ []) →
+    OffersSends (sends_in outgoing) (unsent outgoing) mid after failed → next ≡ added t (counts_of outgoing failed) →
     TakesOne links (service old new before after) t next
 one_turn links old new moment octets outgoing before mid after t next failed answers got offers tally = record {
   turn = Answered moment octets outgoing offers.attempts;
@@ -37,20 +37,20 @@ one_turn links old new moment octets outgoing before mid after t next failed ans
 }
 
 -- turns, and one behind them
-turns_more : (links : Lists) (old mid new : Concentrator) (turns : List Turn) (turn : Turn) →
+turns_more : (links : Lists) (old mid new : Concentrator) (turns : List ServeTurn) (turn : ServeTurn) →
     ServesTurns links old turns mid → ServesTurn links mid turn new → ServesTurns links old (turns ++ turn ∷ []) new
 turns_more links old mid new [] turn same one = (new, subst (λ (k : Concentrator). ServesTurn links k turn new) same one, refl)
 turns_more links old mid new (first ∷ turns) turn all one = (all.0, all.1, turns_more links all.0 mid new turns turn all.2 one)
 
-count_more : (f : Turn → ℕ) (turns : List Turn) (turn : Turn) (n : ℕ) → n ≡ counted 0 (sum_by f turns) →
+count_more : (f : ServeTurn → ℕ) (turns : List ServeTurn) (turn : ServeTurn) (n : ℕ) → n ≡ counted 0 (sum_by f turns) →
     counted n (f turn) ≡ counted 0 (sum_by f (turns ++ turn ∷ []))
 count_more f turns turn n e = rw sum_by-append (omega (arith, e))
 
-count_same : (f : Turn → ℕ) (turns : List Turn) (turn : Turn) (n : ℕ) → f turn ≡ 0 → n ≡ counted 0 (sum_by f turns) →
+count_same : (f : ServeTurn → ℕ) (turns : List ServeTurn) (turn : ServeTurn) (n : ℕ) → f turn ≡ 0 → n ≡ counted 0 (sum_by f turns) →
     n ≡ counted 0 (sum_by f (turns ++ turn ∷ []))
 count_same f turns turn n none e = rw sum_by-append (omega (arith, none, e))
 
-tally_more : (turns : List Turn) (turn : Turn) (t : ServeTally) → IsTally turns t → IsTally (turns ++ turn ∷ []) (with_turn t turn)
+tally_more : (turns : List ServeTurn) (turn : ServeTurn) (t : ServeTally) → IsServeTally turns t → IsServeTally (turns ++ turn ∷ []) (with_turn t turn)
 tally_more turns Missed t h = record {
   datagrams = count_same _ turns Missed t.datagrams refl h.datagrams;
   delivered = count_same _ turns Missed t.delivered refl h.delivered;
@@ -60,7 +60,7 @@ tally_more turns Missed t h = record {
   failed = count_more _ turns Missed t.failed h.failed;
 }
 tally_more turns (Answered moment octets outgoing attempts) t h =
-    let turn : Turn = Answered moment octets outgoing attempts in
+    let turn : ServeTurn = Answered moment octets outgoing attempts in
     record {
       datagrams = count_more (λ one. (counts_in one).datagrams) turns turn t.datagrams h.datagrams;
       delivered = count_more (λ one. (counts_in one).delivered) turns turn t.delivered h.delivered;
@@ -70,7 +70,7 @@ tally_more turns (Answered moment octets outgoing attempts) t h =
       failed = count_more (λ one. (counts_in one).failed) turns turn t.failed h.failed;
     }
 
-acts_more : (turns : List Turn) (turn : Turn) → flat_map acts_in (turns ++ turn ∷ []) ≡ flat_map acts_in turns ++ acts_in turn
+acts_more : (turns : List ServeTurn) (turn : ServeTurn) → flat_map acts_in (turns ++ turn ∷ []) ≡ flat_map acts_in turns ++ acts_in turn
 acts_more turns turn = flat_map-append acts_in turns (turn ∷ []) ∙ ap (λ (l : List Act). flat_map acts_in turns ++ l) (append-nil (acts_in turn))
 
 -- nothing was served

@@ -1,4 +1,4 @@
--- What a front was asked, and what it answered. Words: Attempt; Act; received; Adds.
+-- What a front was asked, and what it answered. Words: Attempt; Act; received; AddsActs.
 use Rattle.std.specs.Prelude.{◌≡◌, ℕ, List, ◌++◌, Bool, Option, Some, None, take, ⊤}
 
 -- a datagram that was offered for a port, and whether it went out
@@ -18,8 +18,8 @@ received None buffer = Received None
 received (Some (size, moment)) buffer = Received (Some (moment, take size buffer))
 
 -- Acts that are known grow by these, as long as they stay known. Acts that aren't known stay unknown.
-abbrev pub Adds : Option (List Act) → Option (List Act) → List Act → Type 0
-Adds None None more = ⊤
-Adds None (Some after) more = ⊥
-Adds (Some acts) None more = ⊤
-Adds (Some acts) (Some after) more = after ≡ acts ++ more
+abbrev pub AddsActs : Option (List Act) → Option (List Act) → List Act → Type 0
+AddsActs None None more = ⊤
+AddsActs None (Some after) more = ⊥
+AddsActs (Some acts) None more = ⊤
+AddsActs (Some acts) (Some after) more = after ≡ acts ++ more

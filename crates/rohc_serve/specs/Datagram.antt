@@ -1,4 +1,4 @@
--- One datagram. Words: AreSettingsOf a concentrator; link_of, datagram_packet; place_of, ports_of a link;
+-- One datagram. Words: AreSettingsOf a concentrator; named_link, datagram_packet; place_of, ports_of a link;
 -- Answers.
 use Rattle.std.specs.Prelude.{◌≡◌, ℕ, ◌+◌, ◌*◌, List, drop, ◌==◌, Option, Some, None, length, nat_lt, if◌then◌else◌, slice_index, slice_get, position}
 use Rattle.std.specs.Option.{option_and_then}
@@ -18,8 +18,8 @@ pub record AreSettingsOf (k : Concentrator) (settings : List LinkSetting) : Type
   pub each : (link : ℕ) → setting_at k link ≡ entry_of link settings
 
 -- the link in a datagram's first two octets, most significant octet first, if it has two
-abbrev pub link_of : List ℕ → Option ℕ
-link_of octets =
+abbrev pub named_link : List ℕ → Option ℕ
+named_link octets =
     if nat_lt (length octets) 2 then None else Some (slice_index octets 0 * 256 + slice_index octets 1)
 
 -- the packet after them
@@ -46,4 +46,4 @@ AnswersOn links old moment (Some link) packet outgoing new =
 -- what is to be sent for a datagram that arrived at this time, and the concentrator after it
 abbrev pub Answers : Lists → Concentrator → ℕ → List ℕ → Outgoing → Concentrator → Type 0
 Answers links old moment octets outgoing new =
-    AnswersOn links old moment (link_of octets) (datagram_packet octets) outgoing new
+    AnswersOn links old moment (named_link octets) (datagram_packet octets) outgoing new

@@ -1,11 +1,12 @@
--- The sends for one datagram. Words: Send, send; packet_octets; sends_in, unsent; offered, failures; Offers.
+-- The sends for one datagram. Words: Send, send; packet_octets; sends_in, unsent; offered, failures;
+-- OffersSends.
 use Rattle.std.specs.Prelude.{◌≡◌, ℕ, List, [], ◌∷◌, ◌++◌, length, map, not, nat_le, count_by, Option, Some, None, if◌then◌else◌}
 use Rattle.rohc_context.specs.declared.reply.Delivered.{Delivered}
 use Rattle.rohc_context.specs.Response.{Packet}
 use Rattle.rohc_links.specs.declared.ports.Ports.{Ports}
 use Rattle.rohc_links.specs.Limits.{longest_packet}
 use Rattle.rohc_links.specs.Limits.{counted}
-use Rattle.rohc_serve.specs.Acts.{Attempt, Act, Sent, Adds}
+use Rattle.rohc_serve.specs.Acts.{Attempt, Act, Sent, AddsActs}
 use Rattle.rohc_serve.specs.Outgoing.{Outgoing}
 
 -- octets for a port
@@ -66,9 +67,9 @@ failures attempts = count_by (λ (a : Attempt). not a.gone) attempts
 
 -- these are offered in this order; `failed` counts those that failed, and those that were lost before they
 -- were offered
-pub record Offers (sends : List Send) (lost : ℕ) (before after : Option (List Act)) (failed : ℕ) : Type 0
+pub record OffersSends (sends : List Send) (lost : ℕ) (before after : Option (List Act)) (failed : ℕ) : Type 0
   where
     pub attempts : List Attempt
     pub in_order : map offered attempts ≡ sends
-    pub acts : Adds before after (map Sent attempts)
+    pub acts : AddsActs before after (map Sent attempts)
     pub failed_sends : failed ≡ counted lost (failures attempts)

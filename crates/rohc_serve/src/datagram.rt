@@ -3,7 +3,7 @@
 ghost use Rattle.std.specs.Prelude.{◌≡◌, ◌<◌, length, Some, None, IfSome, IfNone};
 ghost use Rattle.rohc_concentrator.specs.Setup.{entry_of};
 ghost use Rattle.rohc_serve.specs.Outgoing.{outgoing_of};
-ghost use Rattle.rohc_serve.specs.Datagram.{AreSettingsOf, link_of, datagram_packet, place_of, ports_of, Answers};
+ghost use Rattle.rohc_serve.specs.Datagram.{AreSettingsOf, named_link, datagram_packet, place_of, ports_of, Answers};
 
 use crate::sends::Sends;
 use rohc_concentrator::{Concentrator, LinkSetting};
@@ -31,8 +31,8 @@ fn ports_of(links: &Links, link: u16) -> Option<Ports>
 /// The link that a datagram names, and the packet after its number; `None` if the datagram has fewer than two
 /// octets.
 fn named_link(octets: &[u8]) -> Option<(u16, &[u8])>
-    ensures named { IfSome result (λ named. (link_of octets.now ≡ Some named.0) × (datagram_packet octets.now ≡ named.1.now)) }
-    ensures short { IfNone result (link_of octets.now ≡ None) }
+    ensures named { IfSome result (λ named. (named_link octets.now ≡ Some named.0) × (datagram_packet octets.now ≡ named.1.now)) }
+    ensures short { IfNone result (named_link octets.now ≡ None) }
 {
     let (link, packet) = octets.split_first_chunk::<2>()?;
     Some((u16::from_be_bytes(*link), packet))

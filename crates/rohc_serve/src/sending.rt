@@ -4,7 +4,7 @@ ghost use Rattle.std.specs.Prelude.{◌≡◌, ◌≤◌, ◌<◌, ◌+◌, [], 
 ghost use Rattle.rohc_frame.specs.Reading.{elements_of};
 ghost use Rattle.rohc_links.specs.Limits.{longest_packet};
 ghost use Rattle.rohc_serve.specs.Outgoing.{outgoing_of};
-ghost use Rattle.rohc_serve.specs.Sending.{Offers, send, delivered_packet, packet_octets, packet_sends, too_long, feedback_sends, sends_in, unsent};
+ghost use Rattle.rohc_serve.specs.Sending.{OffersSends, send, delivered_packet, packet_octets, packet_sends, too_long, feedback_sends, sends_in, unsent};
 
 use crate::front::Front;
 use crate::sends::Sends;
@@ -39,7 +39,7 @@ fn put_packet(buffer: &mut [u8], packet: &Delivered<'_>) -> Option<usize>
 
 /// Sends octets to a port, and returns how many sends failed: 0 or 1.
 fn send_octets<F: Front>(front: &mut F, port: u16, octets: &[u8]) -> u64
-    ensures { Offers (send port octets.now ∷ []) 0 (F.acts front.old) (F.acts front.new) result }
+    ensures { OffersSends (send port octets.now ∷ []) 0 (F.acts front.old) (F.acts front.new) result }
 {
     let gone = front.send(port, octets);
     counted_if(0, !gone)
@@ -48,7 +48,7 @@ fn send_octets<F: Front>(front: &mut F, port: u16, octets: &[u8]) -> u64
 /// Sends the data of each relayed element in a datagram of its own, and returns how many sends
 /// failed.
 fn send_relayed<F: Front>(front: &mut F, port: u16, relayed: Elements<'_>) -> u64
-    ensures { Offers (map (send port) (elements_of relayed.entry)) 0 (F.acts front.old) (F.acts front.new) result }
+    ensures { OffersSends (map (send port) (elements_of relayed.entry)) 0 (F.acts front.old) (F.acts front.new) result }
 {
     let mut failed = 0u64;
     for octets in relayed {
@@ -61,7 +61,7 @@ fn send_relayed<F: Front>(front: &mut F, port: u16, relayed: Elements<'_>) -> u6
 /// Sends the packet, if there is one, and returns how many sends failed.
 fn send_packet<F: Front>(front: &mut F, port: u16, buffer: &mut [u8], sends: &Sends<'_>) -> u64
     requires room { length buffer.old ≡ longest_packet }
-    ensures { Offers (packet_sends port (outgoing_of sends.now).packet) (too_long (outgoing_of sends.now).packet)
+    ensures { OffersSends (packet_sends port (outgoing_of sends.now).packet) (too_long (outgoing_of sends.now).packet)
         (F.acts front.old) (F.acts front.new) result }
 {
     let Some(packet) = &sends.packet else {
@@ -75,7 +75,7 @@ fn send_packet<F: Front>(front: &mut F, port: u16, buffer: &mut [u8], sends: &Se
 
 /// Sends the feedback element for the peer, if there is one, and returns how many sends failed.
 fn send_feedback<F: Front>(front: &mut F, port: u16, sends: &Sends<'_>) -> u64
-    ensures { Offers (feedback_sends port (outgoing_of sends.now).feedback) 0 (F.acts front.old) (F.acts front.new) result }
+    ensures { OffersSends (feedback_sends port (outgoing_of sends.now).feedback) 0 (F.acts front.old) (F.acts front.new) result }
 {
     let Some(element) = &sends.feedback else {
         return 0;
@@ -88,7 +88,7 @@ fn send_feedback<F: Front>(front: &mut F, port: u16, sends: &Sends<'_>) -> u64
 /// A packet longer than 65,535 octets isn't offered to the front and counts as a failed send.
 pub(crate) fn send_all<F: Front>(front: &mut F, buffer: &mut [u8], sends: &Sends<'_>) -> u64
     requires room { length buffer.old ≡ longest_packet }
-    ensures { Offers (sends_in (outgoing_of sends.now)) (unsent (outgoing_of sends.now)) (F.acts front.old) (F.acts front.new) result }
+    ensures { OffersSends (sends_in (outgoing_of sends.now)) (unsent (outgoing_of sends.now)) (F.acts front.old) (F.acts front.new) result }
 {
     let Some(ports) = sends.ports else {
         return 0;

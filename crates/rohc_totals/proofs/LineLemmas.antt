@@ -3,7 +3,7 @@ use Rattle.std.proofs.Common.{◌≡◌, ℕ, ◌<◌, ◌^◌, List, ◌∷◌,
 use Rattle.std.specs.Fmt.{decimal}
 use Rattle.rohc_replay.proofs.PairLemmas.{pair_spelled, digits_first}
 use Rattle.rohc_totals.specs.declared.kind.AnswerLine.{AnswerLine}
-use Rattle.rohc_totals.specs.Answer.{LinkSays, CallSays, BadAnswer, LongAnswer, OfLink, OfCall, IsLinkSays, IsCallSays, IsAnswer, link_text, call_text, spelling, IsNoAnswer}
+use Rattle.rohc_totals.specs.Answer.{LinkSays, CallSays, BadAnswer, LongAnswer, OfLink, OfCall, IsLinkSays, IsCallSays, IsAnswer, link_says_text, call_text, spelling, IsNoAnswer}
 use Rattle.rohc_totals.proofs.FieldLemmas.{one_field}
 
 -- the link, a space, a dash and a space
@@ -24,10 +24,10 @@ none_so (Some x) f none = tt
 none_so None f none = f none
 
 pub link_of_link : (line text rest : List ℕ) (l : ℕ) (r : Option AnswerLine) → l < 2 ^ 16 → line ≡ decimal l ++ 32 ∷ text → text ≡ 45 ∷ 32 ∷ rest →
-    IfNone r ((says : LinkSays) → IsLinkSays says → rest ≡ link_text says → ⊥) →
+    IfNone r ((says : LinkSays) → IsLinkSays says → rest ≡ link_says_text says → ⊥) →
     IfNone r ((link : ℕ) (says : LinkSays) → IsAnswer (OfLink link says) → line ≡ spelling (OfLink link says) → ⊥)
 link_of_link line text rest l r fits whole dash none = none_so r (λ no link says good is.
-    let behind = one_field l link text (45 ∷ 32 ∷ link_text says) fits good.0 (sym whole ∙ is ∙ link_spelled link (link_text says)) in
+    let behind = one_field l link text (45 ∷ 32 ∷ link_says_text says) fits good.0 (sym whole ∙ is ∙ link_spelled link (link_says_text says)) in
     no says good.1 (ap (drop 2) (sym dash ∙ behind))) none
 
 pub link_of_call : (line text rest : List ℕ) (l : ℕ) (r : Option AnswerLine) (P : Type 0) → l < 2 ^ 16 → line ≡ decimal l ++ 32 ∷ text → text ≡ 45 ∷ 32 ∷ rest →
@@ -39,7 +39,7 @@ link_of_call line text rest l r P fits whole dash none = none_so r (λ no link c
 pub call_of_link : (line text : List ℕ) (l : ℕ) (r : Option AnswerLine) (P : Type 0) → l < 2 ^ 16 → line ≡ decimal l ++ 32 ∷ text → ((rest : List ℕ) → text ≡ 45 ∷ 32 ∷ rest → ⊥) →
     IfNone r P → IfNone r ((link : ℕ) (says : LinkSays) → IsAnswer (OfLink link says) → line ≡ spelling (OfLink link says) → ⊥)
 call_of_link line text l r P fits whole dash none = none_so r (λ no link says good is.
-    dash (link_text says) (one_field l link text (45 ∷ 32 ∷ link_text says) fits good.0 (sym whole ∙ is ∙ link_spelled link (link_text says)))) none
+    dash (link_says_text says) (one_field l link text (45 ∷ 32 ∷ link_says_text says) fits good.0 (sym whole ∙ is ∙ link_spelled link (link_says_text says)))) none
 
 pub call_of_call : (line text : List ℕ) (l : ℕ) (r : Option AnswerLine) → l < 2 ^ 16 → line ≡ decimal l ++ 32 ∷ text →
     IfNone r ((cid : ℕ) (says : CallSays) → cid < 2 ^ 16 → IsCallSays says → text ≡ decimal cid ++ 32 ∷ call_text says → ⊥) →
@@ -56,7 +56,7 @@ no_script line name None whole bad long = go
     go : IsNoAnswer line
     go BadAnswer good is = bad (ap (drop 12) (sym whole ∙ is))
     go LongAnswer good is = long (ap (drop 12) (sym whole ∙ is))
-    go (OfLink link says) good is = no_dash link (32 ∷ 45 ∷ 32 ∷ link_text says) (drop 1 (codes "- - refused ") ++ name) good.0 (sym (link_spelled link (link_text says)) ∙ sym is ∙ whole)
+    go (OfLink link says) good is = no_dash link (32 ∷ 45 ∷ 32 ∷ link_says_text says) (drop 1 (codes "- - refused ") ++ name) good.0 (sym (link_spelled link (link_says_text says)) ∙ sym is ∙ whole)
     go (OfCall link cid says) good is = no_dash link (32 ∷ (decimal cid ++ 32 ∷ call_text says)) (drop 1 (codes "- - refused ") ++ name) good.0 (sym (pair_spelled link cid (call_text says)) ∙ sym is ∙ whole)
 
 -- a line that doesn't begin like a bad or a long line's

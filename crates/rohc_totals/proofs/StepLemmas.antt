@@ -8,10 +8,10 @@ use Rattle.rohc_totals.specs.declared.kind.AnswerLine.{AnswerLine}
 use Rattle.rohc_totals.specs.declared.call.CallTotals.{CallTotals}
 use Rattle.rohc_totals.specs.declared.totals.LinkTotals.{LinkTotals}
 use Rattle.rohc_totals.specs.declared.totals.Totals.{Totals}
-use Rattle.rohc_totals.specs.Kind.{refusal_of, is_kind}
+use Rattle.rohc_totals.specs.Kind.{refusal_of, is_of_kind}
 use Rattle.rohc_totals.specs.Counted.{count_in, tally, count_after, first_of, since_with, since_after, refused_with, refused_after, later_of}
-use Rattle.rohc_totals.specs.Steps.{Advances, StepsTo, call_in, link_in, call_at, LinkStepsTo, TotalsStep, strange_after}
-use Rattle.rohc_totals.specs.Totals.{Numbered, numbered, names, is_link, is_call, own_lines, delivers, refuses, refusals_of, after_last, first_by, last_in, shown, IsCallOf, IsCall, IsLink, is_strange, AreTotals}
+use Rattle.rohc_totals.specs.Steps.{Advances, StepsTo, call_in, link_totals, call_at, LinkStepsTo, TotalsStep, strange_after}
+use Rattle.rohc_totals.specs.Totals.{Numbered, numbered, names, is_link, is_call, call_lines, delivers, refuses, refusals_of, after_last, first_by, last_in, shown, IsCallOf, IsCall, IsLinkOf, is_strange, AreTotals}
 use Rattle.rohc_totals.proofs.PushLemmas.{tally-push, count_by-push, after_last-hit, after_last-miss, first_by-push, or_else, last-push, numbered-push, filter-push}
 
 -- the refusals since the last delivery begin where they began, or here
@@ -42,11 +42,11 @@ refused_push own e = elim (delivers e) as (λ b. delivers e ≡ b → tally refu
 ] refl
 
 call_push : (own : List Numbered) (e : Numbered) (counts : ℕ → ℕ) (since : Option ℕ) (refused : ℕ) (last : Option Refusal) (u : CallTotals) →
-    ((k : ℕ) → counts k ≡ tally (λ (line : Numbered). is_kind k line.1) own) → since ≡ option_map shown (first_by refuses (after_last delivers own)) →
+    ((k : ℕ) → counts k ≡ tally (λ (line : Numbered). is_of_kind k line.1) own) → since ≡ option_map shown (first_by refuses (after_last delivers own)) →
     refused ≡ tally refuses (after_last delivers own) → last ≡ last_in (refusals_of own) →
     Advances e.1.kind (shown e) counts since refused last u → IsCallOf (own ++ e ∷ []) u
 call_push own e counts since refused last u ks ss rs ls a = record {
-  counts = λ k. a.counts_are k ∙ ap (count_after e.1.kind k) (ks k) ∙ sym (tally-push (λ (line : Numbered). is_kind k line.1) own e);
+  counts = λ k. a.counts_are k ∙ ap (count_after e.1.kind k) (ks k) ∙ sym (tally-push (λ (line : Numbered). is_of_kind k line.1) own e);
   since = a.since_is ∙ ap (since_after e.1.kind (shown e)) ss ∙ sym (since_push own e);
   refused = a.refused_is ∙ ap (refused_after e.1.kind) rs ∙ sym (refused_push own e);
   last = a.last_is ∙ ap (λ l. later_of l (refusal_of e.1.kind)) ls ∙ sym (last-push own e);
@@ -81,7 +81,7 @@ both_miss a b n e = rw e refl
 
 -- a link's lines of a kind
 abbrev pub is_of : ℕ → ℕ → AnswerLine → Bool
-is_of l k line = is_link l line && is_kind k line
+is_of l k line = is_link l line && is_of_kind k line
 
 narrower : (a b : Bool) → cond (a && b) 1 0 ≤ cond a 1 0
 narrower true true = omega arith
@@ -94,7 +94,7 @@ few l k (x ∷ xs) =
     let rest = few l k xs in
     let own = sum_by-cons (λ (line : AnswerLine). cond (is_of l k line) 1 0) x xs in
     let all = sum_by-cons (λ (line : AnswerLine). cond (is_link l line) 1 0) x xs in
-    omega (arith, rest, own, all, narrower (is_link l x) (is_kind k x))
+    omega (arith, rest, own, all, narrower (is_link l x) (is_of_kind k x))
 
 none_of : (l k : ℕ) (lines : List AnswerLine) → count_by (is_link l) lines ≡ 0 → 0 ≡ tally (is_of l k) lines
 none_of l k lines none = omega (arith, none, few l k lines)
@@ -103,7 +103,7 @@ none_of l k lines none = omega (arith, none, few l k lines)
 link_count : (lines : List AnswerLine) (x : AnswerLine) (l k before : ℕ) → is_link l x ≡ true →
     before ≡ tally (is_of l k) lines → count_after x.kind k before ≡ tally (is_of l k) (lines ++ x ∷ [])
 link_count lines x l k before mine is =
-    ap (count_after x.kind k) is ∙ both_hit (is_link l x) (is_kind k x) (tally (is_of l k) lines) mine ∙ sym (tally-push (is_of l k) lines x)
+    ap (count_after x.kind k) is ∙ both_hit (is_link l x) (is_of_kind k x) (tally (is_of l k) lines) mine ∙ sym (tally-push (is_of l k) lines x)
 
 link_more : (lines : List AnswerLine) (x : AnswerLine) (l : ℕ) → is_link l x ≡ true → 0 < count_by (is_link l) (lines ++ x ∷ [])
 link_more lines x l mine = let push = count_by-push (is_link l) lines x ∙ ap (λ b. count_by (is_link l) lines + cond b 1 0) mine in omega (arith, push)
@@ -113,7 +113,7 @@ link_same lines x l other = let push = count_by-push (is_link l) lines x ∙ ap 
 
 -- a link gets a line
 link_steps : (lines : List AnswerLine) (x : AnswerLine) (l number : ℕ) (old new : Option LinkTotals) → is_link l x ≡ true →
-    IsLink lines l old → LinkStepsTo x number old new → IsLink (lines ++ x ∷ []) l new
+    IsLinkOf lines l old → LinkStepsTo x number old new → IsLinkOf (lines ++ x ∷ []) l new
 link_steps lines x l number old None mine is s = absurd s
 link_steps lines x l number None (Some u) mine is s =
     (link_more lines x l mine, λ k. s.counts_are k ∙ link_count lines x l k 0 mine (none_of l k lines is))
@@ -122,18 +122,18 @@ link_steps lines x l number (Some t) (Some u) mine is s =
 
 -- a link gets none
 link_stays : (lines : List AnswerLine) (x : AnswerLine) (l : ℕ) (t : Option LinkTotals) → is_link l x ≡ false →
-    IsLink lines l t → IsLink (lines ++ x ∷ []) l t
+    IsLinkOf lines l t → IsLinkOf (lines ++ x ∷ []) l t
 link_stays lines x l None other is = link_same lines x l other ∙ is
 link_stays lines x l (Some t) other is = (
   (let same = link_same lines x l other in omega (arith, same, is.0)),
-  λ k. is.1 k ∙ sym (tally-push (is_of l k) lines x ∙ both_miss (is_link l x) (is_kind k x) (tally (is_of l k) lines) other),
+  λ k. is.1 k ∙ sym (tally-push (is_of l k) lines x ∙ both_miss (is_link l x) (is_of_kind k x) (tally (is_of l k) lines) other),
 )
 
 links_push : (lines : List AnswerLine) (x : AnswerLine) (old new : Totals) → TotalsStep x old new → (l : ℕ) →
-    IsLink lines l (link_in old l) → IsLink (lines ++ x ∷ []) l (link_in new l)
-links_push lines x old new step l is = elim (is_link l x) as (λ b. is_link l x ≡ b → IsLink (lines ++ x ∷ []) l (link_in new l)) [
-  | true ↦ λ mine. link_steps lines x l new.lines (link_in old l) (link_in new l) mine is (step.own l (named l x.link mine))
-  | false ↦ λ other. subst (λ t. IsLink (lines ++ x ∷ []) l t) (sym (step.others l (unnamed l x.link other))) (link_stays lines x l (link_in old l) other is)
+    IsLinkOf lines l (link_totals old l) → IsLinkOf (lines ++ x ∷ []) l (link_totals new l)
+links_push lines x old new step l is = elim (is_link l x) as (λ b. is_link l x ≡ b → IsLinkOf (lines ++ x ∷ []) l (link_totals new l)) [
+  | true ↦ λ mine. link_steps lines x l new.lines (link_totals old l) (link_totals new l) mine is (step.own l (named l x.link mine))
+  | false ↦ λ other. subst (λ t. IsLinkOf (lines ++ x ∷ []) l t) (sym (step.others l (unnamed l x.link other))) (link_stays lines x l (link_totals old l) other is)
 ] refl
 
 -- ---- calls
@@ -154,31 +154,31 @@ calls_other own e c None (Some u) s bears is = subst (λ t. IsCall own t) (sym (
 calls_other own e c (Some t) (Some u) s bears is = subst (λ t. IsCall own t) (sym ((s.calls_step c).other bears)) is
 
 own_push : (l c : ℕ) (lines : List AnswerLine) (x : AnswerLine) →
-    own_lines l c (lines ++ x ∷ []) ≡ own_lines l c lines ++ (if is_call l c (length lines + 1, x) then (length lines + 1, x) ∷ [] else [])
+    call_lines l c (lines ++ x ∷ []) ≡ call_lines l c lines ++ (if is_call l c (length lines + 1, x) then (length lines + 1, x) ∷ [] else [])
 own_push l c lines x = ap (filter (is_call l c)) (numbered-push lines x) ∙ filter-push (is_call l c) (numbered lines) (length lines + 1, x)
 
 own_hit : (l c : ℕ) (lines : List AnswerLine) (x : AnswerLine) → is_link l x ≡ true → names c x.cid ≡ true →
-    own_lines l c (lines ++ x ∷ []) ≡ own_lines l c lines ++ (length lines + 1, x) ∷ []
-own_hit l c lines x p q = own_push l c lines x ∙ ap (λ b. own_lines l c lines ++ (if b then (length lines + 1, x) ∷ [] else [])) (ap (λ a. a && names c x.cid) p ∙ q)
+    call_lines l c (lines ++ x ∷ []) ≡ call_lines l c lines ++ (length lines + 1, x) ∷ []
+own_hit l c lines x p q = own_push l c lines x ∙ ap (λ b. call_lines l c lines ++ (if b then (length lines + 1, x) ∷ [] else [])) (ap (λ a. a && names c x.cid) p ∙ q)
 
 own_miss : (l c : ℕ) (lines : List AnswerLine) (x : AnswerLine) → (is_link l x && names c x.cid) ≡ false →
-    own_lines l c (lines ++ x ∷ []) ≡ own_lines l c lines
-own_miss l c lines x p = own_push l c lines x ∙ ap (λ b. own_lines l c lines ++ (if b then (length lines + 1, x) ∷ [] else [])) p ∙ append-nil (own_lines l c lines)
+    call_lines l c (lines ++ x ∷ []) ≡ call_lines l c lines
+own_miss l c lines x p = own_push l c lines x ∙ ap (λ b. call_lines l c lines ++ (if b then (length lines + 1, x) ∷ [] else [])) p ∙ append-nil (call_lines l c lines)
 
 calls_push : (lines : List AnswerLine) (x : AnswerLine) (old new : Totals) → TotalsStep x old new → new.lines ≡ shown (length lines + 1, x) → (l c : ℕ) →
-    IsCall (own_lines l c lines) (call_at old l c) → IsCall (own_lines l c (lines ++ x ∷ [])) (call_at new l c)
+    IsCall (call_lines l c lines) (call_at old l c) → IsCall (call_lines l c (lines ++ x ∷ [])) (call_at new l c)
 calls_push lines x old new step number l c is =
-    elim (is_link l x) as (λ b. is_link l x ≡ b → IsCall (own_lines l c (lines ++ x ∷ [])) (call_at new l c)) [
+    elim (is_link l x) as (λ b. is_link l x ≡ b → IsCall (call_lines l c (lines ++ x ∷ [])) (call_at new l c)) [
       | true ↦ λ mine.
-          let s = subst (λ n. LinkStepsTo x n (link_in old l) (link_in new l)) number (step.own l (named l x.link mine)) in
-          elim (names c x.cid) as (λ b. names c x.cid ≡ b → IsCall (own_lines l c (lines ++ x ∷ [])) (call_at new l c)) [
+          let s = subst (λ n. LinkStepsTo x n (link_totals old l) (link_totals new l)) number (step.own l (named l x.link mine)) in
+          elim (names c x.cid) as (λ b. names c x.cid ≡ b → IsCall (call_lines l c (lines ++ x ∷ [])) (call_at new l c)) [
             | true ↦ λ bears. subst (λ own. IsCall own (call_at new l c)) (sym (own_hit l c lines x mine bears))
-                (calls_own (own_lines l c lines) (length lines + 1, x) c (link_in old l) (link_in new l) s (named c x.cid bears) is)
+                (calls_own (call_lines l c lines) (length lines + 1, x) c (link_totals old l) (link_totals new l) s (named c x.cid bears) is)
             | false ↦ λ other. subst (λ own. IsCall own (call_at new l c)) (sym (own_miss l c lines x (ap (λ a. a && names c x.cid) mine ∙ other)))
-                (calls_other (own_lines l c lines) (length lines + 1, x) c (link_in old l) (link_in new l) s (unnamed c x.cid other) is)
+                (calls_other (call_lines l c lines) (length lines + 1, x) c (link_totals old l) (link_totals new l) s (unnamed c x.cid other) is)
           ] refl
       | false ↦ λ other. subst (λ own. IsCall own (call_at new l c)) (sym (own_miss l c lines x (ap (λ a. a && names c x.cid) other)))
-          (subst (λ o. IsCall (own_lines l c lines) (in_link c o)) (sym (step.others l (unnamed l x.link other))) is)
+          (subst (λ o. IsCall (call_lines l c lines) (in_link c o)) (sym (step.others l (unnamed l x.link other))) is)
     ] refl
 
 -- ---- all
@@ -207,7 +207,7 @@ totals_push lines x old new step are =
     let number : new.lines ≡ shown (length lines + 1, x) = one_more lines x old.lines new.lines step.number are.number in
     record {
       number = number ∙ ap (counted 0) (sym (length-append lines (x ∷ [])));
-      counts = λ k. step.counts k ∙ ap (count_after x.kind k) (are.counts k) ∙ sym (tally-push (is_kind k) lines x);
+      counts = λ k. step.counts k ∙ ap (count_after x.kind k) (are.counts k) ∙ sym (tally-push (is_of_kind k) lines x);
       strange = step.strange ∙ ap (λ n. strange_after x.kind n old.strange) number ∙ ap (strange_after x.kind (shown (length lines + 1, x))) are.strange ∙ sym (strange_push lines x);
       links = λ l. links_push lines x old new step l (are.links l);
       calls = λ l c. calls_push lines x old new step number l c (are.calls l c);

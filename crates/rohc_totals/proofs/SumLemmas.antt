@@ -8,7 +8,7 @@ use Rattle.rohc_context.specs.declared.refusal.Refusal.TheVariants.{Empty, Feedb
 use Rattle.rohc_totals.specs.declared.kind.LineKind.{LineKind}
 use Rattle.rohc_totals.specs.declared.kind.LineKind.TheVariants.{NoAnswer, BadLine, LongLine, Delivered, Stored, Relayed, Ack, Nack, StaticNack, Plain, OtherFeedback, Refused}
 use Rattle.rohc_totals.specs.declared.kind.AnswerLine.{AnswerLine}
-use Rattle.rohc_totals.specs.Kind.{kinds, kind_number, is_kind}
+use Rattle.rohc_totals.specs.Kind.{kinds, kind_number, is_of_kind}
 use Rattle.rohc_totals.specs.Laws.{sum_below, CountsEachOnce}
 
 -- a sum of sums
@@ -89,11 +89,11 @@ few_kinds OtherFeedback = omega arith
 few_kinds (Refused refusal) = let number = few refusal in omega (arith, number)
 
 pub each_once : CountsEachOnce
-each_once [] = no_sum kinds (λ k. count_by (is_kind k) []) (λ k. refl)
+each_once [] = no_sum kinds (λ k. count_by (is_of_kind k) []) (λ k. refl)
 each_once (x ∷ xs) =
     let rest = each_once xs in
     let one = one_below kinds (kind_number x.kind) (few_kinds x.kind) in
-    let sums = both_sums kinds (λ k. cond (kind_number x.kind == k) 1 0) (λ k. count_by (is_kind k) xs) (λ k. count_by (is_kind k) (x ∷ xs))
-    (λ k. sum_by-cons (λ (line : AnswerLine). cond (is_kind k line) 1 0) x xs) in
+    let sums = both_sums kinds (λ k. cond (kind_number x.kind == k) 1 0) (λ k. count_by (is_of_kind k) xs) (λ k. count_by (is_of_kind k) (x ∷ xs))
+    (λ k. sum_by-cons (λ (line : AnswerLine). cond (is_of_kind k line) 1 0) x xs) in
     let size : length (x ∷ xs) ≡ 1 + length xs = omega arith in
     omega (arith, rest, one, sums, size)

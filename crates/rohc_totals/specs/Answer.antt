@@ -1,5 +1,5 @@
--- What an answer line is. Words: Answer, IsAnswer, spelling, the line of an answer; IsFeedback; Says; Tells,
--- IsSaid.
+-- What an answer line is. Words: Answer, IsAnswer, spelling, the line of an answer; IsFeedback; Says;
+-- TellsLine, IsSaid.
 use Rattle.std.specs.Prelude.{◌≡◌, ◌≢◌, ℕ, ◌^◌, ◌<◌, ◌≤◌, ◌%◌, ◌⊎◌, List, [], ◌∷◌, ◌++◌, length, Bool, true, ◌==◌, ◌&&◌, ◌||◌, nat_lt, nat_le, Some, None, Ok, codes}
 use Rattle.std.specs.List.{list_any, list_all}
 use Rattle.std.specs.Fmt.{decimal}
@@ -20,11 +20,11 @@ use Rattle.rohc_totals.specs.declared.kind.LineKind.TheVariants as kinds
 use Rattle.rohc_totals.specs.declared.kind.AnswerLine.{AnswerLine}
 
 -- the kind of a feedback's word
-abbrev pub kind_of : Word → LineKind
-kind_of words.Ack = kinds.Ack
-kind_of words.Nack = kinds.Nack
-kind_of words.StaticNack = kinds.StaticNack
-kind_of words.Plain = kinds.Plain
+abbrev pub kind_of_word : Word → LineKind
+kind_of_word words.Ack = kinds.Ack
+kind_of_word words.Nack = kinds.Nack
+kind_of_word words.StaticNack = kinds.StaticNack
+kind_of_word words.Plain = kinds.Plain
 
 -- the octets are an element for this CID, of this word
 abbrev pub IsElement : ℕ → List ℕ → CidKind → Word → Type 0
@@ -34,7 +34,7 @@ IsElement cid octets size word =
 -- the text is the octets of an element for this CID, of this kind
 abbrev pub FeedsWord : ℕ → List ℕ → LineKind → Type 0
 FeedsWord cid hex kind = (octets : List ℕ) × (size : CidKind) × (word : Word) × (decode_of hex ≡ Ok octets)
-    × IsElement cid octets size word × (kind ≡ kind_of word)
+    × IsElement cid octets size word × (kind ≡ kind_of_word word)
 
 -- the text is of no element for this CID
 abbrev pub FeedsNone : ℕ → List ℕ → Type 0
@@ -108,9 +108,9 @@ IsAnswer (OfLink link says) = (link < 2 ^ 16) × IsLinkSays says
 IsAnswer (OfCall link cid says) = (link < 2 ^ 16) × (cid < 2 ^ 16) × IsCallSays says
 
 -- what follows the link and ` - `
-abbrev pub link_text : LinkSays → List ℕ
-link_text (Relays hex) = codes "relay " ++ hex
-link_text (LinkRefuses refusal) = codes "refused " ++ name_of refusal
+abbrev pub link_says_text : LinkSays → List ℕ
+link_says_text (Relays hex) = codes "relay " ++ hex
+link_says_text (LinkRefuses refusal) = codes "refused " ++ name_of refusal
 
 -- what follows the link and the CID
 abbrev pub call_text : CallSays → List ℕ
@@ -123,7 +123,7 @@ call_text (Refuses refusal) = codes "refused " ++ name_of refusal
 abbrev pub spelling : Answer → List ℕ
 spelling BadAnswer = bad_line
 spelling LongAnswer = long_line
-spelling (OfLink link says) = decimal link ++ codes " - " ++ link_text says
+spelling (OfLink link says) = decimal link ++ codes " - " ++ link_says_text says
 spelling (OfCall link cid says) = pair_text link cid ++ call_text says
 
 -- the kind of what is said of a link
@@ -146,8 +146,8 @@ Says (OfLink link says) s = s ≡ record { link = Some link; cid = None; kind = 
 Says (OfCall link cid says) s = (s.link ≡ Some link) × (s.cid ≡ Some cid) × IsCallKind cid says s.kind
 
 -- the line is the text of an answer, of which this is told
-abbrev pub Tells : List ℕ → AnswerLine → Type 0
-Tells line s = (answer : Answer) × IsAnswer answer × (line ≡ spelling answer) × Says answer s
+abbrev pub TellsLine : List ℕ → AnswerLine → Type 0
+TellsLine line s = (answer : Answer) × IsAnswer answer × (line ≡ spelling answer) × Says answer s
 
 -- the line is the text of no answer
 abbrev pub IsNoAnswer : List ℕ → Type 0
@@ -160,7 +160,7 @@ nothing = record { link = None; cid = None; kind = kinds.NoAnswer }
 -- what is told of a line; a line above the longest is no answer line
 abbrev pub IsSaid : List ℕ → AnswerLine → Type 0
 IsSaid line s =
-    ((length line ≤ longest_line) × Tells line s)
+    ((length line ≤ longest_line) × TellsLine line s)
     ⊎ (s ≡ nothing) × ((longest_line < length line) ⊎ IsNoAnswer line)
 
 -- what is told of these lines, one by one

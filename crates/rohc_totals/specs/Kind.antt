@@ -1,4 +1,4 @@
--- The kinds of lines. Words: kind_number, refusal_of, is_kind; delivers, refuses, for a call.
+-- The kinds of lines. Words: kind_number, refusal_of, is_of_kind; delivers, refuses, for a call.
 use Rattle.std.specs.Prelude.{ℕ, ◌+◌, Bool, ◌==◌, Option, Some, None}
 use Rattle.rohc_context.specs.Refusal.{number_of}
 use Rattle.rohc_context.specs.declared.refusal.Refusal.{Refusal}
@@ -41,5 +41,5 @@ refusal_of Plain = None
 refusal_of OtherFeedback = None
 
 -- the line is of the kind with this number
-abbrev pub is_kind : ℕ → AnswerLine → Bool
-is_kind k line = kind_number line.kind == k
+abbrev pub is_of_kind : ℕ → AnswerLine → Bool
+is_of_kind k line = kind_number line.kind == k

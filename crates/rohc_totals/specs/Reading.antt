@@ -1,8 +1,8 @@
--- Where the reading of a text stands. Words: AreTotalsOf; Stands.
+-- Where the reading of a text stands. Words: AreTotalsOf; StandsInAnswers.
 use Rattle.std.specs.Prelude.{ℕ, ◌≤◌, List, length}
 use Rattle.rohc_replay.specs.Script.{longest_line, lines_of}
 use Rattle.rohc_replay.specs.Lines.{Splits}
-use Rattle.rohc_replay.specs.Stream.{IsKept}
+use Rattle.rohc_replay.specs.Stream.{IsUnfinished}
 use Rattle.rohc_totals.specs.declared.kind.AnswerLine.{AnswerLine}
 use Rattle.rohc_totals.specs.declared.totals.Totals.{Totals}
 use Rattle.rohc_totals.specs.declared.reading.Progress.{Progress}
@@ -16,11 +16,11 @@ pub record AreTotalsOf (text : List ℕ) (t : Totals) : Type 0 where
   pub totals : AreTotals told t
 
 -- These octets were seen. The finished lines are counted, and this is kept of the rest.
-pub record Stands (seen : List ℕ) (p : Progress) : Type 0 where
+pub record StandsInAnswers (seen : List ℕ) (p : Progress) : Type 0 where
   pub finished : List (List ℕ)
   pub rest : List ℕ
   pub splits : Splits seen finished rest
-  pub is_kept : IsKept p.long p.line.items rest
+  pub is_kept : IsUnfinished p.long p.line.items rest
   pub short : length p.line.items ≤ longest_line
   pub told : List AnswerLine
   pub are_told : AreSaid finished told

@@ -1,4 +1,4 @@
--- The tables with one line more. Words: call_in, link_in, call_at; Advances, CallSteps, LinkSteps.
+-- The tables with one line more. Words: call_in, link_totals, call_at; Advances, CallSteps, LinkSteps.
 use Rattle.std.specs.Prelude.{◌≡◌, ◌≢◌, ℕ, ◌==◌, if◌then◌else◌, Option, Some, None, nat_eq}
 use Rattle.std.specs.Option.{option_and_then}
 use Rattle.indexmap.specs.IndexMap.{get}
@@ -17,12 +17,12 @@ abbrev pub call_in : LinkTotals → ℕ → Option CallTotals
 call_in t cid = get nat_eq t.calls cid
 
 -- the totals of a link, if there is a line of it
-abbrev pub link_in : Totals → ℕ → Option LinkTotals
-link_in t link = get nat_eq t.links link
+abbrev pub link_totals : Totals → ℕ → Option LinkTotals
+link_totals t link = get nat_eq t.links link
 
 -- the totals of a call, if there is a line of it
 abbrev pub call_at : Totals → ℕ → ℕ → Option CallTotals
-call_at t link cid = option_and_then (λ (l : LinkTotals). call_in l cid) (link_in t link)
+call_at t link cid = option_and_then (λ (l : LinkTotals). call_in l cid) (link_totals t link)
 
 -- the call's totals with one line more, where it had these
 pub record Advances (kind : LineKind) (number : ℕ) (counts : ℕ → ℕ) (since : Option ℕ) (refused : ℕ)
@@ -74,5 +74,5 @@ pub record TotalsStep (line : AnswerLine) (old new : Totals) : Type 0 where
   pub number : new.lines ≡ counted old.lines 1
   pub counts : (k : ℕ) → count_in new.counts k ≡ count_after line.kind k (count_in old.counts k)
   pub strange : new.strange ≡ strange_after line.kind new.lines old.strange
-  pub own : (l : ℕ) → line.link ≡ Some l → LinkStepsTo line new.lines (link_in old l) (link_in new l)
-  pub others : (l : ℕ) → line.link ≢ Some l → link_in new l ≡ link_in old l
+  pub own : (l : ℕ) → line.link ≡ Some l → LinkStepsTo line new.lines (link_totals old l) (link_totals new l)
+  pub others : (l : ℕ) → line.link ≢ Some l → link_totals new l ≡ link_totals old l

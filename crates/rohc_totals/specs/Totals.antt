@@ -1,4 +1,4 @@
--- What totals say of lines. Words: numbered, own_lines; after_last, first_by, last_in; IsCallOf, IsCall,
+-- What totals say of lines. Words: numbered, call_lines; after_last, first_by, last_in; IsCallOf, IsCall,
 -- AreTotals.
 use Rattle.std.specs.Prelude.{◌≡◌, ◌≢◌, ℕ, ◌+◌, ◌<◌, List, [], ◌∷◌, length, filter, Bool, false, ◌&&◌, ◌==◌, if◌then◌else◌, Option, Some, None, count_by}
 use Rattle.std.specs.List.{flat_map, list_any}
@@ -9,9 +9,9 @@ use Rattle.rohc_totals.specs.declared.kind.AnswerLine.{AnswerLine}
 use Rattle.rohc_totals.specs.declared.call.CallTotals.{CallTotals}
 use Rattle.rohc_totals.specs.declared.totals.LinkTotals.{LinkTotals}
 use Rattle.rohc_totals.specs.declared.totals.Totals.{Totals}
-use Rattle.rohc_totals.specs.Kind.{refusal_of, is_kind}
+use Rattle.rohc_totals.specs.Kind.{refusal_of, is_of_kind}
 use Rattle.rohc_totals.specs.Counted.{count_in, tally}
-use Rattle.rohc_totals.specs.Steps.{link_in, call_at}
+use Rattle.rohc_totals.specs.Steps.{link_totals, call_at}
 
 -- a line with its number
 abbrev pub Numbered : Type 0
@@ -40,12 +40,12 @@ abbrev pub is_call : ℕ → ℕ → Numbered → Bool
 is_call l c line = names l line.1.link && names c line.1.cid
 
 -- a call's own lines
-abbrev pub own_lines : ℕ → ℕ → List AnswerLine → List Numbered
-own_lines l c lines = filter (is_call l c) (numbered lines)
+abbrev pub call_lines : ℕ → ℕ → List AnswerLine → List Numbered
+call_lines l c lines = filter (is_call l c) (numbered lines)
 
 -- the line is a delivery
 abbrev pub delivers : Numbered → Bool
-delivers line = is_kind 3 line.1
+delivers line = is_of_kind 3 line.1
 
 -- the line is a refusal
 abbrev pub refuses : Numbered → Bool
@@ -83,7 +83,7 @@ shown line = counted 0 line.0
 -- These are the totals of a call with these lines: how many there are of each kind, how many refusals since
 -- the last delivery and in which line they begin, and the last refusal.
 pub record IsCallOf (own : List Numbered) (t : CallTotals) : Type 0 where
-  pub counts : (k : ℕ) → count_in t.counts k ≡ tally (λ (line : Numbered). is_kind k line.1) own
+  pub counts : (k : ℕ) → count_in t.counts k ≡ tally (λ (line : Numbered). is_of_kind k line.1) own
   pub since : t.since ≡ option_map shown (first_by refuses (after_last delivers own))
   pub refused : t.refused ≡ tally refuses (after_last delivers own)
   pub last : t.last ≡ last_in (refusals_of own)
@@ -95,20 +95,21 @@ IsCall own (Some t) = (own ≢ []) × IsCallOf own t
 
 -- These are the totals of a link: how many of its lines there are of each kind. It is there exactly if it has
 -- lines.
-abbrev pub IsLink : List AnswerLine → ℕ → Option LinkTotals → Type 0
-IsLink lines l None = count_by (is_link l) lines ≡ 0
-IsLink lines l (Some t) =
+abbrev pub IsLinkOf : List AnswerLine → ℕ → Option LinkTotals → Type 0
+IsLinkOf lines l None = count_by (is_link l) lines ≡ 0
+IsLinkOf lines l (Some t) =
     (0 < count_by (is_link l) lines)
-    × ((k : ℕ) → count_in t.counts k ≡ tally (λ (line : AnswerLine). is_link l line && is_kind k line) lines)
+    × ((k : ℕ) →
+      count_in t.counts k ≡ tally (λ (line : AnswerLine). is_link l line && is_of_kind k line) lines)
 
 -- the line is no answer line
 abbrev pub is_strange : Numbered → Bool
-is_strange line = is_kind 0 line.1
+is_strange line = is_of_kind 0 line.1
 
 -- These are the totals of these lines.
 pub record AreTotals (lines : List AnswerLine) (t : Totals) : Type 0 where
   pub number : t.lines ≡ counted 0 (length lines)
-  pub counts : (k : ℕ) → count_in t.counts k ≡ tally (is_kind k) lines
+  pub counts : (k : ℕ) → count_in t.counts k ≡ tally (is_of_kind k) lines
   pub strange : t.strange ≡ option_map shown (first_by is_strange (numbered lines))
-  pub links : (l : ℕ) → IsLink lines l (link_in t l)
-  pub calls : (l c : ℕ) → IsCall (own_lines l c lines) (call_at t l c)
+  pub links : (l : ℕ) → IsLinkOf lines l (link_totals t l)
+  pub calls : (l c : ℕ) → IsCall (call_lines l c lines) (call_at t l c)

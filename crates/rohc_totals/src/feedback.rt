@@ -5,7 +5,7 @@ ghost use Rattle.hex.specs.Hex.{decode_of};
 ghost use Rattle.rohc_frame.specs.declared.header.CidKind.{CidKind};
 ghost use Rattle.rohc_feedback.specs.declared.meaning.Word.{Word};
 ghost use Rattle.rohc_totals.specs.declared.kind.LineKind.TheVariants.{OtherFeedback};
-ghost use Rattle.rohc_totals.specs.Answer.{IsFeedback, IsElement, kind_of};
+ghost use Rattle.rohc_totals.specs.Answer.{IsFeedback, IsElement, kind_of_word};
 
 use crate::kind::LineKind;
 use hex::decode_to_slice;
@@ -16,8 +16,8 @@ use rohc_frame::CidKind;
 const LONGEST_ELEMENT: usize = 8;
 
 /// The kind of feedback for this word.
-fn kind_of(word: Word) -> LineKind
-    ensures { result ≡ kind_of word }
+fn kind_of_word(word: Word) -> LineKind
+    ensures { result ≡ kind_of_word word }
 {
     match word {
         Word::Ack => LineKind::Ack,
@@ -46,14 +46,14 @@ fn word_on(size: CidKind, cid: u16, element: &[u8]) -> Option<Word>
 
 /// The kind of an element for this CID.
 fn element_kind(cid: u16, element: &[u8]) -> LineKind
-    ensures { ((size : CidKind) × (word : Word) × IsElement cid element.now size word × (result ≡ kind_of word))
+    ensures { ((size : CidKind) × (word : Word) × IsElement cid element.now size word × (result ≡ kind_of_word word))
         ⊎ (result ≡ OtherFeedback) × ((size : CidKind) (word : Word) → ¬ IsElement cid element.now size word) }
 {
     if let Some(word) = word_on(CidKind::Small, cid, element) {
-        return kind_of(word);
+        return kind_of_word(word);
     }
     match word_on(CidKind::Large, cid, element) {
-        Some(word) => kind_of(word),
+        Some(word) => kind_of_word(word),
         None => LineKind::OtherFeedback,
     }
 }

@@ -5,7 +5,7 @@ ghost use Rattle.std.specs.Fmt.{decimal};
 ghost use Rattle.rohc_context.specs.Refusal.{name_of};
 ghost use Rattle.rohc_context.specs.declared.refusal.Refusal.{Refusal};
 ghost use Rattle.rohc_context.specs.declared.refusal.Refusal.TheVariants.{Empty};
-ghost use Rattle.rohc_totals.specs.Answer.{LinkSays, CallSays, Answer, OfLink, OfCall, IsLinkSays, IsCallSays, IsAnswer, link_text, call_text, spelling, link_kind, IsCallKind, Tells, IsNoAnswer, all_refusals};
+ghost use Rattle.rohc_totals.specs.Answer.{LinkSays, CallSays, Answer, OfLink, OfCall, IsLinkSays, IsCallSays, IsAnswer, link_says_text, call_text, spelling, link_kind, IsCallKind, TellsLine, IsNoAnswer, all_refusals};
 
 use crate::feedback::feedback_kind;
 use crate::field::{is_hex, read_field};
@@ -172,8 +172,8 @@ fn refusal_in(text: &[u8]) -> Option<Refusal>
 
 /// The kind of what is said of a link, behind ` - `.
 fn read_link_kind(text: &[u8]) -> Option<LineKind>
-    ensures says { IfSome result (λ kind. (says : LinkSays) × IsLinkSays says × (text.now ≡ link_text says) × (kind ≡ link_kind says)) }
-    ensures none { IfNone result ((says : LinkSays) → IsLinkSays says → text.now ≢ link_text says) }
+    ensures says { IfSome result (λ kind. (says : LinkSays) × IsLinkSays says × (text.now ≡ link_says_text says) × (kind ≡ link_kind says)) }
+    ensures none { IfNone result ((says : LinkSays) → IsLinkSays says → text.now ≢ link_says_text says) }
 {
     if let Some(hex) = after_relay(text) {
         if is_hex(hex) {
@@ -215,8 +215,8 @@ fn read_call_kind(cid: u16, text: &[u8]) -> Option<LineKind>
 
 /// What is told of this link, from what stands behind ` - `.
 fn read_of_link(link: u16, text: &[u8]) -> Option<AnswerLine>
-    ensures tells { IfSome result (Tells (decimal link ++ 32 ∷ 45 ∷ 32 ∷ text.now)) }
-    ensures none { IfNone result ((says : LinkSays) → IsLinkSays says → text.now ≢ link_text says) }
+    ensures tells { IfSome result (TellsLine (decimal link ++ 32 ∷ 45 ∷ 32 ∷ text.now)) }
+    ensures none { IfNone result ((says : LinkSays) → IsLinkSays says → text.now ≢ link_says_text says) }
 {
     let kind = read_link_kind(text)?;
     Some(AnswerLine {
@@ -228,7 +228,7 @@ fn read_of_link(link: u16, text: &[u8]) -> Option<AnswerLine>
 
 /// What is told of a call of this link, from its CID on.
 fn read_of_call(link: u16, text: &[u8]) -> Option<AnswerLine>
-    ensures tells { IfSome result (Tells (decimal link ++ 32 ∷ text.now)) }
+    ensures tells { IfSome result (TellsLine (decimal link ++ 32 ∷ text.now)) }
     ensures none { IfNone result ((cid : ℕ) (says : CallSays) → cid < 2 ^ 16 → IsCallSays says → text.now ≢ decimal cid ++ 32 ∷ call_text says) }
 {
     let (cid, text) = read_field(text)?;
@@ -242,7 +242,7 @@ fn read_of_call(link: u16, text: &[u8]) -> Option<AnswerLine>
 
 /// What a line of a link or of a call tells.
 fn read_numbered(line: &[u8]) -> Option<AnswerLine>
-    ensures tells { IfSome result (Tells line.now) }
+    ensures tells { IfSome result (TellsLine line.now) }
     ensures link { IfNone result ((link : ℕ) (says : LinkSays) → IsAnswer (OfLink link says) → line.now ≢ spelling (OfLink link says)) }
     ensures call { IfNone result ((link cid : ℕ) (says : CallSays) → IsAnswer (OfCall link cid says) → line.now ≢ spelling (OfCall link cid says)) }
 {
@@ -255,7 +255,7 @@ fn read_numbered(line: &[u8]) -> Option<AnswerLine>
 
 /// What a line that names no link tells, from its last word.
 fn read_unnumbered(name: &[u8]) -> Option<AnswerLine>
-    ensures tells { IfSome result (Tells (codes "- - refused " ++ name.now)) }
+    ensures tells { IfSome result (TellsLine (codes "- - refused " ++ name.now)) }
     ensures bad { IfNone result (name.now ≢ codes "BadLine") }
     ensures long { IfNone result (name.now ≢ codes "LongLine") }
 {
@@ -275,7 +275,7 @@ fn read_unnumbered(name: &[u8]) -> Option<AnswerLine>
 
 /// What an answer line tells. Returns `None` exactly if the line is the text of no answer.
 pub fn read_answer(line: &[u8]) -> Option<AnswerLine>
-    ensures tells { IfSome result (Tells line.now) }
+    ensures tells { IfSome result (TellsLine line.now) }
     ensures none { IfNone result (IsNoAnswer line.now) }
 {
     match after_script(line) {

@@ -2,9 +2,9 @@
 
 ghost use Rattle.std.specs.Prelude.{◌≡◌, ◌≢◌, ◌<◌, ◌≤◌, ℕ, List, [], ◌∷◌, ◌++◌, length, IfOk, IfSome, OnOk};
 ghost use Rattle.rohc_replay.specs.Script.{longest_line};
-ghost use Rattle.rohc_replay.specs.Stream.{IsKept};
+ghost use Rattle.rohc_replay.specs.Stream.{IsUnfinished};
 ghost use Rattle.rohc_totals.specs.Answer.{IsSaid};
-ghost use Rattle.rohc_totals.specs.Reading.{AreTotalsOf, Stands};
+ghost use Rattle.rohc_totals.specs.Reading.{AreTotalsOf, StandsInAnswers};
 
 use crate::kind::{AnswerLine, LineKind};
 use crate::line::read_answer;
@@ -54,7 +54,7 @@ pub(crate) struct Progress {
 /// What is told of a line of which this is kept.
 fn told_of(line: &[u8], long: bool) -> AnswerLine
     requires { length line.now ≤ longest_line }
-    ensures { (rest : List ℕ) → IsKept long line.now rest → IsSaid rest result }
+    ensures { (rest : List ℕ) → IsUnfinished long line.now rest → IsSaid rest result }
 {
     if long {
         return NOTHING;
@@ -68,7 +68,7 @@ fn told_of(line: &[u8], long: bool) -> AnswerLine
 impl Progress {
     /// Nothing was read.
     fn new(alloc: Global) -> Self
-        ensures { Stands [] result }
+        ensures { StandsInAnswers [] result }
     {
         Progress {
             totals: Totals::new(alloc),
@@ -81,7 +81,7 @@ impl Progress {
     fn end_line(&mut self) -> Result<(), AllocError>
         requires { length self.old.line.items ≤ longest_line }
         ensures short { OnOk result (length self.new.line.items ≤ longest_line) }
-        ensures stands { OnOk result ((seen : List ℕ) → Stands seen self.old → Stands (seen ++ 10 ∷ []) self.new) }
+        ensures stands { OnOk result ((seen : List ℕ) → StandsInAnswers seen self.old → StandsInAnswers (seen ++ 10 ∷ []) self.new) }
     {
         let told = told_of(&self.line, self.long);
         self.totals.add(&told)?;
@@ -95,7 +95,7 @@ impl Progress {
         requires other { octet ≢ 10 }
         requires room { length self.old.line.items ≤ longest_line }
         ensures short { OnOk result (length self.new.line.items ≤ longest_line) }
-        ensures stands { OnOk result ((seen : List ℕ) → Stands seen self.old → Stands (seen ++ octet ∷ []) self.new) }
+        ensures stands { OnOk result ((seen : List ℕ) → StandsInAnswers seen self.old → StandsInAnswers (seen ++ octet ∷ []) self.new) }
     {
         if self.long {
             return Ok(());
@@ -113,7 +113,7 @@ impl Progress {
     fn take(&mut self, octet: u8) -> Result<(), AllocError>
         requires { length self.old.line.items ≤ longest_line }
         ensures short { OnOk result (length self.new.line.items ≤ longest_line) }
-        ensures stands { OnOk result ((seen : List ℕ) → Stands seen self.old → Stands (seen ++ octet ∷ []) self.new) }
+        ensures stands { OnOk result ((seen : List ℕ) → StandsInAnswers seen self.old → StandsInAnswers (seen ++ octet ∷ []) self.new) }
     {
         if octet == b'\n' {
             self.end_line()
@@ -126,7 +126,7 @@ impl Progress {
     fn take_all(&mut self, octets: &[u8]) -> Result<(), AllocError>
         requires { length self.old.line.items ≤ longest_line }
         ensures short { OnOk result (length self.new.line.items ≤ longest_line) }
-        ensures stands { OnOk result ((seen : List ℕ) → Stands seen self.old → Stands (seen ++ octets.now) self.new) }
+        ensures stands { OnOk result ((seen : List ℕ) → StandsInAnswers seen self.old → StandsInAnswers (seen ++ octets.now) self.new) }
     {
         for octet in octets {
             self.take(*octet)?;
@@ -137,7 +137,7 @@ impl Progress {
     /// Takes the last line, if it ends without a newline.
     fn end(&mut self) -> Result<(), AllocError>
         requires { length self.old.line.items ≤ longest_line }
-        ensures { OnOk result ((seen : List ℕ) → Stands seen self.old → AreTotalsOf seen self.new.totals) }
+        ensures { OnOk result ((seen : List ℕ) → StandsInAnswers seen self.old → AreTotalsOf seen self.new.totals) }
     {
         if self.long || !self.line.is_empty() {
             let told = told_of(&self.line, self.long);

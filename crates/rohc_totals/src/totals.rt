@@ -77,7 +77,7 @@ impl LinkTotals {
 impl Totals {
     ghost use Rattle.std.specs.Prelude.{◌≡◌, ◌≢◌, ℕ, OnOk, None, List, ◌++◌, ◌∷◌, []};
     ghost use Rattle.rohc_totals.specs.Counted.{count_in, count_after};
-    ghost use Rattle.rohc_totals.specs.Steps.{link_in, LinkStepsTo, TotalsStep};
+    ghost use Rattle.rohc_totals.specs.Steps.{link_totals, LinkStepsTo, TotalsStep};
     ghost use Rattle.rohc_totals.specs.Totals.{AreTotals};
     ghost use Rattle.rohc_totals.specs.declared.kind.AnswerLine.{AnswerLine};
 
@@ -118,8 +118,8 @@ impl Totals {
 
     /// Counts a line of this link.
     fn add_link(&mut self, link: u16, line: &AnswerLine) -> Result<(), AllocError>
-        ensures own { OnOk result (LinkStepsTo line.now self.old.lines (link_in self.old link) (link_in self.new link)) }
-        ensures others { OnOk result ((l : ℕ) → l ≢ link → link_in self.new l ≡ link_in self.old l) }
+        ensures own { OnOk result (LinkStepsTo line.now self.old.lines (link_totals self.old link) (link_totals self.new link)) }
+        ensures others { OnOk result ((l : ℕ) → l ≢ link → link_totals self.new l ≡ link_totals self.old l) }
         ensures rest { (self.new.lines ≡ self.old.lines) × (self.new.counts ≡ self.old.counts) × (self.new.strange ≡ self.old.strange) }
     {
         let number = self.lines;

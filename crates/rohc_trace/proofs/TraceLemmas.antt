@@ -10,13 +10,13 @@ use Rattle.rohc_links.specs.Limits.{counted}
 use Rattle.rohc_replay.specs.Script.{Line, Good, Bad, Long, IsLine, AreLines, longest_line, lines_of}
 use Rattle.rohc_replay.specs.AnswerLines.{text_of}
 use Rattle.rohc_replay.specs.Lines.{has_newline}
-use Rattle.rohc_replay.specs.Run.{Runs, RunsLine, Change, change}
+use Rattle.rohc_replay.specs.Run.{Runs, RunsLine, ReplayChange, change}
 use Rattle.rohc_replay.proofs.SplitLemmas.{Splits-more, Splits-newline, AreLines-push, lines_of-splits, lines_of-line, last_line, both_false, neither, has_newline-append}
 use Rattle.rohc_replay.proofs.StreamLemmas.{Runs-push}
-use Rattle.rohc_trace.specs.Head.{head_text}
+use Rattle.rohc_trace.specs.Head.{numbered_head}
 use Rattle.rohc_trace.specs.Lines.{RunsText}
 use Rattle.rohc_trace.specs.declared.tracer.Tracer.{Tracer}
-use Rattle.rohc_trace.specs.Trace.{front_of, traced, Traces, Stands}
+use Rattle.rohc_trace.specs.Trace.{front_of, traced, Traces, StandsInTrace}
 
 -- ---- the front of a line
 
@@ -65,30 +65,30 @@ same_length (f ∷ fs) [] answers old new are run = absurd are
 
 traced-push : (n : ℕ) (finished : List (List ℕ)) (answers : List (List (List ℕ))) (octets : List ℕ) (more : List (List ℕ)) →
     length finished ≡ length answers →
-    traced n (finished ++ octets ∷ []) (answers ++ more ∷ []) ≡ traced n finished answers ++ (head_text (counted 0 (n + length finished + 1)) (front_of octets) ++ text_of more)
+    traced n (finished ++ octets ∷ []) (answers ++ more ∷ []) ≡ traced n finished answers ++ (numbered_head (counted 0 (n + length finished + 1)) (front_of octets) ++ text_of more)
 traced-push n [] [] octets more same =
     let number : n + 1 ≡ n + 0 + 1 = omega arith in
-    append-nil (head_text (counted 0 (n + 1)) (front_of octets) ++ text_of more) ∙ ap (λ m. head_text (counted 0 m) (front_of octets) ++ text_of more) number
+    append-nil (numbered_head (counted 0 (n + 1)) (front_of octets) ++ text_of more) ∙ ap (λ m. numbered_head (counted 0 m) (front_of octets) ++ text_of more) number
 traced-push n (f ∷ fs) (a ∷ more_answers) octets more same =
     let number : n + 1 + length fs + 1 ≡ n + length (f ∷ fs) + 1 = omega arith in
-    let front = head_text (counted 0 (n + 1)) (front_of f) ++ text_of a in
+    let front = numbered_head (counted 0 (n + 1)) (front_of f) ++ text_of a in
     ap (λ t. front ++ t) (traced-push (n + 1) fs more_answers octets more (omega (arith, same))
-    ∙ ap (λ m. traced (n + 1) fs more_answers ++ (head_text (counted 0 m) (front_of octets) ++ text_of more)) number)
-    ∙ sym (append_assoc front (traced (n + 1) fs more_answers) (head_text (counted 0 (n + length (f ∷ fs) + 1)) (front_of octets) ++ text_of more))
+    ∙ ap (λ m. traced (n + 1) fs more_answers ++ (numbered_head (counted 0 m) (front_of octets) ++ text_of more)) number)
+    ∙ sym (append_assoc front (traced (n + 1) fs more_answers) (numbered_head (counted 0 (n + length (f ∷ fs) + 1)) (front_of octets) ++ text_of more))
 traced-push n [] (a ∷ more_answers) octets more same = absurd (omega (arith, same))
 traced-push n (f ∷ fs) [] octets more same = absurd (omega (arith, same))
 
 -- ---- the run of one line
 
 -- a line that was run
-pub record RunsOne (c : Change) (octets : List ℕ) : Type 0 where
+pub record RunsOne (c : ReplayChange) (octets : List ℕ) : Type 0 where
   pub line : Line
   pub answers : List (List ℕ)
   pub is_line : IsLine octets line
   pub turns : RunsLine c.before line answers c.after
   pub written : Appends c.held c.holding (text_of answers)
 
-one_of : (c : Change) (octets : List ℕ) (lines : List Line) (answers : List (List (List ℕ))) → AreLines (octets ∷ []) lines →
+one_of : (c : ReplayChange) (octets : List ℕ) (lines : List Line) (answers : List (List (List ℕ))) → AreLines (octets ∷ []) lines →
     Runs c.before lines answers c.after → Appends c.held c.holding (flat_map text_of answers) → RunsOne c octets
 one_of c octets (l ∷ []) (a ∷ []) are run written = record {
   line = l;
@@ -102,7 +102,7 @@ one_of c octets (l ∷ m ∷ ms) answers are run written = absurd are.1
 one_of c octets (l ∷ []) [] are run written = absurd run
 one_of c octets (l ∷ []) (a ∷ b ∷ bs) are run written = absurd run.2
 
-pub one_line : (c : Change) (octets : List ℕ) → has_newline octets ≡ false → RunsText c (octets ++ 10 ∷ []) → RunsOne c octets
+pub one_line : (c : ReplayChange) (octets : List ℕ) → has_newline octets ≡ false → RunsText c (octets ++ 10 ∷ []) → RunsOne c octets
 one_line c octets none r =
     let lone : lines_of (octets ++ 10 ∷ []) ≡ octets ∷ [] = ap lines_of (sym (append-nil (octets ++ 10 ∷ []))) ∙ lines_of-line octets [] none in
     one_of c octets r.lines r.answers (subst (λ ls. AreLines ls r.lines) lone r.script) r.run r.written
@@ -110,8 +110,8 @@ one_line c octets none r =
 -- ---- where the trace stands
 
 -- another octet is kept, or not any more
-pub stands_kept : (c : Change) (seen : List ℕ) (octet : ℕ) (t u : Tracer) → (octet ≡ 10 → ⊥) → length t.line.items ≤ longest_line →
-    u.lines ≡ t.lines → u.line.items ≡ t.line.items ++ octet ∷ [] → Stands c seen t → Stands c (seen ++ octet ∷ []) u
+pub stands_kept : (c : ReplayChange) (seen : List ℕ) (octet : ℕ) (t u : Tracer) → (octet ≡ 10 → ⊥) → length t.line.items ≤ longest_line →
+    u.lines ≡ t.lines → u.line.items ≡ t.line.items ++ octet ∷ [] → StandsInTrace c seen t → StandsInTrace c (seen ++ octet ∷ []) u
 stands_kept c seen octet t u other room number kept s = record {
   finished = s.finished;
   rest = s.rest ++ octet ∷ [];
@@ -125,8 +125,8 @@ stands_kept c seen octet t u other room number kept s = record {
   written = s.written;
 }
 
-pub stands_full : (c : Change) (seen : List ℕ) (octet : ℕ) (t : Tracer) → (octet ≡ 10 → ⊥) → longest_line < length t.line.items →
-    Stands c seen t → Stands c (seen ++ octet ∷ []) t
+pub stands_full : (c : ReplayChange) (seen : List ℕ) (octet : ℕ) (t : Tracer) → (octet ≡ 10 → ⊥) → longest_line < length t.line.items →
+    StandsInTrace c seen t → StandsInTrace c (seen ++ octet ∷ []) t
 stands_full c seen octet t other full s = record {
   finished = s.finished;
   rest = s.rest ++ octet ∷ [];
@@ -142,26 +142,26 @@ stands_full c seen octet t other full s = record {
 
 -- a line was shown and run
 traced_one : (first now new : Concentrator) (held holding shown after : Option (List ℕ)) (seen : List ℕ) (t : Tracer) (number : ℕ)
-    (s : Stands (change first held now holding) seen t) → number ≡ counted t.lines 1 → Appends holding shown (head_text number t.line.items) →
+    (s : StandsInTrace (change first held now holding) seen t) → number ≡ counted t.lines 1 → Appends holding shown (numbered_head number t.line.items) →
     (one : RunsOne (change now shown new after) t.line.items) →
     Appends held after (traced 0 (s.finished ++ s.rest ∷ []) (s.answers ++ one.answers ∷ []))
 traced_one first now new held holding shown after seen t number s is head one =
     let count : number ≡ counted 0 (0 + length s.finished + 1) = let n = s.number in omega (arith, is, n) in
-    let shows : head_text number t.line.items ≡ head_text (counted 0 (0 + length s.finished + 1)) (front_of s.rest) = rw (count, s.is_front) refl in
-    let line = Appends-trans holding shown after (head_text number t.line.items) (text_of one.answers) head one.written in
+    let shows : numbered_head number t.line.items ≡ numbered_head (counted 0 (0 + length s.finished + 1)) (front_of s.rest) = rw (count, s.is_front) refl in
+    let line = Appends-trans holding shown after (numbered_head number t.line.items) (text_of one.answers) head one.written in
     subst (λ (text : List ℕ). Appends held after text)
     (ap (λ x. traced 0 s.finished s.answers ++ (x ++ text_of one.answers)) shows
     ∙ sym (traced-push 0 s.finished s.answers s.rest one.answers (same_length s.finished s.lines s.answers first now s.are_lines s.run)))
-    (Appends-trans held holding after (traced 0 s.finished s.answers) (head_text number t.line.items ++ text_of one.answers) s.written line)
+    (Appends-trans held holding after (traced 0 s.finished s.answers) (numbered_head number t.line.items ++ text_of one.answers) s.written line)
 
-rest_none : (first now : Concentrator) (held holding : Option (List ℕ)) (seen : List ℕ) (t : Tracer) → Stands (change first held now holding) seen t → has_newline t.line.items ≡ false
+rest_none : (first now : Concentrator) (held holding : Option (List ℕ)) (seen : List ℕ) (t : Tracer) → StandsInTrace (change first held now holding) seen t → has_newline t.line.items ≡ false
 rest_none first now held holding seen t s = ap has_newline s.is_front ∙ front_none s.rest s.splits.unfinished
 
 -- a newline ends the line
 pub stands_newline : (first now new : Concentrator) (held holding shown after : Option (List ℕ)) (seen : List ℕ) (t u : Tracer) →
-    u.lines ≡ counted t.lines 1 → Appends holding shown (head_text u.lines t.line.items) →
+    u.lines ≡ counted t.lines 1 → Appends holding shown (numbered_head u.lines t.line.items) →
     RunsText (change now shown new after) (t.line.items ++ 10 ∷ []) → u.line.items ≡ [] →
-    Stands (change first held now holding) seen t → Stands (change first held new after) (seen ++ 10 ∷ []) u
+    StandsInTrace (change first held now holding) seen t → StandsInTrace (change first held new after) (seen ++ 10 ∷ []) u
 stands_newline first now new held holding shown after seen t u is head ran empty s =
     let one = one_line (change now shown new after) t.line.items (rest_none first now held holding seen t s) ran in
     record {
@@ -183,9 +183,9 @@ last_some (o ∷ os) some = refl
 
 -- the last line ends without a newline
 pub stands_end : (first now new : Concentrator) (held holding shown after : Option (List ℕ)) (seen : List ℕ) (t : Tracer) (number : ℕ) →
-    number ≡ counted t.lines 1 → Appends holding shown (head_text number t.line.items) →
+    number ≡ counted t.lines 1 → Appends holding shown (numbered_head number t.line.items) →
     RunsText (change now shown new after) (t.line.items ++ 10 ∷ []) → 0 < length t.line.items →
-    Stands (change first held now holding) seen t → Traces (change first held new after) seen
+    StandsInTrace (change first held now holding) seen t → Traces (change first held new after) seen
 stands_end first now new held holding shown after seen t number is head ran some s =
     let one = one_line (change now shown new after) t.line.items (rest_none first now held holding seen t s) ran in
     let size = length-take (longest_line + 1) s.rest in
@@ -201,7 +201,7 @@ stands_end first now new held holding shown after seen t number is head ran some
     }
 
 -- nothing is left
-pub stands_whole : (c : Change) (seen : List ℕ) (t : Tracer) → length t.line.items ≡ 0 → Stands c seen t → Traces c seen
+pub stands_whole : (c : ReplayChange) (seen : List ℕ) (t : Tracer) → length t.line.items ≡ 0 → StandsInTrace c seen t → Traces c seen
 stands_whole c seen t none s =
     let size = length-take (longest_line + 1) s.rest in
     let front : length (front_of s.rest) ≡ 0 = subst (λ (k : List ℕ). length k ≡ 0) s.is_front none in
@@ -216,7 +216,7 @@ stands_whole c seen t none s =
     }
 
 -- before anything is read
-pub stands_first : (first : Concentrator) (held : Option (List ℕ)) (t : Tracer) → t.lines ≡ 0 → t.line.items ≡ [] → Stands (change first held first held) [] t
+pub stands_first : (first : Concentrator) (held : Option (List ℕ)) (t : Tracer) → t.lines ≡ 0 → t.line.items ≡ [] → StandsInTrace (change first held first held) [] t
 stands_first first held t none empty = record {
   finished = [];
   rest = [];

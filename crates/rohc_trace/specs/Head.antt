@@ -1,4 +1,4 @@
--- What is shown of a script's line. Words: shown_octet, shown; head_text.
+-- What is shown of a script's line. Words: shown_octet, shown; numbered_head.
 use Rattle.std.specs.Prelude.{ℕ, List, [], ◌∷◌, ◌++◌, length, take, ◌&&◌, nat_le, nat_lt, if◌then◌else◌, codes}
 use Rattle.std.specs.List.{flat_map}
 use Rattle.std.specs.Fmt.{decimal}
@@ -16,5 +16,5 @@ shown octets =
     else flat_map shown_octet octets
 
 -- the number of a line, a space, what is shown of it, and a newline
-abbrev pub head_text : ℕ → List ℕ → List ℕ
-head_text number octets = decimal number ++ codes " " ++ shown octets ++ codes "\n"
+abbrev pub numbered_head : ℕ → List ℕ → List ℕ
+numbered_head number octets = decimal number ++ codes " " ++ shown octets ++ codes "\n"

@@ -2,7 +2,7 @@
 
 ghost use Rattle.std.specs.Prelude.{◌≡◌, ◌++◌, OnOk, IfOk};
 ghost use Rattle.std.specs.List.{flat_map};
-ghost use Rattle.rohc_trace.specs.Head.{shown_octet, shown, head_text};
+ghost use Rattle.rohc_trace.specs.Head.{shown_octet, shown, numbered_head};
 
 use hex::encode_to_slice;
 use itoa::Buffer;
@@ -51,8 +51,8 @@ fn push_front(text: &mut Vec<u8>, line: &[u8]) -> Result<(), AllocError>
 }
 
 /// The number of a line, a space, and what is shown of it.
-pub(crate) fn head_text(alloc: Global, number: u64, line: &[u8]) -> Result<Vec<u8>, AllocError>
-    ensures { IfOk result (λ text. text.items ≡ head_text number line.now) }
+pub(crate) fn numbered_head(alloc: Global, number: u64, line: &[u8]) -> Result<Vec<u8>, AllocError>
+    ensures { IfOk result (λ text. text.items ≡ numbered_head number line.now) }
 {
     let mut buffer = Buffer::new();
     let mut text = Vec::from_slice(alloc, buffer.format(number).as_bytes())?;

@@ -5,10 +5,10 @@ ghost use Rattle.rohc_concentrator.specs.declared.concentrator.Concentrator.{Con
 ghost use Rattle.rohc_links.specs.Limits.{counted};
 ghost use Rattle.rohc_replay.specs.Run.{change};
 ghost use Rattle.rohc_trace.specs.Lines.{RunsText, ShowsAndRuns};
-ghost use Rattle.rohc_trace.specs.Trace.{Traces, Stands};
+ghost use Rattle.rohc_trace.specs.Trace.{Traces, StandsInTrace};
 
 use crate::fault::TraceFault;
-use crate::head::head_text;
+use crate::head::numbered_head;
 use crate::source::Source;
 use rohc_concentrator::Concentrator;
 use rohc_links::zeros;
@@ -75,7 +75,7 @@ impl Tracer {
         ensures ran { OnOk result (ShowsAndRuns self.old.line.items self.new.lines concentrator.old (W.contents writer.old) concentrator.new (W.contents writer.new)) }
     {
         self.lines = self.lines.saturating_add(1);
-        let Ok(head) = head_text(self.alloc, self.lines, &self.line) else {
+        let Ok(head) = numbered_head(self.alloc, self.lines, &self.line) else {
             return Err(TraceFault::NoMemory);
         };
         if writer.write_all(&head).is_err() {
@@ -94,8 +94,8 @@ impl Tracer {
         writer: &mut W,
     ) -> Result<(), TraceFault>
         ensures { OnOk result ((first : State) (held : Option (List ℕ)) (seen : List ℕ) →
-            Stands (change first held concentrator.old (W.contents writer.old)) seen self.old →
-            Stands (change first held concentrator.new (W.contents writer.new)) (seen ++ 10 ∷ []) self.new) }
+            StandsInTrace (change first held concentrator.old (W.contents writer.old)) seen self.old →
+            StandsInTrace (change first held concentrator.new (W.contents writer.new)) (seen ++ 10 ∷ []) self.new) }
     {
         self.run_kept(concentrator, writer)?;
         self.line.clear();
@@ -106,8 +106,8 @@ impl Tracer {
     fn keep(&mut self, octet: u8) -> Result<(), TraceFault>
         requires { octet ≢ 10 }
         ensures { OnOk result ((first : State) (held : Option (List ℕ)) (now : State) (holding : Option (List ℕ)) (seen : List ℕ) →
-            Stands (change first held now holding) seen self.old →
-            Stands (change first held now holding) (seen ++ octet ∷ []) self.new) }
+            StandsInTrace (change first held now holding) seen self.old →
+            StandsInTrace (change first held now holding) (seen ++ octet ∷ []) self.new) }
     {
         if self.line.len() > LONGEST_LINE {
             return Ok(());
@@ -126,8 +126,8 @@ impl Tracer {
         octet: u8,
     ) -> Result<(), TraceFault>
         ensures { OnOk result ((first : State) (held : Option (List ℕ)) (seen : List ℕ) →
-            Stands (change first held concentrator.old (W.contents writer.old)) seen self.old →
-            Stands (change first held concentrator.new (W.contents writer.new)) (seen ++ octet ∷ []) self.new) }
+            StandsInTrace (change first held concentrator.old (W.contents writer.old)) seen self.old →
+            StandsInTrace (change first held concentrator.new (W.contents writer.new)) (seen ++ octet ∷ []) self.new) }
     {
         if octet == b'\n' {
             self.end_line(concentrator, writer)
@@ -144,8 +144,8 @@ impl Tracer {
         octets: &[u8],
     ) -> Result<(), TraceFault>
         ensures { OnOk result ((first : State) (held : Option (List ℕ)) (seen : List ℕ) →
-            Stands (change first held concentrator.old (W.contents writer.old)) seen self.old →
-            Stands (change first held concentrator.new (W.contents writer.new)) (seen ++ octets.now) self.new) }
+            StandsInTrace (change first held concentrator.old (W.contents writer.old)) seen self.old →
+            StandsInTrace (change first held concentrator.new (W.contents writer.new)) (seen ++ octets.now) self.new) }
     {
         for octet in octets {
             self.take(concentrator, writer, *octet)?;
@@ -160,7 +160,7 @@ impl Tracer {
         writer: &mut W,
     ) -> Result<(), TraceFault>
         ensures { OnOk result ((first : State) (held : Option (List ℕ)) (seen : List ℕ) →
-            Stands (change first held concentrator.old (W.contents writer.old)) seen self.old →
+            StandsInTrace (change first held concentrator.old (W.contents writer.old)) seen self.old →
             Traces (change first held concentrator.new (W.contents writer.new)) seen) }
     {
         if self.line.is_empty() {

@@ -1,7 +1,7 @@
 use Rattle.std.proofs.Common.{◌≡◌, ◌<◌, [], length, arith, sym, eqb-true}
 use Rattle.std.proofs.lemmas.Bool.{eqb-false}
 use Rattle.std.proofs.lemmas.List.{nil_from_length}
-use Rattle.rohc_replay.proofs.StreamLemmas.{end_after_turn, end_after_long, last_after_turn, last_after_long, Ends-empty}
+use Rattle.rohc_replay.proofs.StreamLemmas.{end_after_turn, end_after_long, last_after_turn, last_after_long, EndsWithText-empty}
 use Rattle.rohc_replay.proofs.stream.end_script.Goals as goal
 
 pub returns-then-long : goal.returns-then-long
@@ -13,7 +13,7 @@ returns-then-long g c = rw c.if-long.true (record {
 pub returns-then-is_empty : goal.returns-then-is_empty
 returns-then-is_empty g c =
     let none : c.args.line.now ≡ [] = nil_from_length _ (eqb-true _ _ (sym c.if-is_empty.ensures)) in
-    rw (c.if-long.false, none) (record { ends = λ first held seen. Ends-empty first held seen _ _ _; stops = tt })
+    rw (c.if-long.false, none) (record { ends = λ first held seen. EndsWithText-empty first held seen _ _ _; stops = tt })
 
 pub returns-else-is_empty : goal.returns-else-is_empty
 returns-else-is_empty g c =

@@ -3,7 +3,7 @@ use Rattle.std.proofs.lemmas.List.{get_or-drop}
 use Rattle.std.proofs.lemmas.Result.{err_from_is_err_and}
 use Rattle.rohc_replay.specs.Lines.{has_newline}
 use Rattle.rohc_replay.proofs.RangeLemmas.{range-ahead, range-end}
-use Rattle.rohc_replay.proofs.StreamLemmas.{seen_parts, Stands-along, Stands-after, Stands-long, Stands-short, Stands-end}
+use Rattle.rohc_replay.proofs.StreamLemmas.{seen_parts, StandsInScript-along, StandsInScript-after, StandsInScript-long, StandsInScript-short, StandsInScript-end}
 use Rattle.rohc_replay.proofs.stream.run_lines.Goals as goal
 use Rattle.rohc_replay.proofs.stream.run_lines.Goals.{then-long-via-then-long, then-long-via-else-long+then-len-gt-LONGEST_LINE}
 
@@ -23,9 +23,9 @@ loop-ahead-preserved g c =
       later = omega (arith, before.later);
       within = omega arith;
       stands = λ first held seen s.
-          Stands-after first held seen octets c.args.front.len (from + ahead) _ _ _ (omega (arith, before.later)) inside newline
+          StandsInScript-after first held seen octets c.args.front.len (from + ahead) _ _ _ (omega (arith, before.later)) inside newline
           (c.in_ok-end_line.ensures.stands first held (seen ++ slice_range octets c.args.front.len (from + ahead))
-          (Stands-along first held seen octets c.args.front.len c.loop-ahead.start from (from + ahead) _ _ _ _ before.begun before.later (omega arith) none (before.stands first held seen s)));
+          (StandsInScript-along first held seen octets c.args.front.len c.loop-ahead.start from (from + ahead) _ _ _ _ before.begun before.later (omega arith) none (before.stands first held seen s)));
     }
 
 pub returns-in_err-end_line-clause-stops : goal.returns-in_err-end_line-clause-stops
@@ -45,25 +45,25 @@ returns-in_err-end_line-clause-stops g c =
       drop (from + ahead + 1) octets,
       seen_parts seen octets c.args.front.len (from + ahead) (omega (arith, before.later)) inside newline,
       c.in_err-end_line.ensures.stops first held (seen ++ slice_range octets c.args.front.len (from + ahead))
-          (Stands-along first held seen octets c.args.front.len c.loop-ahead.start from (from + ahead) _ _ _ _ before.begun before.later (omega arith) none (before.stands first held seen s)),
+          (StandsInScript-along first held seen octets c.args.front.len c.loop-ahead.start from (from + ahead) _ _ _ _ before.begun before.later (omega arith) none (before.stands first held seen s)),
     ))
 
 pub returns-then-long-clause-stands : goal.returns-then-long-clause-stands
 returns-then-long-clause-stands g c = λ first held seen s.
     let octets = c.args.octets.now in
     let before = c.loop-ahead.invariant in
-    Stands-long first held _ (drop c.loop-ahead.start octets) _ c.loop-ahead.long _ _ _
+    StandsInScript-long first held _ (drop c.loop-ahead.start octets) _ c.loop-ahead.long _ _ _
     (elim c.then-long.branch [
       | then-long-via-then-long w ↦ inl w.if-long.true
       | then-long-via-else-long+then-len-gt-LONGEST_LINE w ↦ inr (omega (arith, length-drop c.loop-ahead.start octets))
     ])
-    (Stands-end first held seen octets c.args.front.len c.loop-ahead.start _ _ _ _
-    (Stands-along first held seen octets c.args.front.len c.loop-ahead.start c.loop-ahead.from (length octets) _ _ _ _ before.begun before.later before.within c.in_default.ensures.none (before.stands first held seen s)))
+    (StandsInScript-end first held seen octets c.args.front.len c.loop-ahead.start _ _ _ _
+    (StandsInScript-along first held seen octets c.args.front.len c.loop-ahead.start c.loop-ahead.from (length octets) _ _ _ _ before.begun before.later before.within c.in_default.ensures.none (before.stands first held seen s)))
 
 pub returns-clause-stands : goal.returns-clause-stands
 returns-clause-stands g c = λ first held seen s.
     let octets = c.args.octets.now in
     let before = c.loop-ahead.invariant in
-    Stands-short first held _ octets c.loop-ahead.start c.loop-ahead.long _ _ _ (omega (arith, before.begun, before.within)) c.if-long.false
-    (Stands-end first held seen octets c.args.front.len c.loop-ahead.start _ _ _ _
-    (Stands-along first held seen octets c.args.front.len c.loop-ahead.start c.loop-ahead.from (length octets) _ _ _ _ before.begun before.later before.within c.in_default.ensures.none (before.stands first held seen s)))
+    StandsInScript-short first held _ octets c.loop-ahead.start c.loop-ahead.long _ _ _ (omega (arith, before.begun, before.within)) c.if-long.false
+    (StandsInScript-end first held seen octets c.args.front.len c.loop-ahead.start _ _ _ _
+    (StandsInScript-along first held seen octets c.args.front.len c.loop-ahead.start c.loop-ahead.from (length octets) _ _ _ _ before.begun before.later before.within c.in_default.ensures.none (before.stands first held seen s)))

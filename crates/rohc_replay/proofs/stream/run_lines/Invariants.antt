@@ -1,7 +1,7 @@
 use Rattle.std.proofs.Common.{ℕ, ◌-◌, ◌≤◌, List, ◌++◌, length, take, Option, slice_range}
 use Rattle.rohc_concentrator.specs.declared.concentrator.Concentrator.{Concentrator}
 use Rattle.rohc_replay.specs.Run.{change}
-use Rattle.rohc_replay.specs.Stream.{Stands}
+use Rattle.rohc_replay.specs.Stream.{StandsInScript}
 use Rattle.rohc_replay.proofs.stream.run_lines.Given as goal
 
 -- the lines that ended before `from` were run, and the current one begins at `start`
@@ -11,8 +11,8 @@ invariant-loop-ahead g l = record {
   later : l.fn.front.len ≤ l.from;
   within : l.from ≤ length l.octets;
   stands : (first : Concentrator) (held : Option (List ℕ)) (seen : List ℕ) →
-      Stands (change first held l.fn.concentrator (g.W.Write.contents l.fn.writer)) seen (take l.fn.front.len l.octets) l.fn.front.long l.fn.counts →
-      Stands (change first held l.concentrator (g.W.Write.contents l.writer)) (seen ++ slice_range l.octets l.fn.front.len l.from) (slice_range l.octets l.start l.from) l.long l.counts;
+      StandsInScript (change first held l.fn.concentrator (g.W.Write.contents l.fn.writer)) seen (take l.fn.front.len l.octets) l.fn.front.long l.fn.counts →
+      StandsInScript (change first held l.concentrator (g.W.Write.contents l.writer)) (seen ++ slice_range l.octets l.fn.front.len l.from) (slice_range l.octets l.start l.from) l.long l.counts;
 }
 
 abbrev pub decreases-loop-ahead : goal.decreases-loop-ahead

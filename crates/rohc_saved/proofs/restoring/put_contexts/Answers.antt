@@ -2,7 +2,7 @@ use Rattle.std.proofs.Common.{◌≡◌, ◌∷◌, ◌++◌, ◌∙◌, ℕ, Li
 use Rattle.rohc_context.specs.Record.{Record, record_of}
 use Rattle.rohc_context.specs.declared.record.Context.{Context}
 use Rattle.rohc_saved.specs.Form.{contexts_in}
-use Rattle.rohc_saved.specs.Restoring.{own, up_to, Adds}
+use Rattle.rohc_saved.specs.Restoring.{own, up_to, AddsContexts}
 use Rattle.rohc_saved.proofs.FormLemmas.{parts_more}
 use Rattle.rohc_saved.proofs.RestoringLemmas.{own_adds, settings_more}
 use Rattle.rohc_saved.proofs.restoring.put_contexts.Goals as goal
@@ -24,4 +24,4 @@ pub returns-clause-adds : goal.returns-clause-adds
 returns-clause-adds c =
     let seen : List (ℕ × Context) → List (ℕ × Record) = map (λ (e : ℕ × Context). (e.0, record_of e.1)) in
     let all : c.loop-cid.invariant.done ≡ contexts_in c.args.contexts.now = sym (append-nil c.loop-cid.invariant.done) ∙ ap (λ es. c.loop-cid.invariant.done ++ seen es) (sym c.in-None.ensures.steps.0) ∙ c.loop-cid.invariant.parts in
-    subst (λ cs. Adds c.args.concentrator.now c.loop-cid.concentrator (own c.args.number (up_to (Some c.args.greatest) cs))) all c.loop-cid.invariant.adds
+    subst (λ cs. AddsContexts c.args.concentrator.now c.loop-cid.concentrator (own c.args.number (up_to (Some c.args.greatest) cs))) all c.loop-cid.invariant.adds

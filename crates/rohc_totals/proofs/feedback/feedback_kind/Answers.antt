@@ -5,11 +5,11 @@ use Rattle.rohc_frame.specs.declared.header.CidKind.{CidKind}
 use Rattle.rohc_feedback.specs.declared.meaning.Word.{Word}
 use Rattle.rohc_totals.specs.declared.kind.LineKind.{LineKind}
 use Rattle.rohc_totals.specs.declared.kind.LineKind.TheVariants.{OtherFeedback}
-use Rattle.rohc_totals.specs.Answer.{IsElement, IsFeedback, kind_of}
+use Rattle.rohc_totals.specs.Answer.{IsElement, IsFeedback, kind_of_word}
 use Rattle.rohc_totals.proofs.feedback.feedback_kind.Goals as goal
 
 told : (cid : ℕ) (hex octets : List ℕ) (kind : LineKind) → decode_of hex ≡ Ok octets →
-    ((size : CidKind) × (word : Word) × IsElement cid octets size word × (kind ≡ kind_of word))
+    ((size : CidKind) × (word : Word) × IsElement cid octets size word × (kind ≡ kind_of_word word))
     ⊎ (kind ≡ OtherFeedback) × ((size : CidKind) (word : Word) → IsElement cid octets size word → ⊥) → IsFeedback cid hex kind
 told cid hex octets kind read (inl is) = inl (octets, is.0, is.1, read, is.2, is.3)
 told cid hex octets kind read (inr none) = inr (

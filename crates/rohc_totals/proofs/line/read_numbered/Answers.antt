@@ -1,7 +1,7 @@
 use Rattle.std.proofs.Common.{List, ℕ, IfSome, ap, sym, ◌∙◌, ◌++◌, ◌∷◌, subst}
 use Rattle.std.specs.Fmt.{decimal}
 use Rattle.rohc_replay.proofs.PairLemmas.{pair_spelled}
-use Rattle.rohc_totals.specs.Answer.{call_text, Tells}
+use Rattle.rohc_totals.specs.Answer.{call_text, TellsLine}
 use Rattle.rohc_totals.proofs.LineLemmas.{link_of_link, link_of_call, call_of_link, call_of_call}
 use Rattle.rohc_totals.proofs.line.read_numbered.Goals as goal
 
@@ -17,7 +17,7 @@ returns-in-Some c =
     let r = c.read_of_link.result in
     let whole = field.read ∙ ap (λ t. decimal c.in_ok-link.link ++ 32 ∷ t) dash in
     record {
-      tells = subst (λ (t : List ℕ). IfSome r (Tells t)) (sym whole) told.tells;
+      tells = subst (λ (t : List ℕ). IfSome r (TellsLine t)) (sym whole) told.tells;
       link = link_of_link c.args.line.now c.in_ok-link.text.now c.in-Some.text.now c.in_ok-link.link r field.fits field.read dash told.none;
       call = link_of_call c.args.line.now c.in_ok-link.text.now c.in-Some.text.now c.in_ok-link.link r _ field.fits field.read dash told.none;
     }
@@ -28,7 +28,7 @@ returns-in-None c =
     let told = c.read_of_call.ensures in
     let r = c.read_of_call.result in
     record {
-      tells = subst (λ (t : List ℕ). IfSome r (Tells t)) (sym field.read) told.tells;
+      tells = subst (λ (t : List ℕ). IfSome r (TellsLine t)) (sym field.read) told.tells;
       link = call_of_link c.args.line.now c.in_ok-link.text.now c.in_ok-link.link r _ field.fits field.read c.in-None.ensures.none told.none;
       call = call_of_call c.args.line.now c.in_ok-link.text.now c.in_ok-link.link r field.fits field.read told.none;
     }
