@@ -26,6 +26,11 @@
 extern "C" {
 #endif
 
+/** The version of this header, as in polorowan_version(). A library of the same major version goes with it. */
+#define POLOROWAN_VERSION_MAJOR 1
+#define POLOROWAN_VERSION_MINOR 0
+#define POLOROWAN_VERSION_PATCH 0
+
 /** How many octets longer a rebuilt packet may be than the packet that arrived. */
 #define POLOROWAN_HEAD_ROOM 40
 /** The length of the longest feedback for a compressor. */
@@ -279,6 +284,12 @@ uint8_t polorowan_restore(struct polorowan_gateway *gateway, const struct poloro
  * @return the name's length without the octet 0; 0 if there is no such refusal, or no room: then @p name stays as it was
  */
 size_t polorowan_refusal_name(uint8_t number, uint8_t *name, size_t room);
+
+/**
+ * The library's version, `sources` and the SHA-256 of the sources that were proved, `logic` and the digest of the logic that
+ * they were proved in, as one text that stays.
+ */
+const char *polorowan_version(void);
 
 #ifdef __cplusplus
 }

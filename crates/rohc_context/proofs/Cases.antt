@@ -40,6 +40,20 @@ is_of_octets refusals.Check = false
 is_of_octets refusals.NoMemory = false
 is_of_octets refusal = true
 
+-- the tries of a packet, and the state and the feedback that an acceptance leads to
+pub record Trying : Type 0 where
+  pub tries : Content → List Try
+  pub state : Acceptance → State
+  pub due : Acceptance → Due
+
+abbrev pub trying : (Content → List Try) → (Acceptance → State) → (Acceptance → Due) → Trying
+trying tries state due = record { tries = tries; state = state; due = due }
+
+-- what the tries of a packet come to, and what follows
+abbrev pub Tried : Settings → ℕ → Header → Record → Static → Reference → Trying → Response → Option Record → Type 0
+Tried s m h r fixed reference t response next =
+    (verdict : Result Acceptance Fault) × Judges fixed t.tries (said_under h reference) verdict × Accepts s m h r t.state t.due verdict response next
+
 pub data Case (before : Option Record) (s : Settings) (m : ℕ) (h : Header) (a : Response) (x : Option Record) : Type 0 where
   renews : (content : IrContent) → IsIr h.kind → ir_at h ≡ Ok content → Renewed s m h (state_in (counting s m before)) content a x → Case before s m h a x
   strays : (refusal : Refusal) → counting s m before ≡ None → (refusal ≡ refusals.NoContext) ⊎ (refusal ≡ refusals.Check) → a ≡ refused refusal → x ≡ before → Case before s m h a x
@@ -118,73 +132,73 @@ counting_is s m (Some q) r e = which (counts s m q) e where
   which true e = e
   which false e = absurd (let f : None ≡ Some r = e in cc)
 
-ends_case : (before : Option Record) (s : Settings) (m : ℕ) (h : Header) (a : Response) (x : Option Record) (c : Option Record) → counting s m before ≡ c → (fault : Fault)
-    → is_fault_of_octets fault ≡ true → Ends s m h c before fault a x → Case before s m h a x
-ends_case before s m h a x None none (Refused refusal) said p = refuses refusal said p.0 p.1
-ends_case before s m h a x None none Unfit said p = strays refusals.Check none (inr refl) p.0 p.1
-ends_case before s m h a x (Some r) is (Refused refusal) said p = refuses refusal said p.0 p.1
-ends_case before s m h a x (Some r) is Unfit said p = checks r is p
+module _ (before : Option Record) (s : Settings) (m : ℕ) (h : Header) (a : Response) (x : Option Record) where
+  ends_case : (c : Option Record) → counting s m before ≡ c → (fault : Fault)
+      → is_fault_of_octets fault ≡ true → Ends s m h c before fault a x → Case before s m h a x
+  ends_case None none (Refused refusal) said p = refuses refusal said p.0 p.1
+  ends_case None none Unfit said p = strays refusals.Check none (inr refl) p.0 p.1
+  ends_case (Some r) is (Refused refusal) said p = refuses refusal said p.0 p.1
+  ends_case (Some r) is Unfit said p = checks r is p
 
-fails_case : (before : Option Record) (s : Settings) (m : ℕ) (h : Header) (a : Response) (x : Option Record) (r : Record) → counting s m before ≡ Some r → (fault : Fault)
-    → is_fault_of_octets fault ≡ true → Ends s m h (Some r) (Some r) fault a x → Case before s m h a x
-fails_case before s m h a x r is (Refused refusal) said p = refuses refusal said p.0 (p.1 ∙ sym (counting_is s m before r is))
-fails_case before s m h a x r is Unfit said p = checks r is p
+  fails_case : (r : Record) → counting s m before ≡ Some r → (fault : Fault)
+      → is_fault_of_octets fault ≡ true → Ends s m h (Some r) (Some r) fault a x → Case before s m h a x
+  fails_case r is (Refused refusal) said p = refuses refusal said p.0 (p.1 ∙ sym (counting_is s m before r is))
+  fails_case r is Unfit said p = checks r is p
 
-renews_case : (before : Option Record) (s : Settings) (m : ℕ) (h : Header) (a : Response) (x : Option Record) (c : Option Record) → counting s m before ≡ c → IsIr h.kind
-    → (read : Result IrContent ChainRefusal) → ir_at h ≡ read → Renews s m h c before read a x → Case before s m h a x
-renews_case before s m h a x c is ir (Ok content) e p = renews content ir e (subst (λ k. Renewed s m h (state_in k) content a x) (sym is) p)
-renews_case before s m h a x c is ir (Err refusal) e p = ends_case before s m h a x c is (fault_of_chain refusal) (of_chain refusal) p
+  renews_case : (c : Option Record) → counting s m before ≡ c → IsIr h.kind
+      → (read : Result IrContent ChainRefusal) → ir_at h ≡ read → Renews s m h c before read a x → Case before s m h a x
+  renews_case c is ir (Ok content) e p = renews content ir e (subst (λ k. Renewed s m h (state_in k) content a x) (sym is) p)
+  renews_case c is ir (Err refusal) e p = ends_case c is (fault_of_chain refusal) (of_chain refusal) p
 
-refreshes_to : (before : Option Record) (s : Settings) (m : ℕ) (h : Header) (a : Response) (x : Option Record) (r : Record) → counting s m before ≡ Some r
-    → (fixed : Static) (window : List Bool) (said : Result DynContent ChainRefusal)
-    → ((d : DynContent) → said ≡ Ok d → Delivers s m h fixed d.moving d.payload window a x → Case before s m h a x)
-    → (read : Result DynContent ChainRefusal) → said ≡ read → RefreshesTo s m h r fixed window read a x → Case before s m h a x
-refreshes_to before s m h a x r is fixed window said to (Err refusal) e p = fails_case before s m h a x r is (fault_of_chain refusal) (of_chain refusal) p
-refreshes_to before s m h a x r is fixed window said to (Ok d) e p = to d e p
+  refreshes_to : (r : Record) → counting s m before ≡ Some r
+      → (fixed : Static) (window : List Bool) (said : Result DynContent ChainRefusal)
+      → ((d : DynContent) → said ≡ Ok d → Delivers s m h fixed d.moving d.payload window a x → Case before s m h a x)
+      → (read : Result DynContent ChainRefusal) → said ≡ read → RefreshesTo s m h r fixed window read a x → Case before s m h a x
+  refreshes_to r is fixed window said to (Err refusal) e p = fails_case r is (fault_of_chain refusal) (of_chain refusal) p
+  refreshes_to r is fixed window said to (Ok d) e p = to d e p
 
-refreshes_case : (before : Option Record) (s : Settings) (m : ℕ) (h : Header) (a : Response) (x : Option Record) (r : Record) → counting s m before ≡ Some r → h.kind ≡ IrDyn
-    → (state : State) → r.state ≡ state → RefreshesBy s m h r state a x → Case before s m h a x
-refreshes_case before s m h a x r is kind Plain e (refusal, said, p) = fails_case before s m h a x r is (fault_of_chain refusal) (of_chain refusal) p
-refreshes_case before s m h a x r is kind (NoContext nacked) e p = absurd p
-refreshes_case before s m h a x r is kind (StaticContext fixed reference f g) e p =
-    refreshes_to before s m h a x r is fixed [] (dyn_said h reference) (λ d said q. restores r fixed reference f g d is kind e said q) (dyn_said h reference) refl p
-refreshes_case before s m h a x r is kind (FullContext fixed reference previous w) e p =
-    refreshes_to before s m h a x r is fixed (and_outcome false w) (dyn_said h (Some reference)) (λ d said q. refreshes r fixed reference previous w d is kind e said q)
-    (dyn_said h (Some reference)) refl p
+  refreshes_case : (r : Record) → counting s m before ≡ Some r → h.kind ≡ IrDyn
+      → (state : State) → r.state ≡ state → RefreshesBy s m h r state a x → Case before s m h a x
+  refreshes_case r is kind Plain e (refusal, said, p) = fails_case r is (fault_of_chain refusal) (of_chain refusal) p
+  refreshes_case r is kind (NoContext nacked) e p = absurd p
+  refreshes_case r is kind (StaticContext fixed reference f g) e p =
+      refreshes_to r is fixed [] (dyn_said h reference) (λ d said q. restores r fixed reference f g d is kind e said q) (dyn_said h reference) refl p
+  refreshes_case r is kind (FullContext fixed reference previous w) e p =
+      refreshes_to r is fixed (and_outcome false w) (dyn_said h (Some reference)) (λ d said q. refreshes r fixed reference previous w d is kind e said q)
+      (dyn_said h (Some reference)) refl p
 
-tried_case : (before : Option Record) (s : Settings) (m : ℕ) (h : Header) (a : Response) (x : Option Record) (r : Record) → counting s m before ≡ Some r
-    → (fixed : Static) (tries : Content → List Try) (read : Result Content FormRefusal) (state : Acceptance → State) (due : Acceptance → Due)
-    → ((v : Acceptance) → Judges fixed tries read (Ok v) → Takes m (state v) (delivered v.header.octets v.content.payload (sent s.mode h (due v))) a x → Case before s m h a x)
-    → (verdict : Result Acceptance Fault) → Judges fixed tries read verdict → Accepts s m h r state due verdict a x → Case before s m h a x
-tried_case before s m h a x r is fixed tries read state due to (Ok v) judges p = to v judges p
-tried_case before s m h a x r is fixed tries read state due to (Err fault) judges p =
-    fails_case before s m h a x r is fault (of_judged fixed tries read (Err fault) judges) p
+  tried_case : (r : Record) → counting s m before ≡ Some r → (fixed : Static) (reference : Reference) (t : Trying)
+      → ((v : Acceptance) → Judges fixed t.tries (said_under h reference) (Ok v) → Takes m (t.state v) (delivered v.header.octets v.content.payload (sent s.mode h (t.due v))) a x → Case before s m h a x)
+      → Tried s m h r fixed reference t a x → Case before s m h a x
+  tried_case r is fixed reference t to (Ok v, judges, p) = to v judges p
+  tried_case r is fixed reference t to (Err fault, judges, p) =
+      fails_case r is fault (of_judged fixed t.tries (said_under h reference) (Err fault) judges) p
 
-updates_case : (before : Option Record) (s : Settings) (m : ℕ) (h : Header) (a : Response) (x : Option Record) (r : Record) → counting s m before ≡ Some r → h.kind ≡ Other
-    → (state : State) → r.state ≡ state → takes state Other h.first ≡ true → UpdatesBy s m h r state a x → Case before s m h a x
-updates_case before s m h a x r is kind Plain e taken p = normal r is kind e p
-updates_case before s m h a x r is kind (NoContext nacked) e taken p = absurd p
-updates_case before s m h a x r is kind (StaticContext fixed None f g) e taken p = absurd p
-updates_case before s m h a x r is kind (StaticContext fixed (Some reference) f g) e taken (verdict, judges, p) =
-    tried_case before s m h a x r is fixed (λ c. static_tries reference) (said_under h reference) (promoted fixed) acknowledged
-    (λ v j q. promotes r fixed reference f g v is kind e (ap (λ state. takes state Other h.first) e ∙ taken) j q) verdict judges p
-updates_case before s m h a x r is kind (FullContext fixed reference previous w) e taken (verdict, judges, p) =
-    tried_case before s m h a x r is fixed (full_tries s (m - r.accepted) reference previous) (said_under h reference) (updated fixed reference w) silent
-    (λ v j q. updates r fixed reference previous w v is kind e j q) verdict judges p
+  updates_case : (r : Record) → counting s m before ≡ Some r → h.kind ≡ Other
+      → (state : State) → r.state ≡ state → takes state Other h.first ≡ true → UpdatesBy s m h r state a x → Case before s m h a x
+  updates_case r is kind Plain e taken p = normal r is kind e p
+  updates_case r is kind (NoContext nacked) e taken p = absurd p
+  updates_case r is kind (StaticContext fixed None f g) e taken p = absurd p
+  updates_case r is kind (StaticContext fixed (Some reference) f g) e taken p =
+      tried_case r is fixed reference (trying (λ c. static_tries reference) (promoted fixed) acknowledged)
+      (λ v j q. promotes r fixed reference f g v is kind e (ap (λ state. takes state Other h.first) e ∙ taken) j q) p
+  updates_case r is kind (FullContext fixed reference previous w) e taken p =
+      tried_case r is fixed reference (trying (full_tries s (m - r.accepted) reference previous) (updated fixed reference w) silent)
+      (λ v j q. updates r fixed reference previous w v is kind e j q) p
 
-taken_case : (before : Option Record) (s : Settings) (m : ℕ) (h : Header) (a : Response) (x : Option Record) (r : Record) → counting s m before ≡ Some r
-    → (kind : HeadKind) → h.kind ≡ kind → (taken : Bool) → takes r.state kind h.first ≡ taken → TakenBy taken s m h kind r a x → Case before s m h a x
-taken_case before s m h a x r is kind e false t p = lows r is (ap (λ k. takes r.state k h.first) e ∙ t) p
-taken_case before s m h a x r is (Ir dynamic) e true t p = absurd p
-taken_case before s m h a x r is IrDyn e true t p = refreshes_case before s m h a x r is e r.state refl p
-taken_case before s m h a x r is Other e true t p = updates_case before s m h a x r is e r.state refl t p
+  taken_case : (r : Record) → counting s m before ≡ Some r
+      → (kind : HeadKind) → h.kind ≡ kind → (taken : Bool) → takes r.state kind h.first ≡ taken → TakenBy taken s m h kind r a x → Case before s m h a x
+  taken_case r is kind e false t p = lows r is (ap (λ k. takes r.state k h.first) e ∙ t) p
+  taken_case r is (Ir dynamic) e true t p = absurd p
+  taken_case r is IrDyn e true t p = refreshes_case r is e r.state refl p
+  taken_case r is Other e true t p = updates_case r is e r.state refl t p
 
-pub step_case : (before : Option Record) (s : Settings) (m : ℕ) (h : Header) (a : Response) (x : Option Record) → LoneStep before s m h a x → Case before s m h a x
-unfolding LoneStep
-step_case before s m h a x step = go h.kind refl (counting s m before) refl step where
-  go : (kind : HeadKind) → h.kind ≡ kind → (c : Option Record) → counting s m before ≡ c → Turn s m h kind c before a x → Case before s m h a x
-  go (Ir dynamic) e c is p = renews_case before s m h a x c is (subst IsIr (sym e) tt) (ir_at h) refl p
-  go IrDyn e None is p = strays refusals.NoContext is (inl refl) p.0 p.1
-  go Other e None is p = strays refusals.NoContext is (inl refl) p.0 p.1
-  go IrDyn e (Some r) is p = taken_case before s m h a x r is IrDyn e (takes r.state IrDyn h.first) refl p
-  go Other e (Some r) is p = taken_case before s m h a x r is Other e (takes r.state Other h.first) refl p
+  pub step_case : LoneStep before s m h a x → Case before s m h a x
+  unfolding LoneStep
+  step_case step = go h.kind refl (counting s m before) refl step where
+    go : (kind : HeadKind) → h.kind ≡ kind → (c : Option Record) → counting s m before ≡ c → Turn s m h kind c before a x → Case before s m h a x
+    go (Ir dynamic) e c is p = renews_case c is (subst IsIr (sym e) tt) (ir_at h) refl p
+    go IrDyn e None is p = strays refusals.NoContext is (inl refl) p.0 p.1
+    go Other e None is p = strays refusals.NoContext is (inl refl) p.0 p.1
+    go IrDyn e (Some r) is p = taken_case r is IrDyn e (takes r.state IrDyn h.first) refl p
+    go Other e (Some r) is p = taken_case r is Other e (takes r.state Other h.first) refl p

@@ -231,19 +231,20 @@ static_windows_good (Some (NoContext nacked)) = (omega arith, omega arith)
 static_windows_good (Some (StaticContext fixed r f g)) = (window_good false f, window_good false g)
 static_windows_good (Some (FullContext fixed r previous w)) = (omega arith, omega arith)
 
-delivers_good : (s : Settings) (m : ℕ) (h : Header) (fixed : Static) (moving : Dynamic) (payload : List ℕ) (window : List Bool) (a : Response) (x : Option Record)
-    → m < 2 ^ 64 → IsGoodStatic fixed → IsGoodDynamic moving → IsGoodWindow window → Delivers s m h fixed moving payload window a x → IfSome x IsGoodRecord
-delivers_good s m h fixed moving payload window a x fits f g w (octets, is, (e, k)) =
-    takes_good m (FullContext fixed (first_reference moving) None window) x fits (f, first_good moving g, tt, w) k
+module _ (s : Settings) (m : ℕ) (h : Header) where
+  delivers_good : (fixed : Static) (moving : Dynamic) (payload : List ℕ) (window : List Bool) (a : Response) (x : Option Record)
+      → m < 2 ^ 64 → IsGoodStatic fixed → IsGoodDynamic moving → IsGoodWindow window → Delivers s m h fixed moving payload window a x → IfSome x IsGoodRecord
+  delivers_good fixed moving payload window a x fits f g w (octets, is, (e, k)) =
+      takes_good m (FullContext fixed (first_reference moving) None window) x fits (f, first_good moving g, tt, w) k
 
-renewed_good : (s : Settings) (m : ℕ) (h : Header) (c : Option Record) (content : IrContent) (a : Response) (x : Option Record)
-    → m < 2 ^ 64 → chain_good.IsGoodContent content → Renewed s m h (state_in c) content a x → IfSome x IsGoodRecord
-renewed_good s m h c (chain.Plain packet) a x fits content p = takes_good m Plain x fits tt p.1
-renewed_good s m h c (chain.StaticOnly fixed) a x fits content p =
-    let windows = static_windows_good (state_in c) in
-    takes_good m _ x fits (content, tt, windows.0, windows.1) p.1
-renewed_good s m h c (chain.Whole fixed moving payload) a x fits content p =
-    delivers_good s m h fixed moving payload (full_window_of (state_in c)) a x fits content.0 content.1 (full_window_good (state_in c)) p
+  renewed_good : (c : Option Record) (content : IrContent) (a : Response) (x : Option Record)
+      → m < 2 ^ 64 → chain_good.IsGoodContent content → Renewed s m h (state_in c) content a x → IfSome x IsGoodRecord
+  renewed_good c (chain.Plain packet) a x fits content p = takes_good m Plain x fits tt p.1
+  renewed_good c (chain.StaticOnly fixed) a x fits content p =
+      let windows = static_windows_good (state_in c) in
+      takes_good m _ x fits (content, tt, windows.0, windows.1) p.1
+  renewed_good c (chain.Whole fixed moving payload) a x fits content p =
+      delivers_good fixed moving payload (full_window_of (state_in c)) a x fits content.0 content.1 (full_window_good (state_in c)) p
 
 pub step_good : (before : Option Record) (s : Settings) (m : ℕ) (h : Header) → AreGoodValues before s m h → (a : Response) (x : Option Record) → LoneStep before s m h a x → IfSome x IsGoodRecord
 step_good before s m h good a x step = go (step_case before s m h a x step) where

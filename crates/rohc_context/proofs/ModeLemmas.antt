@@ -51,7 +51,7 @@ use Rattle.rohc_context.specs.declared.at_once.AtOnce.TheVariants.{Any, Rebuilt}
 use Rattle.rohc_context.specs.AtOnce.{MissesFirst, MissesAtOnce, NeedsStep}
 use Rattle.rohc_context.specs.Step.{counts_within, counting, TakenBy, Turn, LoneStep}
 use Rattle.rohc_context.specs.Modes.{IsSilentInU, KeepsPrevious, HasOneTry, PlainAtOnce, FitsAtOnce, SavesByReference, Holds, KeepsFlags, MeansOneUnrefused}
-use Rattle.rohc_context.proofs.Cases.{Case, step_case, counting_is, renews, strays, refuses, checks, lows, restores, refreshes, normal, promotes, updates}
+use Rattle.rohc_context.proofs.Cases.{Trying, trying, Tried, Case, step_case, counting_is, renews, strays, refuses, checks, lows, restores, refreshes, normal, promotes, updates}
 use Rattle.rohc_context.proofs.StepLemmas.{form_reads}
 use Rattle.rohc_context.proofs.TryLemmas.{fit_or_miss}
 use Rattle.rohc_context.proofs.HonestLemmas.{nothing_sent, means_one_header}
@@ -67,52 +67,54 @@ silenced a = record a { feedback = None }
 silent_by : (a b : Response) → a ≡ b → silenced a ≡ silenced b
 silent_by a b e = ap silenced e
 
-ends_silent : (s : Settings) (m : ℕ) (h : Header) (c before : Option Record) (fault : Fault) (a : Response) (x : Option Record) → Ends s m h c before fault a x → Ends (in_u s) m h c before fault (silenced a) x
-ends_silent s m h None before fault a x p = (silent_by a _ p.0, p.1)
-ends_silent s m h (Some r) before (Refused refusal) a x p = (silent_by a _ p.0, p.1)
-ends_silent s m h (Some r) before Unfit a x p = (silent_by a _ p.0, p.1)
+module _ (s : Settings) (m : ℕ) (h : Header) where
+  ends_silent : (c before : Option Record) (fault : Fault) (a : Response) (x : Option Record) → Ends s m h c before fault a x → Ends (in_u s) m h c before fault (silenced a) x
+  ends_silent None before fault a x p = (silent_by a _ p.0, p.1)
+  ends_silent (Some r) before (Refused refusal) a x p = (silent_by a _ p.0, p.1)
+  ends_silent (Some r) before Unfit a x p = (silent_by a _ p.0, p.1)
 
-delivers_silent : (s : Settings) (m : ℕ) (h : Header) (fixed : Static) (moving : Dynamic) (payload : List ℕ) (window : List Bool) (a : Response) (x : Option Record)
-    → Delivers s m h fixed moving payload window a x → Delivers (in_u s) m h fixed moving payload window (silenced a) x
-delivers_silent s m h fixed moving payload window a x (octets, is, p) = (octets, is, (silent_by a _ p.0, p.1))
+  delivers_silent : (fixed : Static) (moving : Dynamic) (payload : List ℕ) (window : List Bool) (a : Response) (x : Option Record)
+      → Delivers s m h fixed moving payload window a x → Delivers (in_u s) m h fixed moving payload window (silenced a) x
+  delivers_silent fixed moving payload window a x (octets, is, p) = (octets, is, (silent_by a _ p.0, p.1))
 
 plain_silent : (packet : List ℕ) (feedback : Option (List ℕ)) → silenced (plain_answer packet feedback) ≡ plain_answer packet None
 plain_silent [] feedback = refl
 plain_silent (octet ∷ packet) feedback = refl
 
-renewed_silent : (s : Settings) (m : ℕ) (h : Header) (state : Option State) (content : IrContent) (a : Response) (x : Option Record) → Renewed s m h state content a x
-    → Renewed (in_u s) m h state content (silenced a) x
-renewed_silent s m h state (chain.Plain packet) a x p = (silent_by a _ p.0 ∙ plain_silent packet _, p.1)
-renewed_silent s m h state (chain.StaticOnly fixed) a x p = (silent_by a _ p.0, p.1)
-renewed_silent s m h state (chain.Whole fixed moving payload) a x p = delivers_silent s m h fixed moving payload _ a x p
+module _ (s : Settings) (m : ℕ) (h : Header) where
+  renewed_silent : (state : Option State) (content : IrContent) (a : Response) (x : Option Record) → Renewed s m h state content a x
+      → Renewed (in_u s) m h state content (silenced a) x
+  renewed_silent state (chain.Plain packet) a x p = (silent_by a _ p.0 ∙ plain_silent packet _, p.1)
+  renewed_silent state (chain.StaticOnly fixed) a x p = (silent_by a _ p.0, p.1)
+  renewed_silent state (chain.Whole fixed moving payload) a x p = delivers_silent s m h fixed moving payload _ a x p
 
-renews_silent : (s : Settings) (m : ℕ) (h : Header) (c before : Option Record) (read : Result IrContent ChainRefusal) (a : Response) (x : Option Record) → Renews s m h c before read a x
-    → Renews (in_u s) m h c before read (silenced a) x
-renews_silent s m h c before (Ok content) a x p = renewed_silent s m h (state_in c) content a x p
-renews_silent s m h c before (Err refusal) a x p = ends_silent s m h c before (fault_of_chain refusal) a x p
+  renews_silent : (c before : Option Record) (read : Result IrContent ChainRefusal) (a : Response) (x : Option Record) → Renews s m h c before read a x
+      → Renews (in_u s) m h c before read (silenced a) x
+  renews_silent c before (Ok content) a x p = renewed_silent (state_in c) content a x p
+  renews_silent c before (Err refusal) a x p = ends_silent s m h c before (fault_of_chain refusal) a x p
 
-refreshed_silent : (s : Settings) (m : ℕ) (h : Header) (r : Record) (fixed : Static) (window : List Bool) (read : Result DynContent ChainRefusal) (a : Response) (x : Option Record)
-    → RefreshesTo s m h r fixed window read a x → RefreshesTo (in_u s) m h r fixed window read (silenced a) x
-refreshed_silent s m h r fixed window (Err refusal) a x p = ends_silent s m h (Some r) (Some r) (fault_of_chain refusal) a x p
-refreshed_silent s m h r fixed window (Ok d) a x p = delivers_silent s m h fixed d.moving d.payload window a x p
+  refreshed_silent : (r : Record) (fixed : Static) (window : List Bool) (read : Result DynContent ChainRefusal) (a : Response) (x : Option Record)
+      → RefreshesTo s m h r fixed window read a x → RefreshesTo (in_u s) m h r fixed window read (silenced a) x
+  refreshed_silent r fixed window (Err refusal) a x p = ends_silent s m h (Some r) (Some r) (fault_of_chain refusal) a x p
+  refreshed_silent r fixed window (Ok d) a x p = delivers_silent s m h fixed d.moving d.payload window a x p
 
-refreshes_silent : (s : Settings) (m : ℕ) (h : Header) (r : Record) (state : State) (a : Response) (x : Option Record) → RefreshesBy s m h r state a x → RefreshesBy (in_u s) m h r state (silenced a) x
-refreshes_silent s m h r Plain a x (refusal, e, p) = (refusal, e, ends_silent s m h (Some r) (Some r) (fault_of_chain refusal) a x p)
-refreshes_silent s m h r (NoContext nacked) a x p = p
-refreshes_silent s m h r (StaticContext fixed reference f g) a x p = refreshed_silent s m h r fixed [] (dyn_said h reference) a x p
-refreshes_silent s m h r (FullContext fixed reference previous w) a x p = refreshed_silent s m h r fixed (and_outcome false w) (dyn_said h (Some reference)) a x p
+  refreshes_silent : (r : Record) (state : State) (a : Response) (x : Option Record) → RefreshesBy s m h r state a x → RefreshesBy (in_u s) m h r state (silenced a) x
+  refreshes_silent r Plain a x (refusal, e, p) = (refusal, e, ends_silent s m h (Some r) (Some r) (fault_of_chain refusal) a x p)
+  refreshes_silent r (NoContext nacked) a x p = p
+  refreshes_silent r (StaticContext fixed reference f g) a x p = refreshed_silent r fixed [] (dyn_said h reference) a x p
+  refreshes_silent r (FullContext fixed reference previous w) a x p = refreshed_silent r fixed (and_outcome false w) (dyn_said h (Some reference)) a x p
 
-accepts_silent : (s : Settings) (m : ℕ) (h : Header) (r : Record) (state : Acceptance → State) (due : Acceptance → Due) (verdict : Result Acceptance Fault) (a : Response) (x : Option Record)
-    → Accepts s m h r state due verdict a x → Accepts (in_u s) m h r state due verdict (silenced a) x
-accepts_silent s m h r state due (Ok v) a x p = (silent_by a _ p.0, p.1)
-accepts_silent s m h r state due (Err fault) a x p = ends_silent s m h (Some r) (Some r) fault a x p
+  accepts_silent : (r : Record) (state : Acceptance → State) (due : Acceptance → Due) (verdict : Result Acceptance Fault) (a : Response) (x : Option Record)
+      → Accepts s m h r state due verdict a x → Accepts (in_u s) m h r state due verdict (silenced a) x
+  accepts_silent r state due (Ok v) a x p = (silent_by a _ p.0, p.1)
+  accepts_silent r state due (Err fault) a x p = ends_silent s m h (Some r) (Some r) fault a x p
 
-updates_silent : (s : Settings) (m : ℕ) (h : Header) (r : Record) (state : State) (a : Response) (x : Option Record) → UpdatesBy s m h r state a x → UpdatesBy (in_u s) m h r state (silenced a) x
-updates_silent s m h r Plain a x p = (silent_by a _ p.0, p.1)
-updates_silent s m h r (NoContext nacked) a x p = p
-updates_silent s m h r (StaticContext fixed None f g) a x p = p
-updates_silent s m h r (StaticContext fixed (Some reference) f g) a x (v, judged, p) = (v, judged, accepts_silent s m h r (promoted fixed) acknowledged v a x p)
-updates_silent s m h r (FullContext fixed reference previous w) a x (v, judged, p) = (v, judged, accepts_silent s m h r (updated fixed reference w) silent v a x p)
+  updates_silent : (r : Record) (state : State) (a : Response) (x : Option Record) → UpdatesBy s m h r state a x → UpdatesBy (in_u s) m h r state (silenced a) x
+  updates_silent r Plain a x p = (silent_by a _ p.0, p.1)
+  updates_silent r (NoContext nacked) a x p = p
+  updates_silent r (StaticContext fixed None f g) a x p = p
+  updates_silent r (StaticContext fixed (Some reference) f g) a x (v, judged, p) = (v, judged, accepts_silent r (promoted fixed) acknowledged v a x p)
+  updates_silent r (FullContext fixed reference previous w) a x (v, judged, p) = (v, judged, accepts_silent r (updated fixed reference w) silent v a x p)
 
 -- what follows a failure hardly depends on the mode
 low_silent : (s : Settings) (m : ℕ) (state : State) → after_low_state (in_u s) m state ≡ after_low_state s m state
@@ -125,20 +127,21 @@ fails_silent : (s : Settings) (h : Header) (r : Record) (refusal : Refusal) (by 
     → Fails (in_u s) h r refusal also (silenced a) x
 fails_silent s h r refusal by also a x e p = subst (λ c. Fails (in_u s) h r refusal c (silenced a) x) (sym e) (silent_by a _ p.0, p.1)
 
-taken_silent : (s : Settings) (m : ℕ) (h : Header) (kind : HeadKind) (r : Record) (taken : Bool) (a : Response) (x : Option Record) → TakenBy taken s m h kind r a x
-    → TakenBy taken (in_u s) m h kind r (silenced a) x
-taken_silent s m h kind r false a x p = fails_silent s h r refusals.StateTooLow _ _ a x (low_silent s m r.state) p
-taken_silent s m h (Ir dynamic) r true a x p = p
-taken_silent s m h IrDyn r true a x p = refreshes_silent s m h r r.state a x p
-taken_silent s m h Other r true a x p = updates_silent s m h r r.state a x p
+module _ (s : Settings) (m : ℕ) (h : Header) where
+  taken_silent : (kind : HeadKind) (r : Record) (taken : Bool) (a : Response) (x : Option Record) → TakenBy taken s m h kind r a x
+      → TakenBy taken (in_u s) m h kind r (silenced a) x
+  taken_silent kind r false a x p = fails_silent s h r refusals.StateTooLow _ _ a x (low_silent s m r.state) p
+  taken_silent (Ir dynamic) r true a x p = p
+  taken_silent IrDyn r true a x p = refreshes_silent s m h r r.state a x p
+  taken_silent Other r true a x p = updates_silent s m h r r.state a x p
 
-turn_silent : (s : Settings) (m : ℕ) (h : Header) (kind : HeadKind) (c before : Option Record) (a : Response) (x : Option Record) → Turn s m h kind c before a x
-    → Turn (in_u s) m h kind c before (silenced a) x
-turn_silent s m h (Ir dynamic) c before a x p = renews_silent s m h c before (ir_at h) a x p
-turn_silent s m h IrDyn None before a x p = (silent_by a _ p.0, p.1)
-turn_silent s m h Other None before a x p = (silent_by a _ p.0, p.1)
-turn_silent s m h IrDyn (Some r) before a x p = taken_silent s m h IrDyn r (takes r.state IrDyn h.first) a x p
-turn_silent s m h Other (Some r) before a x p = taken_silent s m h Other r (takes r.state Other h.first) a x p
+  turn_silent : (kind : HeadKind) (c before : Option Record) (a : Response) (x : Option Record) → Turn s m h kind c before a x
+      → Turn (in_u s) m h kind c before (silenced a) x
+  turn_silent (Ir dynamic) c before a x p = renews_silent s m h c before (ir_at h) a x p
+  turn_silent IrDyn None before a x p = (silent_by a _ p.0, p.1)
+  turn_silent Other None before a x p = (silent_by a _ p.0, p.1)
+  turn_silent IrDyn (Some r) before a x p = taken_silent IrDyn r (takes r.state IrDyn h.first) a x p
+  turn_silent Other (Some r) before a x p = taken_silent Other r (takes r.state Other h.first) a x p
 
 counting_silent : (s : Settings) (m : ℕ) (before : Option Record) → counting (in_u s) m before ≡ counting s m before
 counting_silent s m None = refl
@@ -448,14 +451,15 @@ abbrev IsFreeVerdict : Result Acceptance Fault → Type 0
 IsFreeVerdict (Ok v) = Unit {0}
 IsFreeVerdict (Err fault) = 27 < number_of (refusal_of fault)
 
-ends_free : (s : Settings) (m : ℕ) (h : Header) (r : Record) (fault : Fault) (a : Response) (x : Option Record) → Ends s m h (Some r) (Some r) fault a x → IsFree a → 27 < number_of (refusal_of fault)
-ends_free s m h r (Refused refusal) a x p free = free refusal (ap (λ (k : Response). k.outcome) p.0)
-ends_free s m h r Unfit a x p free = free refusals.Check (ap (λ (k : Response). k.outcome) p.0)
+module _ (s : Settings) (m : ℕ) (h : Header) where
+  ends_free : (r : Record) (fault : Fault) (a : Response) (x : Option Record) → Ends s m h (Some r) (Some r) fault a x → IsFree a → 27 < number_of (refusal_of fault)
+  ends_free r (Refused refusal) a x p free = free refusal (ap (λ (k : Response). k.outcome) p.0)
+  ends_free r Unfit a x p free = free refusals.Check (ap (λ (k : Response). k.outcome) p.0)
 
-accepts_free : (s : Settings) (m : ℕ) (h : Header) (r : Record) (state : Acceptance → State) (due : Acceptance → Due) (verdict : Result Acceptance Fault) (a : Response) (x : Option Record)
-    → Accepts s m h r state due verdict a x → IsFree a → IsFreeVerdict verdict
-accepts_free s m h r state due (Ok v) a x p free = tt
-accepts_free s m h r state due (Err fault) a x p free = ends_free s m h r fault a x p free
+  accepts_free : (r : Record) (state : Acceptance → State) (due : Acceptance → Due) (verdict : Result Acceptance Fault) (a : Response) (x : Option Record)
+      → Accepts s m h r state due verdict a x → IsFree a → IsFreeVerdict verdict
+  accepts_free r state due (Ok v) a x p free = tt
+  accepts_free r state due (Err fault) a x p free = ends_free r fault a x p free
 
 -- what is read, if it isn't refused
 read_free : (fixed : Static) (tries : Content → List Try) (read : Result Content FormRefusal) (verdict : Result Acceptance Fault) → Judges fixed tries read verdict → IsFreeVerdict verdict
@@ -469,13 +473,14 @@ read_free fixed tries (Ok c) verdict p free = go (nat_lt longest_payload (length
   go true is e = absurd (let high : 27 < 26 = subst IsFreeVerdict e free in omega arith)
   go false is p = (c, refl, few is)
 
-means_free : (s : Settings) (m : ℕ) (h : Header) (r : Record) (fixed : Static) (reference : Reference) (tries : Content → List Try) (state : Acceptance → State) (due : Acceptance → Due)
-    (verdict : Result Acceptance Fault) (a : Response) (x : Option Record) → IsGoodStatic fixed → All IsOctet h.rest → IsFree a → Judges fixed tries (said_under h reference) verdict
-    → Accepts s m h r state due verdict a x → (c : Content) × (said_under h reference ≡ Ok c) × ((shift : ℕ) → ExactlyOne (Explains fixed reference shift c))
-means_free s m h r fixed reference tries state due verdict a x good all free judges p =
-    let (c, read, few) = read_free fixed tries (said_under h reference) verdict judges (accepts_free s m h r state due verdict a x p free) in
-    let content = subst (λ said. IfOk said (IsGoodContent h.first reference.carries_sum (is_some reference.moving.stride))) read (form_reads h reference all) in
-    (c, read, λ shift. means_one_header h.first reference.carries_sum (is_some reference.moving.stride) fixed reference shift c good content few)
+module _ (s : Settings) (m : ℕ) (h : Header) where
+  means_free : (r : Record) (fixed : Static) (reference : Reference) (t : Trying) (a : Response) (x : Option Record) → IsGoodStatic fixed
+      → All IsOctet h.rest → IsFree a → Tried s m h r fixed reference t a x
+      → (c : Content) × (said_under h reference ≡ Ok c) × ((shift : ℕ) → ExactlyOne (Explains fixed reference shift c))
+  means_free r fixed reference t a x good all free (verdict, judges, p) =
+      let (c, read, few) = read_free fixed t.tries (said_under h reference) verdict judges (accepts_free s m h r t.state t.due verdict a x p free) in
+      let content = subst (λ said. IfOk said (IsGoodContent h.first reference.carries_sum (is_some reference.moving.stride))) read (form_reads h reference all) in
+      (c, read, λ shift. means_one_header h.first reference.carries_sum (is_some reference.moving.stride) fixed reference shift c good content few)
 
 pub means_one_unrefused : MeansOneUnrefused
 unfolding LoneStep
@@ -490,15 +495,15 @@ means_one_unrefused r fixed reference s m h a x good holds counted other all ste
   by Plain fine is p = absurd is
   by (NoContext nacked) fine is p = absurd is
   by (StaticContext also None f g) fine is p = absurd p
-  by (StaticContext also (Some held) f g) fine is (verdict, judges, p) =
+  by (StaticContext also (Some held) f g) fine is p =
       let reference_is : held ≡ reference = (let e : Some held ≡ Some reference = is.1 in cc) in
       subst (λ k. (c : Content) × (said_under h k ≡ Ok c) × ((shift : ℕ) → ExactlyOne (Explains fixed k shift c))) reference_is
       (subst (λ k. (c : Content) × (said_under h held ≡ Ok c) × ((shift : ℕ) → ExactlyOne (Explains k held shift c))) is.0
-      (means_free s m h r also held (λ c. static_tries held) (promoted also) acknowledged verdict a x fine.0 all free judges p))
-  by (FullContext also held previous w) fine is (verdict, judges, p) =
+      (means_free s m h r also held (trying (λ c. static_tries held) (promoted also) acknowledged) a x fine.0 all free p))
+  by (FullContext also held previous w) fine is p =
       subst (λ k. (c : Content) × (said_under h k ≡ Ok c) × ((shift : ℕ) → ExactlyOne (Explains fixed k shift c))) is.1
       (subst (λ k. (c : Content) × (said_under h held ≡ Ok c) × ((shift : ℕ) → ExactlyOne (Explains k held shift c))) is.0
-      (means_free s m h r also held (full_tries s (m - r.accepted) held previous) (updated also held w) silent verdict a x fine.0 all free judges p))
+      (means_free s m h r also held (trying (full_tries s (m - r.accepted) held previous) (updated also held w) silent) a x fine.0 all free p))
 
   go : (taken : Bool) → TakenBy taken s m h Other r a x → Wanted
   go false p = absurd (let high : 27 < 27 = free refusals.StateTooLow (ap (λ (k : Response). k.outcome) p.0) in omega arith)

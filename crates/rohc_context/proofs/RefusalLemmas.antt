@@ -43,16 +43,17 @@ plain_not_refused : (packet : List ℕ) (feedback : Option (List ℕ)) (refusal 
 plain_not_refused [] feedback refusal e = cc
 plain_not_refused (octet ∷ packet) feedback refusal e = cc
 
-delivers_not_refused : (s : Settings) (m : ℕ) (h : Header) (fixed : Static) (moving : Dynamic) (payload : List ℕ) (window : List Bool) (a : Response) (x : Option Record) (refusal : Refusal)
-    → Delivers s m h fixed moving payload window a x → a.outcome ≢ outcomes.Refused refusal
-delivers_not_refused s m h fixed moving payload window a x refusal (octets, is, p) = delivered_not_refused octets payload (sent s.mode h (dues.Ack moving.sn)) a refusal p.0
+module _ (s : Settings) (m : ℕ) (h : Header) where
+  delivers_not_refused : (fixed : Static) (moving : Dynamic) (payload : List ℕ) (window : List Bool) (a : Response) (x : Option Record) (refusal : Refusal)
+      → Delivers s m h fixed moving payload window a x → a.outcome ≢ outcomes.Refused refusal
+  delivers_not_refused fixed moving payload window a x refusal (octets, is, p) = delivered_not_refused octets payload (sent s.mode h (dues.Ack moving.sn)) a refusal p.0
 
-pub renewed_not_refused : (s : Settings) (m : ℕ) (h : Header) (state : Option State) (content : IrContent) (a : Response) (x : Option Record) (refusal : Refusal)
-    → Renewed s m h state content a x → a.outcome ≢ outcomes.Refused refusal
-renewed_not_refused s m h state (chain.Plain packet) a x refusal p e =
-    plain_not_refused packet (sent s.mode h dues.PlainAck) refusal (outcome_is a (plain_answer packet (sent s.mode h dues.PlainAck)) refusal p.0 e)
-renewed_not_refused s m h state (chain.StaticOnly fixed) a x refusal p e = let k = sym (ap (λ (r : Response). r.outcome) p.0) ∙ e in cc
-renewed_not_refused s m h state (chain.Whole fixed moving payload) a x refusal p e = delivers_not_refused s m h fixed moving payload (full_window_of state) a x refusal p e
+  pub renewed_not_refused : (state : Option State) (content : IrContent) (a : Response) (x : Option Record) (refusal : Refusal)
+      → Renewed s m h state content a x → a.outcome ≢ outcomes.Refused refusal
+  renewed_not_refused state (chain.Plain packet) a x refusal p e =
+      plain_not_refused packet (sent s.mode h dues.PlainAck) refusal (outcome_is a (plain_answer packet (sent s.mode h dues.PlainAck)) refusal p.0 e)
+  renewed_not_refused state (chain.StaticOnly fixed) a x refusal p e = let k = sym (ap (λ (r : Response). r.outcome) p.0) ∙ e in cc
+  renewed_not_refused state (chain.Whole fixed moving payload) a x refusal p e = delivers_not_refused fixed moving payload (full_window_of state) a x refusal p e
 
 -- ---- What a refusal says of the step
 

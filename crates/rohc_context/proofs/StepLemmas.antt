@@ -43,6 +43,7 @@ use Rattle.rohc_context.specs.Update.{said_under, Judges, Accepts, promoted, upd
 use Rattle.rohc_context.specs.Step.{counts, counting, TakenBy, Turn, LoneStep}
 use Rattle.rohc_context.proofs.ExplainLemmas.{original_some, original_one}
 use Rattle.rohc_context.proofs.TryLemmas.{judges_one, judges_some}
+use Rattle.rohc_context.proofs.Cases.{Trying, trying, Tried}
 
 -- ---- What the parts say is good
 
@@ -135,12 +136,11 @@ accepts_some : (s : Settings) (m : ℕ) (h : Header) (r : Record) (state : Accep
 accepts_some s m h r state due (Ok a) = (_, _, (refl, refl))
 accepts_some s m h r state due (Err fault) = ends_some s m h (Some r) (Some r) fault
 
-tried_some : (s : Settings) (m : ℕ) (h : Header) (r : Record) (fixed : Static) (reference : Reference) (tries : Content → List Try) (state : Acceptance → State) (due : Acceptance → Due)
-    → IsGoodStatic fixed → All IsOctet h.rest
-    → Some1 (λ response next. (verdict : Result Acceptance Fault) × Judges fixed tries (said_under h reference) verdict × Accepts s m h r state due verdict response next)
-tried_some s m h r fixed reference tries state due good all =
-    let (verdict, judged) = judges_some h.first reference.carries_sum (is_some reference.moving.stride) fixed tries (said_under h reference) good (form_reads h reference all) in
-    let (response, next, accepted) = accepts_some s m h r state due verdict in
+tried_some : (s : Settings) (m : ℕ) (h : Header) (r : Record) (fixed : Static) (reference : Reference) (t : Trying) → IsGoodStatic fixed → All IsOctet h.rest
+    → Some1 (Tried s m h r fixed reference t)
+tried_some s m h r fixed reference t good all =
+    let (verdict, judged) = judges_some h.first reference.carries_sum (is_some reference.moving.stride) fixed t.tries (said_under h reference) good (form_reads h reference all) in
+    let (response, next, accepted) = accepts_some s m h r t.state t.due verdict in
     (response, next, (verdict, judged, accepted))
 
 updates_some : (s : Settings) (m : ℕ) (h : Header) (r : Record) (state : State) → IsGoodState state → All IsOctet h.rest → takes state Other h.first ≡ true
@@ -149,9 +149,9 @@ updates_some s m h r Plain good all taken = (_, _, (refl, refl))
 updates_some s m h r (NoContext nacked) good all taken = absurd (let f : false ≡ true = taken in cc)
 updates_some s m h r (StaticContext fixed None f g) good all taken = absurd (let f : false ≡ true = taken in cc)
 updates_some s m h r (StaticContext fixed (Some reference) f g) good all taken =
-    tried_some s m h r fixed reference (λ c. static_tries reference) (promoted fixed) acknowledged good.0 all
+    tried_some s m h r fixed reference (trying (λ c. static_tries reference) (promoted fixed) acknowledged) good.0 all
 updates_some s m h r (FullContext fixed reference previous w) good all taken =
-    tried_some s m h r fixed reference (full_tries s (m - r.accepted) reference previous) (updated fixed reference w) silent good.0 all
+    tried_some s m h r fixed reference (trying (full_tries s (m - r.accepted) reference previous) (updated fixed reference w) silent) good.0 all
 
 low_some : (s : Settings) (m : ℕ) (h : Header) (r : Record) → Some1 (Fails s h r refusals.StateTooLow (after_low_state s m r.state))
 low_some s m h r = (_, _, (refl, refl))
@@ -190,83 +190,79 @@ step_some before s m h good = turn_some s m h h.kind (counting s m before) befor
 err_is : (a b : ChainRefusal) → (let x : Result (ℕ × List ℕ) ChainRefusal = Err a in x) ≡ Err b → a ≡ b
 err_is a b e = cc
 
-ends_one : (s : Settings) (m : ℕ) (h : Header) (c before : Option Record) (fault : Fault) (a b : Response) (x y : Option Record)
-    → Ends s m h c before fault a x → Ends s m h c before fault b y → (a ≡ b) × (x ≡ y)
-ends_one s m h None before fault a b x y p q = (p.0 ∙ sym q.0, p.1 ∙ sym q.1)
-ends_one s m h (Some r) before (Refused refusal) a b x y p q = (p.0 ∙ sym q.0, p.1 ∙ sym q.1)
-ends_one s m h (Some r) before Unfit a b x y p q = (p.0 ∙ sym q.0, p.1 ∙ sym q.1)
+module _ (s : Settings) (m : ℕ) (h : Header) where
+  ends_one : (c before : Option Record) (fault : Fault) (a b : Response) (x y : Option Record)
+      → Ends s m h c before fault a x → Ends s m h c before fault b y → (a ≡ b) × (x ≡ y)
+  ends_one None before fault a b x y p q = (p.0 ∙ sym q.0, p.1 ∙ sym q.1)
+  ends_one (Some r) before (Refused refusal) a b x y p q = (p.0 ∙ sym q.0, p.1 ∙ sym q.1)
+  ends_one (Some r) before Unfit a b x y p q = (p.0 ∙ sym q.0, p.1 ∙ sym q.1)
 
-delivers_one : (s : Settings) (m : ℕ) (h : Header) (fixed : Static) (moving : Dynamic) (payload : List ℕ) (window : List Bool) (a b : Response) (x y : Option Record)
-    → Delivers s m h fixed moving payload window a x → Delivers s m h fixed moving payload window b y → (a ≡ b) × (x ≡ y)
-delivers_one s m h fixed moving payload window a b x y (o, is, (e, f)) (p, also, (g, k)) =
-    let same = original_one fixed moving (length payload) o p is also in
-    (e ∙ ap (λ octets. delivered octets payload (sent s.mode h (dues.Ack moving.sn))) same ∙ sym g, f ∙ sym k)
+  delivers_one : (fixed : Static) (moving : Dynamic) (payload : List ℕ) (window : List Bool) (a b : Response) (x y : Option Record)
+      → Delivers s m h fixed moving payload window a x → Delivers s m h fixed moving payload window b y → (a ≡ b) × (x ≡ y)
+  delivers_one fixed moving payload window a b x y (o, is, (e, f)) (p, also, (g, k)) =
+      let same = original_one fixed moving (length payload) o p is also in
+      (e ∙ ap (λ octets. delivered octets payload (sent s.mode h (dues.Ack moving.sn))) same ∙ sym g, f ∙ sym k)
 
-renewed_one : (s : Settings) (m : ℕ) (h : Header) (state : Option State) (content : IrContent) (a b : Response) (x y : Option Record)
-    → Renewed s m h state content a x → Renewed s m h state content b y → (a ≡ b) × (x ≡ y)
-renewed_one s m h state (chain.Plain packet) a b x y p q = (p.0 ∙ sym q.0, p.1 ∙ sym q.1)
-renewed_one s m h state (chain.StaticOnly fixed) a b x y p q = (p.0 ∙ sym q.0, p.1 ∙ sym q.1)
-renewed_one s m h state (chain.Whole fixed moving payload) a b x y p q = delivers_one s m h fixed moving payload (full_window_of state) a b x y p q
+  renewed_one : (state : Option State) (content : IrContent) (a b : Response) (x y : Option Record)
+      → Renewed s m h state content a x → Renewed s m h state content b y → (a ≡ b) × (x ≡ y)
+  renewed_one state (chain.Plain packet) a b x y p q = (p.0 ∙ sym q.0, p.1 ∙ sym q.1)
+  renewed_one state (chain.StaticOnly fixed) a b x y p q = (p.0 ∙ sym q.0, p.1 ∙ sym q.1)
+  renewed_one state (chain.Whole fixed moving payload) a b x y p q = delivers_one fixed moving payload (full_window_of state) a b x y p q
 
-renews_one : (s : Settings) (m : ℕ) (h : Header) (c before : Option Record) (read : Result IrContent ChainRefusal) (a b : Response) (x y : Option Record)
-    → Renews s m h c before read a x → Renews s m h c before read b y → (a ≡ b) × (x ≡ y)
-renews_one s m h c before (Ok content) a b x y p q = renewed_one s m h (state_in c) content a b x y p q
-renews_one s m h c before (Err refusal) a b x y p q = ends_one s m h c before (fault_of_chain refusal) a b x y p q
+  renews_one : (c before : Option Record) (read : Result IrContent ChainRefusal) (a b : Response) (x y : Option Record)
+      → Renews s m h c before read a x → Renews s m h c before read b y → (a ≡ b) × (x ≡ y)
+  renews_one c before (Ok content) a b x y p q = renewed_one (state_in c) content a b x y p q
+  renews_one c before (Err refusal) a b x y p q = ends_one c before (fault_of_chain refusal) a b x y p q
 
-refreshed_one : (s : Settings) (m : ℕ) (h : Header) (r : Record) (fixed : Static) (window : List Bool) (read : Result DynContent ChainRefusal) (a b : Response) (x y : Option Record)
-    → RefreshesTo s m h r fixed window read a x → RefreshesTo s m h r fixed window read b y → (a ≡ b) × (x ≡ y)
-refreshed_one s m h r fixed window (Err refusal) a b x y p q = ends_one s m h (Some r) (Some r) (fault_of_chain refusal) a b x y p q
-refreshed_one s m h r fixed window (Ok d) a b x y p q = delivers_one s m h fixed d.moving d.payload window a b x y p q
+  refreshed_one : (r : Record) (fixed : Static) (window : List Bool) (read : Result DynContent ChainRefusal) (a b : Response) (x y : Option Record)
+      → RefreshesTo s m h r fixed window read a x → RefreshesTo s m h r fixed window read b y → (a ≡ b) × (x ≡ y)
+  refreshed_one r fixed window (Err refusal) a b x y p q = ends_one (Some r) (Some r) (fault_of_chain refusal) a b x y p q
+  refreshed_one r fixed window (Ok d) a b x y p q = delivers_one fixed d.moving d.payload window a b x y p q
 
-refreshes_one : (s : Settings) (m : ℕ) (h : Header) (r : Record) (state : State) (a b : Response) (x y : Option Record)
-    → RefreshesBy s m h r state a x → RefreshesBy s m h r state b y → (a ≡ b) × (x ≡ y)
-refreshes_one s m h r Plain a b x y (refusal, e, p) (other, f, q) =
-    let same : refusal ≡ other = err_is refusal other (sym e ∙ f) in
-    ends_one s m h (Some r) (Some r) (fault_of_chain other) a b x y (subst (λ k. Ends s m h (Some r) (Some r) (fault_of_chain k) a x) same p) q
-refreshes_one s m h r (NoContext nacked) a b x y p q = absurd p
-refreshes_one s m h r (StaticContext fixed reference f g) a b x y p q = refreshed_one s m h r fixed [] (dyn_said h reference) a b x y p q
-refreshes_one s m h r (FullContext fixed reference previous w) a b x y p q = refreshed_one s m h r fixed (and_outcome false w) (dyn_said h (Some reference)) a b x y p q
+  refreshes_one : (r : Record) (state : State) (a b : Response) (x y : Option Record)
+      → RefreshesBy s m h r state a x → RefreshesBy s m h r state b y → (a ≡ b) × (x ≡ y)
+  refreshes_one r Plain a b x y (refusal, e, p) (other, f, q) =
+      let same : refusal ≡ other = err_is refusal other (sym e ∙ f) in
+      ends_one (Some r) (Some r) (fault_of_chain other) a b x y (subst (λ k. Ends s m h (Some r) (Some r) (fault_of_chain k) a x) same p) q
+  refreshes_one r (NoContext nacked) a b x y p q = absurd p
+  refreshes_one r (StaticContext fixed reference f g) a b x y p q = refreshed_one r fixed [] (dyn_said h reference) a b x y p q
+  refreshes_one r (FullContext fixed reference previous w) a b x y p q = refreshed_one r fixed (and_outcome false w) (dyn_said h (Some reference)) a b x y p q
 
-accepts_one : (s : Settings) (m : ℕ) (h : Header) (r : Record) (state : Acceptance → State) (due : Acceptance → Due) (verdict : Result Acceptance Fault) (a b : Response) (x y : Option Record)
-    → Accepts s m h r state due verdict a x → Accepts s m h r state due verdict b y → (a ≡ b) × (x ≡ y)
-accepts_one s m h r state due (Ok v) a b x y p q = (p.0 ∙ sym q.0, p.1 ∙ sym q.1)
-accepts_one s m h r state due (Err fault) a b x y p q = ends_one s m h (Some r) (Some r) fault a b x y p q
+  accepts_one : (r : Record) (state : Acceptance → State) (due : Acceptance → Due) (verdict : Result Acceptance Fault) (a b : Response) (x y : Option Record)
+      → Accepts s m h r state due verdict a x → Accepts s m h r state due verdict b y → (a ≡ b) × (x ≡ y)
+  accepts_one r state due (Ok v) a b x y p q = (p.0 ∙ sym q.0, p.1 ∙ sym q.1)
+  accepts_one r state due (Err fault) a b x y p q = ends_one (Some r) (Some r) fault a b x y p q
 
--- what the tries of a packet come to, and what follows
-abbrev Tried : Settings → ℕ → Header → Record → Static → Reference → (Content → List Try) → (Acceptance → State) → (Acceptance → Due) → Response → Option Record → Type 0
-Tried s m h r fixed reference tries state due response next =
-    (verdict : Result Acceptance Fault) × Judges fixed tries (said_under h reference) verdict × Accepts s m h r state due verdict response next
+  tried_one : (r : Record) (fixed : Static) (reference : Reference) (t : Trying) (a b : Response) (x y : Option Record) → All IsOctet h.rest
+      → Tried s m h r fixed reference t a x → Tried s m h r fixed reference t b y → (a ≡ b) × (x ≡ y)
+  tried_one r fixed reference t a b x y all (v, judged, accepted) (w, also, other) =
+      let same = judges_one h.first reference.carries_sum (is_some reference.moving.stride) fixed t.tries (said_under h reference) v w (form_reads h reference all) judged also in
+      accepts_one r t.state t.due w a b x y (subst (λ z. Accepts s m h r t.state t.due z a x) same accepted) other
 
-tried_one : (s : Settings) (m : ℕ) (h : Header) (r : Record) (fixed : Static) (reference : Reference) (tries : Content → List Try) (state : Acceptance → State) (due : Acceptance → Due)
-    (a b : Response) (x y : Option Record) → All IsOctet h.rest → Tried s m h r fixed reference tries state due a x → Tried s m h r fixed reference tries state due b y → (a ≡ b) × (x ≡ y)
-tried_one s m h r fixed reference tries state due a b x y all (v, judged, accepted) (w, also, other) =
-    let same = judges_one h.first reference.carries_sum (is_some reference.moving.stride) fixed tries (said_under h reference) v w (form_reads h reference all) judged also in
-    accepts_one s m h r state due w a b x y (subst (λ z. Accepts s m h r state due z a x) same accepted) other
+  updates_one : (r : Record) (state : State) (a b : Response) (x y : Option Record) → All IsOctet h.rest
+      → UpdatesBy s m h r state a x → UpdatesBy s m h r state b y → (a ≡ b) × (x ≡ y)
+  updates_one r Plain a b x y all p q = (p.0 ∙ sym q.0, p.1 ∙ sym q.1)
+  updates_one r (NoContext nacked) a b x y all p q = absurd p
+  updates_one r (StaticContext fixed None f g) a b x y all p q = absurd p
+  updates_one r (StaticContext fixed (Some reference) f g) a b x y all p q =
+      tried_one r fixed reference (trying (λ c. static_tries reference) (promoted fixed) acknowledged) a b x y all p q
+  updates_one r (FullContext fixed reference previous w) a b x y all p q =
+      tried_one r fixed reference (trying (full_tries s (m - r.accepted) reference previous) (updated fixed reference w) silent) a b x y all p q
 
-updates_one : (s : Settings) (m : ℕ) (h : Header) (r : Record) (state : State) (a b : Response) (x y : Option Record) → All IsOctet h.rest
-    → UpdatesBy s m h r state a x → UpdatesBy s m h r state b y → (a ≡ b) × (x ≡ y)
-updates_one s m h r Plain a b x y all p q = (p.0 ∙ sym q.0, p.1 ∙ sym q.1)
-updates_one s m h r (NoContext nacked) a b x y all p q = absurd p
-updates_one s m h r (StaticContext fixed None f g) a b x y all p q = absurd p
-updates_one s m h r (StaticContext fixed (Some reference) f g) a b x y all p q =
-    tried_one s m h r fixed reference (λ c. static_tries reference) (promoted fixed) acknowledged a b x y all p q
-updates_one s m h r (FullContext fixed reference previous w) a b x y all p q =
-    tried_one s m h r fixed reference (full_tries s (m - r.accepted) reference previous) (updated fixed reference w) silent a b x y all p q
+  taken_one : (kind : HeadKind) (r : Record) (taken : Bool) (a b : Response) (x y : Option Record) → All IsOctet h.rest
+      → TakenBy taken s m h kind r a x → TakenBy taken s m h kind r b y → (a ≡ b) × (x ≡ y)
+  taken_one kind r false a b x y all p q = (p.0 ∙ sym q.0, p.1 ∙ sym q.1)
+  taken_one (Ir dynamic) r true a b x y all p q = absurd p
+  taken_one IrDyn r true a b x y all p q = refreshes_one r r.state a b x y p q
+  taken_one Other r true a b x y all p q = updates_one r r.state a b x y all p q
 
-taken_one : (s : Settings) (m : ℕ) (h : Header) (kind : HeadKind) (r : Record) (taken : Bool) (a b : Response) (x y : Option Record) → All IsOctet h.rest
-    → TakenBy taken s m h kind r a x → TakenBy taken s m h kind r b y → (a ≡ b) × (x ≡ y)
-taken_one s m h kind r false a b x y all p q = (p.0 ∙ sym q.0, p.1 ∙ sym q.1)
-taken_one s m h (Ir dynamic) r true a b x y all p q = absurd p
-taken_one s m h IrDyn r true a b x y all p q = refreshes_one s m h r r.state a b x y p q
-taken_one s m h Other r true a b x y all p q = updates_one s m h r r.state a b x y all p q
-
-turn_one : (s : Settings) (m : ℕ) (h : Header) (kind : HeadKind) (c before : Option Record) (a b : Response) (x y : Option Record) → All IsOctet h.rest
-    → Turn s m h kind c before a x → Turn s m h kind c before b y → (a ≡ b) × (x ≡ y)
-turn_one s m h (Ir dynamic) c before a b x y all p q = renews_one s m h c before (ir_at h) a b x y p q
-turn_one s m h IrDyn None before a b x y all p q = (p.0 ∙ sym q.0, p.1 ∙ sym q.1)
-turn_one s m h Other None before a b x y all p q = (p.0 ∙ sym q.0, p.1 ∙ sym q.1)
-turn_one s m h IrDyn (Some r) before a b x y all p q = taken_one s m h IrDyn r (takes r.state IrDyn h.first) a b x y all p q
-turn_one s m h Other (Some r) before a b x y all p q = taken_one s m h Other r (takes r.state Other h.first) a b x y all p q
+  turn_one : (kind : HeadKind) (c before : Option Record) (a b : Response) (x y : Option Record) → All IsOctet h.rest
+      → Turn s m h kind c before a x → Turn s m h kind c before b y → (a ≡ b) × (x ≡ y)
+  turn_one (Ir dynamic) c before a b x y all p q = renews_one c before (ir_at h) a b x y p q
+  turn_one IrDyn None before a b x y all p q = (p.0 ∙ sym q.0, p.1 ∙ sym q.1)
+  turn_one Other None before a b x y all p q = (p.0 ∙ sym q.0, p.1 ∙ sym q.1)
+  turn_one IrDyn (Some r) before a b x y all p q = taken_one IrDyn r (takes r.state IrDyn h.first) a b x y all p q
+  turn_one Other (Some r) before a b x y all p q = taken_one Other r (takes r.state Other h.first) a b x y all p q
 
 pub step_one : (before : Option Record) (s : Settings) (m : ℕ) (h : Header) (a b : Response) (x y : Option Record) → All IsOctet h.rest
     → LoneStep before s m h a x → LoneStep before s m h b y → (a ≡ b) × (x ≡ y)

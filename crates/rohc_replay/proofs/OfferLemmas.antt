@@ -29,11 +29,12 @@ appends_front held mid holding text at count ha hb =
 pub takes_none : (held : Option (List ℕ)) (before : ℕ) → before < 2 ^ 64 → TakesAll held held before before []
 takes_none held before small = (appends_none held, omega arith)
 
--- all of a text was taken, and then all of another
-pub takes_more : (held mid holding : Option (List ℕ)) (before between after : ℕ) (a b : List ℕ)
-    → TakesAll held mid before between a → TakesAll mid holding between after b → TakesAll held holding before after (a ++ b)
-takes_more held mid holding before between after a b ha hb =
-    (appends_more held mid holding a b ha.0 hb.0, omega (arith, ha.1, hb.1, length-append a b))
+module _ (held mid holding : Option (List ℕ)) (before between after : ℕ) where
+  -- all of a text was taken, and then all of another
+  pub takes_more : (a b : List ℕ)
+      → TakesAll held mid before between a → TakesAll mid holding between after b → TakesAll held holding before after (a ++ b)
+  takes_more a b ha hb =
+      (appends_more held mid holding a b ha.0 hb.0, omega (arith, ha.1, hb.1, length-append a b))
 
 -- a part of a text was taken, so a part of a longer one
 pub part_longer : (held holding : Option (List ℕ)) (before after : ℕ) (a b : List ℕ)
@@ -46,22 +47,23 @@ part_longer held holding before after a b h = record {
   taken = h.taken;
 }
 
--- all of a text was taken, and then a part of another
-pub part_more : (held mid holding : Option (List ℕ)) (before between after : ℕ) (a b : List ℕ)
-    → TakesAll held mid before between a → TakesPart mid holding between after b → TakesPart held holding before after (a ++ b)
-part_more held mid holding before between after a b ha hb = record {
-  part = a ++ hb.part;
-  rest = hb.rest;
-  parts = ap (λ (l : List ℕ). a ++ l) hb.parts ∙ sym (append_assoc a hb.part hb.rest);
-  some_left = hb.some_left;
-  taken = takes_more held mid holding before between after a hb.part ha hb.taken;
-}
+module _ (held mid holding : Option (List ℕ)) (before between after : ℕ) where
+  -- all of a text was taken, and then a part of another
+  pub part_more : (a b : List ℕ)
+      → TakesAll held mid before between a → TakesPart mid holding between after b → TakesPart held holding before after (a ++ b)
+  part_more a b ha hb = record {
+    part = a ++ hb.part;
+    rest = hb.rest;
+    parts = ap (λ (l : List ℕ). a ++ l) hb.parts ∙ sym (append_assoc a hb.part hb.rest);
+    some_left = hb.some_left;
+    taken = takes_more held mid holding before between after a hb.part ha hb.taken;
+  }
 
--- Where all of a text was taken and then another is offered, the two are offered as one.
-pub offers_more : (held mid holding : Option (List ℕ)) (before between after : ℕ) (a b : List ℕ) (r : Result Unit Stopped)
-    → TakesAll held mid before between a → OffersText mid holding between after b r → OffersText held holding before after (a ++ b) r
-offers_more held mid holding before between after a b (Ok done) ha hb = takes_more held mid holding before between after a b ha hb
-offers_more held mid holding before between after a b (Err stopped) ha hb = part_more held mid holding before between after a b ha hb
+  -- Where all of a text was taken and then another is offered, the two are offered as one.
+  pub offers_more : (a b : List ℕ) (r : Result Unit Stopped)
+      → TakesAll held mid before between a → OffersText mid holding between after b r → OffersText held holding before after (a ++ b) r
+  offers_more a b (Ok done) ha hb = takes_more held mid holding before between after a b ha hb
+  offers_more a b (Err stopped) ha hb = part_more a b ha hb
 
 -- a part was taken, and the answer says so
 pub offers_stopped : (held holding : Option (List ℕ)) (before after : ℕ) (text : List ℕ) (r : Result Unit Stopped)
@@ -90,24 +92,25 @@ pub record TakesFront (held holding : Option (List ℕ)) (before after : ℕ) (w
 pub front_none : (held : Option (List ℕ)) (before : ℕ) (whole : List ℕ) → before < 2 ^ 64 → TakesFront held held before before whole whole
 front_none held before whole small = record { front = []; taken = takes_none held before small; parts = refl }
 
--- the next part was taken
-pub front_more : (held mid holding : Option (List ℕ)) (before between after : ℕ) (whole rest part left : List ℕ)
-    → TakesFront held mid before between whole rest → rest ≡ part ++ left → TakesAll mid holding between after part
-    → TakesFront held holding before after whole left
-front_more held mid holding before between after whole rest part left h cut all = record {
-  front = h.front ++ part;
-  taken = takes_more held mid holding before between after h.front part h.taken all;
-  parts = append_assoc h.front part left ∙ ap (λ (l : List ℕ). h.front ++ l) (sym cut) ∙ h.parts;
-}
+module _ (held mid holding : Option (List ℕ)) (before between after : ℕ) where
+  -- the next part was taken
+  pub front_more : (whole rest part left : List ℕ)
+      → TakesFront held mid before between whole rest → rest ≡ part ++ left → TakesAll mid holding between after part
+      → TakesFront held holding before after whole left
+  front_more whole rest part left h cut all = record {
+    front = h.front ++ part;
+    taken = takes_more held mid holding before between after h.front part h.taken all;
+    parts = append_assoc h.front part left ∙ ap (λ (l : List ℕ). h.front ++ l) (sym cut) ∙ h.parts;
+  }
 
--- not all of the next part was taken
-pub front_part : (held mid holding : Option (List ℕ)) (before between after : ℕ) (whole rest part left : List ℕ)
-    → TakesFront held mid before between whole rest → rest ≡ part ++ left → TakesPart mid holding between after part
-    → TakesPart held holding before after whole
-front_part held mid holding before between after whole rest part left h cut some =
-    let parts : h.front ++ (part ++ left) ≡ whole = ap (λ (l : List ℕ). h.front ++ l) (sym cut) ∙ h.parts in
-    subst (λ (text : List ℕ). TakesPart held holding before after text) parts
-    (part_more held mid holding before between after h.front (part ++ left) h.taken (part_longer mid holding between after part left some))
+  -- not all of the next part was taken
+  pub front_part : (whole rest part left : List ℕ)
+      → TakesFront held mid before between whole rest → rest ≡ part ++ left → TakesPart mid holding between after part
+      → TakesPart held holding before after whole
+  front_part whole rest part left h cut some =
+      let parts : h.front ++ (part ++ left) ≡ whole = ap (λ (l : List ℕ). h.front ++ l) (sym cut) ∙ h.parts in
+      subst (λ (text : List ℕ). TakesPart held holding before after text) parts
+      (part_more held mid holding before between after h.front (part ++ left) h.taken (part_longer mid holding between after part left some))
 
 -- all was taken
 pub front_all : (held holding : Option (List ℕ)) (before after : ℕ) (whole rest : List ℕ)

@@ -13,10 +13,10 @@ use Rattle.rohc_replay.specs.Script.{Line, Good, Bad, Long, IsLine, AreLines, lo
 use Rattle.rohc_replay.specs.AnswerLines.{text_of, long_line}
 use Rattle.rohc_links.specs.Limits.{counted}
 use Rattle.rohc_replay.specs.Offers.{TakesAll, TakesPart}
-use Rattle.rohc_replay.specs.Run.{change, RunsLine, Runs, IsTally, Replays, Stops, is_good_line}
+use Rattle.rohc_replay.specs.Run.{ReplayChange, change, RunsLine, Runs, IsTally, Replays, Stops, is_good_line}
 use Rattle.rohc_replay.specs.Turn.{with_line, TakesTurn, TakesLongTurn}
 use Rattle.rohc_replay.specs.Stream.{StandsInScript, EndsWithText, IsUnfinished, StopsAt}
-use Rattle.rohc_replay.specs.Lines.{has_newline}
+use Rattle.rohc_replay.specs.Lines.{Splits, has_newline}
 use Rattle.rohc_replay.proofs.RangeLemmas.{range-append, range-one, range-none, range-end}
 use Rattle.rohc_replay.proofs.SplitLemmas.{Splits-more, Splits-newline, AreLines-push, lines_of-splits, last_line}
 
@@ -64,9 +64,9 @@ IsTally-push lines Long t u is eq =
     record { events = omega (arith, is.events); bad = omega (arith, is.bad) }
 
 -- octets without a newline are kept
-pub StandsInScript-more : (first : Concentrator) (held : Option (List ℕ)) (seen kept more : List ℕ) (long : Bool) (now : Concentrator) (holding : Option (List ℕ)) (counts : Counts) →
-    StandsInScript (change first held now holding) seen kept long counts → has_newline more ≡ false → StandsInScript (change first held now holding) (seen ++ more) (kept ++ more) long counts
-StandsInScript-more first held seen kept more long now holding counts s none = record {
+pub StandsInScript-more : (c : ReplayChange) (seen kept more : List ℕ) (long : Bool) (counts : Counts) →
+    StandsInScript c seen kept long counts → has_newline more ≡ false → StandsInScript c (seen ++ more) (kept ++ more) long counts
+StandsInScript-more c seen kept more long counts s none = record {
   finished = s.finished;
   rest = s.rest ++ more;
   splits = Splits-more seen s.finished s.rest more s.splits none;
@@ -88,23 +88,67 @@ IsLine-kept : (long : Bool) (kept rest : List ℕ) (line : Line) → IsUnfinishe
 IsLine-kept false kept rest line is_kept short is_long = subst (λ t. IsLine t line) is_kept (short refl)
 IsLine-kept true kept rest line is_kept short is_long = rw (is_long refl) is_kept
 
+-- The kept line is run: what it is, whether it is short or long, and what it changes.
+pub record RunsKept (c : ReplayChange) (before after : Counts) (long : Bool) (kept : List ℕ) : Type 0 where
+  pub line : Line
+  pub answers : List (List ℕ)
+  pub short : long ≡ false → IsLine kept line
+  pub is_long : long ≡ true → line ≡ Long
+  pub turns : RunsLine c.before line answers c.after
+  pub tally : after.tally ≡ with_line before.tally line
+
+-- a turn runs a short line, and a long one
+turn_runs : (c : ReplayChange) (before after : Counts) (kept : List ℕ) (result : Result Unit Stopped) →
+    TakesTurn c before after kept result → RunsKept c before after false kept
+turn_runs c before after kept result t = record {
+  line = t.line;
+  answers = t.answers;
+  short = λ _. t.is_line;
+  is_long = λ e. cc;
+  turns = t.turns;
+  tally = t.tally;
+}
+
+long_runs : (now : Concentrator) (held holding : Option (List ℕ)) (before after : Counts) (kept : List ℕ) →
+    after.tally ≡ with_line before.tally Long → RunsKept (change now held now holding) before after true kept
+long_runs now held holding before after kept tally = record {
+  line = Long;
+  answers = long_line ∷ [];
+  short = λ e. cc;
+  is_long = λ _. refl;
+  turns = (refl, refl);
+  tally = tally;
+}
+
+-- the lines with the kept one behind them, what they are, and their answers, all of which were taken
+lines_kept : (c : ReplayChange) (before after : Counts) (long : Bool) (kept rest : List ℕ) → IsUnfinished long kept rest →
+    (r : RunsKept c before after long kept) → IsLine rest r.line
+lines_kept c before after long kept rest is_kept r = IsLine-kept long kept rest r.line is_kept r.short r.is_long
+
+taken_kept : (held : Option (List ℕ)) (c : ReplayChange) (before after : Counts) (answers : List (List (List ℕ))) (more : List (List ℕ)) →
+    TakesAll held c.held 0 before.answers.taken (flat_map text_of answers) →
+    TakesAll c.held c.holding before.answers.taken after.answers.taken (text_of more) →
+    TakesAll held c.holding 0 after.answers.taken (flat_map text_of (answers ++ more ∷ []))
+taken_kept held c before after answers more first next =
+    subst (TakesAll held c.holding 0 after.answers.taken) (sym (texts-push answers more))
+    (TakesAll-more held c.held c.holding 0 before.answers.taken after.answers.taken (flat_map text_of answers) (text_of more) first next)
+
 -- a newline ends the kept line, which is run
-pub StandsInScript-newline : (first : Concentrator) (held : Option (List ℕ)) (seen kept : List ℕ) (long : Bool) (now : Concentrator) (holding : Option (List ℕ)) (counts : Counts)
-    (line : Line) (more : List (List ℕ)) (new : Concentrator) (after : Option (List ℕ)) (counts_after : Counts) →
-    StandsInScript (change first held now holding) seen kept long counts → (long ≡ false → IsLine kept line) → (long ≡ true → line ≡ Long) →
-    RunsLine now line more new → counts_after.tally ≡ with_line counts.tally line → TakesAll holding after counts.answers.taken counts_after.answers.taken (text_of more) →
-    StandsInScript (change first held new after) (seen ++ 10 ∷ []) [] false counts_after
-StandsInScript-newline first held seen kept long now holding counts line more new after counts_after s short is_long turns tally taken = record {
+pub StandsInScript-newline : (first : Concentrator) (held : Option (List ℕ)) (c : ReplayChange) (before after : Counts) (seen kept : List ℕ) (long : Bool) →
+    StandsInScript (change first held c.before c.held) seen kept long before → (r : RunsKept c before after long kept) →
+    TakesAll c.held c.holding before.answers.taken after.answers.taken (text_of r.answers) →
+    StandsInScript (change first held c.after c.holding) (seen ++ 10 ∷ []) [] false after
+StandsInScript-newline first held c before after seen kept long s r taken = record {
   finished = s.finished ++ s.rest ∷ [];
   rest = [];
   splits = Splits-newline seen s.finished s.rest s.splits;
   is_kept = refl;
-  lines = s.lines ++ line ∷ [];
-  are_lines = AreLines-push s.finished s.lines s.rest line s.are_lines (IsLine-kept long kept s.rest line s.is_kept short is_long);
-  answers = s.answers ++ more ∷ [];
-  run = Runs-push first now new s.lines s.answers line more s.run turns;
-  taken = subst (TakesAll held after 0 counts_after.answers.taken) (sym (texts-push s.answers more)) (TakesAll-more held holding after 0 counts.answers.taken counts_after.answers.taken (flat_map text_of s.answers) (text_of more) s.taken taken);
-  tally = IsTally-push s.lines line counts.tally counts_after.tally s.tally tally;
+  lines = s.lines ++ r.line ∷ [];
+  are_lines = AreLines-push s.finished s.lines s.rest r.line s.are_lines (lines_kept c before after long kept s.rest s.is_kept r);
+  answers = s.answers ++ r.answers ∷ [];
+  run = Runs-push first c.before c.after s.lines s.answers r.line r.answers s.run r.turns;
+  taken = taken_kept held c before after s.answers r.answers s.taken taken;
+  tally = IsTally-push s.lines r.line before.tally after.tally s.tally r.tally;
 }
 
 -- what isn't empty is a line
@@ -116,26 +160,31 @@ last_line-some : (r : List ℕ) → 0 < length r → last_line r ≡ r ∷ []
 last_line-some [] h = absurd (omega arith)
 last_line-some (x ∷ xs) h = refl
 
+-- then it is the last line of what was seen
+last_of_lines : (seen : List ℕ) (finished : List (List ℕ)) (long : Bool) (kept rest : List ℕ) → Splits seen finished rest → IsUnfinished long kept rest →
+    (long ≡ false → 0 < length kept) → finished ++ rest ∷ [] ≡ lines_of seen
+last_of_lines seen finished long kept rest splits is_kept some =
+    sym (lines_of-splits seen finished rest splits ∙ ap (λ ls. finished ++ ls) (last_line-some rest (some_rest long kept rest is_kept some)))
+
 -- a last line that isn't empty is run
-pub EndsWithText-line : (first : Concentrator) (held : Option (List ℕ)) (seen kept : List ℕ) (long : Bool) (now : Concentrator) (holding : Option (List ℕ)) (counts : Counts)
-    (line : Line) (more : List (List ℕ)) (new : Concentrator) (after : Option (List ℕ)) (counts_after : Counts) →
-    StandsInScript (change first held now holding) seen kept long counts → (long ≡ false → IsLine kept line) → (long ≡ true → line ≡ Long) → (long ≡ false → 0 < length kept) →
-    RunsLine now line more new → counts_after.tally ≡ with_line counts.tally line → TakesAll holding after counts.answers.taken counts_after.answers.taken (text_of more) →
-    EndsWithText (change first held new after) seen counts_after
-EndsWithText-line first held seen kept long now holding counts line more new after counts_after s short is_long some turns tally taken = record {
-  lines = s.lines ++ line ∷ [];
-  are_lines = subst (λ ls. AreLines ls (s.lines ++ line ∷ [])) (sym (lines_of-splits seen s.finished s.rest s.splits ∙ ap (λ ls. s.finished ++ ls) (last_line-some s.rest (some_rest long kept s.rest s.is_kept some))))
-      (AreLines-push s.finished s.lines s.rest line s.are_lines (IsLine-kept long kept s.rest line s.is_kept short is_long));
-  answers = s.answers ++ more ∷ [];
-  run = Runs-push first now new s.lines s.answers line more s.run turns;
-  taken = subst (TakesAll held after 0 counts_after.answers.taken) (sym (texts-push s.answers more)) (TakesAll-more held holding after 0 counts.answers.taken counts_after.answers.taken (flat_map text_of s.answers) (text_of more) s.taken taken);
-  tally = IsTally-push s.lines line counts.tally counts_after.tally s.tally tally;
+pub EndsWithText-line : (first : Concentrator) (held : Option (List ℕ)) (c : ReplayChange) (before after : Counts) (seen kept : List ℕ) (long : Bool) →
+    StandsInScript (change first held c.before c.held) seen kept long before → (long ≡ false → 0 < length kept) → (r : RunsKept c before after long kept) →
+    TakesAll c.held c.holding before.answers.taken after.answers.taken (text_of r.answers) →
+    EndsWithText (change first held c.after c.holding) seen after
+EndsWithText-line first held c before after seen kept long s some r taken = record {
+  lines = s.lines ++ r.line ∷ [];
+  are_lines = subst (λ ls. AreLines ls (s.lines ++ r.line ∷ [])) (last_of_lines seen s.finished long kept s.rest s.splits s.is_kept some)
+      (AreLines-push s.finished s.lines s.rest r.line s.are_lines (lines_kept c before after long kept s.rest s.is_kept r));
+  answers = s.answers ++ r.answers ∷ [];
+  run = Runs-push first c.before c.after s.lines s.answers r.line r.answers s.run r.turns;
+  taken = taken_kept held c before after s.answers r.answers s.taken taken;
+  tally = IsTally-push s.lines r.line before.tally after.tally s.tally r.tally;
 }
 
 -- nothing is kept of an empty last line
-pub EndsWithText-empty : (first : Concentrator) (held : Option (List ℕ)) (seen : List ℕ) (now : Concentrator) (holding : Option (List ℕ)) (counts : Counts) →
-    StandsInScript (change first held now holding) seen [] false counts → EndsWithText (change first held now holding) seen counts
-EndsWithText-empty first held seen now holding counts s = record {
+pub EndsWithText-empty : (c : ReplayChange) (seen : List ℕ) (counts : Counts) →
+    StandsInScript c seen [] false counts → EndsWithText c seen counts
+EndsWithText-empty c seen counts s = record {
   lines = s.lines;
   are_lines = subst (λ ls. AreLines ls s.lines) (sym (lines_of-splits seen s.finished s.rest s.splits ∙ ap (λ r. s.finished ++ last_line r) (sym s.is_kept) ∙ append-nil s.finished)) s.are_lines;
   answers = s.answers;
@@ -161,58 +210,54 @@ StandsInScript-first first held counts none nothing = record {
 
 -- The same, from what a turn says of its result.
 
-pub newline_after_turn : (now new : Concentrator) (holding after : Option (List ℕ)) (counts counts_after : Counts) (kept : List ℕ) (result : Result Unit Stopped) →
-    TakesTurn (change now holding new after) counts counts_after kept result →
-    IfOk result (λ _. (first : Concentrator) (held : Option (List ℕ)) (seen : List ℕ) → StandsInScript (change first held now holding) seen kept false counts → StandsInScript (change first held new after) (seen ++ 10 ∷ []) [] false counts_after)
-newline_after_turn now new holding after counts counts_after kept (Ok done) t = λ first held seen s.
-    StandsInScript-newline first held seen kept false now holding counts t.line t.answers new after counts_after s (λ _. t.is_line) (λ e. cc) t.turns t.tally t.offers
-newline_after_turn now new holding after counts counts_after kept (Err stopped) t = tt
+pub newline_after_turn : (c : ReplayChange) (before after : Counts) (kept : List ℕ) (result : Result Unit Stopped) → TakesTurn c before after kept result →
+    IfOk result (λ _. (first : Concentrator) (held : Option (List ℕ)) (seen : List ℕ) → StandsInScript (change first held c.before c.held) seen kept false before → StandsInScript (change first held c.after c.holding) (seen ++ 10 ∷ []) [] false after)
+newline_after_turn c before after kept (Ok done) t = λ first held seen s. StandsInScript-newline first held c before after seen kept false s (turn_runs c before after kept (Ok done) t) t.offers
+newline_after_turn c before after kept (Err stopped) t = tt
 
-pub newline_after_long : (now : Concentrator) (holding after : Option (List ℕ)) (counts counts_after : Counts) (kept : List ℕ) (result : Result Unit Stopped) →
-    TakesLongTurn holding after counts counts_after result →
-    IfOk result (λ _. (first : Concentrator) (held : Option (List ℕ)) (seen : List ℕ) → StandsInScript (change first held now holding) seen kept true counts → StandsInScript (change first held now after) (seen ++ 10 ∷ []) [] false counts_after)
-newline_after_long now holding after counts counts_after kept (Ok done) t = λ first held seen s.
-    StandsInScript-newline first held seen kept true now holding counts Long (long_line ∷ []) now after counts_after s (λ e. cc) (λ _. refl) (refl, refl) t.tally t.offers
-newline_after_long now holding after counts counts_after kept (Err stopped) t = tt
+pub newline_after_long : (now : Concentrator) (held holding : Option (List ℕ)) (before after : Counts) (kept : List ℕ) (result : Result Unit Stopped) →
+    TakesLongTurn held holding before after result →
+    IfOk result (λ _. (first : Concentrator) (old : Option (List ℕ)) (seen : List ℕ) → StandsInScript (change first old now held) seen kept true before → StandsInScript (change first old now holding) (seen ++ 10 ∷ []) [] false after)
+newline_after_long now held holding before after kept (Ok done) t = λ first old seen s.
+    StandsInScript-newline first old (change now held now holding) before after seen kept true s (long_runs now held holding before after kept t.tally) t.offers
+newline_after_long now held holding before after kept (Err stopped) t = tt
 
-pub end_after_turn : (now new : Concentrator) (holding after : Option (List ℕ)) (counts counts_after : Counts) (kept : List ℕ) (result : Result Unit Stopped) → 0 < length kept →
-    TakesTurn (change now holding new after) counts counts_after kept result →
-    IfOk result (λ _. (first : Concentrator) (held : Option (List ℕ)) (seen : List ℕ) → StandsInScript (change first held now holding) seen kept false counts → EndsWithText (change first held new after) seen counts_after)
-end_after_turn now new holding after counts counts_after kept (Ok done) some t = λ first held seen s.
-    EndsWithText-line first held seen kept false now holding counts t.line t.answers new after counts_after s (λ _. t.is_line) (λ e. cc) (λ _. some) t.turns t.tally t.offers
-end_after_turn now new holding after counts counts_after kept (Err stopped) some t = tt
+pub end_after_turn : (c : ReplayChange) (before after : Counts) (kept : List ℕ) (result : Result Unit Stopped) → 0 < length kept → TakesTurn c before after kept result →
+    IfOk result (λ _. (first : Concentrator) (held : Option (List ℕ)) (seen : List ℕ) → StandsInScript (change first held c.before c.held) seen kept false before → EndsWithText (change first held c.after c.holding) seen after)
+end_after_turn c before after kept (Ok done) some t = λ first held seen s. EndsWithText-line first held c before after seen kept false s (λ _. some) (turn_runs c before after kept (Ok done) t) t.offers
+end_after_turn c before after kept (Err stopped) some t = tt
 
-pub end_after_long : (now : Concentrator) (holding after : Option (List ℕ)) (counts counts_after : Counts) (kept : List ℕ) (result : Result Unit Stopped) →
-    TakesLongTurn holding after counts counts_after result →
-    IfOk result (λ _. (first : Concentrator) (held : Option (List ℕ)) (seen : List ℕ) → StandsInScript (change first held now holding) seen kept true counts → EndsWithText (change first held now after) seen counts_after)
-end_after_long now holding after counts counts_after kept (Ok done) t = λ first held seen s.
-    EndsWithText-line first held seen kept true now holding counts Long (long_line ∷ []) now after counts_after s (λ e. cc) (λ _. refl) (λ e. cc) (refl, refl) t.tally t.offers
-end_after_long now holding after counts counts_after kept (Err stopped) t = tt
+pub end_after_long : (now : Concentrator) (held holding : Option (List ℕ)) (before after : Counts) (kept : List ℕ) (result : Result Unit Stopped) →
+    TakesLongTurn held holding before after result →
+    IfOk result (λ _. (first : Concentrator) (old : Option (List ℕ)) (seen : List ℕ) → StandsInScript (change first old now held) seen kept true before → EndsWithText (change first old now holding) seen after)
+end_after_long now held holding before after kept (Ok done) t = λ first old seen s.
+    EndsWithText-line first old (change now held now holding) before after seen kept true s (λ e. cc) (long_runs now held holding before after kept t.tally) t.offers
+end_after_long now held holding before after kept (Err stopped) t = tt
 
 -- Two parts of one piece: what was run up to `from` of the octets, and the octets from there to `to`.
 
-pub StandsInScript-along : (first : Concentrator) (held : Option (List ℕ)) (seen octets : List ℕ) (searched start from to : ℕ) (long : Bool) (now : Concentrator) (holding : Option (List ℕ)) (counts : Counts) →
-    start ≤ from → searched ≤ from → from ≤ to → has_newline (slice_range octets from to) ≡ false →
-    StandsInScript (change first held now holding) (seen ++ slice_range octets searched from) (slice_range octets start from) long counts →
-    StandsInScript (change first held now holding) (seen ++ slice_range octets searched to) (slice_range octets start to) long counts
-StandsInScript-along first held seen octets searched start from to long now holding counts begun later ahead none s =
+pub StandsInScript-along : (c : ReplayChange) (octets : List ℕ) (searched start from to : ℕ) (long : Bool) (counts : Counts) →
+    start ≤ from → searched ≤ from → from ≤ to → has_newline (slice_range octets from to) ≡ false → (seen : List ℕ) →
+    StandsInScript c (seen ++ slice_range octets searched from) (slice_range octets start from) long counts →
+    StandsInScript c (seen ++ slice_range octets searched to) (slice_range octets start to) long counts
+StandsInScript-along c octets searched start from to long counts begun later ahead none seen s =
     let all : (seen ++ slice_range octets searched from) ++ slice_range octets from to ≡ seen ++ slice_range octets searched to = append_assoc seen (slice_range octets searched from) (slice_range octets from to) ∙ ap (λ t. seen ++ t) (range-append octets searched from to later ahead) in
     let line : slice_range octets start from ++ slice_range octets from to ≡ slice_range octets start to = range-append octets start from to begun ahead in
-    subst (λ t. StandsInScript (change first held now holding) t (slice_range octets start to) long counts) all
-    (subst (λ k. StandsInScript (change first held now holding) ((seen ++ slice_range octets searched from) ++ slice_range octets from to) k long counts) line
-    (StandsInScript-more first held (seen ++ slice_range octets searched from) (slice_range octets start from) (slice_range octets from to) long now holding counts s none))
+    subst (λ t. StandsInScript c t (slice_range octets start to) long counts) all
+    (subst (λ k. StandsInScript c ((seen ++ slice_range octets searched from) ++ slice_range octets from to) k long counts) line
+    (StandsInScript-more c (seen ++ slice_range octets searched from) (slice_range octets start from) (slice_range octets from to) long counts s none))
 
 -- a newline at a place was seen, and a new line begins behind it
-pub StandsInScript-after : (first : Concentrator) (held : Option (List ℕ)) (seen octets : List ℕ) (searched stop : ℕ) (now : Concentrator) (holding : Option (List ℕ)) (counts : Counts) →
+pub StandsInScript-after : (c : ReplayChange) (seen octets : List ℕ) (searched stop : ℕ) (counts : Counts) →
     searched ≤ stop → stop < length octets → get_or octets stop 0 ≡ 10 →
-    StandsInScript (change first held now holding) ((seen ++ slice_range octets searched stop) ++ 10 ∷ []) [] false counts →
-    StandsInScript (change first held now holding) (seen ++ slice_range octets searched (stop + 1)) (slice_range octets (stop + 1) (stop + 1)) false counts
-StandsInScript-after first held seen octets searched stop now holding counts later within newline s =
+    StandsInScript c ((seen ++ slice_range octets searched stop) ++ 10 ∷ []) [] false counts →
+    StandsInScript c (seen ++ slice_range octets searched (stop + 1)) (slice_range octets (stop + 1) (stop + 1)) false counts
+StandsInScript-after c seen octets searched stop counts later within newline s =
     let one : slice_range octets stop (stop + 1) ≡ 10 ∷ [] = range-one octets stop within ∙ ap (λ o. o ∷ []) newline in
     let all : (seen ++ slice_range octets searched stop) ++ 10 ∷ [] ≡ seen ++ slice_range octets searched (stop + 1) =
     append_assoc seen (slice_range octets searched stop) (10 ∷ []) ∙ ap (λ t. seen ++ t) (ap (λ t. slice_range octets searched stop ++ t) (sym one) ∙ range-append octets searched stop (stop + 1) later (omega arith)) in
-    subst (λ t. StandsInScript (change first held now holding) t (slice_range octets (stop + 1) (stop + 1)) false counts) all
-    (subst (λ k. StandsInScript (change first held now holding) ((seen ++ slice_range octets searched stop) ++ 10 ∷ []) k false counts) (sym (range-none octets (stop + 1))) s)
+    subst (λ t. StandsInScript c t (slice_range octets (stop + 1) (stop + 1)) false counts) all
+    (subst (λ k. StandsInScript c ((seen ++ slice_range octets searched stop) ++ 10 ∷ []) k false counts) (sym (range-none octets (stop + 1))) s)
 
 -- A line is long where it was, or where more than the greatest length of it came. Nothing is kept of it.
 kept_over : (long : Bool) (kept rest : List ℕ) → (long ≡ true) ⊎ (longest_line < length kept) → IsUnfinished long kept rest → longest_line < length rest
@@ -220,9 +265,9 @@ kept_over false kept rest (inl was) k = cc was
 kept_over false kept rest (inr over) k = subst (λ t. longest_line < length t) k over
 kept_over true kept rest how k = k
 
-pub StandsInScript-long : (first : Concentrator) (held : Option (List ℕ)) (seen kept any : List ℕ) (long : Bool) (now : Concentrator) (holding : Option (List ℕ)) (counts : Counts) →
-    (long ≡ true) ⊎ (longest_line < length kept) → StandsInScript (change first held now holding) seen kept long counts → StandsInScript (change first held now holding) seen any true counts
-StandsInScript-long first held seen kept any long now holding counts how s = record {
+pub StandsInScript-long : (c : ReplayChange) (seen kept any : List ℕ) (long : Bool) (counts : Counts) →
+    (long ≡ true) ⊎ (longest_line < length kept) → StandsInScript c seen kept long counts → StandsInScript c seen any true counts
+StandsInScript-long c seen kept any long counts how s = record {
   finished = s.finished;
   rest = s.rest;
   splits = s.splits;
@@ -236,102 +281,106 @@ StandsInScript-long first held seen kept any long now holding counts how s = rec
 }
 
 -- and where it is neither, its octets are kept
-pub StandsInScript-short : (first : Concentrator) (held : Option (List ℕ)) (seen octets : List ℕ) (start : ℕ) (long : Bool) (now : Concentrator) (holding : Option (List ℕ)) (counts : Counts) →
-    start ≤ length octets → long ≡ false → StandsInScript (change first held now holding) seen (drop start octets) long counts →
-    StandsInScript (change first held now holding) seen (drop (length octets - (length octets - start)) octets) false counts
-StandsInScript-short first held seen octets start long now holding counts within short s =
+pub StandsInScript-short : (c : ReplayChange) (seen octets : List ℕ) (start : ℕ) (long : Bool) (counts : Counts) →
+    start ≤ length octets → long ≡ false → StandsInScript c seen (drop start octets) long counts →
+    StandsInScript c seen (drop (length octets - (length octets - start)) octets) false counts
+StandsInScript-short c seen octets start long counts within short s =
     let back : start ≡ length octets - (length octets - start) = omega arith in
-    subst (λ l. StandsInScript (change first held now holding) seen (drop (length octets - (length octets - start)) octets) l counts) short
-    (subst (λ n. StandsInScript (change first held now holding) seen (drop n octets) long counts) back s)
+    subst (λ l. StandsInScript c seen (drop (length octets - (length octets - start)) octets) l counts) short
+    (subst (λ n. StandsInScript c seen (drop n octets) long counts) back s)
 
 -- at the end of the octets all of them were seen
-pub StandsInScript-end : (first : Concentrator) (held : Option (List ℕ)) (seen octets : List ℕ) (searched start : ℕ) (long : Bool) (now : Concentrator) (holding : Option (List ℕ)) (counts : Counts) →
-    StandsInScript (change first held now holding) (seen ++ slice_range octets searched (length octets)) (slice_range octets start (length octets)) long counts →
-    StandsInScript (change first held now holding) (seen ++ drop searched octets) (drop start octets) long counts
-StandsInScript-end first held seen octets searched start long now holding counts s =
-    subst (λ t. StandsInScript (change first held now holding) (seen ++ t) (drop start octets) long counts) (range-end octets searched)
-    (subst (λ k. StandsInScript (change first held now holding) (seen ++ slice_range octets searched (length octets)) k long counts) (range-end octets start) s)
+pub StandsInScript-end : (c : ReplayChange) (seen octets : List ℕ) (searched start : ℕ) (long : Bool) (counts : Counts) →
+    StandsInScript c (seen ++ slice_range octets searched (length octets)) (slice_range octets start (length octets)) long counts →
+    StandsInScript c (seen ++ drop searched octets) (drop start octets) long counts
+StandsInScript-end c seen octets searched start long counts s =
+    subst (λ t. StandsInScript c (seen ++ t) (drop start octets) long counts) (range-end octets searched)
+    (subst (λ k. StandsInScript c (seen ++ slice_range octets searched (length octets)) k long counts) (range-end octets start) s)
 
 -- what is kept may be spelled otherwise
-pub StandsInScript-same : (first : Concentrator) (held : Option (List ℕ)) (seen new_seen kept new_kept : List ℕ) (long : Bool) (now : Concentrator) (holding : Option (List ℕ)) (counts : Counts) →
-    seen ≡ new_seen → kept ≡ new_kept → StandsInScript (change first held now holding) seen kept long counts → StandsInScript (change first held now holding) new_seen new_kept long counts
-StandsInScript-same first held seen new_seen kept new_kept long now holding counts same_seen same_kept s =
-    subst (λ t. StandsInScript (change first held now holding) t new_kept long counts) same_seen (subst (λ k. StandsInScript (change first held now holding) seen k long counts) same_kept s)
+pub StandsInScript-same : (c : ReplayChange) (seen new_seen kept new_kept : List ℕ) (long : Bool) (counts : Counts) →
+    seen ≡ new_seen → kept ≡ new_kept → StandsInScript c seen kept long counts → StandsInScript c new_seen new_kept long counts
+StandsInScript-same c seen new_seen kept new_kept long counts same_seen same_kept s =
+    subst (λ t. StandsInScript c t new_kept long counts) same_seen (subst (λ k. StandsInScript c seen k long counts) same_kept s)
 
 -- a whole text was replayed, and the flush kept what was written
-pub Replays-end : (first : Concentrator) (held : Option (List ℕ)) (seen : List ℕ) (now : Concentrator) (holding flushed : Option (List ℕ)) (counts : Counts) →
-    EndsWithText (change first held now holding) seen counts → Keeps holding flushed → Replays (change first held now flushed) seen counts.tally
-Replays-end first held seen now holding flushed counts e kept = record {
+pub Replays-end : (c : ReplayChange) (flushed : Option (List ℕ)) (seen : List ℕ) (counts : Counts) →
+    EndsWithText c seen counts → Keeps c.holding flushed → Replays (change c.before c.held c.after flushed) seen counts.tally
+Replays-end c flushed seen counts e kept = record {
   lines = e.lines;
   answers = e.answers;
   script = e.are_lines;
   run = e.run;
-  written = Appends-kept held holding flushed (flat_map text_of e.answers) e.taken.0 kept;
+  written = Appends-kept c.held c.holding flushed (flat_map text_of e.answers) e.taken.0 kept;
   tally = e.tally;
 }
 
 -- Where the writer stops.
 
--- the kept line is the last of these lines, and its answers are taken in part
-Stops-line : (first : Concentrator) (held : Option (List ℕ)) (seen kept : List ℕ) (long : Bool) (now : Concentrator) (holding : Option (List ℕ)) (counts : Counts)
-    (line : Line) (more : List (List ℕ)) (new : Concentrator) (after : Option (List ℕ)) (taken_after : ℕ)
-    (s : StandsInScript (change first held now holding) seen kept long counts) → (long ≡ false → IsLine kept line) → (long ≡ true → line ≡ Long) →
-    RunsLine now line more new → TakesPart holding after counts.answers.taken taken_after (text_of more) →
-    Stops (change first held new after) (s.finished ++ s.rest ∷ []) taken_after
-Stops-line first held seen kept long now holding counts line more new after taken_after s short is_long turns part = record {
-  earlier = s.lines;
-  last = line;
-  are_lines = AreLines-push s.finished s.lines s.rest line s.are_lines (IsLine-kept long kept s.rest line s.is_kept short is_long);
-  answers = s.answers;
-  last_answers = more;
-  run = Runs-push first now new s.lines s.answers line more s.run turns;
-  part = part.part;
-  rest = part.rest;
-  parts = part.parts;
-  some_left = part.some_left;
-  taken = TakesAll-more held holding after 0 counts.answers.taken taken_after (flat_map text_of s.answers) part.part s.taken part.taken;
+-- the kept line is the last of the lines, and its answers are taken in part
+record StopsAtLine (c : ReplayChange) (seen kept : List ℕ) (long : Bool) (counts : Counts) : Type 0 where
+  texts : List (List ℕ)
+  splits : Splits (seen ++ 10 ∷ []) texts []
+  last : (long ≡ false → 0 < length kept) → texts ≡ lines_of seen
+  stops : Stops c texts counts.answers.taken
+
+stops_at_line : (first : Concentrator) (held : Option (List ℕ)) (c : ReplayChange) (before after : Counts) (seen kept : List ℕ) (long : Bool) →
+    StandsInScript (change first held c.before c.held) seen kept long before → (r : RunsKept c before after long kept) →
+    TakesPart c.held c.holding before.answers.taken after.answers.taken (text_of r.answers) →
+    StopsAtLine (change first held c.after c.holding) seen kept long after
+stops_at_line first held c before after seen kept long s r part = record {
+  texts = s.finished ++ s.rest ∷ [];
+  splits = Splits-newline seen s.finished s.rest s.splits;
+  last = last_of_lines seen s.finished long kept s.rest s.splits s.is_kept;
+  stops = record {
+    earlier = s.lines;
+    last = r.line;
+    are_lines = AreLines-push s.finished s.lines s.rest r.line s.are_lines (lines_kept c before after long kept s.rest s.is_kept r);
+    answers = s.answers;
+    last_answers = r.answers;
+    run = Runs-push first c.before c.after s.lines s.answers r.line r.answers s.run r.turns;
+    part = part.part;
+    rest = part.rest;
+    parts = part.parts;
+    some_left = part.some_left;
+    taken = TakesAll-more held c.held c.holding 0 before.answers.taken after.answers.taken (flat_map text_of s.answers) part.part s.taken part.taken;
+  };
 }
 
-pub stop_after_turn : (now new : Concentrator) (holding after : Option (List ℕ)) (counts counts_after : Counts) (kept : List ℕ) (result : Result Unit Stopped) →
-    TakesTurn (change now holding new after) counts counts_after kept result →
-    IfErr result (λ _. (first : Concentrator) (held : Option (List ℕ)) (seen : List ℕ) → StandsInScript (change first held now holding) seen kept false counts → StopsAt (change first held new after) (seen ++ 10 ∷ []) counts_after)
-stop_after_turn now new holding after counts counts_after kept (Ok done) t = tt
-stop_after_turn now new holding after counts counts_after kept (Err stopped) t = λ first held seen s. (
-  s.finished ++ s.rest ∷ [],
-  Splits-newline seen s.finished s.rest s.splits,
-  Stops-line first held seen kept false now holding counts t.line t.answers new after counts_after.answers.taken s (λ _. t.is_line) (λ e. cc) t.turns t.offers,
-)
+stops_within : (c : ReplayChange) (seen kept : List ℕ) (long : Bool) (counts : Counts) → StopsAtLine c seen kept long counts → StopsAt c (seen ++ 10 ∷ []) counts
+stops_within c seen kept long counts s = (s.texts, s.splits, s.stops)
 
-pub stop_after_long : (now : Concentrator) (holding after : Option (List ℕ)) (counts counts_after : Counts) (kept : List ℕ) (result : Result Unit Stopped) →
-    TakesLongTurn holding after counts counts_after result →
-    IfErr result (λ _. (first : Concentrator) (held : Option (List ℕ)) (seen : List ℕ) → StandsInScript (change first held now holding) seen kept true counts → StopsAt (change first held now after) (seen ++ 10 ∷ []) counts_after)
-stop_after_long now holding after counts counts_after kept (Ok done) t = tt
-stop_after_long now holding after counts counts_after kept (Err stopped) t = λ first held seen s. (
-  s.finished ++ s.rest ∷ [],
-  Splits-newline seen s.finished s.rest s.splits,
-  Stops-line first held seen kept true now holding counts Long (long_line ∷ []) now after counts_after.answers.taken s (λ e. cc) (λ _. refl) (refl, refl) t.offers,
-)
+stops_last : (c : ReplayChange) (seen kept : List ℕ) (long : Bool) (counts : Counts) → StopsAtLine c seen kept long counts → (long ≡ false → 0 < length kept) →
+    Stops c (lines_of seen) counts.answers.taken
+stops_last c seen kept long counts s some = subst (λ ls. Stops c ls counts.answers.taken) (s.last some) s.stops
 
--- a rest that isn't empty is the last line of the text
-last_of_lines : (first : Concentrator) (held : Option (List ℕ)) (seen kept : List ℕ) (long : Bool) (now : Concentrator) (holding : Option (List ℕ)) (counts : Counts)
-    (s : StandsInScript (change first held now holding) seen kept long counts) → (long ≡ false → 0 < length kept) → s.finished ++ s.rest ∷ [] ≡ lines_of seen
-last_of_lines first held seen kept long now holding counts s some = sym (lines_of-splits seen s.finished s.rest s.splits ∙ ap (λ ls. s.finished ++ ls) (last_line-some s.rest (some_rest long kept s.rest s.is_kept some)))
+pub stop_after_turn : (c : ReplayChange) (before after : Counts) (kept : List ℕ) (result : Result Unit Stopped) → TakesTurn c before after kept result →
+    IfErr result (λ _. (first : Concentrator) (held : Option (List ℕ)) (seen : List ℕ) → StandsInScript (change first held c.before c.held) seen kept false before → StopsAt (change first held c.after c.holding) (seen ++ 10 ∷ []) after)
+stop_after_turn c before after kept (Ok done) t = tt
+stop_after_turn c before after kept (Err stopped) t = λ first held seen s.
+    stops_within (change first held c.after c.holding) seen kept false after (stops_at_line first held c before after seen kept false s (turn_runs c before after kept (Err stopped) t) t.offers)
 
-pub last_after_turn : (now new : Concentrator) (holding after : Option (List ℕ)) (counts counts_after : Counts) (kept : List ℕ) (result : Result Unit Stopped) → 0 < length kept →
-    TakesTurn (change now holding new after) counts counts_after kept result →
-    IfErr result (λ _. (first : Concentrator) (held : Option (List ℕ)) (seen : List ℕ) → StandsInScript (change first held now holding) seen kept false counts → Stops (change first held new after) (lines_of seen) counts_after.answers.taken)
-last_after_turn now new holding after counts counts_after kept (Ok done) some t = tt
-last_after_turn now new holding after counts counts_after kept (Err stopped) some t = λ first held seen s.
-    subst (λ ls. Stops (change first held new after) ls counts_after.answers.taken) (last_of_lines first held seen kept false now holding counts s (λ _. some))
-    (Stops-line first held seen kept false now holding counts t.line t.answers new after counts_after.answers.taken s (λ _. t.is_line) (λ e. cc) t.turns t.offers)
+pub stop_after_long : (now : Concentrator) (held holding : Option (List ℕ)) (before after : Counts) (kept : List ℕ) (result : Result Unit Stopped) →
+    TakesLongTurn held holding before after result →
+    IfErr result (λ _. (first : Concentrator) (old : Option (List ℕ)) (seen : List ℕ) → StandsInScript (change first old now held) seen kept true before → StopsAt (change first old now holding) (seen ++ 10 ∷ []) after)
+stop_after_long now held holding before after kept (Ok done) t = tt
+stop_after_long now held holding before after kept (Err stopped) t = λ first old seen s.
+    stops_within (change first old now holding) seen kept true after
+    (stops_at_line first old (change now held now holding) before after seen kept true s (long_runs now held holding before after kept t.tally) t.offers)
 
-pub last_after_long : (now : Concentrator) (holding after : Option (List ℕ)) (counts counts_after : Counts) (kept : List ℕ) (result : Result Unit Stopped) →
-    TakesLongTurn holding after counts counts_after result →
-    IfErr result (λ _. (first : Concentrator) (held : Option (List ℕ)) (seen : List ℕ) → StandsInScript (change first held now holding) seen kept true counts → Stops (change first held now after) (lines_of seen) counts_after.answers.taken)
-last_after_long now holding after counts counts_after kept (Ok done) t = tt
-last_after_long now holding after counts counts_after kept (Err stopped) t = λ first held seen s.
-    subst (λ ls. Stops (change first held now after) ls counts_after.answers.taken) (last_of_lines first held seen kept true now holding counts s (λ e. cc))
-    (Stops-line first held seen kept true now holding counts Long (long_line ∷ []) now after counts_after.answers.taken s (λ e. cc) (λ _. refl) (refl, refl) t.offers)
+pub last_after_turn : (c : ReplayChange) (before after : Counts) (kept : List ℕ) (result : Result Unit Stopped) → 0 < length kept → TakesTurn c before after kept result →
+    IfErr result (λ _. (first : Concentrator) (held : Option (List ℕ)) (seen : List ℕ) → StandsInScript (change first held c.before c.held) seen kept false before → Stops (change first held c.after c.holding) (lines_of seen) after.answers.taken)
+last_after_turn c before after kept (Ok done) some t = tt
+last_after_turn c before after kept (Err stopped) some t = λ first held seen s.
+    stops_last (change first held c.after c.holding) seen kept false after (stops_at_line first held c before after seen kept false s (turn_runs c before after kept (Err stopped) t) t.offers) (λ _. some)
+
+pub last_after_long : (now : Concentrator) (held holding : Option (List ℕ)) (before after : Counts) (kept : List ℕ) (result : Result Unit Stopped) →
+    TakesLongTurn held holding before after result →
+    IfErr result (λ _. (first : Concentrator) (old : Option (List ℕ)) (seen : List ℕ) → StandsInScript (change first old now held) seen kept true before → Stops (change first old now holding) (lines_of seen) after.answers.taken)
+last_after_long now held holding before after kept (Ok done) t = tt
+last_after_long now held holding before after kept (Err stopped) t = λ first old seen s.
+    stops_last (change first old now holding) seen kept true after
+    (stops_at_line first old (change now held now holding) before after seen kept true s (long_runs now held holding before after kept t.tally) t.offers) (λ e. cc)
 
 -- what was seen, up to a newline at a place and behind it
 pub seen_parts : (seen octets : List ℕ) (searched stop : ℕ) → searched ≤ stop → stop < length octets → get_or octets stop 0 ≡ 10 →

@@ -75,38 +75,39 @@ waits_newline held holding before after whole waiting octets none h =
 counts_more : (before between after a b : ℕ) → counted between 0 ≡ counted before a → after ≡ counted between b → after ≡ counted before (a + b)
 counts_more before between after a b ha hb = omega arith
 
--- what waited was taken
-pub waits_taken : (held mid holding : Option (List ℕ)) (before between after : ℕ) (whole waiting rest : List ℕ)
-    → Waits held mid before between whole waiting rest → TakesAll mid holding between after waiting → Waits held holding before after whole [] rest
-waits_taken held mid holding before between after whole waiting rest h all = record {
-  front = h.front ++ waiting;
-  taken = appends_more held mid holding h.front waiting h.taken all.0;
-  count = omega (arith, counts_more before between after (length h.front) (length waiting) h.count all.1, length-append h.front waiting);
-  parts = append_assoc h.front waiting rest ∙ h.parts;
-}
+module _ (held mid holding : Option (List ℕ)) (before between after : ℕ) where
+  -- what waited was taken
+  pub waits_taken : (whole waiting rest : List ℕ)
+      → Waits held mid before between whole waiting rest → TakesAll mid holding between after waiting → Waits held holding before after whole [] rest
+  waits_taken whole waiting rest h all = record {
+    front = h.front ++ waiting;
+    taken = appends_more held mid holding h.front waiting h.taken all.0;
+    count = omega (arith, counts_more before between after (length h.front) (length waiting) h.count all.1, length-append h.front waiting);
+    parts = append_assoc h.front waiting rest ∙ h.parts;
+  }
 
--- a part of what waited was taken
-pub waits_part : (held mid holding : Option (List ℕ)) (before between after : ℕ) (whole waiting rest : List ℕ)
-    → Waits held mid before between whole waiting rest → TakesPart mid holding between after waiting → TakesPart held holding before after whole
-waits_part held mid holding before between after whole waiting rest h p = record {
-  part = h.front ++ p.part;
-  rest = p.rest ++ rest;
-  parts = sym h.parts ∙ ap (λ (l : List ℕ). h.front ++ (l ++ rest)) p.parts
-      ∙ ap (λ (l : List ℕ). h.front ++ l) (append_assoc p.part p.rest rest) ∙ sym (append_assoc h.front p.part (p.rest ++ rest));
-  some_left = omega (arith, p.some_left, length-append p.rest rest);
-  taken = (
-    appends_more held mid holding h.front p.part h.taken p.taken.0,
-    omega (arith, counts_more before between after (length h.front) (length p.part) h.count p.taken.1, length-append h.front p.part),
-  );
-}
+  -- a part of what waited was taken
+  pub waits_part : (whole waiting rest : List ℕ)
+      → Waits held mid before between whole waiting rest → TakesPart mid holding between after waiting → TakesPart held holding before after whole
+  waits_part whole waiting rest h p = record {
+    part = h.front ++ p.part;
+    rest = p.rest ++ rest;
+    parts = sym h.parts ∙ ap (λ (l : List ℕ). h.front ++ (l ++ rest)) p.parts
+        ∙ ap (λ (l : List ℕ). h.front ++ l) (append_assoc p.part p.rest rest) ∙ sym (append_assoc h.front p.part (p.rest ++ rest));
+    some_left = omega (arith, p.some_left, length-append p.rest rest);
+    taken = (
+      appends_more held mid holding h.front p.part h.taken p.taken.0,
+      omega (arith, counts_more before between after (length h.front) (length p.part) h.count p.taken.1, length-append h.front p.part),
+    );
+  }
 
--- What waits is offered, and nothing comes behind it.
-pub waits_offered : (held mid holding : Option (List ℕ)) (before between after : ℕ) (whole waiting : List ℕ) (r : Result Unit Stopped)
-    → Waits held mid before between whole waiting [] → OffersText mid holding between after waiting r → OffersText held holding before after whole r
-waits_offered held mid holding before between after whole waiting (Ok done) h all =
-    let parts = ap (λ (l : List ℕ). h.front ++ l) (sym (append-nil waiting)) ∙ h.parts in
-    subst (λ (text : List ℕ). TakesAll held holding before after text) parts (
-      appends_more held mid holding h.front waiting h.taken all.0,
-      omega (arith, counts_more before between after (length h.front) (length waiting) h.count all.1, length-append h.front waiting),
-    )
-waits_offered held mid holding before between after whole waiting (Err stopped) h part = waits_part held mid holding before between after whole waiting [] h part
+  -- What waits is offered, and nothing comes behind it.
+  pub waits_offered : (whole waiting : List ℕ) (r : Result Unit Stopped)
+      → Waits held mid before between whole waiting [] → OffersText mid holding between after waiting r → OffersText held holding before after whole r
+  waits_offered whole waiting (Ok done) h all =
+      let parts = ap (λ (l : List ℕ). h.front ++ l) (sym (append-nil waiting)) ∙ h.parts in
+      subst (λ (text : List ℕ). TakesAll held holding before after text) parts (
+        appends_more held mid holding h.front waiting h.taken all.0,
+        omega (arith, counts_more before between after (length h.front) (length waiting) h.count all.1, length-append h.front waiting),
+      )
+  waits_offered whole waiting (Err stopped) h part = waits_part whole waiting [] h part

@@ -7,8 +7,8 @@ returns-in_default-clause-fault g c = λ first held seen s. last_line_fails _ se
 
 pub returns-in-Ok-flush-clause-whole : goal.returns-in-Ok-flush-clause-whole
 returns-in-Ok-flush-clause-whole g c = λ first held seen s.
-    Replays-end first held seen _ _ _ _ (c.in-Ok.ensures.ends first held seen s) c.flush.ensures.bytes
+    Replays-end _ _ seen _ (c.in-Ok.ensures.ends first held seen s) c.flush.ensures.bytes
 
 pub returns-in-Err-clause-fault : goal.returns-in-Err-clause-fault
 returns-in-Err-clause-fault g c = λ first held seen s.
-    flush_fails first held seen _ _ _ _ (c.in-Ok.ensures.ends first held seen s) c.flush.ensures.bytes
+    flush_fails _ _ seen _ (c.in-Ok.ensures.ends first held seen s) c.flush.ensures.bytes

@@ -18,7 +18,7 @@ returns-then-end-front-clause-whole g c =
     let got = c.in-Ok.ensures in
     let same = c.if-end-front.true in
     whole_text _ _ _ before.0 _ _ _ (λ t. Replays (change c.args.concentrator.now (g.W.Write.contents c.args.writer.now) c.finish.new.concentrator (g.W.Write.contents c.finish.new.writer)) t c.finish.new.counts.tally) before.1 got.read same (got.at_end same)
-    (c.in-Ok-finish.ensures.whole c.args.concentrator.now (g.W.Write.contents c.args.writer.now) before.0 (StandsInScript-kept _ _ before.0 _ _ _ _ _ _ _ _ same got.kept before.2))
+    (c.in-Ok-finish.ensures.whole c.args.concentrator.now (g.W.Write.contents c.args.writer.now) before.0 (StandsInScript-kept _ before.0 _ _ _ _ _ _ same got.kept before.2))
 
 pub loop-preserved : goal.loop-preserved
 loop-preserved g c =
@@ -26,13 +26,13 @@ loop-preserved g c =
     let got = c.in-Ok.ensures in
     let ran = c.in-Ok-run_lines.ensures in
     let stands = ran.stands c.args.concentrator.now (g.W.Write.contents c.args.writer.now) before.0
-    (StandsInScript-before _ _ before.0 _ _ _ _ _ _ _ _ got.within.0 got.kept before.2) in
+    (StandsInScript-before _ before.0 _ _ _ _ _ _ got.within.0 got.kept before.2) in
     record {
       kept = ran.kept;
       read = (
         before.0 ++ slice_range c.read_more.new.line c.loop.front.len c.in-Ok.end,
         Consumes-trans _ _ _ _ _ before.1 got.read,
-        StandsInScript-moved _ _ before.0 c.read_more.new.line c.move_to_front.new.line _ _ _ _ _ _ _ got.within.0 ran.used got.within.1 c.move_to_front.ensures stands,
+        StandsInScript-moved _ c.read_more.new.line c.move_to_front.new.line _ _ _ _ _ got.within.0 ran.used got.within.1 c.move_to_front.ensures before.0 stands,
       );
     }
 
@@ -42,13 +42,13 @@ returns-in_default-finish-clause-fault g c =
     let got = c.in-Ok.ensures in
     let same = c.if-end-front.true in
     rw c.write_fault.ensures (whole_text _ _ _ before.0 _ _ _ (λ t. WriteOrFlushFails (change c.args.concentrator.now (g.W.Write.contents c.args.writer.now) c.finish.new.concentrator (g.W.Write.contents c.finish.new.writer)) t c.finish.new.counts.answers.taken) before.1 got.read same (got.at_end same)
-    (c.in_default-finish.ensures.fault c.args.concentrator.now (g.W.Write.contents c.args.writer.now) before.0 (StandsInScript-kept _ _ before.0 _ _ _ _ _ _ _ _ same got.kept before.2)))
+    (c.in_default-finish.ensures.fault c.args.concentrator.now (g.W.Write.contents c.args.writer.now) before.0 (StandsInScript-kept _ before.0 _ _ _ _ _ _ same got.kept before.2)))
 
 pub returns-in_default-run_lines-clause-fault : goal.returns-in_default-run_lines-clause-fault
 returns-in_default-run_lines-clause-fault g c =
     let before = c.loop.invariant.read in
     let got = c.in-Ok.ensures in
     let stops = c.in_default-run_lines.ensures.stops c.args.concentrator.now (g.W.Write.contents c.args.writer.now) before.0
-    (StandsInScript-before _ _ before.0 _ _ _ _ _ _ _ _ got.within.0 got.kept before.2) in
-    rw c.write_fault-in_default-run_lines.ensures (fails_writing _ _ _ _ _ _ _ c.run_lines.new.counts (Consumes-trans _ _ _ before.0 _ before.1 got.read)
-    (StopsWithin-piece _ _ before.0 c.read_more.new.line _ _ _ _ c.run_lines.new.counts got.within.0 stops))
+    (StandsInScript-before _ before.0 _ _ _ _ _ _ got.within.0 got.kept before.2) in
+    rw c.write_fault-in_default-run_lines.ensures (fails_writing _ _ _ _ c.run_lines.new.counts (Consumes-trans _ _ _ before.0 _ before.1 got.read)
+    (StopsWithin-piece _ before.0 c.read_more.new.line _ _ c.run_lines.new.counts got.within.0 stops))

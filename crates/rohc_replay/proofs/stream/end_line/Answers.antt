@@ -9,6 +9,6 @@ returns-then-long g c = rw c.if-long.true (record {
 
 pub returns-else-long : goal.returns-else-long
 returns-else-long g c = rw c.if-long.false (record {
-  stands = newline_after_turn _ _ _ _ _ _ _ _ c.take_turn.ensures;
-  stops = stop_after_turn _ _ _ _ _ _ _ _ c.take_turn.ensures;
+  stands = newline_after_turn _ _ _ _ _ c.take_turn.ensures;
+  stops = stop_after_turn _ _ _ _ _ c.take_turn.ensures;
 })

@@ -13,13 +13,13 @@ returns-then-long g c = rw c.if-long.true (record {
 pub returns-then-is_empty : goal.returns-then-is_empty
 returns-then-is_empty g c =
     let none : c.args.line.now ≡ [] = nil_from_length _ (eqb-true _ _ (sym c.if-is_empty.ensures)) in
-    rw (c.if-long.false, none) (record { ends = λ first held seen. EndsWithText-empty first held seen _ _ _; stops = tt })
+    rw (c.if-long.false, none) (record { ends = λ first held seen. EndsWithText-empty _ seen _; stops = tt })
 
 pub returns-else-is_empty : goal.returns-else-is_empty
 returns-else-is_empty g c =
     let filled = eqb-false _ _ (sym c.if-is_empty.ensures) in
     let some : 0 < length c.args.line.now = omega arith in
     rw c.if-long.false (record {
-      ends = end_after_turn _ _ _ _ _ _ _ _ some c.take_turn.ensures;
-      stops = last_after_turn _ _ _ _ _ _ _ _ some c.take_turn.ensures;
+      ends = end_after_turn _ _ _ _ _ some c.take_turn.ensures;
+      stops = last_after_turn _ _ _ _ _ some c.take_turn.ensures;
     })

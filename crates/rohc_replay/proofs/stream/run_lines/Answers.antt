@@ -23,9 +23,9 @@ loop-ahead-preserved g c =
       later = omega (arith, before.later);
       within = omega arith;
       stands = λ first held seen s.
-          StandsInScript-after first held seen octets c.args.front.len (from + ahead) _ _ _ (omega (arith, before.later)) inside newline
+          StandsInScript-after _ seen octets c.args.front.len (from + ahead) _ (omega (arith, before.later)) inside newline
           (c.in_ok-end_line.ensures.stands first held (seen ++ slice_range octets c.args.front.len (from + ahead))
-          (StandsInScript-along first held seen octets c.args.front.len c.loop-ahead.start from (from + ahead) _ _ _ _ before.begun before.later (omega arith) none (before.stands first held seen s)));
+          (StandsInScript-along _ octets c.args.front.len c.loop-ahead.start from (from + ahead) _ _ before.begun before.later (omega arith) none seen (before.stands first held seen s)));
     }
 
 pub returns-in_err-end_line-clause-stops : goal.returns-in_err-end_line-clause-stops
@@ -45,25 +45,25 @@ returns-in_err-end_line-clause-stops g c =
       drop (from + ahead + 1) octets,
       seen_parts seen octets c.args.front.len (from + ahead) (omega (arith, before.later)) inside newline,
       c.in_err-end_line.ensures.stops first held (seen ++ slice_range octets c.args.front.len (from + ahead))
-          (StandsInScript-along first held seen octets c.args.front.len c.loop-ahead.start from (from + ahead) _ _ _ _ before.begun before.later (omega arith) none (before.stands first held seen s)),
+          (StandsInScript-along _ octets c.args.front.len c.loop-ahead.start from (from + ahead) _ _ before.begun before.later (omega arith) none seen (before.stands first held seen s)),
     ))
 
 pub returns-then-long-clause-stands : goal.returns-then-long-clause-stands
 returns-then-long-clause-stands g c = λ first held seen s.
     let octets = c.args.octets.now in
     let before = c.loop-ahead.invariant in
-    StandsInScript-long first held _ (drop c.loop-ahead.start octets) _ c.loop-ahead.long _ _ _
+    StandsInScript-long _ _ (drop c.loop-ahead.start octets) _ c.loop-ahead.long _
     (elim c.then-long.branch [
       | then-long-via-then-long w ↦ inl w.if-long.true
       | then-long-via-else-long+then-len-gt-LONGEST_LINE w ↦ inr (omega (arith, length-drop c.loop-ahead.start octets))
     ])
-    (StandsInScript-end first held seen octets c.args.front.len c.loop-ahead.start _ _ _ _
-    (StandsInScript-along first held seen octets c.args.front.len c.loop-ahead.start c.loop-ahead.from (length octets) _ _ _ _ before.begun before.later before.within c.in_default.ensures.none (before.stands first held seen s)))
+    (StandsInScript-end _ seen octets c.args.front.len c.loop-ahead.start _ _
+    (StandsInScript-along _ octets c.args.front.len c.loop-ahead.start c.loop-ahead.from (length octets) _ _ before.begun before.later before.within c.in_default.ensures.none seen (before.stands first held seen s)))
 
 pub returns-clause-stands : goal.returns-clause-stands
 returns-clause-stands g c = λ first held seen s.
     let octets = c.args.octets.now in
     let before = c.loop-ahead.invariant in
-    StandsInScript-short first held _ octets c.loop-ahead.start c.loop-ahead.long _ _ _ (omega (arith, before.begun, before.within)) c.if-long.false
-    (StandsInScript-end first held seen octets c.args.front.len c.loop-ahead.start _ _ _ _
-    (StandsInScript-along first held seen octets c.args.front.len c.loop-ahead.start c.loop-ahead.from (length octets) _ _ _ _ before.begun before.later before.within c.in_default.ensures.none (before.stands first held seen s)))
+    StandsInScript-short _ _ octets c.loop-ahead.start c.loop-ahead.long _ (omega (arith, before.begun, before.within)) c.if-long.false
+    (StandsInScript-end _ seen octets c.args.front.len c.loop-ahead.start _ _
+    (StandsInScript-along _ octets c.args.front.len c.loop-ahead.start c.loop-ahead.from (length octets) _ _ before.begun before.later before.within c.in_default.ensures.none seen (before.stands first held seen s)))
