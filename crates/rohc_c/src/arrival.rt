@@ -8,8 +8,9 @@ ghost use Rattle.rohc_c.specs.Relay.{FitsInRoom};
 ghost use Rattle.rohc_c.specs.Written.{outcome_number, whole_packet, relayed_in, StandsIn, IsPartTold, IsAnswerWritten, IsPacketWithin, IsWithin};
 
 use crate::payload::put_payload;
-use crate::relay::{put_behind, put_elements};
+use crate::relay::put_elements;
 use crate::room::HEAD;
+use rohc_bits::put_behind;
 use rohc_concentrator::Answer;
 use rohc_context::{Delivered, Outcome, Reply};
 use rohc_frame::Elements;

@@ -100,7 +100,10 @@ fn setting_of(link: &RohcLink) -> LinkSetting
 }
 
 /// The settings of links, in their order.
-pub(crate) fn link_settings(alloc: Global, links: &[RohcLink]) -> Result<Vec<LinkSetting>, AllocError>
+pub(crate) fn link_settings(
+    alloc: Global,
+    links: &[RohcLink],
+) -> Result<Vec<LinkSetting>, AllocError>
     requires { All HasFewRanges links.now }
     ensures { IfOk result (λ v. v.items ≡ link_settings links.now) }
 {

@@ -5,7 +5,7 @@ ghost use Rattle.rohc_context.specs.Refusal.{number_of};
 ghost use Rattle.rohc_c.specs.Names.{NamesNone};
 ghost use Rattle.rohc_c.specs.Written.{StandsIn};
 
-use crate::relay::put_behind;
+use rohc_bits::put_behind;
 use rohc_context::Refusal;
 
 /// The refusal with this number, if there is one.

@@ -2,7 +2,7 @@
 
 ghost use Rattle.std.specs.Prelude.{◌≡◌, ℕ, ◌≤◌, ◌+◌, ◌++◌, length, take};
 
-use crate::relay::put_behind;
+use rohc_bits::put_behind;
 
 /// How many octets a processor moves at once.
 const PART: usize = 16;

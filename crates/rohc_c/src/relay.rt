@@ -5,17 +5,8 @@ ghost use Rattle.rohc_frame.specs.Reading.{elements_of};
 ghost use Rattle.rohc_c.specs.Relay.{told, FitsInRoom};
 ghost use Rattle.rohc_c.specs.Written.{StandsIn};
 
+use rohc_bits::put_behind;
 use rohc_frame::Elements;
-
-/// Writes octets into a buffer after its first `at` octets.
-#[inline(always)]
-pub(crate) fn put_behind(place: &mut [u8], at: usize, octets: &[u8])
-    requires { at + length octets.now ≤ length place.old }
-    ensures len { length place.new ≡ length place.old }
-    ensures put { take (at + length octets.now) place.new ≡ take at place.old ++ octets.now }
-{
-    place[at..at + octets.len()].copy_from_slice(octets);
-}
 
 /// What was written into the buffer for feedback.
 #[derive(Clone, Copy, Debug)]

@@ -9,17 +9,10 @@ ghost use Rattle.rohc_serve.specs.Sending.{OffersSends, send, delivered_packet, 
 use crate::front::Front;
 use crate::sends::Sends;
 use crate::tally::counted_if;
+use rohc_bits::put_behind;
 use rohc_context::Delivered;
 use rohc_frame::Elements;
 use rohc_links::LONGEST_PACKET;
-
-/// Writes octets into the buffer after its first `at` octets.
-fn put_behind(buffer: &mut [u8], at: usize, octets: &[u8])
-    requires room { at + length octets.now ≤ length buffer.old }
-    ensures put { take (at + length octets.now) buffer.new ≡ take at buffer.old ++ octets.now }
-{
-    buffer[at..at + octets.len()].copy_from_slice(octets);
-}
 
 /// Writes a packet into the buffer and returns its length, or `None` if it is too long to be sent.
 fn put_packet(buffer: &mut [u8], packet: &Delivered<'_>) -> Option<usize>

@@ -1,7 +1,7 @@
 //! Cursors, readers and bit strings.
 
 use rohc_bits::reading::{cursor_over, is_set, octet, value, word};
-use rohc_bits::{Bits, Cursor};
+use rohc_bits::{Bits, Cursor, put_behind};
 
 #[test]
 fn bits_stand_behind_one_another(rt: HostRuntime) {
@@ -36,6 +36,13 @@ fn what_is_left_is_too_short(rt: HostRuntime) {
     let mut cursor = cursor_over(&[0x12]);
     assert_eq!(rt; word(&mut cursor, 9u8), Err(9));
     assert_eq!(rt; octet(&mut cursor, 9u8), Err(9));
+}
+
+#[test]
+fn octets_behind_others(rt: HostRuntime) {
+    let mut place = [1, 2, 3, 4, 5];
+    put_behind(&mut place, 1, &[8, 9]);
+    assert_eq!(rt; place, [1, 8, 9, 4, 5]);
 }
 
 #[test]
