@@ -4,7 +4,8 @@ examples/gateway.c must answer each example and each whole script as expected, o
 program does. tools/library_calls.c calls the library at its limits. Both run under the address sanitizer and under
 valgrind, if these are installed. tools/library_memory.c counts the memory that calls ask for and give back. The header
 is compiled as C99, C11 and C++. Scripts go on in other processes from saved calls. examples/udp_gateway.c takes a packet,
-the package in Python runs the examples, and pkg-config finds the installed library.
+the package in Python runs the examples, and pkg-config and CMake find the installed library. shipping.py has what the
+library is to others.
 """
 
 import os
@@ -13,6 +14,7 @@ from dataclasses import dataclass
 from pathlib import Path
 
 import restarts
+import shipping
 from examples import LONG, SCRIPTS, WORKED, Example, make_long, names_in, with_links
 from trial import Trial
 
@@ -189,12 +191,16 @@ def check_beside(library: Library) -> None:
 def check_installed(library: Library) -> None:
     """The installed library, as pkg-config finds it."""
     trial, prefix = library.trial, library.folder / "prefix"
+    shipping.check_other(trial, library.folder, prefix)
     environment = {"POLOROWAN_OVER_GATE": "1" if trial.over_gate else ""}
     ended = trial.ran(trial.top / "bin/install", "--library", prefix, environment=environment, seconds=SECONDS)
     trial.demand(ended.status == 0, f"bin/install --library: {ended.all}", ended.call)
     for name in INSTALLED:
         holds = str(prefix / name) in ended.text.splitlines() and (prefix / name).is_file()
         trial.demand(holds, f"bin/install --library: no {name}")
+    shipping.others_stay(trial, prefix)
+    example = library.call_of_example
+    shipping.check_cmake(trial, prefix, library.links(example.links), example.script, example.answers.read_bytes())
     if not shutil.which("pkg-config"):
         trial.leave_out("pkg-config is not installed, the library was not run with it")
         return
@@ -204,6 +210,13 @@ def check_installed(library: Library) -> None:
     flags = (*found.text.split(), f"-Wl,-rpath,{prefix}/lib")
     trial.must_run(library.compiler, "-std=c99", "-o", installed, "examples/gateway.c", *flags)
     answers_call(library, installed)
+
+
+def check_shipped(library: Library) -> None:
+    """Its names, versions and the ways in which it is linked."""
+    example = library.call_of_example
+    links = library.links(example.links)
+    shipping.check(library.trial, library.folder, links, example.script, example.answers.read_bytes())
 
 
 def check(trial: Trial) -> None:
@@ -224,6 +237,7 @@ def check(trial: Trial) -> None:
         check_random(library, gateway)
         check_restarts(library, gateway)
         check_beside(library)
+        check_shipped(library)
         check_installed(library)
     except NotBuilt:
         trial.say("library: a part of it isn't built, so the rest wasn't tried")

@@ -1,0 +1,205 @@
+"""The library as others get it: its names, its versions, and the ways in which it is linked.
+
+Only what polorowan.h declares leaves the archive and the shared object. The names, files and packages of librohc, another
+library, stay free: both are linked into one program and installed into one prefix, with a stand-in for the other. The
+library is linked with --whole-archive, with -flto, into a plugin, twice into one process, by CMake, and with musl.
+"""
+
+import re
+import shutil
+from collections.abc import Iterator
+from pathlib import Path
+
+from trial import Trial
+
+SYMBOLS = "tools/library_symbols.txt"
+HEADER = "include/polorowan.h"
+# What the library asks of C.
+ASKED = {"malloc", "realloc", "free", "memcpy", "memmove", "memset", "memcmp", "bcmp"}
+# Names, files and packages of the other library.
+OTHER_SOURCE = """
+#include "rohc.h"
+int rohc_version(void) { return 2; }
+void rohc_free(void *it) { (void)it; }
+"""
+OTHER_HEADER = """
+#ifndef ROHC_H
+#define ROHC_H
+enum rohc_status { ROHC_OK, ROHC_NO_CONTEXT };
+struct rohc_decomp;
+int rohc_version(void);
+void rohc_free(void *it);
+#endif
+"""
+BOTH = """
+#include "polorowan.h"
+#include "rohc.h"
+#include <stdio.h>
+int main(void) {
+    rohc_free(0);
+    puts(polorowan_version());
+    return rohc_version() == 2 && ROHC_NO_CONTEXT == 1 ? 0 : 1;
+}
+"""
+# Runs the gateway of examples/gateway.c in each of these plugins, from the start of standard input.
+HOST = """
+#include <dlfcn.h>
+#include <stdio.h>
+int main(int count, char **words) {
+    for (int i = 2; i < count; i++) {
+        void *plugin = dlopen(words[i], RTLD_NOW | RTLD_LOCAL);
+        int (*run)(int, char **) = 0;
+        if (plugin) *(void **)&run = dlsym(plugin, "gateway_main");
+        if (!run) return 9;
+        char *own[] = {words[0], words[1], 0};
+        rewind(stdin);
+        if (run(2, own) != 0) return 8;
+    }
+    return 0;
+}
+"""
+CMAKE = """
+cmake_minimum_required(VERSION 3.13)
+project(user C)
+find_package(polorowan {version} REQUIRED)
+add_executable(shared_gateway {gateway})
+target_link_libraries(shared_gateway polorowan::polorowan)
+add_executable(static_gateway {gateway})
+target_link_libraries(static_gateway polorowan::static)
+"""
+VERSIONS = (
+    ("python/pyproject.toml", r'^version = "([^"]*)"$'),
+    ("crates/rohctl_program/src/command.rt", r'\.version\("([^"]*)"\)'),
+    ("CHANGELOG.md", r"^## ([0-9.]+)\b"),
+)
+
+
+def version(trial: Trial) -> str:
+    """The version, from the one file that has it."""
+    return (trial.top / "VERSION").read_text().strip()
+
+
+def check_versions(trial: Trial) -> None:
+    """Each place that tells the version tells that of VERSION."""
+    wanted = version(trial)
+    for file, pattern in VERSIONS:
+        found = re.search(pattern, (trial.top / file).read_text(), re.MULTILINE)
+        trial.demand(found is not None and found[1] == wanted, f"{file}: its version isn't {wanted}, as in VERSION")
+    header = (trial.top / HEADER).read_text()
+    numbers = [re.search(rf"^#define POLOROWAN_VERSION_{part} (\d+)$", header, re.MULTILINE) for part in ("MAJOR", "MINOR", "PATCH")]
+    found_version = ".".join(number[1] if number else "?" for number in numbers)
+    trial.same(f"{HEADER}: its version", wanted, found_version)
+
+
+def names(trial: Trial, *words: str | Path) -> list[str]:
+    """The symbols that nm prints."""
+    ended = trial.ran("nm", *words)
+    trial.demand(ended.status == 0, f"nm: {ended.end()}", ended.call)
+    return sorted(line.split()[-1] for line in ended.text.splitlines() if line.strip() and not line.endswith(":"))
+
+
+def declared(trial: Trial) -> list[str]:
+    """The functions that the header declares."""
+    text = re.sub(r"/\*.*?\*/", "", (trial.top / HEADER).read_text(), flags=re.DOTALL)
+    return sorted(set(re.findall(r"\b(polorowan_\w+)\(", text)))
+
+
+def check_symbols(trial: Trial, folder: Path) -> None:
+    """The names that leave the library are those of the header, and those that were written down."""
+    kept = (trial.top / SYMBOLS).read_text()
+    trial.same(f"{SYMBOLS}: what {HEADER} declares", "".join(f"{name}\n" for name in declared(trial)), kept)
+    left = names(trial, "--defined-only", "--extern-only", folder / "libpolorowan.a")
+    trial.same("libpolorowan.a: the names that leave it", kept, "".join(f"{name}\n" for name in left))
+    asked = set(names(trial, "--undefined-only", folder / "libpolorowan.a")) - {"_GLOBAL_OFFSET_TABLE_"}
+    trial.demand(asked <= ASKED, f"libpolorowan.a asks for {' '.join(sorted(asked - ASKED))}")
+    shared = folder / "libpolorowan.so"
+    if not shared.exists():
+        return
+    left = names(trial, "--dynamic", "--defined-only", shared)
+    trial.same("libpolorowan.so: the names that leave it", kept, "".join(f"{name}\n" for name in left))
+    ended = trial.ran("readelf", "--dynamic", "--wide", shared)
+    soname = f"libpolorowan.so.{version(trial).split('.')[0]}"
+    trial.demand(f"[{soname}]" in ended.text, f"libpolorowan.so: its SONAME isn't {soname}", ended.call)
+    trial.demand((folder / soname).resolve() == shared.resolve(), f"{soname} and libpolorowan.so aren't one file")
+
+
+def check_other(trial: Trial, folder: Path, prefix: Path) -> None:
+    """A library of the other's names goes with this one, in one program and in one prefix."""
+    other = trial.scratch / "other"
+    header, source = trial.write("other/rohc.h", OTHER_HEADER), trial.write("other/rohc.c", OTHER_SOURCE)
+    trial.must_run("cc", "-I", other, "-c", "-o", other / "rohc.o", source)
+    trial.must_run("ar", "rcs", other / "librohc.a", other / "rohc.o")
+    both = other / "both"
+    words = ("-I", other, "-I", folder, trial.write("other/both.c", BOTH))
+    trial.must_run("cc", *words, "-o", both, other / "librohc.a", folder / "libpolorowan.a")
+    ended = trial.ran(both)
+    trial.demand(ended.status == 0, f"both libraries in one program: {ended.end()}", ended.call)
+    told = rf"{re.escape(version(trial))} sources [0-9a-f]{{64}} logic [0-9a-f]{{8,}}\n"
+    trial.demand(re.fullmatch(told, ended.text) is not None, f"polorowan_version() says {ended.text!r}", ended.call)
+    for name in ("include/rohc.h", "lib/librohc.a", "lib/pkgconfig/rohc.pc", "share/doc/rohc/README"):
+        (prefix / name).parent.mkdir(parents=True, exist_ok=True)
+        (prefix / name).write_bytes(header.read_bytes())
+
+
+def others_stay(trial: Trial, prefix: Path) -> None:
+    """What the other library had installed is as it was."""
+    for name in ("include/rohc.h", "lib/librohc.a", "lib/pkgconfig/rohc.pc", "share/doc/rohc/README"):
+        trial.same(f"{name} of the other library", OTHER_HEADER, (prefix / name).read_bytes())
+
+
+def ways(trial: Trial, folder: Path) -> Iterator[tuple[str, tuple[str | Path, ...]]]:
+    """Programs that were linked in several ways, each with the words that run it before the file of links."""
+    gateway, archive = trial.top / "examples/gateway.c", folder / "libpolorowan.a"
+    made = trial.scratch / "ways"
+    made.mkdir(exist_ok=True)
+    whole = ("-Wl,--whole-archive", archive, "-Wl,--no-whole-archive")
+    for name, compiler, flags, library in (
+        ("whole archive", "cc", (), whole),
+        ("link-time optimization", "cc", ("-O2", "-flto"), (archive,)),
+        ("musl", "musl-gcc", ("-static",), (archive,)),
+    ):
+        if not shutil.which(compiler):
+            trial.leave_out(f"{compiler} is not installed, the library was not run with it")
+            continue
+        program = made / name.replace(" ", "_")
+        if trial.must_run(compiler, *flags, "-I", folder, "-o", program, gateway, *library):
+            yield name, (program,)
+    plugins = [made / "first.so", made / "second.so"]
+    trial.must_run("cc", "-shared", "-fPIC", "-Dmain=gateway_main", "-I", folder, "-o", plugins[0], gateway, archive)
+    shutil.copy(plugins[0], plugins[1])
+    host = made / "host"
+    trial.must_run("cc", "-o", host, trial.write("ways/host.c", HOST), "-ldl")
+    yield "plugin", (host, "LINKS", plugins[0])
+    yield "two copies", (host, "LINKS", *plugins)
+
+
+def check_ways(trial: Trial, folder: Path, links: Path, script: Path, answers: bytes) -> None:
+    """The gateway answers an example in each way."""
+    for name, words in ways(trial, folder):
+        run = [links if word == "LINKS" else word for word in words]
+        ended = trial.ran(*(run if "LINKS" in words else [*run, links]), given=script)
+        trial.demand(ended.status == 0, f"{name}: {ended.end()}", ended.call)
+        trial.same(name, answers * (2 if name == "two copies" else 1), ended.output, ended.call)
+
+
+def check_cmake(trial: Trial, prefix: Path, links: Path, script: Path, answers: bytes) -> None:
+    """CMake finds the installed library, and both its targets answer an example."""
+    if not shutil.which("cmake"):
+        trial.leave_out("cmake is not installed, its package was not tried")
+        return
+    wanted = version(trial)
+    text = CMAKE.format(version=wanted.rpartition(".")[0], gateway=trial.top / "examples/gateway.c")
+    folder = trial.write("cmake/CMakeLists.txt", text).parent
+    made = folder / "made"
+    configured = ("cmake", "-S", folder, "-B", made, f"-DCMAKE_PREFIX_PATH={prefix}")
+    if trial.must_run(*configured) and trial.must_run("cmake", "--build", made):
+        for name in ("shared_gateway", "static_gateway"):
+            ended = trial.ran(made / name, links, given=script)
+            trial.same(f"CMake: {name}", answers, ended.output, ended.call)
+
+
+def check(trial: Trial, folder: Path, links: Path, script: Path, answers: bytes) -> None:
+    """All that needs no installed library."""
+    check_versions(trial)
+    check_symbols(trial, folder)
+    check_ways(trial, folder, links, script, answers)
