@@ -4,7 +4,7 @@ pub mod LineText
 pub mod Lines
 pub mod LowerCase
 pub mod Numeral
-pub mod OffersText
+pub mod Offers
 pub mod Run
 pub mod Script
 pub mod Stream
