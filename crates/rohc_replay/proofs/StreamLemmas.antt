@@ -98,7 +98,7 @@ pub record RunsKept (c : ReplayChange) (before after : Counts) (long : Bool) (ke
   pub tally : after.tally ≡ with_line before.tally line
 
 -- a turn runs a short line, and a long one
-turn_runs : (c : ReplayChange) (before after : Counts) (kept : List ℕ) (result : Result Unit Stopped) →
+abbrev turn_runs : (c : ReplayChange) (before after : Counts) (kept : List ℕ) (result : Result Unit Stopped) →
     TakesTurn c before after kept result → RunsKept c before after false kept
 turn_runs c before after kept result t = record {
   line = t.line;
@@ -109,7 +109,7 @@ turn_runs c before after kept result t = record {
   tally = t.tally;
 }
 
-long_runs : (now : Concentrator) (held holding : Option (List ℕ)) (before after : Counts) (kept : List ℕ) →
+abbrev long_runs : (now : Concentrator) (held holding : Option (List ℕ)) (before after : Counts) (kept : List ℕ) →
     after.tally ≡ with_line before.tally Long → RunsKept (change now held now holding) before after true kept
 long_runs now held holding before after kept tally = record {
   line = Long;
