@@ -6,4 +6,5 @@ pub mod Widths
 pub mod ReadingLemmas
 pub mod Steps
 pub mod ValueSteps
-pub mod FieldLemmas
+pub mod GrammarLemmas
+pub mod Holds

@@ -3,4 +3,5 @@ pub mod Fronts
 pub mod Spelling
 pub mod LowBits
 pub mod Reading
-pub mod FieldList
+pub mod Grammar
+pub mod InTurn

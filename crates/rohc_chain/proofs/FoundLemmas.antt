@@ -7,6 +7,7 @@ use Rattle.std.proofs.lemmas.Bool.{eqb-true}
 use Rattle.std.proofs.lemmas.List.Elements.{All-head, All-tail, All-drop}
 use Rattle.rohc_bits.specs.Reading.{bit, next_word}
 use Rattle.rohc_bits.specs.Spelling.{IsSpelled}
+use Rattle.rohc_bits.specs.Grammar.{Judged}
 use Rattle.rohc_header.specs.declared.fields.Static.{Static}
 use Rattle.rohc_header.specs.declared.fields.Dynamic.{Dynamic}
 use Rattle.rohc_chain.specs.declared.parts.Kept.{Kept}
@@ -14,9 +15,9 @@ use Rattle.rohc_chain.specs.declared.parts.IpDynamic.{IpDynamic}
 use Rattle.rohc_chain.specs.declared.parts.RtpDynamic.{RtpDynamic}
 use Rattle.rohc_chain.specs.declared.refusal.ChainRefusal.{ChainRefusal}
 use Rattle.rohc_chain.specs.declared.refusal.ChainRefusal.TheVariants.{Truncated, IpVersion, Protocol, ExtensionList, RtpVersion, Csrc, ZeroStride, ReliableMode}
-use Rattle.rohc_chain.specs.Octets.{octet_at, word_at, four_octets_at, quad_at, value_at}
+use Rattle.rohc_chain.specs.Octets.{read, octet_at, word_at, four_octets_at, quad_at, value_at}
 use Rattle.rohc_chain.specs.Faults.{unless, version_fault, protocol_fault, extension_list_fault, csrc_list_fault, rtp_fault, mode_fault, stride_fault}
-use Rattle.rohc_chain.specs.Chains.{judged_octet, judged_value, ip_static_at, static_at, ip_dynamic_at, stride_at, behind_time_stride, flags_at, rtp_dynamic_at, joined, dynamic_at}
+use Rattle.rohc_chain.specs.Chains.{judged_octet, ip_static_at, static_at, ip_dynamic_at, stride_at, behind_time_stride, flags_at, rtp_dynamic_at, joined, dynamic_at}
 use Rattle.rohc_header.specs.Original.{word, quad, flag}
 use Rattle.rohc_chain.specs.ChainText.{SpellsIpStatic, SpellsStatic, SpellsIpDynamic, SpellsStride, SpellsTimeStride, SpellsFlags, SpellsGiven, SpellsRtpDynamic, SpellsDynamic}
 use Rattle.rohc_bits.proofs.Steps.{ok_is, bind_ok, octet_found, judged_ok, judged_found}
@@ -66,7 +67,7 @@ quad_of high low l =
     let m : (high * 65536 + low) % 65536 ≡ low = omega arith in
     ap (λ (n : ℕ). word n ++ word ((high * 65536 + low) % 65536)) h ∙ ap (λ (n : ℕ). word high ++ word n) m
 
-quad_found : (text : List ℕ) (x : ℕ × List ℕ) → All IsOctet text → quad_at text ≡ Ok x → Found text (quad x.0) x.1
+quad_found : (text : List ℕ) (x : ℕ × List ℕ) → All IsOctet text → read quad_at text ≡ Ok x → Found text (quad x.0) x.1
 unfolding quad_at
 quad_found text x all e =
     let a = bind_ok (word_at text) _ x e in
@@ -78,7 +79,7 @@ quad_found text x all e =
     let found : Found text (quad (a.0.0 * 65536 + b.0.0)) b.0.1 = subst (λ (t : List ℕ). Found text t b.0.1) (sym (quad_of a.0.0 b.0.0 low.1)) both in
     subst (λ (y : ℕ × List ℕ). Found text (quad y.0) y.1) is found
 
-four_found : (text : List ℕ) (x : List ℕ × List ℕ) → All IsOctet text → four_octets_at text ≡ Ok x → Found text x.0 x.1 × (length x.0 ≡ 4)
+four_found : (text : List ℕ) (x : List ℕ × List ℕ) → All IsOctet text → read four_octets_at text ≡ Ok x → Found text x.0 x.1 × (length x.0 ≡ 4)
 unfolding four_octets_at
 four_found text x all e =
     let a = bind_ok (octet_at text) _ x e in
@@ -108,14 +109,14 @@ pub unless_none : (holds : Bool) (refusal : ChainRefusal) → unless holds refus
 unless_none true refusal e = refl
 unless_none false refusal e = cc
 
-ip_static_found : (text : List ℕ) (x : (List ℕ × List ℕ) × List ℕ) → All IsOctet text → ip_static_at text ≡ Ok x →
+ip_static_found : (text : List ℕ) (x : (List ℕ × List ℕ) × List ℕ) → All IsOctet text → read ip_static_at text ≡ Ok x →
     (spelling : List ℕ) × Found text spelling x.1 × SpellsIpStatic x.0.0 x.0.1 spelling
 unfolding ip_static_at
 ip_static_found text x all e =
     let a = bind_ok (judged_octet version_fault text) _ x e in
     let b = bind_ok (judged_octet protocol_fault a.0.1) _ x a.2 in
-    let c = bind_ok (four_octets_at b.0.1) _ x b.2 in
-    let d = bind_ok (four_octets_at c.0.1) _ x c.2 in
+    let c = bind_ok (read four_octets_at b.0.1) _ x b.2 in
+    let d = bind_ok (read four_octets_at c.0.1) _ x c.2 in
     let fa = judged_read version_fault text a.0 all a.1 in
     let fb = judged_read protocol_fault a.0.1 b.0 fa.0.octets b.1 in
     let fc = four_found b.0.1 c.0 fb.0.octets c.1 in
@@ -137,14 +138,14 @@ ip_static_found text x all e =
     subst (λ (y : (List ℕ × List ℕ) × List ℕ). (spelling : List ℕ) × Found text spelling y.1 × SpellsIpStatic y.0.0 y.0.1 spelling) is
     (a.0.0 ∷ b.0.0 ∷ c.0.0 ++ d.0.0, found, spells)
 
-pub static_found : (text : List ℕ) (x : Static × List ℕ) → All IsOctet text → static_at text ≡ Ok x →
+pub static_found : (text : List ℕ) (x : Static × List ℕ) → All IsOctet text → read static_at text ≡ Ok x →
     (spelling : List ℕ) × Found text spelling x.1 × SpellsStatic x.0 spelling
 unfolding static_at
 static_found text x all e =
-    let a = bind_ok (ip_static_at text) _ x e in
+    let a = bind_ok (read ip_static_at text) _ x e in
     let b = bind_ok (word_at a.0.1) _ x a.2 in
     let c = bind_ok (word_at b.0.1) _ x b.2 in
-    let d = bind_ok (quad_at c.0.1) _ x c.2 in
+    let d = bind_ok (read quad_at c.0.1) _ x c.2 in
     let fa = ip_static_found text a.0 all a.1 in
     let fb = word_found a.0.1 b.0 fa.1.octets b.1 in
     let fc = word_found b.0.1 c.0 fb.0.octets c.1 in
@@ -157,7 +158,7 @@ static_found text x all e =
     subst (λ (y : Static × List ℕ). (spelling : List ℕ) × Found text spelling y.1 × SpellsStatic y.0 spelling) is
     (fa.0 ++ (word b.0.0 ++ (word c.0.0 ++ quad d.0.0)), found, record { ip = fa.0; spells_ip = fa.2; whole = refl })
 
-ip_dynamic_found : (text : List ℕ) (x : IpDynamic × List ℕ) → All IsOctet text → ip_dynamic_at text ≡ Ok x →
+ip_dynamic_found : (text : List ℕ) (x : IpDynamic × List ℕ) → All IsOctet text → read ip_dynamic_at text ≡ Ok x →
     (spelling : List ℕ) × Found text spelling x.1 × ((udp_sum : ℕ) (rtp : RtpDynamic) → SpellsIpDynamic (joined x.0 udp_sum rtp) spelling)
 unfolding ip_dynamic_at
 ip_dynamic_found text x all e =
@@ -190,7 +191,7 @@ ip_dynamic_found text x all e =
 pub all_right : (xs ys : List ℕ) → All IsOctet (xs ++ ys) → All IsOctet ys
 all_right xs ys all = rw drop-append_seam at (All-drop IsOctet (length xs) (xs ++ ys) all)
 
-value_spelled : (text : List ℕ) (x : ℕ × List ℕ) → All IsOctet text → value_at text ≡ Ok x → (spelling : List ℕ) × Found text spelling x.1 × IsSpelled spelling x.0
+value_spelled : (text : List ℕ) (x : ℕ × List ℕ) → All IsOctet text → read value_at text ≡ Ok x → (spelling : List ℕ) × Found text spelling x.1 × IsSpelled spelling x.0
 value_spelled text x all e =
     let front = value_front text x.0 x.1 all e in
     (front.spelling, record { whole = front.whole; octets = all_right front.spelling x.1 (rw front.whole at all) }, front.spelled)
@@ -206,37 +207,37 @@ StrideFound flags kept text x = (spelling : List ℕ) × Found text spelling x.1
 nothing_found : (text : List ℕ) → All IsOctet text → Found text [] text
 nothing_found text all = record { whole = refl; octets = all }
 
-stride_found_by : (tss : Bool) (kept : Option ℕ) (flags : ℕ) (text : List ℕ) (x : Option ℕ × List ℕ) → All IsOctet text → bit 0 flags ≡ tss → stride_at kept flags text ≡ Ok x → StrideFound flags kept text x
+stride_found_by : (tss : Bool) (kept : Option ℕ) (flags : ℕ) (text : List ℕ) (x : Option ℕ × List ℕ) → All IsOctet text → bit 0 flags ≡ tss → read (stride_at kept flags) text ≡ Ok x → StrideFound flags kept text x
 unfolding stride_at
 stride_found_by false kept flags text x all tss e =
     let is : ◌≡◌ {A = Option ℕ × List ℕ} (kept, text) x = ok_is (kept, text) x (rw tss at e) in
     subst (StrideFound flags kept text) is ([], nothing_found text all, rw tss (refl, refl))
 stride_found_by true kept flags text x all tss e =
-    let a = bind_ok (judged_value stride_fault text) _ x (rw tss at e) in
-    let v = bind_ok (value_at text) _ a.0 a.1 in
+    let a = bind_ok (read (Judged stride_fault value_at) text) _ x (rw tss at e) in
+    let v = bind_ok (read value_at text) _ a.0 a.1 in
     let j = judged_ok (stride_fault v.0.0) v.0 a.0 v.2 in
     let front = value_spelled text v.0 all v.1 in
     let is : ◌≡◌ {A = Option ℕ × List ℕ} (Some v.0.0, v.0.1) x = ap (λ (p : ℕ × List ℕ). (Some p.0, p.1)) j.1 ∙ ok_is _ x a.2 in
     subst (StrideFound flags kept text) is (front.0, front.1, rw tss (front.2, above_zero v.0.0 (v.0.0 == 0) refl j.0))
 
-stride_found : (kept : Option ℕ) (flags : ℕ) (text : List ℕ) (x : Option ℕ × List ℕ) → All IsOctet text → stride_at kept flags text ≡ Ok x → StrideFound flags kept text x
+stride_found : (kept : Option ℕ) (flags : ℕ) (text : List ℕ) (x : Option ℕ × List ℕ) → All IsOctet text → read (stride_at kept flags) text ≡ Ok x → StrideFound flags kept text x
 stride_found kept flags text x all e = stride_found_by (bit 0 flags) kept flags text x all refl e
 
 abbrev pub TimeFound : ℕ → List ℕ → Unit {0} × List ℕ → Type 0
 TimeFound flags text x = (spelling : List ℕ) × Found text spelling x.1 × SpellsTimeStride (bit 1 flags) spelling
 
-time_found_by : (tis : Bool) (flags : ℕ) (text : List ℕ) (x : Unit {0} × List ℕ) → All IsOctet text → bit 1 flags ≡ tis → behind_time_stride flags text ≡ Ok x → TimeFound flags text x
+time_found_by : (tis : Bool) (flags : ℕ) (text : List ℕ) (x : Unit {0} × List ℕ) → All IsOctet text → bit 1 flags ≡ tis → read (behind_time_stride flags) text ≡ Ok x → TimeFound flags text x
 unfolding behind_time_stride
 time_found_by false flags text x all tis e =
     let is : ◌≡◌ {A = Unit {0} × List ℕ} (tt, text) x = ok_is (tt, text) x (rw tis at e) in
     subst (TimeFound flags text) is ([], nothing_found text all, rw tis refl)
 time_found_by true flags text x all tis e =
-    let v = bind_ok (value_at text) _ x (rw tis at e) in
+    let v = bind_ok (read value_at text) _ x (rw tis at e) in
     let front = value_spelled text v.0 all v.1 in
     let is : ◌≡◌ {A = Unit {0} × List ℕ} (tt, v.0.1) x = ok_is _ x v.2 in
     subst (TimeFound flags text) is (front.0, front.1, rw tis (v.0.0, front.2))
 
-time_found : (flags : ℕ) (text : List ℕ) (x : Unit {0} × List ℕ) → All IsOctet text → behind_time_stride flags text ≡ Ok x → TimeFound flags text x
+time_found : (flags : ℕ) (text : List ℕ) (x : Unit {0} × List ℕ) → All IsOctet text → read (behind_time_stride flags) text ≡ Ok x → TimeFound flags text x
 time_found flags text x all e = time_found_by (bit 1 flags) flags text x all refl e
 
 not_three : (mode : ℕ) (reliable : Bool) → mode < 4 → (mode == 3) ≡ reliable → (if reliable then Some ReliableMode else None) ≡ None → mode < 3
@@ -246,15 +247,15 @@ not_three mode false low e none = grind (arith, nat_tests)
 abbrev pub GivenFound : Bool → Kept → List ℕ → Kept × List ℕ → Type 0
 GivenFound rx kept text x = (spelling : List ℕ) × Found text spelling x.1 × SpellsGiven rx kept x.0.extension x.0.stride spelling
 
-flags_found : (rx : Bool) (kept : Kept) (text : List ℕ) (x : Kept × List ℕ) → All IsOctet text → flags_at kept rx text ≡ Ok x → GivenFound rx kept text x
+flags_found : (rx : Bool) (kept : Kept) (text : List ℕ) (x : Kept × List ℕ) → All IsOctet text → read (flags_at kept rx) text ≡ Ok x → GivenFound rx kept text x
 unfolding flags_at
 flags_found false kept text x all e =
     let is : ◌≡◌ {A = Kept × List ℕ} (kept, text) x = ok_is (kept, text) x e in
     subst (GivenFound false kept text) is ([], nothing_found text all, (refl, refl, refl))
 flags_found true kept text x all e =
     let a = bind_ok (judged_octet mode_fault text) _ x e in
-    let b = bind_ok (stride_at kept.stride a.0.0 a.0.1) _ x a.2 in
-    let c = bind_ok (behind_time_stride a.0.0 b.0.1) _ x b.2 in
+    let b = bind_ok (read (stride_at kept.stride a.0.0) a.0.1) _ x a.2 in
+    let c = bind_ok (read (behind_time_stride a.0.0) b.0.1) _ x b.2 in
     let fa = judged_read mode_fault text a.0 all a.1 in
     let fb = stride_found kept.stride a.0.0 a.0.1 b.0 fa.0.octets b.1 in
     let fc = time_found a.0.0 b.0.1 c.0 fb.1.octets c.1 in
@@ -285,15 +286,18 @@ no_rtp_fault false sources e = cc
 abbrev pub RtpFound : Kept → List ℕ → RtpDynamic × List ℕ → Type 0
 RtpFound kept text x = (spelling : List ℕ) × Found text spelling x.1 × ((ip : IpDynamic) (udp_sum : ℕ) → SpellsRtpDynamic kept (joined ip udp_sum x.0) spelling)
 
-rtp_dynamic_found : (kept : Kept) (text : List ℕ) (x : RtpDynamic × List ℕ) → All IsOctet text → rtp_dynamic_at kept text ≡ Ok x → RtpFound kept text x
+below_128 : (n : ℕ) → n % 128 < 128
+below_128 n = omega arith
+
+rtp_dynamic_found : (kept : Kept) (text : List ℕ) (x : RtpDynamic × List ℕ) → All IsOctet text → read (rtp_dynamic_at kept) text ≡ Ok x → RtpFound kept text x
 unfolding rtp_dynamic_at
 rtp_dynamic_found kept text x all e =
     let a = bind_ok (judged_octet rtp_fault text) _ x e in
     let b = bind_ok (octet_at a.0.1) _ x a.2 in
     let c = bind_ok (word_at b.0.1) _ x b.2 in
-    let d = bind_ok (quad_at c.0.1) _ x c.2 in
+    let d = bind_ok (read quad_at c.0.1) _ x c.2 in
     let l = bind_ok (judged_octet csrc_list_fault d.0.1) _ x d.2 in
-    let g = bind_ok (flags_at kept (bit 4 a.0.0) l.0.1) _ x l.2 in
+    let g = bind_ok (read (flags_at kept (bit 4 a.0.0)) l.0.1) _ x l.2 in
     let fa = judged_read rtp_fault text a.0 all a.1 in
     let fb = octet_read a.0.1 b.0 fa.0.octets b.1 in
     let fc = word_found b.0.1 c.0 fb.0.octets c.1 in
@@ -314,7 +318,7 @@ rtp_dynamic_found kept text x all e =
     let spells : (ip : IpDynamic) (udp_sum : ℕ) → SpellsRtpDynamic kept (joined ip udp_sum made.0) (a.0.0 ∷ b.0.0 ∷ word c.0.0 ++ (quad d.0.0 ++ l.0.0 ∷ fg.0)) = λ ip udp_sum. record {
       rx = bit 4 a.0.0;
       given = fg.0;
-      seven_bits = omega arith;
+      seven_bits = below_128 b.0.0;
       spells_given = fg.2;
       whole = ap (λ (o : ℕ). o ∷ b.0.0 ∷ word c.0.0 ++ (quad d.0.0 ++ l.0.0 ∷ fg.0)) first
           ∙ ap (λ (o : ℕ). (128 + flag (bit 5 a.0.0) 32 + flag (bit 4 a.0.0) 16) ∷ o ∷ word c.0.0 ++ (quad d.0.0 ++ l.0.0 ∷ fg.0)) second
@@ -322,13 +326,13 @@ rtp_dynamic_found kept text x all e =
     } in
     subst (RtpFound kept text) is (a.0.0 ∷ b.0.0 ∷ word c.0.0 ++ (quad d.0.0 ++ l.0.0 ∷ fg.0), found, spells)
 
-pub dynamic_found : (kept : Kept) (text : List ℕ) (x : Dynamic × List ℕ) → All IsOctet text → dynamic_at kept text ≡ Ok x →
+pub dynamic_found : (kept : Kept) (text : List ℕ) (x : Dynamic × List ℕ) → All IsOctet text → read (dynamic_at kept) text ≡ Ok x →
     (spelling : List ℕ) × Found text spelling x.1 × SpellsDynamic kept x.0 spelling
 unfolding dynamic_at
 dynamic_found kept text x all e =
-    let a = bind_ok (ip_dynamic_at text) _ x e in
+    let a = bind_ok (read ip_dynamic_at text) _ x e in
     let b = bind_ok (word_at a.0.1) _ x a.2 in
-    let c = bind_ok (rtp_dynamic_at kept b.0.1) _ x b.2 in
+    let c = bind_ok (read (rtp_dynamic_at kept) b.0.1) _ x b.2 in
     let fa = ip_dynamic_found text a.0 all a.1 in
     let fb = word_found a.0.1 b.0 fa.1.octets b.1 in
     let fc = rtp_dynamic_found kept b.0.1 c.0 fb.0.octets c.1 in

@@ -1,6 +1,5 @@
 pub mod Checks
 pub mod Values
-pub mod FieldLemmas
 pub mod FaultLemmas
 pub mod BitLemmas
 pub mod SpelledLemmas

@@ -17,7 +17,7 @@ use Rattle.rohc_chain.specs.declared.packet.IrDyn as lent_dyn
 use Rattle.rohc_chain.specs.declared.parts.Kept.{Kept}
 use Rattle.rohc_chain.specs.declared.refusal.ChainRefusal.{ChainRefusal}
 use Rattle.rohc_chain.specs.declared.refusal.ChainRefusal.TheVariants.{Truncated, Profile, ProfileChange, Trailing, TooLong, Check}
-use Rattle.rohc_chain.specs.Octets.{octet_at}
+use Rattle.rohc_chain.specs.Octets.{read, octet_at}
 use Rattle.rohc_chain.specs.Faults.{ir_profile_fault, dyn_profile_fault}
 use Rattle.rohc_chain.specs.Chains.{judged_octet, static_at, dynamic_at}
 use Rattle.rohc_chain.specs.Packets.{longest_payload, IrContent, Plain, StaticOnly, Whole, ir_content, DynContent, dyn_content, IsIr, IsIrDyn, is_dynamic, plain_cover, cover, fits, before, nothing_kept, length_fault, check_fault, ended, plain_at, static_only_at, whole_at, chains_at, ir_at, ir_dyn_at}
@@ -47,7 +47,7 @@ plain_read h packet is = rw (is.whole, is.kind, check_fits (plain_cover h)) refl
 static_text_read : (h : Header) (fixed : Static) → IsStaticText h fixed → ir_at h ≡ Ok (StaticOnly fixed)
 unfolding ir_at next_octet static_only_at
 static_text_read h fixed is =
-    let chains : static_at is.chains ≡ Ok (fixed, []) = ap static_at (sym (append-nil is.chains)) ∙ static_read fixed is.chains [] is.spells_static in
+    let chains : read static_at is.chains ≡ Ok (fixed, []) = ap (read static_at) (sym (append-nil is.chains)) ∙ static_read fixed is.chains [] is.spells_static in
     rw (is.whole, is.kind, chains, check_fits (cover h is.chains)) refl
 
 short : (payload : List ℕ) → length payload ≤ longest_payload → length_fault payload ≡ None
@@ -58,8 +58,8 @@ short payload l =
 whole_text_read : (h : Header) (fixed : Static) (moving : Dynamic) (payload : List ℕ) → IsWholeText h fixed moving payload → length payload ≤ longest_payload → ir_at h ≡ Ok (Whole fixed moving payload)
 unfolding ir_at next_octet whole_at
 whole_text_read h fixed moving payload is l =
-    let first : static_at (is.static_chain ++ (is.dynamic_chain ++ payload)) ≡ Ok (fixed, is.dynamic_chain ++ payload) = static_read fixed is.static_chain (is.dynamic_chain ++ payload) is.spells_static in
-    let second : dynamic_at nothing_kept (is.dynamic_chain ++ payload) ≡ Ok (moving, payload) = dynamic_read nothing_kept moving is.dynamic_chain payload is.spells_dynamic in
+    let first : read static_at (is.static_chain ++ (is.dynamic_chain ++ payload)) ≡ Ok (fixed, is.dynamic_chain ++ payload) = static_read fixed is.static_chain (is.dynamic_chain ++ payload) is.spells_static in
+    let second : read (dynamic_at nothing_kept) (is.dynamic_chain ++ payload) ≡ Ok (moving, payload) = dynamic_read nothing_kept moving is.dynamic_chain payload is.spells_dynamic in
     let chains : before payload (is.static_chain ++ (is.dynamic_chain ++ payload)) ≡ is.static_chain ++ is.dynamic_chain =
     ap (before payload) (sym (append_assoc is.static_chain is.dynamic_chain payload)) ∙ before_end (is.static_chain ++ is.dynamic_chain) payload in
     rw (is.whole, is.kind, first, second, short payload l, chains, check_fits (cover h (is.static_chain ++ is.dynamic_chain))) refl
@@ -72,8 +72,8 @@ ir_from_text h (Whole fixed moving payload) is l = whole_text_read h fixed movin
 pub dyn_from_text : (h : Header) (profile : ℕ) (kept : Kept) (packet : DynContent) → IsIrDynText h profile kept packet → length packet.payload ≤ longest_payload → ir_dyn_at h profile kept ≡ Ok packet
 unfolding ir_dyn_at next_octet
 dyn_from_text h profile kept packet is l =
-    let read : dynamic_at kept (is.chain ++ packet.payload) ≡ Ok (packet.moving, packet.payload) = dynamic_read kept packet.moving is.chain packet.payload is.spells_dynamic in
-    rw (is.for_profile_1, is.whole, read, short packet.payload l, before_end is.chain packet.payload, check_fits (cover h is.chain)) refl
+    let moving : read (dynamic_at kept) (is.chain ++ packet.payload) ≡ Ok (packet.moving, packet.payload) = dynamic_read kept packet.moving is.chain packet.payload is.spells_dynamic in
+    rw (is.for_profile_1, is.whole, moving, short packet.payload l, before_end is.chain packet.payload, check_fits (cover h is.chain)) refl
 
 -- What is read the octets spell.
 
@@ -98,7 +98,7 @@ static_text_found : (h : Header) (octet : ℕ) (text : List ℕ) (content : IrCo
     static_only_at h octet text ≡ Ok content → IsIrText h content × IsShort content
 unfolding static_only_at
 static_text_found h octet text content all kind whole e =
-    let a = bind_ok (static_at text) _ content e in
+    let a = bind_ok (read static_at text) _ content e in
     let b = bind_ok (judged (ended a.0.1) a.0.1) _ content a.2 in
     let end = judged_ok (ended a.0.1) a.0.1 b.0 b.1 in
     let j = judged_ok (check_fault octet (cover h text)) (StaticOnly a.0.0) content b.2 in
@@ -118,8 +118,8 @@ whole_text_found : (h : Header) (octet : ℕ) (text : List ℕ) (content : IrCon
     whole_at h octet text ≡ Ok content → IsIrText h content × IsShort content
 unfolding whole_at
 whole_text_found h octet text content all kind whole e =
-    let a = bind_ok (static_at text) _ content e in
-    let b = bind_ok (dynamic_at nothing_kept a.0.1) _ content a.2 in
+    let a = bind_ok (read static_at text) _ content e in
+    let b = bind_ok (read (dynamic_at nothing_kept) a.0.1) _ content a.2 in
     let l = bind_ok (judged (length_fault b.0.1) b.0.1) _ content b.2 in
     let enough = judged_ok (length_fault b.0.1) b.0.1 l.0 l.1 in
     let j = judged_ok (check_fault octet (cover h (before b.0.1 text))) (Whole a.0.0 b.0.0 b.0.1) content l.2 in
@@ -184,7 +184,7 @@ unfolding ir_dyn_at
 dyn_text h profile kept packet is low all e =
     let a = bind_ok (judged_octet (dyn_profile_fault profile) h.rest) _ packet e in
     let b = bind_ok (octet_at a.0.1) _ packet a.2 in
-    let d = bind_ok (dynamic_at kept b.0.1) _ packet b.2 in
+    let d = bind_ok (read (dynamic_at kept) b.0.1) _ packet b.2 in
     let l = bind_ok (judged (length_fault d.0.1) d.0.1) _ packet d.2 in
     let first = judged_found Truncated (dyn_profile_fault profile) h.rest a.0 a.1 in
     let second = octet_found Truncated a.0.1 b.0 b.1 in
@@ -228,16 +228,16 @@ zero_or_one h text other e f = let same : ◌≡◌ {A = ℕ} 0 1 = same_profile
 one_static : (h : Header) (a b : Static) → IsStaticText h a → IsStaticText h b → a ≡ b
 one_static h a b is also =
     let same = same_text h 1 _ 1 _ is.chains also.chains is.whole also.whole in
-    (ok_parts a b [] [] (sym (static_read a is.chains [] is.spells_static) ∙ ap (λ (t : List ℕ). static_at (t ++ [])) same ∙ static_read b also.chains [] also.spells_static)).0
+    (ok_parts a b [] [] (sym (static_read a is.chains [] is.spells_static) ∙ ap (λ (t : List ℕ). read static_at (t ++ [])) same ∙ static_read b also.chains [] also.spells_static)).0
 
 one_moving : (kept : Kept) (a b : Dynamic) (left right first second : List ℕ) → SpellsDynamic kept a left → SpellsDynamic kept b right → left ++ first ≡ right ++ second → (a ≡ b) × (first ≡ second)
 one_moving kept a b left right first second is also same =
-    ok_parts a b first second (sym (dynamic_read kept a left first is) ∙ ap (dynamic_at kept) same ∙ dynamic_read kept b right second also)
+    ok_parts a b first second (sym (dynamic_read kept a left first is) ∙ ap (read (dynamic_at kept)) same ∙ dynamic_read kept b right second also)
 
 one_whole : (h : Header) (a b : Static) (d f : Dynamic) (p q : List ℕ) → IsWholeText h a d p → IsWholeText h b f q → (a ≡ b) × (d ≡ f) × (p ≡ q)
 one_whole h a b d f p q is also =
     let same = same_text h 1 _ 1 _ (is.static_chain ++ (is.dynamic_chain ++ p)) (also.static_chain ++ (also.dynamic_chain ++ q)) is.whole also.whole in
-    let first = ok_parts a b (is.dynamic_chain ++ p) (also.dynamic_chain ++ q) (sym (static_read a is.static_chain (is.dynamic_chain ++ p) is.spells_static) ∙ ap static_at same ∙ static_read b also.static_chain (also.dynamic_chain ++ q) also.spells_static) in
+    let first = ok_parts a b (is.dynamic_chain ++ p) (also.dynamic_chain ++ q) (sym (static_read a is.static_chain (is.dynamic_chain ++ p) is.spells_static) ∙ ap (read static_at) same ∙ static_read b also.static_chain (also.dynamic_chain ++ q) also.spells_static) in
     let second = one_moving nothing_kept d f is.dynamic_chain also.dynamic_chain p q is.spells_dynamic also.spells_dynamic first.1 in
     (first.0, second.0, second.1)
 

@@ -9,7 +9,7 @@ use Rattle.rohc_bits.proofs.ValueSteps.{value_found, value_given}
 pub use Rattle.rohc_frame.specs.Laws.{IsOctet}
 use Rattle.rohc_chain.specs.declared.refusal.ChainRefusal.{ChainRefusal}
 use Rattle.rohc_chain.specs.declared.refusal.ChainRefusal.TheVariants.{Truncated}
-use Rattle.rohc_chain.specs.Octets.{value_at}
+use Rattle.rohc_chain.specs.Octets.{read, value_at}
 use Rattle.rohc_bits.proofs.Steps.{ok_parts, bind_ok}
 
 -- a value's number
@@ -17,7 +17,7 @@ abbrev pub numbered : LowBits × List ℕ → Result (ℕ × List ℕ) ChainRefu
 numbered x = Ok (x.0.value, x.1)
 
 -- a value that stands at the front is read
-pub value_read : (t rest : List ℕ) (v : ℕ) → IsSpelled t v → value_at (t ++ rest) ≡ Ok (v, rest)
+pub value_read : (t rest : List ℕ) (v : ℕ) → IsSpelled t v → read value_at (t ++ rest) ≡ Ok (v, rest)
 unfolding value_at
 value_read t rest v is = ap (λ r. r >>= numbered) (value_given Truncated t rest v is.spells)
 
@@ -28,7 +28,7 @@ pub record ValueFront (text : List ℕ) (v : ℕ) (rest : List ℕ) : Type 0 whe
   pub spelled : IsSpelled spelling v
 
 -- a value that is read stands at the front
-pub value_front : (text : List ℕ) (v : ℕ) (rest : List ℕ) → All IsOctet text → value_at text ≡ Ok (v, rest) → ValueFront text v rest
+pub value_front : (text : List ℕ) (v : ℕ) (rest : List ℕ) → All IsOctet text → read value_at text ≡ Ok (v, rest) → ValueFront text v rest
 unfolding value_at
 value_front text v rest all e =
     let step = bind_ok (next_value Truncated text) numbered (v, rest) e in

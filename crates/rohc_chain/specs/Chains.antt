@@ -1,108 +1,100 @@
--- The chains of an IR or IR-DYN, read from left to right up to the first fault.
-use Rattle.std.specs.Prelude.{ℕ, ◌%◌, List, Bool, if◌then◌else◌, Option, Some, Result, Ok}
-use Rattle.rohc_bits.specs.Reading.{◌>>=◌, judged, bit}
+-- The chains of an IR or IR-DYN piece by piece (RFC 3095 5.7.7.4 to 5.7.7.6).
+use Rattle.std.specs.Prelude.{ℕ, ◌%◌, List, Bool, Option, Some, Result}
+use Rattle.rohc_bits.specs.Reading.{bit}
+use Rattle.rohc_bits.specs.Grammar.{Octet, Word, Says, Which, As, Judged}
+use Rattle.rohc_bits.specs.InTurn.{◌>>=◌}
 use Rattle.rohc_header.specs.declared.fields.Static.{Static}
 use Rattle.rohc_header.specs.declared.fields.Dynamic.{Dynamic}
 use Rattle.rohc_chain.specs.declared.parts.IpDynamic.{IpDynamic}
 use Rattle.rohc_chain.specs.declared.parts.RtpDynamic.{RtpDynamic}
 use Rattle.rohc_chain.specs.declared.parts.Kept.{Kept}
 use Rattle.rohc_chain.specs.declared.refusal.ChainRefusal.{ChainRefusal}
-use Rattle.rohc_chain.specs.Octets.{octet_at, word_at, four_octets_at, quad_at, value_at}
+use Rattle.rohc_chain.specs.Octets.{ChainPiece, read, four_octets_at, quad_at, value_at}
 use Rattle.rohc_chain.specs.Faults.{version_fault, protocol_fault, extension_list_fault, csrc_list_fault, rtp_fault, mode_fault, stride_fault}
 
 -- an octet, unless it is refused
 abbrev pub judged_octet : (ℕ → Option ChainRefusal) → List ℕ → Result (ℕ × List ℕ) ChainRefusal
-judged_octet fault text = octet_at text >>= λ x. judged (fault x.0) x
+judged_octet fault = read (Judged fault Octet)
 
--- a self-describing value, unless it is refused
-abbrev pub judged_value : (ℕ → Option ChainRefusal) → List ℕ → Result (ℕ × List ℕ) ChainRefusal
-judged_value fault text = value_at text >>= λ x. judged (fault x.0) x
+-- what the octets of a chain say
+abbrev pub static_of : List ℕ × List ℕ → ℕ → ℕ → ℕ → Static
+static_of (source, destination) source_port destination_port ssrc = record {
+  source = source;
+  destination = destination;
+  source_port = source_port;
+  destination_port = destination_port;
+  ssrc = ssrc;
+}
 
--- the static chain of IPv4: the addresses
-unfoldable pub ip_static_at : List ℕ → Result ((List ℕ × List ℕ) × List ℕ) ChainRefusal
-ip_static_at text = do
-  (version, text) ← judged_octet version_fault text
-  (protocol, text) ← judged_octet protocol_fault text
-  (source, text) ← four_octets_at text
-  (destination, text) ← four_octets_at text
-  Ok ((source, destination), text)
+abbrev pub ip_dynamic_of : ℕ → ℕ → ℕ → ℕ → IpDynamic
+ip_dynamic_of tos ttl id flags =
+    record { tos = tos; ttl = ttl; id = id; df = bit 7 flags; rnd = bit 6 flags; nbo = bit 5 flags }
+
+abbrev pub rtp_dynamic_of : ℕ → ℕ → ℕ → ℕ → Kept → RtpDynamic
+rtp_dynamic_of first second sn ts given = record {
+  padding = bit 5 first;
+  extension = given.extension;
+  marker = bit 7 second;
+  payload_type = second % 128;
+  sn = sn;
+  ts = ts;
+  stride = given.stride;
+}
+
+-- the static chain of IPv4: version, protocol, the addresses
+unfoldable pub ip_static_at : ChainPiece (List ℕ × List ℕ)
+ip_static_at = do
+  version ← Judged version_fault Octet
+  protocol ← Judged protocol_fault Octet
+  source ← four_octets_at
+  destination ← four_octets_at
+  Says (source, destination)
 
 -- the static chains of IPv4, UDP and RTP
-unfoldable pub static_at : List ℕ → Result (Static × List ℕ) ChainRefusal
-static_at text = do
-  (addresses, text) ← ip_static_at text
-  (source_port, text) ← word_at text
-  (destination_port, text) ← word_at text
-  (ssrc, text) ← quad_at text
-  Ok (
-    record {
-      source = addresses.0;
-      destination = addresses.1;
-      source_port = source_port;
-      destination_port =
-          destination_port;
-      ssrc = ssrc;
-    },
-    text,
-  )
+unfoldable pub static_at : ChainPiece Static
+static_at = do
+  addresses ← ip_static_at
+  source_port ← Word
+  destination_port ← Word
+  ssrc ← quad_at
+  Says (static_of addresses source_port destination_port ssrc)
 
 -- the dynamic chain of IPv4
-unfoldable pub ip_dynamic_at : List ℕ → Result (IpDynamic × List ℕ) ChainRefusal
-ip_dynamic_at text = do
-  (tos, text) ← octet_at text
-  (ttl, text) ← octet_at text
-  (id, text) ← word_at text
-  (flags, text) ← octet_at text
-  (extensions, text) ← judged_octet extension_list_fault text
-  Ok (record { tos = tos; ttl = ttl; id = id; df = bit 7 flags; rnd = bit 6 flags; nbo = bit 5 flags }, text)
+unfoldable pub ip_dynamic_at : ChainPiece IpDynamic
+ip_dynamic_at = do
+  tos ← Octet
+  ttl ← Octet
+  id ← Word
+  flags ← Octet
+  extensions ← Judged extension_list_fault Octet
+  Says (ip_dynamic_of tos ttl id flags)
 
 -- TS_STRIDE, if the flags announce it, else the stride that is kept
-unfoldable pub stride_at : Option ℕ → ℕ → List ℕ → Result (Option ℕ × List ℕ) ChainRefusal
-stride_at kept flags text =
-    if bit 0 flags
-    then (judged_value stride_fault text >>= λ x. Ok (Some x.0, x.1))
-    else Ok (kept, text)
+unfoldable pub stride_at : Option ℕ → ℕ → ChainPiece (Option ℕ)
+stride_at kept flags = Which (bit 0 flags) (As Some (Judged stride_fault value_at)) (Says kept)
 
--- TIME_STRIDE is read if the flags announce it, and dropped
-unfoldable pub behind_time_stride : ℕ → List ℕ → Result (Unit {0} × List ℕ) ChainRefusal
-behind_time_stride flags text =
-    if bit 1 flags
-    then (value_at text >>= λ x. Ok (tt, x.1))
-    else Ok (tt, text)
+-- TIME_STRIDE, if the flags announce it, says nothing
+unfoldable pub behind_time_stride : ℕ → ChainPiece (Unit {0})
+behind_time_stride flags = Which (bit 1 flags) (As (λ _. tt) value_at) (Says tt)
 
 -- the flag X and the stride, if there is an octet of flags, else those that are kept
-unfoldable pub flags_at : Kept → Bool → List ℕ → Result (Kept × List ℕ) ChainRefusal
-flags_at kept present text =
-    if present
-    then (do
-      (flags, text) ← judged_octet mode_fault text
-      (stride, text) ← stride_at kept.stride flags text
-      (_, text) ← behind_time_stride flags text
-      Ok (record { extension = bit 4 flags; stride = stride }, text))
-    else Ok (kept, text)
+unfoldable pub flags_at : Kept → Bool → ChainPiece Kept
+flags_at kept named = Which named (do
+  flags ← Judged mode_fault Octet
+  stride ← stride_at kept.stride flags
+  _ ← behind_time_stride flags
+  Says (record { extension = bit 4 flags; stride = stride })) (Says kept)
 
 -- the dynamic chain of RTP
-unfoldable pub rtp_dynamic_at : Kept → List ℕ → Result (RtpDynamic × List ℕ) ChainRefusal
-rtp_dynamic_at kept text = do
-  (first, text) ← judged_octet rtp_fault text
-  (second, text) ← octet_at text
-  (sn, text) ← word_at text
-  (ts, text) ← quad_at text
-  (sources, text) ← judged_octet csrc_list_fault text
-  (given, text) ← flags_at kept (bit 4 first) text
-  Ok (
-    record {
-      padding = bit 5 first;
-      extension = given.extension;
-      marker = bit 7 second;
-      payload_type =
-          second % 128;
-      sn = sn;
-      ts = ts;
-      stride = given.stride;
-    },
-    text,
-  )
+unfoldable pub rtp_dynamic_at : Kept → ChainPiece RtpDynamic
+rtp_dynamic_at kept = do
+  first ← Judged rtp_fault Octet
+  second ← Octet
+  sn ← Word
+  ts ← quad_at
+  sources ← Judged csrc_list_fault Octet
+  given ← flags_at kept (bit 4 first)
+  Says (rtp_dynamic_of first second sn ts given)
 
 -- the fields of the three chains as one record
 abbrev pub joined : IpDynamic → ℕ → RtpDynamic → Dynamic
@@ -124,9 +116,9 @@ joined ip udp_sum rtp = record {
 }
 
 -- the dynamic chains of IPv4, UDP and RTP
-unfoldable pub dynamic_at : Kept → List ℕ → Result (Dynamic × List ℕ) ChainRefusal
-dynamic_at kept text = do
-  (ip, text) ← ip_dynamic_at text
-  (udp_sum, text) ← word_at text
-  (rtp, text) ← rtp_dynamic_at kept text
-  Ok (joined ip udp_sum rtp, text)
+unfoldable pub dynamic_at : Kept → ChainPiece Dynamic
+dynamic_at kept = do
+  ip ← ip_dynamic_at
+  udp_sum ← Word
+  rtp ← rtp_dynamic_at kept
+  Says (joined ip udp_sum rtp)

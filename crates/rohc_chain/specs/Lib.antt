@@ -3,7 +3,6 @@ pub mod Faults
 pub mod Chains
 pub mod Packets
 pub mod ChainText
-pub mod Fields
 pub mod Texts
 pub mod Good
 pub mod Laws

@@ -1,10 +1,19 @@
--- Fields read from the start of a packet's octets, or why they can't be read.
-use Rattle.std.specs.Prelude.{ℕ, ◌+◌, ◌*◌, List, [], ◌∷◌, Result, Ok}
-use Rattle.rohc_bits.specs.Reading.{◌>>=◌, next_octet, next_word, next_value}
+-- Pieces of packets, and what is read of them.
+use Rattle.std.specs.Prelude.{ℕ, ◌+◌, ◌*◌, List, [], ◌∷◌, Result}
+use Rattle.rohc_bits.specs.Reading.{next_octet, next_word}
+use Rattle.rohc_bits.specs.Grammar.{Piece, Octet, Word, Value, Says, As, reads}
+use Rattle.rohc_bits.specs.InTurn.{◌>>=◌}
 use Rattle.rohc_chain.specs.declared.refusal.ChainRefusal.{ChainRefusal}
 use Rattle.rohc_chain.specs.declared.refusal.ChainRefusal.TheVariants.{Truncated}
 
--- an octet, and a number of two octets; a packet that ends too early is truncated
+-- a piece of a packet, and what is read of it; a packet that ends too early is truncated
+abbrev pub ChainPiece : Type 0 → Type 1
+ChainPiece = Piece ChainRefusal
+
+abbrev pub read : {A : Type 0} → ChainPiece A → List ℕ → Result (A × List ℕ) ChainRefusal
+read = reads Truncated
+
+-- an octet, and a number of two octets
 abbrev pub octet_at : List ℕ → Result (ℕ × List ℕ) ChainRefusal
 octet_at = next_octet Truncated
 
@@ -12,21 +21,21 @@ abbrev pub word_at : List ℕ → Result (ℕ × List ℕ) ChainRefusal
 word_at = next_word Truncated
 
 -- four octets
-unfoldable pub four_octets_at : List ℕ → Result (List ℕ × List ℕ) ChainRefusal
-four_octets_at text = do
-  (a, text) ← octet_at text
-  (b, text) ← octet_at text
-  (c, text) ← octet_at text
-  (d, text) ← octet_at text
-  Ok (a ∷ b ∷ c ∷ d ∷ [], text)
+unfoldable pub four_octets_at : ChainPiece (List ℕ)
+four_octets_at = do
+  a ← Octet
+  b ← Octet
+  c ← Octet
+  d ← Octet
+  Says (a ∷ b ∷ c ∷ d ∷ [])
 
 -- a number of four octets, most significant first
-unfoldable pub quad_at : List ℕ → Result (ℕ × List ℕ) ChainRefusal
-quad_at text = do
-  (high, text) ← word_at text
-  (low, text) ← word_at text
-  Ok (high * 65536 + low, text)
+unfoldable pub quad_at : ChainPiece ℕ
+quad_at = do
+  high ← Word
+  low ← Word
+  Says (high * 65536 + low)
 
 -- a self-describing value (RFC 3095 4.5.6)
-unfoldable pub value_at : List ℕ → Result (ℕ × List ℕ) ChainRefusal
-value_at text = next_value Truncated text >>= λ x. Ok (x.0.value, x.1)
+unfoldable pub value_at : ChainPiece ℕ
+value_at = As (λ d. d.value) Value

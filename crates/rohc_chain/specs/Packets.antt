@@ -15,7 +15,7 @@ use Rattle.rohc_chain.specs.declared.packet.Ir.TheVariants as code
 use Rattle.rohc_chain.specs.declared.parts.Kept.{Kept}
 use Rattle.rohc_chain.specs.declared.refusal.ChainRefusal.{ChainRefusal}
 use Rattle.rohc_chain.specs.declared.refusal.ChainRefusal.TheVariants.{Trailing, TooLong, Check}
-use Rattle.rohc_chain.specs.Octets.{octet_at}
+use Rattle.rohc_chain.specs.Octets.{octet_at, read}
 use Rattle.rohc_chain.specs.Faults.{ir_profile_fault, dyn_profile_fault, unless}
 use Rattle.rohc_chain.specs.Chains.{judged_octet, static_at, dynamic_at}
 
@@ -95,15 +95,15 @@ ended text = unless (length text == 0) Trailing
 -- the static chain and nothing after it, then the check
 unfoldable pub static_only_at : Header → ℕ → List ℕ → Result IrContent ChainRefusal
 static_only_at h octet chains = do
-  (fixed, behind) ← static_at chains
+  (fixed, behind) ← read static_at chains
   _ ← judged (ended behind) behind
   judged (check_fault octet (cover h chains)) (StaticOnly fixed)
 
 -- both chains and the payload, then its length, then the check
 unfoldable pub whole_at : Header → ℕ → List ℕ → Result IrContent ChainRefusal
 whole_at h octet text = do
-  (fixed, behind) ← static_at text
-  (moving, payload) ← dynamic_at nothing_kept behind
+  (fixed, behind) ← read static_at text
+  (moving, payload) ← read (dynamic_at nothing_kept) behind
   _ ← judged (length_fault payload) payload
   judged (check_fault octet (cover h (before payload text))) (Whole fixed moving payload)
 
@@ -123,6 +123,6 @@ unfoldable pub ir_dyn_at : Header → ℕ → Kept → Result DynContent ChainRe
 ir_dyn_at h profile kept = do
   (_, text) ← judged_octet (dyn_profile_fault profile) h.rest
   (octet, text) ← octet_at text
-  (moving, payload) ← dynamic_at kept text
+  (moving, payload) ← read (dynamic_at kept) text
   _ ← judged (length_fault payload) payload
   judged (check_fault octet (cover h (before payload text))) (record { moving = moving; payload = payload })

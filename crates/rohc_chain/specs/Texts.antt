@@ -1,5 +1,5 @@
 -- The octets of whole IR and IR-DYN packets, and why others are refused (RFC 3095 5.7.7 and 5.10.1).
-use Rattle.std.specs.Prelude.{◌≡◌, ℕ, ◌≤◌, List, ◌∷◌, ◌++◌, length, drop, get_or, true, false, ◌==◌, if◌then◌else◌, Option, Some, None, Result, Ok, Err}
+use Rattle.std.specs.Prelude.{◌≡◌, ℕ, ◌≤◌, List, ◌∷◌, ◌++◌, length, drop, get_or, Bool, true, false, ◌==◌, if◌then◌else◌, Option, None}
 use Rattle.rohc_checks.specs.Division.{check, poly8}
 use Rattle.rohc_frame.specs.declared.header.HeadKind.TheVariants.{Ir, IrDyn}
 use Rattle.rohc_frame.specs.Header.{Header}
@@ -7,11 +7,14 @@ use Rattle.rohc_header.specs.declared.fields.Static.{Static}
 use Rattle.rohc_header.specs.declared.fields.Dynamic.{Dynamic}
 use Rattle.rohc_chain.specs.declared.parts.Kept.{Kept}
 use Rattle.rohc_chain.specs.declared.refusal.ChainRefusal.{ChainRefusal}
-use Rattle.rohc_chain.specs.Packets.{IrContent, Plain, StaticOnly, Whole, DynContent, is_dynamic, plain_cover, cover, before, nothing_kept, longest_payload, length_fault, check_fault}
+use Rattle.rohc_chain.specs.Packets.{IrContent, Plain, StaticOnly, Whole, DynContent, is_dynamic, plain_cover, cover, before, nothing_kept, longest_payload, length_fault, check_fault, ended}
 use Rattle.rohc_chain.specs.ChainText.{SpellsStatic, SpellsDynamic}
-use Rattle.rohc_bits.specs.FieldList.{after_fields}
+use Rattle.rohc_bits.specs.Grammar.{Octet, Says, Which, As, Judged, or_else, fault_after, first_fault}
+use Rattle.rohc_bits.specs.InTurn.{◌>>=◌}
 use Rattle.rohc_chain.specs.declared.refusal.ChainRefusal.TheVariants.{Truncated}
-use Rattle.rohc_chain.specs.Fields.{ir_fields, ir_dyn_fields}
+use Rattle.rohc_chain.specs.Octets.{ChainPiece, read}
+use Rattle.rohc_chain.specs.Faults.{ir_profile_fault, dyn_profile_fault}
+use Rattle.rohc_chain.specs.Chains.{static_at, dynamic_at}
 
 -- An IR starts with FC, or with FD if it has a dynamic chain (RFC 3095 5.7.7.1). An IR-DYN starts with F8 and
 -- has no static chain (5.7.7.2). After the first octet and a large CID come:
@@ -69,11 +72,6 @@ IsShort (Plain packet) = Unit {0}
 IsShort (StaticOnly fixed) = Unit {0}
 IsShort (Whole fixed moving payload) = length payload ≤ longest_payload
 
--- the first of two refusals
-abbrev pub or_else : Option ChainRefusal → Option ChainRefusal → Option ChainRefusal
-or_else None later = later
-or_else (Some refusal) later = Some refusal
-
 -- the Profile octet
 abbrev pub profile_octet : Header → ℕ
 profile_octet h = get_or h.rest 0 0
@@ -87,20 +85,42 @@ abbrev pub last_fault : Header → List ℕ → Option ChainRefusal
 last_fault h payload =
     or_else (length_fault payload) (check_fault (check_octet h) (cover h (before payload (drop 2 h.rest))))
 
--- for either profile; for profile 0x0000 only the check
+-- for either profile: for profile 0x0000 only the check; without a dynamic chain nothing may follow
 abbrev pub last_ir_fault : Header → List ℕ → Option ChainRefusal
 last_ir_fault h payload =
-    if profile_octet h == 0 then check_fault (check_octet h) (plain_cover h) else last_fault h payload
+    if profile_octet h == 0 then check_fault (check_octet h) (plain_cover h)
+    else or_else (if is_dynamic h.kind then None else ended payload) (last_fault h payload)
 
--- the first fault among the fields, else the fault that is judged last
-abbrev pub fault_among : (List ℕ → Option ChainRefusal) → Result (List ℕ) ChainRefusal → Option ChainRefusal
-fault_among last (Ok payload) = last payload
-fault_among last (Err refusal) = Some refusal
+-- after the check octet of an IR: for profile 0x0001 the chains
+abbrev pub chain_pieces : Bool → ℕ → ChainPiece (Unit {0})
+chain_pieces dynamic profile = Which (profile == 0) (Says tt) (do
+  fixed ← static_at
+  Which dynamic (As (λ _. tt) (dynamic_at nothing_kept)) (Says tt))
+
+-- after the first octet of an IR: the Profile octet, the check octet, the chains
+abbrev pub ir_pieces : Bool → ChainPiece (Unit {0})
+ir_pieces dynamic = do
+  profile ← Judged (ir_profile_fault dynamic) Octet
+  check ← Octet
+  chain_pieces dynamic profile
+
+-- the same of an IR-DYN for a context of this profile
+abbrev pub ir_dyn_pieces : ℕ → ChainPiece Dynamic
+ir_dyn_pieces profile = do
+  given ← Judged (dyn_profile_fault profile) Octet
+  check ← Octet
+  dynamic_at nothing_kept
+
+-- the first fault among the pieces, else the fault that is judged last
+abbrev pub fault_among : {A : Type 0} → (List ℕ → Option ChainRefusal) → ChainPiece A → List ℕ →
+    Option ChainRefusal
+fault_among last pieces text =
+    or_else (first_fault Truncated pieces text) (fault_after (read pieces text) (λ _ payload. last payload))
 
 -- why an IR is refused, if it is
 abbrev pub ir_fault : Header → Option ChainRefusal
-ir_fault h = fault_among (last_ir_fault h) (after_fields Truncated (ir_fields (is_dynamic h.kind)) h.rest)
+ir_fault h = fault_among (last_ir_fault h) (ir_pieces (is_dynamic h.kind)) h.rest
 
 -- why an IR-DYN is refused by a context of this profile, if it is
 abbrev pub ir_dyn_fault : Header → ℕ → Option ChainRefusal
-ir_dyn_fault h profile = fault_among (last_fault h) (after_fields Truncated (ir_dyn_fields profile) h.rest)
+ir_dyn_fault h profile = fault_among (last_fault h) (ir_dyn_pieces profile) h.rest

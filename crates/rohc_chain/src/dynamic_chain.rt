@@ -2,6 +2,7 @@
 
 ghost use Rattle.std.specs.Prelude.{◌≤◌, length};
 ghost use Rattle.rohc_bits.specs.Reading.{Reads};
+ghost use Rattle.rohc_chain.specs.Octets.{read};
 ghost use Rattle.rohc_chain.specs.Chains.{ip_dynamic_at, stride_at, behind_time_stride, flags_at, rtp_dynamic_at, dynamic_at};
 
 use crate::octets::{is_set, octet, quad, value, word};
@@ -13,7 +14,7 @@ use rohc_header::Dynamic;
 /// Reads the dynamic chain of IPv4. The low five bits of its flags are ignored.
 #[tactic(auto, unfolding(crate::specs::Chains::ip_dynamic_at))]
 fn ip_dynamic(cursor: &mut Cursor<'_>) -> Result<IpDynamic, ChainRefusal>
-    ensures reads { Reads result cursor.new (ip_dynamic_at cursor.old) }
+    ensures reads { Reads result cursor.new (read ip_dynamic_at cursor.old) }
     ensures shorter { length cursor.new ≤ length cursor.old }
 {
     let tos = octet(cursor)?;
@@ -41,7 +42,7 @@ fn stride(
     flags: u8,
     cursor: &mut Cursor<'_>,
 ) -> Result<Option<u32>, ChainRefusal>
-    ensures reads { Reads result cursor.new (stride_at kept flags cursor.old) }
+    ensures reads { Reads result cursor.new (read (stride_at kept flags) cursor.old) }
     ensures shorter { length cursor.new ≤ length cursor.old }
 {
     if !is_set(flags, 0) {
@@ -56,7 +57,7 @@ fn stride(
 /// Reads TIME_STRIDE if the flag TIS announces it, and drops it.
 #[tactic(auto, unfolding(crate::specs::Chains::behind_time_stride))]
 fn skip_time_stride(flags: u8, cursor: &mut Cursor<'_>) -> Result<(), ChainRefusal>
-    ensures reads { Reads result cursor.new (behind_time_stride flags cursor.old) }
+    ensures reads { Reads result cursor.new (read (behind_time_stride flags) cursor.old) }
     ensures shorter { length cursor.new ≤ length cursor.old }
 {
     if is_set(flags, 1) {
@@ -69,7 +70,7 @@ fn skip_time_stride(flags: u8, cursor: &mut Cursor<'_>) -> Result<(), ChainRefus
 /// those that are kept. Modes 0, 1 and 2 have no effect.
 #[tactic(auto, unfolding(crate::specs::Chains::flags_at))]
 fn flags(kept: Kept, present: bool, cursor: &mut Cursor<'_>) -> Result<Kept, ChainRefusal>
-    ensures reads { Reads result cursor.new (flags_at kept present cursor.old) }
+    ensures reads { Reads result cursor.new (read (flags_at kept present) cursor.old) }
     ensures shorter { length cursor.new ≤ length cursor.old }
 {
     if !present {
@@ -90,7 +91,7 @@ fn flags(kept: Kept, present: bool, cursor: &mut Cursor<'_>) -> Result<Kept, Cha
 /// Reads the dynamic chain of RTP.
 #[tactic(auto, unfolding(crate::specs::Chains::rtp_dynamic_at))]
 fn rtp_dynamic(kept: Kept, cursor: &mut Cursor<'_>) -> Result<RtpDynamic, ChainRefusal>
-    ensures reads { Reads result cursor.new (rtp_dynamic_at kept cursor.old) }
+    ensures reads { Reads result cursor.new (read (rtp_dynamic_at kept) cursor.old) }
     ensures shorter { length cursor.new ≤ length cursor.old }
 {
     let first = octet(cursor)?;
@@ -122,7 +123,7 @@ fn rtp_dynamic(kept: Kept, cursor: &mut Cursor<'_>) -> Result<RtpDynamic, ChainR
 /// Reads the dynamic chains of IPv4, UDP and RTP.
 #[tactic(auto, unfolding(crate::specs::Chains::dynamic_at))]
 pub(crate) fn dynamic_chain(kept: Kept, cursor: &mut Cursor<'_>) -> Result<Dynamic, ChainRefusal>
-    ensures reads { Reads result cursor.new (dynamic_at kept cursor.old) }
+    ensures reads { Reads result cursor.new (read (dynamic_at kept) cursor.old) }
     ensures shorter { length cursor.new ≤ length cursor.old }
 {
     let ip = ip_dynamic(cursor)?;

@@ -4,7 +4,7 @@
 ghost use Rattle.std.specs.Prelude.{◌≡◌, ◌<◌, ◌≤◌, length, drop, All, IfOk, MatchResult};
 ghost use Rattle.rohc_bits.specs.Reading.{Reads, bit};
 ghost use Rattle.rohc_frame.specs.Laws.{IsOctet};
-ghost use Rattle.rohc_chain.specs.Octets.{octet_at, word_at, four_octets_at, quad_at, value_at};
+ghost use Rattle.rohc_chain.specs.Octets.{read, octet_at, word_at, four_octets_at, quad_at, value_at};
 
 use crate::refusal::ChainRefusal;
 use rohc_bits::{Cursor, reading};
@@ -28,7 +28,7 @@ pub(crate) fn word(cursor: &mut Cursor<'_>) -> Result<u16, ChainRefusal>
 /// Takes the next four octets as they are.
 #[tactic(auto, unfolding(crate::specs::Octets::four_octets_at))]
 pub(crate) fn four_octets(cursor: &mut Cursor<'_>) -> Result<[u8; 4], ChainRefusal>
-    ensures reads { Reads result cursor.new (four_octets_at cursor.old) }
+    ensures reads { Reads result cursor.new (read four_octets_at cursor.old) }
     ensures shorter { length cursor.new ≤ length cursor.old }
 {
     let a = octet(cursor)?;
@@ -41,7 +41,7 @@ pub(crate) fn four_octets(cursor: &mut Cursor<'_>) -> Result<[u8; 4], ChainRefus
 /// Takes the next four octets as a number, most significant octet first.
 #[tactic(auto, unfolding(crate::specs::Octets::quad_at))]
 pub(crate) fn quad(cursor: &mut Cursor<'_>) -> Result<u32, ChainRefusal>
-    ensures reads { Reads result cursor.new (quad_at cursor.old) }
+    ensures reads { Reads result cursor.new (read quad_at cursor.old) }
     ensures shorter { length cursor.new ≤ length cursor.old }
 {
     let high = word(cursor)?;
@@ -52,7 +52,7 @@ pub(crate) fn quad(cursor: &mut Cursor<'_>) -> Result<u32, ChainRefusal>
 /// Takes the next self-describing value (RFC 3095 4.5.6).
 #[tactic(auto, unfolding(crate::specs::Octets::value_at))]
 pub(crate) fn value(cursor: &mut Cursor<'_>) -> Result<u32, ChainRefusal>
-    ensures reads { Reads result cursor.new (value_at cursor.old) }
+    ensures reads { Reads result cursor.new (read value_at cursor.old) }
     ensures shorter { length cursor.new ≤ length cursor.old }
 {
     Ok(reading::value(cursor, ChainRefusal::Truncated)?.value)

@@ -3,6 +3,7 @@
 
 ghost use Rattle.std.specs.Prelude.{◌≤◌, length};
 ghost use Rattle.rohc_bits.specs.Reading.{Reads};
+ghost use Rattle.rohc_chain.specs.Octets.{read};
 ghost use Rattle.rohc_chain.specs.Chains.{ip_static_at, static_at};
 
 use crate::octets::{four_octets, octet, quad, word};
@@ -17,7 +18,7 @@ const UDP: u8 = 17;
 /// bits of the version octet are ignored.
 #[tactic(auto, unfolding(crate::specs::Chains::ip_static_at))]
 fn ip_static(cursor: &mut Cursor<'_>) -> Result<([u8; 4], [u8; 4]), ChainRefusal>
-    ensures reads { Reads result cursor.new (ip_static_at cursor.old) }
+    ensures reads { Reads result cursor.new (read ip_static_at cursor.old) }
     ensures shorter { length cursor.new ≤ length cursor.old }
 {
     let version = octet(cursor)?;
@@ -36,7 +37,7 @@ fn ip_static(cursor: &mut Cursor<'_>) -> Result<([u8; 4], [u8; 4]), ChainRefusal
 /// Reads the static chains of IPv4, UDP and RTP.
 #[tactic(auto, unfolding(crate::specs::Chains::static_at))]
 pub(crate) fn static_chain(cursor: &mut Cursor<'_>) -> Result<Static, ChainRefusal>
-    ensures reads { Reads result cursor.new (static_at cursor.old) }
+    ensures reads { Reads result cursor.new (read static_at cursor.old) }
     ensures shorter { length cursor.new ≤ length cursor.old }
 {
     let (source, destination) = ip_static(cursor)?;

@@ -12,7 +12,7 @@ use Rattle.rohc_forms.specs.declared.form.Values.{Values}
 use Rattle.rohc_forms.specs.declared.refusal.FormRefusal.{FormRefusal}
 use Rattle.rohc_forms.specs.declared.form.IdBits.{IdBits}
 use Rattle.rohc_forms.specs.declared.form.IdBits.TheVariants.{Same, Offset, Whole}
-use Rattle.rohc_forms.specs.Octets.{word_if}
+use Rattle.rohc_forms.specs.Octets.{read, word_if}
 use Rattle.rohc_forms.specs.Kinds.{is_whole, offset_in}
 use Rattle.rohc_forms.specs.Content.{Head, offset_said, whole_said, stride_given, whole_content}
 use Rattle.rohc_forms.specs.Packets.{id_by, values_by, content, stride_in, head_at, form_at}
@@ -21,7 +21,7 @@ use Rattle.rohc_forms.proofs.GoodLemmas.{says_good}
 use Rattle.rohc_forms.proofs.SaysLemmas.{reads}
 
 pub parts_good : (h : Header) (rnd udp_sum known : Bool) (head : Head) (id sum : Option ℕ) (a b payload : List ℕ) → All IsOctet h.rest →
-    head_at h.first rnd known h.rest ≡ Ok (head, a) → word_if head.rnd a ≡ Ok (id, b) → word_if udp_sum b ≡ Ok (sum, payload) →
+    read (head_at h.first rnd known) h.rest ≡ Ok (head, a) → read (word_if head.rnd) a ≡ Ok (id, b) → read (word_if udp_sum) b ≡ Ok (sum, payload) →
     IsGoodContent h.first udp_sum known (whole_content head id sum payload)
 unfolding form_at
 parts_good h rnd udp_sum known head id sum a b payload all is_head is_id is_sum =

@@ -1,15 +1,12 @@
 -- What the octets of a packet say lies in its ranges.
-use Rattle.std.proofs.Common.{◌≡◌, ℕ, ◌+◌, ◌*◌, ◌/◌, ◌^◌, ◌<◌, ◌≤◌, Bool, true, false, List, [], ◌∷◌, ◌++◌, length, min, ◌⊎◌, inl, inr, Option, Some, None, refl, sym, ap, subst, ◌∙◌, arith}
+use Rattle.std.proofs.Common.{◌≡◌, ℕ, ◌+◌, ◌/◌, ◌^◌, ◌<◌, ◌≤◌, Bool, true, false, List, min, ◌⊎◌, inl, inr, Option, Some, None, refl, sym, ap, subst, ◌∙◌, arith}
 use Rattle.std.specs.Prelude.{◌↔◌, All, IfSome, ◌||◌, not, ◌==◌, is_some, nat_lt, if◌then◌else◌}
-use Rattle.std.proofs.Math.Seq.{take-append_seam, drop-append_seam}
 use Rattle.std.proofs.Math.Nat.{pow-le-pow_right}
 use Rattle.std.proofs.lemmas.Nat.{pow_pos, mod_below}
 use Rattle.std.proofs.lemmas.Bool.Decides.{nat_tests}
-use Rattle.std.proofs.lemmas.List.Elements.{All-head, All-tail, All-take, All-drop}
 use Rattle.rohc_bits.specs.Reading.{bit}
-use Rattle.rohc_bits.specs.Fronts.{value_bits}
 use Rattle.rohc_bits.specs.LowBits.{LowBits}
-use Rattle.rohc_bits.proofs.Values.{value_fits, value_range}
+use Rattle.rohc_bits.proofs.Holds.{Holds, IsValueBits, all_left, all_right, holds_any, holds_says, holds_then, holds_as, holds_judged, holds_unless, holds_which, holds_named, octet_holds, word_holds, value_holds}
 use Rattle.rohc_bits.proofs.Widths.{joined_fits}
 use Rattle.rohc_frame.specs.Laws.{IsOctet}
 use Rattle.rohc_forms.specs.declared.form.FormKind.{FormKind}
@@ -18,78 +15,19 @@ use Rattle.rohc_forms.specs.declared.parts.Base.{Base}
 use Rattle.rohc_forms.specs.declared.parts.IpFlags.{IpFlags}
 use Rattle.rohc_forms.specs.declared.parts.IpGiven.{IpGiven}
 use Rattle.rohc_forms.specs.declared.parts.RtpFlags.{RtpFlags}
-use Rattle.rohc_forms.specs.declared.refusal.FormRefusal.{FormRefusal}
 use Rattle.rohc_forms.specs.declared.refusal.FormRefusal.TheVariants.{ZeroStride, NoStride}
-use Rattle.rohc_forms.specs.Octets.{slice, behind, and_bits}
-use Rattle.rohc_forms.specs.Table.{Said, Field, Sn, Ts, Id, S, R-TS, Tsc, I, IP, RTP, has, and_said, under, plus, minus, base_said, layout_0, layout_1, layout_2, short_layout}
+use Rattle.rohc_forms.specs.Octets.{slice, behind, and_bits, octet_if, word_if}
+use Rattle.rohc_forms.specs.Table.{Said, Field, Sn, Ts, Id, S, R-TS, Tsc, I, IP, RTP, has, and_said, under, plus, minus, base_said, layout_0, layout_1, layout_2}
 use Rattle.rohc_forms.specs.Content.{Head, form_kind, plain_head, id_said, offset_said, whole_said, stride_given, bits_said, whole_content}
-use Rattle.rohc_forms.specs.Formats.{number_of}
 use Rattle.rohc_forms.specs.Given.{ValuesSaid, RtpSaid, Extended3, ip_values, rtp_values, rtp_flags, rnd_in_force, payload_type_in}
 use Rattle.rohc_forms.specs.Judging.{twice_fault, rtp_fault, stride_fault, no_stride_fault}
 use Rattle.rohc_forms.specs.Laws.{SaysGood}
-use Rattle.rohc_forms.specs.Says.{IsUnder, IsBase, with_sn, with_ts, and_offset, IsIpOctet, IsProtocol, IsIpGiven, stride_of, IsStride, IsTimeStride, IsRtpNamed, IsRtpGiven, IsBehindIp, IsExtension3, IsExtension, IsHead}
+use Rattle.rohc_forms.specs.Extension.{ip_octet_at, with_sn, sn_at, with_ts, ts_at, behind_protocol, ip_given_at, and_offset, offset_at, stride_of, stride_at, behind_time_stride, behind_rtp_octet, rtp_at, rtp_given_at, behind_ip_octet}
+use Rattle.rohc_forms.specs.Packets.{base_at, short_extension_at, extension_3_at, extension_at, head_at, header_at, with_payload}
 use Rattle.rohc_forms.specs.Good.{IsBits, IsGoodValues, IsGoodContent}
 use Rattle.rohc_forms.specs.Kinds.{is_uor2, check_width}
-use Rattle.rohc_forms.specs.Pieces.{IsOneOctet, IsWord, IsValue, NoMore, Then, IfNamed, Which, As, NotRefused, Unless}
-use Rattle.rohc_forms.proofs.Exact.{Piece}
-
-all_left : (xs ys : List ℕ) → All IsOctet (xs ++ ys) → All IsOctet xs
-all_left xs ys all = rw take-append_seam at (All-take IsOctet (length xs) (xs ++ ys) all)
-
-all_right : (xs ys : List ℕ) → All IsOctet (xs ++ ys) → All IsOctet ys
-all_right xs ys all = rw drop-append_seam at (All-drop IsOctet (length xs) (xs ++ ys) all)
-
--- whatever a piece says of octets has P
-abbrev pub Holds : {A : Type 0} → Piece A → (A → Type 0) → Type 0
-Holds {A} R P = (x : A) (text : List ℕ) → All IsOctet text → R x text → P x
-
-holds_no_more : {A : Type 0} (x : A) (P : A → Type 0) → P x → Holds (NoMore x) P
-holds_no_more x P p y text all n = subst P (sym n.1) p
-
-holds_then : {A B : Type 0} (R : Piece A) (Next : A → Piece B) (P : A → Type 0) (Q : B → Type 0) → Holds R P → ((x : A) → P x → Holds (Next x) Q) → Holds (Then R Next) Q
-holds_then R Next P Q p q y text all n =
-    let whole = subst (λ (t : List ℕ). All IsOctet t) n.3 all in
-    q n.0 (p n.0 n.1 (all_left n.1 n.2 whole) n.4) y n.2 (all_right n.1 n.2 whole) n.5
-
-holds_as : {A B : Type 0} (f : A → B) (R : Piece A) (P : A → Type 0) (Q : B → Type 0) → Holds R P → ((x : A) → P x → Q (f x)) → Holds (As f R) Q
-holds_as f R P Q p q y text all n = subst Q (sym n.2) (q n.0 (p n.0 text all n.1))
-
-holds_not_refused : {A : Type 0} (fault : A → Option FormRefusal) (R : Piece A) (P : A → Type 0) → Holds R P → Holds (NotRefused fault R) (λ x. P x × (fault x ≡ None))
-holds_not_refused fault R P p x text all n = (p x text all n.0, n.1)
-
-holds_unless : {A : Type 0} (fault : Option FormRefusal) (R : Piece A) (P : A → Type 0) → (fault ≡ None → Holds R P) → Holds (Unless fault R) P
-holds_unless fault R P p x text all n = p n.0 x text all n.1
-
-holds_which : {A : Type 0} (first : Bool) (R Other : Piece A) (P : A → Type 0) → Holds R P → Holds Other P → Holds (Which first R Other) P
-holds_which true R Other P p q x text all n = p x text all n
-holds_which false R Other P p q x text all n = q x text all n
-
--- a piece that a flag names is there exactly where it does
-holds_named : {A : Type 0} (named : Bool) (R : Piece A) (P : A → Type 0) → Holds R P → Holds (IfNamed named R) (λ x. IfSome x P × (is_some x ≡ named))
-holds_named false R P p x text all n = rw n.1 (tt, refl)
-holds_named true R P p None text all n = absurd n
-holds_named true R P p (Some x) text all n = (p x text all n, refl)
-
-octet_good : Holds IsOneOctet (λ n. n < 256)
-octet_good n text all is = All-head IsOctet n [] (subst (λ (t : List ℕ). All IsOctet t) is all)
-
-word_good : Holds IsWord (λ n. n < 65536)
-word_good n text all is =
-    let whole = subst (λ (t : List ℕ). All IsOctet t) is.2 all in
-    let high : is.0 < 256 = All-head IsOctet is.0 (is.1 ∷ []) whole in
-    let low : is.1 < 256 = All-head IsOctet is.1 [] (All-tail IsOctet is.0 (is.1 ∷ []) whole) in
-    let e : n ≡ is.0 * 256 + is.1 = is.3 in
-    omega arith
-
-value_good : Holds IsValue (IsBits 7 29)
-value_good d text all is =
-    let range = value_range text d.value is.0 in
-    let fits : d.value < 2 ^ value_bits (length text) = value_fits text d.value is.0 in
-    record {
-      some = rw is.1 range.0;
-      narrow = rw is.1 range.1;
-      fits = rw is.1 fits;
-    }
+use Rattle.rohc_bits.specs.Grammar.{Octet, Word, Value, IfNamed, Judged}
+use Rattle.rohc_forms.proofs.CountLemmas.{counts_octets, counts_extension}
 
 -- bits within narrow bounds are within wider ones
 wider : (least most low high : ℕ) (bits : LowBits) → low ≤ least → most ≤ high → IsBits least most bits → IsBits low high bits
@@ -242,62 +180,66 @@ pub record IsGoodRtp (rtp : RtpSaid) : Type 0 where
   pub payload_type : IfSome rtp.payload_type (λ n. n < 128)
   pub stride : IfSome rtp.stride (λ n. (1 ≤ n) × (n ≤ 536870911))
 
-holds_any : {A : Type 0} (R : Piece A) → Holds R (λ _. Unit {0})
-holds_any R x text all n = tt
-
 type_good : (octet : Option ℕ) → IfSome (payload_type_in octet) (λ n. n < 128)
 type_good None = tt
 type_good (Some octet) = mod_below (octet / 2 ^ 0) 128 (omega arith)
 
-stride_good : (named : Bool) → Holds (IsStride named) (λ stride. IfSome stride (λ n. (1 ≤ n) × (n ≤ 536870911)))
-stride_good named = holds_as stride_of (IfNamed named (NotRefused (λ d. stride_fault d.value) IsValue)) _ _
-    (holds_named named (NotRefused (λ d. stride_fault d.value) IsValue) (λ d. IsBits 7 29 d × (stride_fault d.value ≡ None)) (holds_not_refused (λ d. stride_fault d.value) IsValue (IsBits 7 29) value_good))
+stride_good : (named : Bool) → Holds (stride_at named) (λ stride. IfSome stride (λ n. (1 ≤ n) × (n ≤ 536870911)))
+unfolding stride_at
+stride_good named = holds_as stride_of (IfNamed named (Judged (λ d. stride_fault d.value) Value)) _ _
+    (holds_named named (Judged (λ d. stride_fault d.value) Value) (λ d. IsValueBits d × (stride_fault d.value ≡ None)) (holds_judged (λ d. stride_fault d.value) Value IsValueBits value_holds))
     ranged where
       some_stride : (value : ℕ) (zero : Bool) → (value == 0) ≡ zero → (if zero then Some ZeroStride else None) ≡ None → 1 ≤ value
       some_stride value true e f = cc
       some_stride value false e f = grind (arith, nat_tests)
 
-      ranged : (d : Option LowBits) → (IfSome d (λ d. IsBits 7 29 d × (stride_fault d.value ≡ None)) × (is_some d ≡ named)) → IfSome (stride_of d) (λ n. (1 ≤ n) × (n ≤ 536870911))
+      ranged : (d : Option LowBits) → (IfSome d (λ d. IsValueBits d × (stride_fault d.value ≡ None)) × (is_some d ≡ named)) → IfSome (stride_of d) (λ n. (1 ≤ n) × (n ≤ 536870911))
       ranged None is = tt
       ranged (Some d) is = (
         some_stride d.value (d.value == 0) refl is.0.1,
         let fits : 2 ^ d.count ≤ 2 ^ 29 = pow-le-pow_right (omega arith) is.0.0.narrow in omega (arith, is.0.0.fits, fits),
       )
 
-rtp_named_good : (rtp : RtpFlags) → Holds (IsRtpNamed rtp) IsGoodRtp
+rtp_named_good : (rtp : RtpFlags) → Holds (behind_rtp_octet rtp) IsGoodRtp
+unfolding behind_rtp_octet octet_if behind_time_stride
 rtp_named_good rtp =
-    holds_then (IfNamed rtp.payload_type IsOneOctet) _ (λ _. Unit {0}) IsGoodRtp (holds_any _) (λ octet _.
-    holds_then (IsStride rtp.stride) _ _ IsGoodRtp (stride_good rtp.stride) (λ stride ranged.
-    holds_then (IsTimeStride rtp.time_stride) _ (λ _. Unit {0}) IsGoodRtp (holds_any _) (λ _ _.
-    holds_no_more _ IsGoodRtp (record { payload_type = type_good octet; stride = ranged }))))
+    holds_then (octet_if rtp.payload_type) _ (λ _. Unit {0}) IsGoodRtp (holds_any _) (λ octet _.
+    holds_then (stride_at rtp.stride) _ _ IsGoodRtp (stride_good rtp.stride) (λ stride ranged.
+    holds_then (behind_time_stride rtp.time_stride) _ (λ _. Unit {0}) IsGoodRtp (holds_any _) (λ _ _.
+    holds_says _ IsGoodRtp (record { payload_type = type_good octet; stride = ranged }))))
 
-rtp_good : (named : Bool) → Holds (IsRtpGiven named) (λ rtp. IfSome rtp IsGoodRtp × (is_some rtp ≡ named))
-rtp_good named = holds_named named (Then (NotRefused rtp_fault IsOneOctet) (λ octet. IsRtpNamed (rtp_flags octet))) IsGoodRtp
-    (holds_then (NotRefused rtp_fault IsOneOctet) _ (λ _. Unit {0}) IsGoodRtp (holds_any _) (λ octet _. rtp_named_good (rtp_flags octet)))
+rtp_good : (named : Bool) → Holds (rtp_given_at named) (λ rtp. IfSome rtp IsGoodRtp × (is_some rtp ≡ named))
+unfolding rtp_given_at
+rtp_good named = holds_named named rtp_at IsGoodRtp
+    (holds_then (Judged rtp_fault Octet) _ (λ _. Unit {0}) IsGoodRtp (holds_any _) (λ octet _. rtp_named_good (rtp_flags octet)))
 
-ip_good : (ip : Option IpFlags) → Holds (IsIpGiven ip) (λ given. IfSome given IsGoodIp)
-ip_good None = holds_no_more None _ tt
+ip_good : (ip : Option IpFlags) → Holds (ip_given_at ip) (λ given. IfSome given IsGoodIp)
+unfolding ip_given_at octet_if
+ip_good None = holds_says None _ tt
 ip_good (Some ip) =
-    holds_then (IfNamed ip.tos IsOneOctet) _ _ _ (holds_named ip.tos IsOneOctet _ octet_good) (λ tos is_tos.
-    holds_then (IfNamed ip.ttl IsOneOctet) _ _ _ (holds_named ip.ttl IsOneOctet _ octet_good) (λ ttl is_ttl.
-    holds_then (IsProtocol ip.protocol) _ (λ _. Unit {0}) _ (holds_any _) (λ _ _.
-    holds_no_more _ (λ given. IfSome given IsGoodIp) (record { tos = is_tos.0; ttl = is_ttl.0 }))))
+    holds_then (octet_if ip.tos) _ _ _ (holds_named ip.tos Octet _ octet_holds) (λ tos is_tos.
+    holds_then (octet_if ip.ttl) _ _ _ (holds_named ip.ttl Octet _ octet_holds) (λ ttl is_ttl.
+    holds_then (behind_protocol ip.protocol) _ (λ _. Unit {0}) _ (holds_any _) (λ _ _.
+    holds_says _ (λ given. IfSome given IsGoodIp) (record { tos = is_tos.0; ttl = is_ttl.0 }))))
 
 -- more bits of SN and of TS, and the whole offset
-sn_good : (named : Bool) (w : ℕ) (said : Said) → IsGoodSaid 6 5 w said → Holds (As (with_sn said) (IfNamed named IsOneOctet)) (IsGoodSaid 16 5 w)
-sn_good named w said is = holds_as (with_sn said) (IfNamed named IsOneOctet) _ _ (holds_named named IsOneOctet _ octet_good) more where
+sn_good : (named : Bool) (w : ℕ) (said : Said) → IsGoodSaid 6 5 w said → Holds (sn_at named said) (IsGoodSaid 16 5 w)
+unfolding sn_at
+sn_good named w said is = holds_as (with_sn said) (IfNamed named Octet) _ _ (holds_named named Octet _ octet_holds) more where
   more : (octet : Option ℕ) → (IfSome octet (λ n. n < 256) × (is_some octet ≡ named)) → IsGoodSaid 16 5 w (with_sn said octet)
   more None fits = more_sn 6 16 5 w said is (omega arith)
   more (Some octet) fits = and_sn_good 6 5 w 8 16 (record { count = 8; value = octet }) said is (record { some = omega arith; narrow = omega arith; fits = fits.0 }) (omega arith) (omega arith)
 
-ts_good : (named : Bool) (w : ℕ) (said : Said) → IsGoodSaid 16 5 w said → Holds (As (with_ts said) (IfNamed named IsValue)) (IsGoodSaid 16 5 w)
-ts_good named w said is = holds_as (with_ts said) (IfNamed named IsValue) _ _ (holds_named named IsValue _ value_good) more where
-  more : (value : Option LowBits) → (IfSome value (IsBits 7 29) × (is_some value ≡ named)) → IsGoodSaid 16 5 w (with_ts said value)
+ts_good : (named : Bool) (w : ℕ) (said : Said) → IsGoodSaid 16 5 w said → Holds (ts_at named said) (IsGoodSaid 16 5 w)
+unfolding ts_at
+ts_good named w said is = holds_as (with_ts said) (IfNamed named Value) _ _ (holds_named named Value _ value_holds) more where
+  more : (value : Option LowBits) → (IfSome value IsValueBits × (is_some value ≡ named)) → IsGoodSaid 16 5 w (with_ts said value)
   more None fits = is
-  more (Some value) fits = and_ts_good 16 5 w 29 value said is (wider 7 29 2 29 value (omega arith) (omega arith) fits.0) (omega arith)
+  more (Some value) fits = and_ts_good 16 5 w 29 value said is (record { some = omega (arith, fits.0.some); narrow = fits.0.narrow; fits = fits.0.fits }) (omega arith)
 
-offset_good : (named : Bool) (w : ℕ) (said : Said) → IsGoodSaid 16 5 w said → Holds (As (and_offset said) (IfNamed named IsWord)) (IsGoodSaid 16 16 w)
-offset_good named w said is = holds_as (and_offset said) (IfNamed named IsWord) _ _ (holds_named named IsWord _ word_good) more where
+offset_good : (named : Bool) (w : ℕ) (said : Said) → IsGoodSaid 16 5 w said → Holds (offset_at named said) (IsGoodSaid 16 16 w)
+unfolding offset_at word_if
+offset_good named w said is = holds_as (and_offset said) (IfNamed named Word) _ _ (holds_named named Word _ word_holds) more where
   more : (offset : Option ℕ) → (IfSome offset (λ n. n < 65536) × (is_some offset ≡ named)) → IsGoodSaid 16 16 w (and_offset said offset)
   more None fits = more_id 16 5 16 w said is (omega arith)
   more (Some offset) fits = record { sn = is.sn; ts = is.ts; id = record { some = omega arith; narrow = omega arith; fits = fits.0 }; check = is.check }
@@ -317,7 +259,8 @@ in_force_by true true e f = refl
 in_force_by true false e f = let never : Some NoStride ≡ None = e in cc
 in_force_by false in_force e f = cc
 
-behind_ip_good : (flags : ℕ) (known : Bool) (ip : Option IpFlags) (w : ℕ) (said : Said) → IsGoodSaid 6 5 w said → Holds (IsBehindIp flags known ip said) (IsGoodExtended (has Tsc flags) known w)
+behind_ip_good : (flags : ℕ) (known : Bool) (ip : Option IpFlags) (w : ℕ) (said : Said) → IsGoodSaid 6 5 w said → Holds (behind_ip_octet flags known ip said) (IsGoodExtended (has Tsc flags) known w)
+unfolding behind_ip_octet
 behind_ip_good flags known ip w said is =
     holds_then _ _ _ _ (sn_good (has S flags) w said is) (λ said is.
     holds_then _ _ _ _ (ts_good (has R-TS flags) w said is) (λ said is.
@@ -325,7 +268,7 @@ behind_ip_good flags known ip w said is =
     holds_then _ _ _ _ (offset_good (has I flags) w said is) (λ said is.
     holds_then _ _ _ _ (rtp_good (has RTP flags)) (λ rtp is_rtp.
     holds_unless (no_stride_fault (has Tsc flags) (known || is_some (rtp_values rtp).stride)) _ _ (λ fine.
-    holds_no_more _ (IsGoodExtended (has Tsc flags) known w) (record {
+    holds_says _ (IsGoodExtended (has Tsc flags) known w) (record {
       said = is;
       values = values_good given rtp is_ip is_rtp.0;
       stride = λ scaled. ap (λ (stride : Option ℕ). known || is_some stride) (same_stride given (rtp_values rtp)) ∙ in_force_by (has Tsc flags) (known || is_some (rtp_values rtp).stride) fine scaled;
@@ -347,12 +290,13 @@ plain_good first base rnd known said is good = record { kind = kind_good base rn
   none_some : ◌≡◌ {A = Option Bool} None (Some true) → ⊥
   none_some e = cc
 
-extension_3_good : (first : ℕ) (base : Base) (kept known : Bool) (flags : ℕ) → base.first ≡ first → Holds (IsExtension3 base kept known flags) (IsGoodHead first known)
+extension_3_good : (first : ℕ) (base : Base) (kept known : Bool) (flags : ℕ) → base.first ≡ first → Holds (extension_3_at base kept known flags) (IsGoodHead first known)
+unfolding extension_3_at ip_octet_at
 extension_3_good first base kept known flags is =
-    holds_then (IsIpOctet (has IP flags) (form_kind base kept)) _ (λ _. Unit {0}) _ (holds_any _) (λ ip _.
+    holds_then (ip_octet_at (has IP flags) (form_kind base kept)) _ (λ _. Unit {0}) _ (holds_any _) (λ ip _.
     holds_unless (twice_fault (has I flags) (rnd_in_force kept ip)) _ _ (λ _.
     holds_then _ _ _ _ (behind_ip_good flags known ip (check_width (form_kind base (rnd_in_force kept ip))) _ (base_good (form_kind base (rnd_in_force kept ip)) base.number)) (λ extended good.
-    holds_no_more _ (IsGoodHead first known) (record {
+    holds_says _ (IsGoodHead first known) (record {
       kind = kind_good base (rnd_in_force kept ip) ∙ ap (λ n. not (nat_lt n 192)) is;
       said = good.said;
       scaled = λ e. good.stride (is_true (has Tsc flags) e);
@@ -365,21 +309,26 @@ all_said w said is = more_sn 9 16 16 w said is (omega arith)
 base_said_good : (kind : FormKind) (n : ℕ) → IsGoodSaid 16 16 (check_width kind) (base_said kind n)
 base_said_good kind n = more_sn 6 16 16 _ _ (more_id 6 5 16 _ _ (base_good kind n) (omega arith)) (omega arith)
 
-under_good : (kind : FormKind) (first n : ℕ) → Holds (IsUnder (short_layout kind first) first (base_said kind n)) (IsGoodSaid 16 16 (check_width kind))
-under_good kind first n said text all is =
-    subst (IsGoodSaid 16 16 (check_width kind)) (sym is.1) (all_said _ _ (short_good kind (nat_lt first 64) (nat_lt first 128) (check_width kind) (number_of (first ∷ text)) _ (base_good kind n)))
+under_good : (kind : FormKind) (first n : ℕ) → Holds (short_extension_at kind first (base_said kind n)) (IsGoodSaid 16 16 (check_width kind))
+under_good kind first n = record {
+  of = λ said text all is.
+      let short = (counts_extension kind first (base_said kind n) said text).0 is in
+      subst (IsGoodSaid 16 16 (check_width kind)) (sym short.2) (all_said _ _ (short_good kind (nat_lt first 64) (nat_lt first 128) (check_width kind) short.0 _ (base_good kind n)));
+}
 
-extension_good : (first : ℕ) (base : Base) (rnd known : Bool) (octet : ℕ) → base.first ≡ first → Holds (IsExtension base rnd known octet) (IsGoodHead first known)
+extension_good : (first : ℕ) (base : Base) (rnd known : Bool) (octet : ℕ) → base.first ≡ first → Holds (extension_at base rnd known octet) (IsGoodHead first known)
+unfolding extension_at
 extension_good first base rnd known octet is = holds_which (nat_lt octet 192) _ _ _
     (holds_as (plain_head (form_kind base rnd) rnd) _ _ _ (under_good (form_kind base rnd) octet base.number) (λ said good. plain_good first base rnd known said is good))
     (extension_3_good first base rnd known octet is)
 
-head_good : (first : ℕ) (rnd known : Bool) → Holds (IsHead first rnd known) (IsGoodHead first known)
+head_good : (first : ℕ) (rnd known : Bool) → Holds (head_at first rnd known) (IsGoodHead first known)
+unfolding head_at
 head_good first rnd known =
-    holds_then (IsBase first rnd) _ (λ base. base.first ≡ first) _ (λ base text all is. ap (λ (b : Base). b.first) is.1) (λ base is.
+    holds_then (base_at first) _ (λ base. base.first ≡ first) _ (record { of = λ base text all is. (((counts_octets rnd).0 first base text).0 is).0 }) (λ base is.
     holds_which (base_said (form_kind base rnd) base.number).extended _ _ _
-    (holds_then IsOneOctet _ (λ _. Unit {0}) _ (holds_any _) (λ octet _. extension_good first base rnd known octet is))
-    (holds_no_more _ (IsGoodHead first known) (plain_good first base rnd known _ is (base_said_good (form_kind base rnd) base.number))))
+    (holds_then Octet _ (λ _. Unit {0}) _ (holds_any _) (λ octet _. extension_good first base rnd known octet is))
+    (holds_says _ (IsGoodHead first known) (plain_good first base rnd known _ is (base_said_good (form_kind base rnd) base.number))))
 
 -- the Identification: the whole where it stands in the packet, else bits of its offset
 whole_good : (id : Option ℕ) (bits : Option LowBits) → IfSome id (λ n. n < 65536) → IfSome (whole_said (id_said id bits)) (λ n. n < 65536)
@@ -419,9 +368,16 @@ content_good first udp_sum known head id sum payload is is_id is_sum all = recor
   payload = all;
 }
 
+header_good : (first : ℕ) (rnd udp_sum known : Bool) → Holds (header_at first rnd udp_sum known) (λ said. (payload : List ℕ) → All IsOctet payload → IsGoodContent first udp_sum known (with_payload said payload))
+unfolding word_if
+header_good first rnd udp_sum known =
+    holds_then (head_at first rnd known) _ _ _ (head_good first rnd known) (λ head is.
+    holds_then (IfNamed head.rnd Word) _ _ _ (holds_named head.rnd Word _ word_holds) (λ id is_id.
+    holds_then (IfNamed udp_sum Word) _ _ _ (holds_named udp_sum Word _ word_holds) (λ sum is_sum.
+    holds_says (head, id, sum) _ (λ payload all. content_good first udp_sum known head id sum payload is is_id is_sum all))))
+
 pub says_good : SaysGood
-says_good = λ h rnd udp_sum known c.
-    holds_then (IsHead h.first rnd known) _ _ _ (head_good h.first rnd known) (λ head is.
-    holds_then (IfNamed head.rnd IsWord) _ _ _ (holds_named head.rnd IsWord _ word_good) (λ id is_id.
-    holds_then (IfNamed udp_sum IsWord) _ _ (IsGoodContent h.first udp_sum known) (holds_named udp_sum IsWord _ word_good) (λ sum is_sum.
-    λ c text all e. subst (IsGoodContent h.first udp_sum known) (sym e) (content_good h.first udp_sum known head id sum text is is_id is_sum all)))) c h.rest
+says_good = λ h rnd udp_sum known c all is.
+    let whole = subst (λ (t : List ℕ). All IsOctet t) is.whole all in
+    subst (IsGoodContent h.first udp_sum known) (sym is.content)
+    ((header_good h.first rnd udp_sum known).of is.said is.header (all_left is.header is.payload whole) is.says is.payload (all_right is.header is.payload whole))

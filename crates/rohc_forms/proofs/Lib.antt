@@ -1,6 +1,5 @@
 pub mod FormatLemmas
-pub mod FieldLemmas
-pub mod Exact
+pub mod CountLemmas
 pub mod SaysLemmas
 pub mod ShortLemmas
 pub mod UnextendedLemmas

@@ -1,13 +1,15 @@
 -- Extensions 1 and 2 octet by octet: the first octet is an extension 0's.
 use Rattle.std.proofs.Common.{◌≡◌, ℕ, ◌+◌, ◌*◌, ◌<◌, ◌≤◌, Bool, true, false, List, Ok, Err, refl, sym, ap, ◌∙◌, arith}
-use Rattle.std.specs.Prelude.{nat_lt, if◌then◌else◌}
+use Rattle.std.specs.Prelude.{nat_lt}
 use Rattle.std.proofs.lemmas.Bool.Decides.{nat_tests}
 use Rattle.rohc_bits.specs.LowBits.{LowBits}
+use Rattle.rohc_bits.specs.Grammar.{Octet, Word, Which, As}
 use Rattle.rohc_forms.specs.declared.form.FormKind.{FormKind}
-use Rattle.rohc_bits.specs.Reading.{next_word}
+use Rattle.rohc_bits.specs.Reading.{next_octet, next_word}
 use Rattle.rohc_forms.specs.declared.refusal.FormRefusal.{FormRefusal}
-use Rattle.rohc_forms.specs.Octets.{slice, octet_at}
-use Rattle.rohc_forms.specs.Packets.{extension_1_at, extension_2_at, short_extension_at}
+use Rattle.rohc_forms.specs.declared.refusal.FormRefusal.TheVariants.{Truncated}
+use Rattle.rohc_forms.specs.Octets.{slice, read}
+use Rattle.rohc_forms.specs.Packets.{short_extension_at}
 use Rattle.rohc_forms.specs.Table.{Said, Sn, and_said, plus, minus, under, layout_0, layout_1, layout_2}
 
 abbrev pub eight : ℕ → LowBits
@@ -42,37 +44,37 @@ three_octets kind first second third said small smaller =
     ∙ ap (λ (d : LowBits). and_said (minus kind) d (and_said (plus kind) (slice n 8 8) (and_said (plus kind) (slice n 16 3) (and_said Sn (slice n 19 3) said)))) low
 
 -- what is read of them, and where they are cut off
-pub read_two : (kind : FormKind) (first second : ℕ) (said : Said) (text behind : List ℕ) → 64 ≤ first → first < 128 → second < 256 → octet_at text ≡ Ok (second, behind) →
-    short_extension_at kind first said text ≡ Ok (and_said (minus kind) (eight second) (under (layout_0 kind) first said), behind)
-unfolding short_extension_at extension_1_at
+pub read_two : (kind : FormKind) (first second : ℕ) (said : Said) (text behind : List ℕ) → 64 ≤ first → first < 128 → second < 256 → next_octet Truncated text ≡ Ok (second, behind) →
+    read (short_extension_at kind first said) text ≡ Ok (and_said (minus kind) (eight second) (under (layout_0 kind) first said), behind)
+unfolding short_extension_at
 read_two kind first second said text behind least most small is =
     let wide : nat_lt first 64 ≡ false = grind (arith, nat_tests) in
     let narrow : nat_lt first 128 ≡ true = grind (arith, nat_tests) in
     rw (wide, narrow, is) (ap (λ (s : Said). Ok (s, behind)) (sym (two_octets kind first second said small)))
 
-pub read_three : (kind : FormKind) (first second third : ℕ) (said : Said) (text middle behind : List ℕ) → 128 ≤ first → second < 256 → third < 256 → octet_at text ≡ Ok (second, middle) → octet_at middle ≡ Ok (third, behind) →
-    short_extension_at kind first said text ≡ Ok (and_said (minus kind) (eight third) (and_said (plus kind) (eight second) (under (layout_0 kind) first said)), behind)
-unfolding short_extension_at extension_2_at next_word
+pub read_three : (kind : FormKind) (first second third : ℕ) (said : Said) (text middle behind : List ℕ) → 128 ≤ first → second < 256 → third < 256 → next_octet Truncated text ≡ Ok (second, middle) → next_octet Truncated middle ≡ Ok (third, behind) →
+    read (short_extension_at kind first said) text ≡ Ok (and_said (minus kind) (eight third) (and_said (plus kind) (eight second) (under (layout_0 kind) first said)), behind)
+unfolding short_extension_at next_word
 read_three kind first second third said text middle behind least small smaller is then_is =
     let wide : nat_lt first 64 ≡ false = grind (arith, nat_tests) in
     let wider : nat_lt first 128 ≡ false = grind (arith, nat_tests) in
     rw (wide, wider, is, then_is) (ap (λ (s : Said). Ok (s, behind)) (sym (three_octets kind first second third said small smaller)))
 
-cut_by : (one : Bool) (kind : FormKind) (first : ℕ) (said : Said) (text : List ℕ) (refusal : FormRefusal) → octet_at text ≡ Err refusal →
-    (if one then extension_1_at kind first said text else extension_2_at kind first said text) ≡ Err refusal
-unfolding extension_1_at extension_2_at next_word
-cut_by true kind first said text refusal is = rw is refl
-cut_by false kind first said text refusal is = rw is refl
+cut_by : (one : Bool) (f g : ℕ → Said) (text : List ℕ) (refusal : FormRefusal) → next_octet Truncated text ≡ Err refusal →
+    read (Which one (As f Octet) (As g Word)) text ≡ Err refusal
+unfolding next_word
+cut_by true f g text refusal is = rw is refl
+cut_by false f g text refusal is = rw is refl
 
-pub cut_second : (kind : FormKind) (first : ℕ) (said : Said) (text : List ℕ) (refusal : FormRefusal) → 64 ≤ first → octet_at text ≡ Err refusal → short_extension_at kind first said text ≡ Err refusal
+pub cut_second : (kind : FormKind) (first : ℕ) (said : Said) (text : List ℕ) (refusal : FormRefusal) → 64 ≤ first → next_octet Truncated text ≡ Err refusal → read (short_extension_at kind first said) text ≡ Err refusal
 unfolding short_extension_at
 cut_second kind first said text refusal least is =
     let wide : nat_lt first 64 ≡ false = grind (arith, nat_tests) in
-    rw wide (cut_by (nat_lt first 128) kind first said text refusal is)
+    rw wide (cut_by (nat_lt first 128) _ _ text refusal is)
 
-pub cut_third : (kind : FormKind) (first second : ℕ) (said : Said) (text middle : List ℕ) (refusal : FormRefusal) → 128 ≤ first → octet_at text ≡ Ok (second, middle) → octet_at middle ≡ Err refusal →
-    short_extension_at kind first said text ≡ Err refusal
-unfolding short_extension_at extension_2_at next_word
+pub cut_third : (kind : FormKind) (first second : ℕ) (said : Said) (text middle : List ℕ) (refusal : FormRefusal) → 128 ≤ first → next_octet Truncated text ≡ Ok (second, middle) → next_octet Truncated middle ≡ Err refusal →
+    read (short_extension_at kind first said) text ≡ Err refusal
+unfolding short_extension_at next_word
 cut_third kind first second said text middle refusal least is then_is =
     let wide : nat_lt first 64 ≡ false = grind (arith, nat_tests) in
     let wider : nat_lt first 128 ≡ false = grind (arith, nat_tests) in

@@ -1,117 +1,109 @@
--- Extension 3 (RFC 3095 5.7.5), read from left to right up to the first fault.
-use Rattle.std.specs.Prelude.{ℕ, ◌||◌, List, Bool, if◌then◌else◌, Option, Some, None, is_some, Result, Ok}
-use Rattle.rohc_bits.specs.Reading.{◌>>=◌, judged}
+-- Extension 3 piece by piece (RFC 3095 5.7.5).
+use Rattle.std.specs.Prelude.{ℕ, ◌||◌, Bool, Option, Some, None, is_some}
+use Rattle.rohc_bits.specs.Grammar.{Octet, Value, Says, IfNamed, As, Judged, Unless}
+use Rattle.rohc_bits.specs.InTurn.{◌>>=◌}
+use Rattle.rohc_bits.specs.LowBits.{LowBits}
 use Rattle.rohc_forms.specs.declared.form.FormKind.{FormKind}
 use Rattle.rohc_forms.specs.declared.parts.IpFlags.{IpFlags}
 use Rattle.rohc_forms.specs.declared.parts.IpGiven.{IpGiven}
 use Rattle.rohc_forms.specs.declared.parts.RtpFlags.{RtpFlags}
-use Rattle.rohc_forms.specs.declared.refusal.FormRefusal.{FormRefusal}
-use Rattle.rohc_forms.specs.Octets.{octet_at, octet_if, word_if, value_at}
+use Rattle.rohc_forms.specs.Octets.{FormPiece, octet_if, word_if}
 use Rattle.rohc_forms.specs.Table.{Said, Sn, Ts, S, R-TS, Tsc, I, RTP, has, and_said}
 use Rattle.rohc_forms.specs.Given.{Extended3, RtpSaid, ip_flags, ip_values, marker_in, padding_in, payload_type_in, rtp_flags, rtp_values, with_offset_if}
 use Rattle.rohc_forms.specs.Judging.{ip_fault, protocol_fault, rtp_fault, stride_fault, no_stride_fault}
 
--- an octet, unless it is refused
-abbrev pub judged_octet : (ℕ → Option FormRefusal) → List ℕ → Result (ℕ × List ℕ) FormRefusal
-judged_octet fault text = octet_at text >>= λ x. judged (fault x.0) x
-
 -- the ip octet, if flag ip is set
-unfoldable pub ip_octet_at : Bool → FormKind → List ℕ → Result (Option IpFlags × List ℕ) FormRefusal
-ip_octet_at present kind text =
-    if present
-    then (judged_octet (ip_fault kind) text >>= λ x. Ok (Some (ip_flags x.0), x.1))
-    else Ok (None, text)
+unfoldable pub ip_octet_at : Bool → FormKind → FormPiece (Option IpFlags)
+ip_octet_at named kind = IfNamed named (As ip_flags (Judged (ip_fault kind) Octet))
 
--- the octet of SN, if S is set
-unfoldable pub sn_at : Bool → Said → List ℕ → Result (Said × List ℕ) FormRefusal
-sn_at present said text =
-    if present
-    then (octet_at text >>= λ x. Ok (and_said Sn (record { count = 8; value = x.0 }) said, x.1))
-    else Ok (said, text)
+-- eight more bits of SN, if S is set
+abbrev pub with_sn : Said → Option ℕ → Said
+with_sn said None = said
+with_sn said (Some octet) = and_said Sn (record { count = 8; value = octet }) said
 
--- the value of TS, if R-TS is set
-unfoldable pub ts_at : Bool → Said → List ℕ → Result (Said × List ℕ) FormRefusal
-ts_at present said text =
-    if present
-    then (value_at text >>= λ x. Ok (and_said Ts x.0 said, x.1))
-    else Ok (said, text)
+unfoldable pub sn_at : Bool → Said → FormPiece Said
+sn_at named said = As (with_sn said) (IfNamed named Octet)
 
--- the protocol's octet, if PR is set
-unfoldable pub behind_protocol : Bool → List ℕ → Result (Unit {0} × List ℕ) FormRefusal
-behind_protocol present text =
-    if present
-    then (judged_octet protocol_fault text >>= λ x. Ok (tt, x.1))
-    else Ok (tt, text)
+-- more bits of TS, if R-TS is set
+abbrev pub with_ts : Said → Option LowBits → Said
+with_ts said None = said
+with_ts said (Some value) = and_said Ts value said
 
--- TOS, TTL and protocol, each if its flag in the ip octet is set
-unfoldable pub ip_given_at : Option IpFlags → List ℕ → Result (Option IpGiven × List ℕ) FormRefusal
-ip_given_at None text = Ok (None, text)
-ip_given_at (Some ip) text = do
-  (tos, text) ← octet_if ip.tos text
-  (ttl, text) ← octet_if ip.ttl text
-  (_, text) ← behind_protocol ip.protocol text
-  Ok (Some (record { tos = tos; ttl = ttl; df = ip.df; nbo = ip.nbo; rnd = ip.rnd }), text)
+unfoldable pub ts_at : Bool → Said → FormPiece Said
+ts_at named said = As (with_ts said) (IfNamed named Value)
+
+-- the protocol's octet, if PR is set, says nothing
+unfoldable pub behind_protocol : Bool → FormPiece (Unit {0})
+behind_protocol named = As (λ _. tt) (IfNamed named (Judged protocol_fault Octet))
+
+-- what the ip octet announces: TOS, TTL, protocol
+unfoldable pub ip_given_at : Option IpFlags → FormPiece (Option IpGiven)
+ip_given_at None = Says None
+ip_given_at (Some ip) = do
+  tos ← octet_if ip.tos
+  ttl ← octet_if ip.ttl
+  _ ← behind_protocol ip.protocol
+  Says (Some (record { tos = tos; ttl = ttl; df = ip.df; nbo = ip.nbo; rnd = ip.rnd }))
 
 -- the offset of the Identification, if I is set
-unfoldable pub offset_at : Bool → Said → List ℕ → Result (Said × List ℕ) FormRefusal
-offset_at present said text = word_if present text >>= λ x. Ok (with_offset_if x.0 said, x.1)
+abbrev pub and_offset : Said → Option ℕ → Said
+and_offset said offset = with_offset_if offset said
 
--- TS_STRIDE, if TSS is set
-unfoldable pub stride_at : Bool → List ℕ → Result (Option ℕ × List ℕ) FormRefusal
-stride_at present text =
-    if present
-    then (value_at text >>= λ x. judged (stride_fault x.0.value) (Some x.0.value, x.1))
-    else Ok (None, text)
+unfoldable pub offset_at : Bool → Said → FormPiece Said
+offset_at named said = As (and_offset said) (word_if named)
 
--- TIME_STRIDE is read, if TIS is set, and dropped
-unfoldable pub behind_time_stride : Bool → List ℕ → Result (Unit {0} × List ℕ) FormRefusal
-behind_time_stride present text =
-    if present
-    then (value_at text >>= λ x. Ok (tt, x.1))
-    else Ok (tt, text)
+-- TS_STRIDE, if TSS is set; it doesn't matter how many bits its encoding has
+abbrev pub stride_of : Option LowBits → Option ℕ
+stride_of None = None
+stride_of (Some value) = Some value.value
 
--- the octet of P and PT, if R-PT is set, and the strides
-unfoldable pub behind_rtp_octet : RtpFlags → List ℕ → Result (RtpSaid × List ℕ) FormRefusal
-behind_rtp_octet rtp text = do
-  (octet, text) ← octet_if rtp.payload_type text
-  (stride, text) ← stride_at rtp.stride text
-  (_, text) ← behind_time_stride rtp.time_stride text
-  Ok (
-    record {
-      marker = rtp.marker;
-      extension = rtp.extension;
-      padding = padding_in octet;
-      payload_type =
-          payload_type_in octet;
-      stride = stride;
-    },
-    text,
-  )
+unfoldable pub stride_at : Bool → FormPiece (Option ℕ)
+stride_at named = As stride_of (IfNamed named (Judged (λ d. stride_fault d.value) Value))
 
--- the rtp octet, if flag rtp is set, and what it announces
-unfoldable pub rtp_given_at : Bool → List ℕ → Result (Option RtpSaid × List ℕ) FormRefusal
-rtp_given_at present text =
-    if present
-    then (judged_octet rtp_fault text >>= λ x. behind_rtp_octet (rtp_flags x.0) x.1 >>= λ y. Ok
-    (Some y.0, y.1))
-    else Ok (None, text)
+-- TIME_STRIDE, if TIS is set, says nothing
+unfoldable pub behind_time_stride : Bool → FormPiece (Unit {0})
+behind_time_stride named = As (λ _. tt) (IfNamed named Value)
 
--- What follows the ip octet. The flags are the extension's first octet.
-unfoldable pub behind_ip_octet : ℕ → Bool → Option IpFlags → Said → List ℕ →
-    Result (Extended3 × List ℕ) FormRefusal
-behind_ip_octet flags stride_known ip said text = do
-  (said, text) ← sn_at (has S flags) said text
-  (said, text) ← ts_at (has R-TS flags) said text
-  (given, text) ← ip_given_at ip text
-  (said, text) ← offset_at (has I flags) said text
-  (rtp, text) ← rtp_given_at (has RTP flags) text
-  _ ← judged (no_stride_fault (has Tsc flags) (stride_known || is_some (rtp_values rtp).stride)) text
-  Ok (
-    record {
-      said = said;
-      marker = marker_in said.marker rtp;
-      values =
-          ip_values given (rtp_values rtp);
-    },
-    text,
-  )
+-- what the rtp octet announces: P and PT, and the strides
+unfoldable pub behind_rtp_octet : RtpFlags → FormPiece RtpSaid
+behind_rtp_octet rtp = do
+  octet ← octet_if rtp.payload_type
+  stride ← stride_at rtp.stride
+  _ ← behind_time_stride rtp.time_stride
+  Says (
+      record {
+        marker = rtp.marker;
+        extension = rtp.extension;
+        padding = padding_in octet;
+        payload_type =
+            payload_type_in octet;
+        stride = stride;
+      }
+      )
+
+-- the rtp octet and what it announces
+abbrev pub rtp_at : FormPiece RtpSaid
+rtp_at = do
+  octet ← Judged rtp_fault Octet
+  behind_rtp_octet (rtp_flags octet)
+
+-- the same, if flag rtp is set
+unfoldable pub rtp_given_at : Bool → FormPiece (Option RtpSaid)
+rtp_given_at named = IfNamed named rtp_at
+
+-- After the ip octet; the flags are the extension's first octet. If Tsc is set, a stride is in force.
+unfoldable pub behind_ip_octet : ℕ → Bool → Option IpFlags → Said → FormPiece Extended3
+behind_ip_octet flags stride_known ip said = do
+  said ← sn_at (has S flags) said
+  said ← ts_at (has R-TS flags) said
+  given ← ip_given_at ip
+  said ← offset_at (has I flags) said
+  rtp ← rtp_given_at (has RTP flags)
+  Unless (no_stride_fault (has Tsc flags) (stride_known || is_some (rtp_values rtp).stride)) (Says (
+      record {
+        said = said;
+        marker = marker_in said.marker rtp;
+        values =
+            ip_values given (rtp_values rtp);
+      }
+      ))

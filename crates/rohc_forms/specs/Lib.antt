@@ -1,6 +1,5 @@
 pub mod Content
 pub mod Extension
-pub mod Fields
 pub mod Formats
 pub mod Given
 pub mod Good
@@ -9,6 +8,5 @@ pub mod Kinds
 pub mod Laws
 pub mod Octets
 pub mod Packets
-pub mod Pieces
 pub mod Says
 pub mod Table

@@ -1,7 +1,7 @@
--- Octets, numbers and self-describing values, read from left to right.
-use Rattle.std.specs.Prelude.{ℕ, ◌+◌, ◌*◌, ◌/◌, ◌%◌, ◌^◌, List, Bool, min, if◌then◌else◌, Option, Some, None, Result, Ok}
+-- Bits of numbers, and the pieces of packets.
+use Rattle.std.specs.Prelude.{ℕ, ◌+◌, ◌*◌, ◌/◌, ◌%◌, ◌^◌, List, Bool, min, Option, Some, None, Result}
 use Rattle.rohc_bits.specs.LowBits.{LowBits}
-use Rattle.rohc_bits.specs.Reading.{◌>>=◌, next_octet, next_word, next_value}
+use Rattle.rohc_bits.specs.Grammar.{Piece, Octet, Word, IfNamed, reads}
 use Rattle.rohc_forms.specs.declared.refusal.FormRefusal.{FormRefusal}
 use Rattle.rohc_forms.specs.declared.refusal.FormRefusal.TheVariants.{Truncated}
 
@@ -23,19 +23,16 @@ and_bits (Some said) more = Some (behind more said)
 abbrev pub slice : ℕ → ℕ → ℕ → LowBits
 slice n places width = record { count = width; value = n / 2 ^ places % 2 ^ width }
 
--- an octet, a number of two octets, and a self-describing value; a packet that ends too early is truncated
-abbrev pub octet_at : List ℕ → Result (ℕ × List ℕ) FormRefusal
-octet_at = next_octet Truncated
+-- a piece of a packet, and what is read of it; a packet that ends too early is truncated
+abbrev pub FormPiece : Type 0 → Type 1
+FormPiece = Piece FormRefusal
 
-abbrev pub word_at : List ℕ → Result (ℕ × List ℕ) FormRefusal
-word_at = next_word Truncated
-
-abbrev pub value_at : List ℕ → Result (LowBits × List ℕ) FormRefusal
-value_at = next_value Truncated
+abbrev pub read : {A : Type 0} → FormPiece A → List ℕ → Result (A × List ℕ) FormRefusal
+read = reads Truncated
 
 -- an octet, or a number of two octets, if a flag announces it
-unfoldable pub octet_if : Bool → List ℕ → Result (Option ℕ × List ℕ) FormRefusal
-octet_if present text = if present then (octet_at text >>= λ x. Ok (Some x.0, x.1)) else Ok (None, text)
+unfoldable pub octet_if : Bool → FormPiece (Option ℕ)
+octet_if named = IfNamed named Octet
 
-unfoldable pub word_if : Bool → List ℕ → Result (Option ℕ × List ℕ) FormRefusal
-word_if present text = if present then (word_at text >>= λ x. Ok (Some x.0, x.1)) else Ok (None, text)
+unfoldable pub word_if : Bool → FormPiece (Option ℕ)
+word_if named = IfNamed named Word

@@ -4,7 +4,7 @@
 ghost use Rattle.std.specs.Prelude.{◌≡◌, option_map};
 ghost use Rattle.rohc_bits.specs.Reading.{Reads};
 ghost use Rattle.rohc_bits.specs.LowBits.{low_bits};
-ghost use Rattle.rohc_forms.specs.Octets.{slice};
+ghost use Rattle.rohc_forms.specs.Octets.{slice, read};
 ghost use Rattle.rohc_forms.specs.Table.{base_said, uor2_said};
 ghost use Rattle.rohc_forms.specs.Content.{form_kind};
 ghost use Rattle.rohc_forms.specs.Packets.{said_by, base_at};
@@ -22,7 +22,7 @@ use rohc_bits::{Bits, Cursor};
 #[inline(always)]
 #[tactic(auto, unfolding(crate::specs::Packets::base_at))]
 pub(crate) fn base(first: u8, cursor: &mut Cursor<'_>) -> Result<Base, FormRefusal>
-    ensures { Reads result cursor.new (base_at first cursor.old) }
+    ensures { Reads result cursor.new (read (base_at first) cursor.old) }
 {
     let number = if first < 0x80 {
         u32::from(first)

@@ -5,6 +5,7 @@ ghost use Rattle.std.specs.Option.{ForSome};
 ghost use Rattle.rohc_bits.specs.Reading.{Reads, ReadsAs};
 ghost use Rattle.rohc_forms.specs.Given.{rnd_in_force, padding_in, payload_type_in, ip_values, rtp_values, marker_in};
 ghost use Rattle.rohc_forms.specs.Extension.{ip_octet_at, sn_at, ts_at, behind_protocol, ip_given_at, offset_at, stride_at, behind_time_stride, behind_rtp_octet, rtp_given_at, behind_ip_octet};
+ghost use Rattle.rohc_forms.specs.Octets.{read};
 ghost use Rattle.rohc_forms.specs.Packets.{said_by, rtp_by, values_by, extended_by};
 
 use crate::flag;
@@ -22,7 +23,7 @@ pub(crate) fn ip_octet(
     kind: FormKind,
     cursor: &mut Cursor<'_>,
 ) -> Result<Option<IpFlags>, FormRefusal>
-    ensures { Reads result cursor.new (ip_octet_at present kind cursor.old) }
+    ensures { Reads result cursor.new (read (ip_octet_at present kind) cursor.old) }
 {
     if !present {
         return Ok(None);
@@ -61,7 +62,7 @@ pub(crate) fn rnd_of(kept: bool, ip: Option<IpFlags>) -> bool
 /// Appends eight bits to the sequence number, if S is set.
 #[tactic(auto, unfolding(crate::specs::Extension::sn_at))]
 fn with_sn(present: bool, fields: Fields, cursor: &mut Cursor<'_>) -> Result<Fields, FormRefusal>
-    ensures { ReadsAs said_by result cursor.new (sn_at present (said_by fields) cursor.old) }
+    ensures { ReadsAs said_by result cursor.new (read (sn_at present (said_by fields)) cursor.old) }
 {
     if !present {
         return Ok(fields);
@@ -73,7 +74,7 @@ fn with_sn(present: bool, fields: Fields, cursor: &mut Cursor<'_>) -> Result<Fie
 /// Appends bits to the timestamp, if R-TS is set.
 #[tactic(auto, unfolding(crate::specs::Extension::ts_at))]
 fn with_ts(present: bool, fields: Fields, cursor: &mut Cursor<'_>) -> Result<Fields, FormRefusal>
-    ensures { ReadsAs said_by result cursor.new (ts_at present (said_by fields) cursor.old) }
+    ensures { ReadsAs said_by result cursor.new (read (ts_at present (said_by fields)) cursor.old) }
 {
     if !present {
         return Ok(fields);
@@ -85,7 +86,7 @@ fn with_ts(present: bool, fields: Fields, cursor: &mut Cursor<'_>) -> Result<Fie
 /// Reads the protocol, if PR is set. It must be UDP.
 #[tactic(auto, unfolding(crate::specs::Extension::behind_protocol))]
 fn skip_protocol(present: bool, cursor: &mut Cursor<'_>) -> Result<(), FormRefusal>
-    ensures { Reads result cursor.new (behind_protocol present cursor.old) }
+    ensures { Reads result cursor.new (read (behind_protocol present) cursor.old) }
 {
     if present && octet(cursor)? != 17 {
         return Err(FormRefusal::Protocol);
@@ -96,7 +97,7 @@ fn skip_protocol(present: bool, cursor: &mut Cursor<'_>) -> Result<(), FormRefus
 /// Reads TOS, TTL and protocol, each if its flag in the ip octet is set.
 #[tactic(auto, unfolding(crate::specs::Extension::ip_given_at))]
 fn ip_given(ip: Option<IpFlags>, cursor: &mut Cursor<'_>) -> Result<Option<IpGiven>, FormRefusal>
-    ensures { Reads result cursor.new (ip_given_at ip cursor.old) }
+    ensures { Reads result cursor.new (read (ip_given_at ip) cursor.old) }
 {
     let Some(ip) = ip else {
         return Ok(None);
@@ -121,7 +122,7 @@ fn with_offset(
     fields: Fields,
     cursor: &mut Cursor<'_>,
 ) -> Result<Fields, FormRefusal>
-    ensures { ReadsAs said_by result cursor.new (offset_at present (said_by fields) cursor.old) }
+    ensures { ReadsAs said_by result cursor.new (read (offset_at present (said_by fields)) cursor.old) }
 {
     match optional_word(present, cursor)? {
         Some(offset) => Ok(Fields {
@@ -135,7 +136,7 @@ fn with_offset(
 /// Reads TS_STRIDE, if TSS is set.
 #[tactic(auto, unfolding(crate::specs::Extension::stride_at))]
 fn stride(present: bool, cursor: &mut Cursor<'_>) -> Result<Option<u32>, FormRefusal>
-    ensures reads { Reads result cursor.new (stride_at present cursor.old) }
+    ensures reads { Reads result cursor.new (read (stride_at present) cursor.old) }
     ensures some { IfOk result (λ stride. ForSome stride (λ n. 1 ≤ n)) }
     ensures fits { IfOk result (λ stride. ForSome stride (λ n. n ≤ 536870911)) }
 {
@@ -152,7 +153,7 @@ fn stride(present: bool, cursor: &mut Cursor<'_>) -> Result<Option<u32>, FormRef
 /// Reads TIME_STRIDE, if TIS is set, and drops it.
 #[tactic(auto, unfolding(crate::specs::Extension::behind_time_stride))]
 fn skip_time_stride(present: bool, cursor: &mut Cursor<'_>) -> Result<(), FormRefusal>
-    ensures { Reads result cursor.new (behind_time_stride present cursor.old) }
+    ensures { Reads result cursor.new (read (behind_time_stride present) cursor.old) }
 {
     if present {
         value(cursor)?;
@@ -184,7 +185,7 @@ fn payload_type(octet: Option<u8>) -> Option<u8>
 /// Reads what the rtp octet announces: the octet of P and PT, and the strides.
 #[tactic(auto, unfolding(crate::specs::Extension::behind_rtp_octet))]
 fn named_by(rtp: RtpFlags, cursor: &mut Cursor<'_>) -> Result<RtpGiven, FormRefusal>
-    ensures { ReadsAs rtp_by result cursor.new (behind_rtp_octet rtp cursor.old) }
+    ensures { ReadsAs rtp_by result cursor.new (read (behind_rtp_octet rtp) cursor.old) }
 {
     let octet = optional_octet(rtp.payload_type, cursor)?;
     let stride = stride(rtp.stride, cursor)?;
@@ -202,7 +203,7 @@ fn named_by(rtp: RtpFlags, cursor: &mut Cursor<'_>) -> Result<RtpGiven, FormRefu
 /// Modes 0, 1 and 2 have no effect.
 #[tactic(auto, unfolding(crate::specs::Extension::rtp_given_at))]
 fn rtp_given(present: bool, cursor: &mut Cursor<'_>) -> Result<Option<RtpGiven>, FormRefusal>
-    ensures { ReadsAs (option_map rtp_by) result cursor.new (rtp_given_at present cursor.old) }
+    ensures { ReadsAs (option_map rtp_by) result cursor.new (read (rtp_given_at present) cursor.old) }
 {
     if !present {
         return Ok(None);
@@ -281,7 +282,7 @@ pub(crate) fn behind_ip(
     fields: Fields,
     cursor: &mut Cursor<'_>,
 ) -> Result<Extension3, FormRefusal>
-    ensures { ReadsAs extended_by result cursor.new (behind_ip_octet flags stride_known ip (said_by fields) cursor.old) }
+    ensures { ReadsAs extended_by result cursor.new (read (behind_ip_octet flags stride_known ip (said_by fields)) cursor.old) }
 {
     let fields = with_sn(is_set(flags, flag::S), fields, cursor)?;
     let fields = with_ts(is_set(flags, flag::R_TS), fields, cursor)?;

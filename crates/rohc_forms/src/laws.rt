@@ -2,7 +2,7 @@
 //! what a packet says.
 
 ghost use Rattle.rohc_forms.specs.Formats.{FitsOne, FitsOneExtension};
-ghost use Rattle.rohc_forms.specs.Laws.{CountsOctets, BeginsWith11, HaveEightBits, StandInPlace, ReadsForms, SaysOne, SaysGood, RefusesForms};
+ghost use Rattle.rohc_forms.specs.Laws.{CountsOctets, CountsExtension, BeginsWith11, HaveEightBits, StandInPlace, ReadsForms, SaysOne, SaysGood, RefusesForms};
 
 /// Under each RND exactly one format fits a packet whose first octet is below E0, and as many base
 /// octets are read as the format has. Exactly one of the extensions 0, 1 and 2 fits an extension whose
@@ -11,6 +11,7 @@ pub fn one_format()
     ensures packet { FitsOne }
     ensures counted { CountsOctets }
     ensures extension { FitsOneExtension }
+    ensures counted_extension { CountsExtension }
     ensures extension_3 { BeginsWith11 }
 {}
 

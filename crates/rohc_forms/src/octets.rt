@@ -6,7 +6,8 @@ ghost use Rattle.rohc_bits.specs.Reading.{Reads, ReadsAs, bit};
 ghost use Rattle.rohc_bits.specs.Fronts.{value_bits};
 ghost use Rattle.rohc_frame.specs.Laws.{IsOctet};
 ghost use Rattle.rohc_bits.specs.LowBits.{low_bits};
-ghost use Rattle.rohc_forms.specs.Octets.{slice, octet_at, word_at, octet_if, word_if, value_at};
+ghost use Rattle.rohc_bits.specs.Grammar.{Octet, Word, Value};
+ghost use Rattle.rohc_forms.specs.Octets.{slice, read, octet_if, word_if};
 
 use crate::refusal::FormRefusal;
 use rohc_bits::{Bits, Cursor, reading};
@@ -24,7 +25,7 @@ pub(crate) fn bits(number: u32, places: u8, width: u8) -> Bits
 /// Takes the next octet.
 #[inline(always)]
 pub(crate) fn octet(cursor: &mut Cursor<'_>) -> Result<u8, FormRefusal>
-    ensures { Reads result cursor.new (octet_at cursor.old) }
+    ensures { Reads result cursor.new (read Octet cursor.old) }
 {
     reading::octet(cursor, FormRefusal::Truncated)
 }
@@ -32,14 +33,14 @@ pub(crate) fn octet(cursor: &mut Cursor<'_>) -> Result<u8, FormRefusal>
 /// Takes the next two octets as a number, most significant octet first.
 #[inline(always)]
 pub(crate) fn word(cursor: &mut Cursor<'_>) -> Result<u16, FormRefusal>
-    ensures { Reads result cursor.new (word_at cursor.old) }
+    ensures { Reads result cursor.new (read Word cursor.old) }
 {
     reading::word(cursor, FormRefusal::Truncated)
 }
 
 /// Takes the next self-describing value, with as many bits as its encoding has (RFC 3095 4.5.6).
 pub(crate) fn value(cursor: &mut Cursor<'_>) -> Result<Bits, FormRefusal>
-    ensures reads { ReadsAs low_bits result cursor.new (value_at cursor.old) }
+    ensures reads { ReadsAs low_bits result cursor.new (read Value cursor.old) }
     ensures fits { IfOk result (λ bits. bits.value ≤ 536870911) }
 {
     reading::value(cursor, FormRefusal::Truncated)
@@ -51,7 +52,7 @@ pub(crate) fn optional_octet(
     present: bool,
     cursor: &mut Cursor<'_>,
 ) -> Result<Option<u8>, FormRefusal>
-    ensures { Reads result cursor.new (octet_if present cursor.old) }
+    ensures { Reads result cursor.new (read (octet_if present) cursor.old) }
 {
     if present {
         Ok(Some(octet(cursor)?))
@@ -67,7 +68,7 @@ pub(crate) fn optional_word(
     present: bool,
     cursor: &mut Cursor<'_>,
 ) -> Result<Option<u16>, FormRefusal>
-    ensures { Reads result cursor.new (word_if present cursor.old) }
+    ensures { Reads result cursor.new (read (word_if present) cursor.old) }
 {
     if present {
         Ok(Some(word(cursor)?))

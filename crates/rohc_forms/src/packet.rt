@@ -2,6 +2,7 @@
 
 ghost use Rattle.std.specs.Prelude.{◌≡◌};
 ghost use Rattle.rohc_bits.specs.Reading.{ReadsAs};
+ghost use Rattle.rohc_forms.specs.Octets.{read};
 ghost use Rattle.rohc_forms.specs.Table.{under, layout_0};
 ghost use Rattle.rohc_forms.specs.Content.{plain_head};
 ghost use Rattle.rohc_forms.specs.Packets.{said_by, head_by, short_extension_at, extension_3_at, extension_at, head_at};
@@ -35,7 +36,7 @@ fn short_extension(
     fields: Fields,
     cursor: &mut Cursor<'_>,
 ) -> Result<Fields, FormRefusal>
-    ensures { ReadsAs said_by result cursor.new (short_extension_at kind first (said_by fields) cursor.old) }
+    ensures { ReadsAs said_by result cursor.new (read (short_extension_at kind first (said_by fields)) cursor.old) }
 {
     let fields = extension_0(kind, first, fields);
     if first < 0x40 {
@@ -70,7 +71,7 @@ fn extension_3(
     first: u8,
     cursor: &mut Cursor<'_>,
 ) -> Result<Head, FormRefusal>
-    ensures { ReadsAs head_by result cursor.new (extension_3_at base kept_rnd stride_known first cursor.old) }
+    ensures { ReadsAs head_by result cursor.new (read (extension_3_at base kept_rnd stride_known first) cursor.old) }
 {
     let flags = u32::from(first);
     let ip = ip_octet(is_set(flags, flag::IP), kind(base, kept_rnd), cursor)?;
@@ -114,7 +115,7 @@ fn extension(
     first: u8,
     cursor: &mut Cursor<'_>,
 ) -> Result<Head, FormRefusal>
-    ensures { ReadsAs head_by result cursor.new (extension_at base rnd stride_known first cursor.old) }
+    ensures { ReadsAs head_by result cursor.new (read (extension_at base rnd stride_known first) cursor.old) }
 {
     if first >= 0xc0 {
         return extension_3(base, rnd, stride_known, first, cursor);
@@ -133,7 +134,7 @@ pub(crate) fn head(
     stride_known: bool,
     cursor: &mut Cursor<'_>,
 ) -> Result<Head, FormRefusal>
-    ensures { ReadsAs head_by result cursor.new (head_at first rnd stride_known cursor.old) }
+    ensures { ReadsAs head_by result cursor.new (read (head_at first rnd stride_known) cursor.old) }
 {
     let base = base(first, cursor)?;
     let kind = kind(base, rnd);

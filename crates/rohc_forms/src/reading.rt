@@ -7,8 +7,7 @@ ghost use Rattle.rohc_frame.specs.Laws.{IsOctet};
 ghost use Rattle.rohc_forms.specs.Content.{Content, id_said};
 ghost use Rattle.rohc_forms.specs.Packets.{IsOther, id_by, content, stride_in, form_at};
 ghost use Rattle.rohc_bits.specs.LowBits.{low_bits};
-ghost use Rattle.rohc_forms.specs.Fields.{form_fault};
-ghost use Rattle.rohc_forms.specs.Says.{IsForm};
+ghost use Rattle.rohc_forms.specs.Says.{IsForm, form_fault};
 
 use crate::form::{Form, IdBits};
 use crate::octets::optional_word;

@@ -1,4 +1,4 @@
-use Rattle.rohc_forms.proofs.FieldLemmas.{refuses}
+use Rattle.rohc_forms.proofs.SaysLemmas.{refuses}
 use Rattle.rohc_forms.proofs.laws.first_fault.Goals as goal
 
 pub returns : goal.returns

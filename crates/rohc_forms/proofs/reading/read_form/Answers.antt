@@ -1,8 +1,7 @@
 use Rattle.rohc_frame.specs.Reading.{header_of}
 use Rattle.rohc_forms.specs.Packets.{content}
-use Rattle.rohc_forms.proofs.FieldLemmas.{refused}
 use Rattle.rohc_forms.proofs.FormLemmas.{carried, scaled}
-use Rattle.rohc_forms.proofs.SaysLemmas.{said, only}
+use Rattle.rohc_forms.proofs.SaysLemmas.{said, only, refused}
 use Rattle.rohc_forms.proofs.reading.read_form.Goals as goal
 
 pub returns-clause-says : goal.returns-clause-says
