@@ -3,6 +3,8 @@ pub mod EventLemmas
 pub mod GoodLemmas
 pub mod HonestLemmas
 pub mod KeepLemmas
+pub mod LeavingLemmas
+pub mod LinkLemmas
 pub mod LinkPlaceLemmas
 pub mod MarkedLemmas
 pub mod OrderLemmas

@@ -10,7 +10,7 @@ use Rattle.rohc_context.specs.declared.record.Context.{Context}
 use Rattle.rohc_context.specs.Record.{Record}
 use Rattle.rohc_concentrator.specs.declared.concentrator.Concentrator.{Concentrator}
 use Rattle.rohc_concentrator.specs.declared.records.LinkRecords.{LinkRecords}
-use Rattle.rohc_concentrator.specs.Tables.{setting_at, record_in, record_at, identifiers_at, settings_in_order, KeepsAll}
+use Rattle.rohc_concentrator.specs.Tables.{setting_at, record_in, record_at, identifiers_at, settings_in_order, KeepsSettings, KeepsAll}
 use Rattle.rohc_concentrator.specs.Taken.{Stays}
 use Rattle.rohc_concentrator.specs.Putting.{PutsIn, Puts}
 use Rattle.rohc_concentrator.proofs.OrderLemmas.{keys_of-append}
@@ -65,6 +65,9 @@ module _ (k new : Concentrator) (link : ℕ) (before after : LinkRecords) (found
     here : (c : ℕ) → (link ≢ link) ⊎ (c ≢ cid) → record_at new link c ≡ record_at k link c
     here c (inl never) = absurd (never refl)
     here c (inr is) = record_here c ∙ p.others c is ∙ sym (record_there c)
+
+  pub keeps_settings_by : after.setting ≡ before.setting → KeepsSettings k new
+  keeps_settings_by same = record { each = settings_each same; in_order = in_order }
 
   pub keeps_by : Stays before after → KeepsAll k new
   keeps_by s = record {

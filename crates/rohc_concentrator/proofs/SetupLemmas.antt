@@ -95,7 +95,7 @@ each_more m n xs i s r sound within is set put each link =
     rw (other, more, no) (each link ∙ sym (or_none (entry_of link (take i xs)))))
     (cases_eq s.link link)
 
-no_records : (o : Option LinkRecords) → option_map (λ (r : LinkRecords). r.setting) o ≡ None → o ≡ None
+pub no_records : (o : Option LinkRecords) → option_map (λ (r : LinkRecords). r.setting) o ≡ None → o ≡ None
 no_records None e = refl
 no_records (Some r) e = cc
 

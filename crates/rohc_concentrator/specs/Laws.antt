@@ -1,6 +1,6 @@
 -- Laws of two concentrators, of what is refused, and of the definitions themselves.
 -- Words: Agree (on one CID), AreAlike (on all), IsAcceptedIr, IsFit; then each law.
-use Rattle.std.specs.Prelude.{◌≡◌, ℕ, ◌<◌, ◌^◌, List, map, filter, All, Bool, true, false, Option, Some, None, IfSome, ◌⊎◌, ◌↔◌}
+use Rattle.std.specs.Prelude.{◌≡◌, ℕ, ◌<◌, ◌^◌, List, map, filter, All, Bool, true, false, Option, Some, None, IfSome, unwrap_or, ◌⊎◌, ◌↔◌}
 use Rattle.std.specs.List.{AllByRecursion}
 use Rattle.rohc_frame.specs.Header.{Header}
 use Rattle.rohc_frame.specs.Laws.{IsOctet}
@@ -17,6 +17,7 @@ use Rattle.rohc_concentrator.specs.Setting.{settings_of}
 use Rattle.rohc_concentrator.specs.Tables.{setting_at, record_at}
 use Rattle.rohc_concentrator.specs.Report.{Report, Arrived, OnlyFront, wants_memory, is_refusal, is_refused}
 use Rattle.rohc_concentrator.specs.Bears.{borne}
+use Rattle.rohc_concentrator.specs.Leaving.{is_expired}
 use Rattle.rohc_concentrator.specs.Events.{Arrives, Event, Arrive, Reset, RunsEvents}
 use Rattle.rohc_concentrator.specs.Isolation.{EventRun, own_events, own_replies, is_rich, IsIsolatedRun}
 use Rattle.rohc_concentrator.specs.declared.setup.SetupFault.{SetupFault}
@@ -50,6 +51,14 @@ abbrev pub NoTrace : Type 0
 NoTrace = (old new : Concentrator) (l moment : ℕ) (octets : List ℕ) (report : Report) →
     Arrives old l moment octets report new → is_refused report ≡ true →
     (c : ℕ) → record_at old l c ≡ None → record_at new l c ≡ None
+
+-- A record that has expired is answered as none is. If the step without a record leaves none, it stays.
+abbrev pub ExpiredIsNone : Type 0
+ExpiredIsNone = (s : LinkSetting) (cid moment : ℕ) (r : Record) (h : Header) (response : Response)
+    (next : Option Record) → is_expired s.settings.idle_ms moment r ≡ true →
+    LoneStep (Some r) (settings_of s cid) moment h response next →
+    (alone : Option Record) × LoneStep None (settings_of s cid) moment h response alone
+    × (next ≡ Some (unwrap_or alone r))
 
 -- An arrival that finds no memory is refused.
 abbrev pub WantIsRefusal : Type 0

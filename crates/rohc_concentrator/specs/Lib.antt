@@ -4,6 +4,8 @@ pub mod Bears
 pub mod Report
 pub mod Taken
 pub mod Putting
+pub mod Leaving
+pub mod Links
 pub mod Setup
 pub mod Events
 pub mod LoneRun

@@ -1,7 +1,7 @@
 //! Laws of the concentrator, as contracts of functions that do nothing.
 
 ghost use Rattle.rohc_context.specs.Laws.{HasAnswer, HasNoOther};
-ghost use Rattle.rohc_concentrator.specs.Laws.{TwoWorlds, NoTrace, WantIsRefusal, TakenUpOrRefused, TakenHasALink, HoldsGoodRecords, FaultyIsNotFine, FineOrFaulty, HasOneFault, MarkedIsAcceptedIr, LoneRunIsUnmarked, IsolatedEvents, SameReplies};
+ghost use Rattle.rohc_concentrator.specs.Laws.{TwoWorlds, NoTrace, WantIsRefusal, TakenUpOrRefused, TakenHasALink, HoldsGoodRecords, FaultyIsNotFine, FineOrFaulty, HasOneFault, MarkedIsAcceptedIr, LoneRunIsUnmarked, IsolatedEvents, SameReplies, ExpiredIsNone};
 ghost use Rattle.rohc_concentrator.specs.Cut.{CutRun};
 ghost use Rattle.rohc_concentrator.specs.Honest.{DeliversWhatWasSent, AsksOrdinaryAlone, HasHonestRun, HasHonestSender};
 
@@ -43,6 +43,13 @@ pub fn fine_or_faulty()
     ensures either { FineOrFaulty }
     ensures one { HasOneFault }
 {}
+
+/// A record that has expired is answered as none is.
+pub fn expired_is_none()
+    ensures { ExpiredIsNone }
+{
+    rohc_context::laws::waiting_times();
+}
 
 /// A marked arrival is an IR that the lone step accepts, for a CID without a record.
 pub fn marked_is_accepted_ir()

@@ -5,8 +5,10 @@
 pub mod answer;
 pub mod arrival;
 pub mod concentrator;
+pub mod forgetting;
 pub mod laws;
 mod link;
+pub mod links;
 mod place;
 pub mod putting;
 pub mod records;
@@ -16,6 +18,7 @@ mod standing;
 
 pub use answer::{Answer, NoLink};
 pub use concentrator::Concentrator;
+pub use links::{AddFault, ChangeFault};
 pub use putting::PutFault;
 pub use records::LinkRecords;
 pub use setting::{CidRange, LinkSetting};

@@ -64,4 +64,17 @@ impl Places {
         }
         Ok(())
     }
+    /// Keeps where each entry of a map stands, with no more memory than that takes.
+    pub(crate) fn renew<V>(&mut self, map: &IndexMap<u16, V>) {
+        let mut needed = 0;
+        for (place, (key, _)) in map.iter().enumerate() {
+            let index = usize::from(*key);
+            if let Some(hint) = self.hints.get_mut(index) {
+                *hint = (place % 65_536) as u16;
+                needed = needed.max(index + 1);
+            }
+        }
+        self.hints.truncate(needed);
+        self.hints.shrink_to_fit();
+    }
 }

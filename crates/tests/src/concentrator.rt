@@ -1,6 +1,7 @@
 //! Each public call of the concentrator once, and idle records.
 
 mod honest;
+mod links;
 
 use crate::examples::WHOLE_IR;
 use arrayvec::ArrayVec;
