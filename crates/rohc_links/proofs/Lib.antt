@@ -1,3 +1,4 @@
 pub mod EntryLemmas
 pub mod FieldLemmas
 pub mod RangeLemmas
+pub mod UnfitLemmas

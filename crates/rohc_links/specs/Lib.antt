@@ -4,3 +4,4 @@ pub mod Keys
 pub mod Limits
 pub mod Links
 pub mod Ranges
+pub mod Unfit

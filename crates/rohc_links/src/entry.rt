@@ -16,7 +16,7 @@ use rohc_context::Settings;
 use toml::Table;
 
 /// The keys of version 1, in the order in which they are judged.
-const FIRST_KEYS: [Key; 13] = [
+pub(crate) const FIRST_KEYS: [Key; 13] = [
     Key::Number,
     Key::Cid,
     Key::MaxCid,
@@ -33,7 +33,7 @@ const FIRST_KEYS: [Key; 13] = [
 ];
 
 /// The keys that only version 2 has.
-const LATER_KEYS: [Key; 2] = [Key::IdleMs, Key::Range];
+pub(crate) const LATER_KEYS: [Key; 2] = [Key::IdleMs, Key::Range];
 
 /// Whether the version knows all keys of the entry.
 #[tactic(auto, unfolding(crate::specs::Entry::has_known_keys))]
@@ -62,7 +62,7 @@ fn is_named(keys: &[Key], name: &str) -> bool
 
 /// Whether the version knows a key of this name.
 #[tactic(auto, using(crate::proofs::FieldLemmas::among_either))]
-fn knows_key(version: Version, name: &str) -> bool
+pub(crate) fn knows_key(version: Version, name: &str) -> bool
     ensures { result ≡ is_among (map name_of (keys version)) name.now }
 {
     match version {
@@ -73,7 +73,7 @@ fn knows_key(version: Version, name: &str) -> bool
 
 /// The port at the key, from 1 to 65,535.
 #[tactic(auto, using(crate::proofs::FieldLemmas::field_above))]
-fn port(table: &Table, key: Key) -> Result<u16, Key>
+pub(crate) fn port(table: &Table, key: Key) -> Result<u16, Key>
     ensures { result ≡ required_field (whole_number 1 65535) key (table_view table.now) }
 {
     match field_at(table, key.name()) {
@@ -155,8 +155,12 @@ fn entry_in(version: Version, table: &Table) -> Result<(LinkSetting, Ports), Key
     Ok((setting, ports))
 }
 
-/// The setting and the ports of the entry with this number, else its first fault.
-pub(crate) fn numbered_entry(
+/// The setting and the ports of the entry with this number, counted from 1.
+///
+/// # Errors
+///
+/// Its first fault: `UnknownKey`, else `BadKey` with the first key, in the order of `Key`, that is missing or wrong.
+pub fn numbered_entry(
     version: Version,
     entry: usize,
     table: &Table,

@@ -11,7 +11,7 @@ use rohc_frame::CidKind;
 use toml::{Table, Value};
 
 /// A type that the value of a key can have.
-pub(crate) trait Field: Sized {
+pub trait Field: Sized {
     ghost field_of: { Data → Option Self };
 
     /// The value as this type, if it is of this type and fits.
@@ -75,7 +75,7 @@ pub(crate) fn value_at<'a>(table: &'a Table, name: &str) -> Option<&'a Value>
 }
 
 /// The value at the key, if it is there and of the type.
-pub(crate) fn field_at<T: Field>(table: &Table, name: &str) -> Option<T>
+pub fn field_at<T: Field>(table: &Table, name: &str) -> Option<T>
     ensures { result ≡ field_at T.field_of name.now (table_view table.now) }
 {
     match value_at(table, name) {
@@ -117,7 +117,7 @@ pub(crate) fn has_only(table: &Table, names: &[&str]) -> bool
 }
 
 /// Whether the name is one of these.
-fn is_among(name: &str, names: &[&str]) -> bool
+pub(crate) fn is_among(name: &str, names: &[&str]) -> bool
     ensures { result ≡ is_among (map (λ s. s.now) names.now) name.now }
 {
     for known in names {

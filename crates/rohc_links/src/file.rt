@@ -67,7 +67,7 @@ fn read_table(alloc: Global, table: &Table) -> Result<Links, LinksFault>
 }
 
 /// The values under `link`, if they are tables. There are none if the key is missing.
-fn entries(table: &Table) -> Option<&[Value]>
+pub fn entries(table: &Table) -> Option<&[Value]>
     ensures value { option_and_then (λ values. read_each as_table (items_view values.now)) result ≡ entries (table_view table.now) }
     ensures tables { is_some result ≡ is_some (entries (table_view table.now)) }
 {

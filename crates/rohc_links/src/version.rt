@@ -1,8 +1,8 @@
 //! The versions of a links file.
 
 /// The version of a links file.
-#[derive(Clone, Copy)]
-pub(crate) enum Version {
+#[derive(Clone, Copy, Debug, PartialEq, Eq)]
+pub enum Version {
     /// Thirteen keys in each entry.
     One,
     /// Two more: `idle_ms` and `range`.

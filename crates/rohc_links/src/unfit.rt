@@ -1,0 +1,101 @@
+//! All that is wrong with an entry of a links file, and not its first fault alone.
+
+ghost use Rattle.std.specs.Prelude.{◌≡◌, ◌++◌, map, filter, not, IfOk, OnOk};
+ghost use Rattle.toml.specs.View.{table_view};
+ghost use Rattle.rohc_links.specs.Keys.{name_of};
+ghost use Rattle.rohc_links.specs.Entry.{first_keys, keys};
+ghost use Rattle.rohc_links.specs.Unfit.{is_fit, unfit_keys, names_beside};
+
+use crate::entry::{FIRST_KEYS, LATER_KEYS, knows_key, port};
+use crate::fault::Key;
+use crate::fields::{is_among, optional_field, required_field};
+use crate::version::Version;
+use arrayvec::ArrayVec;
+use rohc_concentrator::CidRange;
+use rohc_context::Mode;
+use rohc_frame::CidKind;
+use std::alloc::{AllocError, Global};
+use toml::Table;
+
+/// Whether the table has at the key what an entry needs there.
+fn is_fit(table: &Table, key: Key) -> bool
+    ensures { result ≡ is_fit key (table_view table.now) }
+{
+    match key {
+        Key::Link => true,
+        Key::Cid => required_field::<CidKind>(table, key).is_ok(),
+        Key::Mode => required_field::<Mode>(table, key).is_ok(),
+        Key::Number | Key::MaxCid => required_field::<u16>(table, key).is_ok(),
+        Key::K1 | Key::N1 | Key::K2 | Key::N2 => required_field::<u8>(table, key).is_ok(),
+        Key::PacketMs | Key::StaticNackMs | Key::IdleMs => required_field::<u32>(table, key).is_ok(),
+        Key::DeliverPort | Key::FeedbackPort | Key::RelayPort => port(table, key).is_ok(),
+        Key::Range => optional_field::<ArrayVec<CidRange, 8>>(table, key).is_ok(),
+    }
+}
+
+/// Appends those of the keys that are missing or wrong.
+fn push_unfit(unfit: &mut Vec<Key>, keys: &[Key], table: &Table) -> Result<(), AllocError>
+    ensures { OnOk result (unfit.new.items ≡ unfit.old.items ++ filter (λ k. not (is_fit k (table_view table.now))) keys.now) }
+{
+    for key in keys {
+        if !is_fit(table, *key) {
+            unfit.push(*key)?;
+        }
+    }
+    Ok(())
+}
+
+/// The keys that the version knows beside the first ones.
+fn later_keys(version: Version) -> &'static [Key]
+    ensures { keys version ≡ first_keys ++ result.now }
+{
+    match version {
+        Version::One => &[],
+        Version::Two => &LATER_KEYS,
+    }
+}
+
+/// The keys of an entry that are missing or wrong, in the order of `Key`.
+#[tactic(auto, using(crate::proofs::UnfitLemmas::filter_append))]
+pub fn unfit_keys(alloc: Global, version: Version, table: &Table) -> Result<Vec<Key>, AllocError>
+    ensures { IfOk result (λ unfit. unfit.items ≡ unfit_keys version (table_view table.now)) }
+{
+    let mut unfit = Vec::new(alloc);
+    push_unfit(&mut unfit, &FIRST_KEYS, table)?;
+    push_unfit(&mut unfit, later_keys(version), table)?;
+    Ok(unfit)
+}
+
+/// The names of an entry that its version doesn't know, in the order of their octets.
+pub fn unknown_names<'a>(
+    alloc: Global,
+    version: Version,
+    table: &'a Table,
+) -> Result<Vec<&'a str>, AllocError>
+    ensures { IfOk result (λ names. map (λ s. s.now) names.items ≡ names_beside (map name_of (keys version)) (table_view table.now)) }
+{
+    let mut unknown = Vec::new(alloc);
+    for (name, _) in table {
+        if !knows_key(version, name.as_str()) {
+            unknown.push(name.as_str())?;
+        }
+    }
+    Ok(unknown)
+}
+
+/// The names of a table that aren't among these, in the order of their octets.
+pub fn names_beside<'a>(
+    alloc: Global,
+    table: &'a Table,
+    names: &[&str],
+) -> Result<Vec<&'a str>, AllocError>
+    ensures { IfOk result (λ others. map (λ s. s.now) others.items ≡ names_beside (map (λ s. s.now) names.now) (table_view table.now)) }
+{
+    let mut others = Vec::new(alloc);
+    for (name, _) in table {
+        if !is_among(name.as_str(), names) {
+            others.push(name.as_str())?;
+        }
+    }
+    Ok(others)
+}
