@@ -26,15 +26,3 @@ above (Some d) greatest none = whole_number_above d greatest none
 -- a name without a whole number from 0 has none from 1
 pub field_above : (greatest : ℕ) (name : List ℕ) (ms : Members) → field_at (whole_number 0 greatest) name ms ≡ None → field_at (whole_number 1 greatest) name ms ≡ None
 field_above greatest name ms none = above (get_member name ms) greatest none
-
-or_assoc : (a b c : Bool) → (a || (b || c)) ≡ ((a || b) || c)
-or_assoc true b c = refl
-or_assoc false b c = refl
-
--- a name among those of two lists is among those of one of them
-pub among_either : (first second : List Key) (name : List ℕ)
-    → is_among (map name_of (first ++ second)) name ≡ (is_among (map name_of first) name || is_among (map name_of second) name)
-among_either [] second name = refl
-among_either (k ∷ first) second name =
-    ap (λ others. bytes_eq (name_of k) name || others) (among_either first second name)
-    ∙ or_assoc (bytes_eq (name_of k) name) (is_among (map name_of first) name) (is_among (map name_of second) name)

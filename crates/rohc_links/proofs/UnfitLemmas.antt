@@ -18,16 +18,6 @@ use Rattle.rohc_links.specs.Fields.{whole_number, size, mode, field_at, is_among
 use Rattle.rohc_links.specs.Ranges.{ranges}
 use Rattle.rohc_links.specs.Unfit.{is_fit, unfit_keys, names_beside, first_fault, TellsFirst}
 
-kept : {A : Type 0} (b : Bool) (x : A) (all some others : List A) → all ≡ some ++ others → cond b (x ∷ all) all ≡ cond b (x ∷ some) some ++ others
-kept true x all some others e = ap (λ xs. x ∷ xs) e
-kept false x all some others e = e
-
--- what passes in two lists is what passes in their whole
-pub filter_append : {A : Type 0} (test : A → Bool) (xs ys : List A) → filter test (xs ++ ys) ≡ filter test xs ++ filter test ys
-filter_append test [] ys = refl
-filter_append test (x ∷ xs) ys =
-    kept (test x) x (filter test (xs ++ ys)) (filter test xs) (filter test ys) (filter_append test xs ys)
-
 -- the result has as its fault the first of these keys, if there is one
 abbrev Tells : ℕ → Result (LinkSetting × Ports) Key → List Key → Type 0
 Tells n read unfit = result_err (result_map_both (λ set. set) (BadKey n) read) ≡ first_fault n [] unfit

@@ -15,8 +15,8 @@ use rohc_concentrator::{CidRange, LinkSetting};
 use rohc_context::Settings;
 use toml::Table;
 
-/// The keys of version 1, in the order in which they are judged.
-pub(crate) const FIRST_KEYS: [Key; 13] = [
+/// The keys of version 2, in the order in which they are judged. Version 1 has the first thirteen.
+const KEYS: [Key; 15] = [
     Key::Number,
     Key::Cid,
     Key::MaxCid,
@@ -30,10 +30,19 @@ pub(crate) const FIRST_KEYS: [Key; 13] = [
     Key::DeliverPort,
     Key::FeedbackPort,
     Key::RelayPort,
+    Key::IdleMs,
+    Key::Range,
 ];
 
-/// The keys that only version 2 has.
-pub(crate) const LATER_KEYS: [Key; 2] = [Key::IdleMs, Key::Range];
+/// The keys of an entry that the version knows, in the order in which they are judged.
+pub fn keys(version: Version) -> &'static [Key]
+    ensures { result.now ≡ keys version }
+{
+    match version {
+        Version::One => &KEYS[..13],
+        Version::Two => &KEYS,
+    }
+}
 
 /// Whether the version knows all keys of the entry.
 #[tactic(auto, unfolding(crate::specs::Entry::has_known_keys))]
@@ -61,14 +70,10 @@ fn is_named(keys: &[Key], name: &str) -> bool
 }
 
 /// Whether the version knows a key of this name.
-#[tactic(auto, using(crate::proofs::FieldLemmas::among_either))]
 pub(crate) fn knows_key(version: Version, name: &str) -> bool
     ensures { result ≡ is_among (map name_of (keys version)) name.now }
 {
-    match version {
-        Version::One => is_named(&FIRST_KEYS, name),
-        Version::Two => is_named(&FIRST_KEYS, name) || is_named(&LATER_KEYS, name),
-    }
+    is_named(keys(version), name)
 }
 
 /// The port at the key, from 1 to 65,535.

@@ -46,7 +46,7 @@ pub enum Key {
 
 impl Key {
     /// The key as it stands in the file.
-    pub(crate) fn name(self) -> &'static str
+    pub fn name(self) -> &'static str
         ensures { result.now ≡ name_of self }
     {
         match self {

@@ -14,7 +14,7 @@ mod unfit;
 pub mod version;
 
 pub use buffer::zeros;
-pub use entry::numbered_entry;
+pub use entry::{keys, numbered_entry};
 pub use fault::{Key, LinksFault};
 pub use fields::{Field, field_at};
 pub use file::{entries, read_links};

@@ -1,12 +1,12 @@
 //! All that is wrong with an entry of a links file, and not its first fault alone.
 
-ghost use Rattle.std.specs.Prelude.{◌≡◌, ◌++◌, map, filter, not, IfOk, OnOk};
+ghost use Rattle.std.specs.Prelude.{◌≡◌, map, IfOk};
 ghost use Rattle.toml.specs.View.{table_view};
 ghost use Rattle.rohc_links.specs.Keys.{name_of};
-ghost use Rattle.rohc_links.specs.Entry.{first_keys, keys};
+ghost use Rattle.rohc_links.specs.Entry.{keys};
 ghost use Rattle.rohc_links.specs.Unfit.{is_fit, unfit_keys, names_beside};
 
-use crate::entry::{FIRST_KEYS, LATER_KEYS, knows_key, port};
+use crate::entry::{keys, knows_key, port};
 use crate::fault::Key;
 use crate::fields::{is_among, optional_field, required_field};
 use crate::version::Version;
@@ -33,36 +33,16 @@ fn is_fit(table: &Table, key: Key) -> bool
     }
 }
 
-/// Appends those of the keys that are missing or wrong.
-fn push_unfit(unfit: &mut Vec<Key>, keys: &[Key], table: &Table) -> Result<(), AllocError>
-    ensures { OnOk result (unfit.new.items ≡ unfit.old.items ++ filter (λ k. not (is_fit k (table_view table.now))) keys.now) }
-{
-    for key in keys {
-        if !is_fit(table, *key) {
-            unfit.push(*key)?;
-        }
-    }
-    Ok(())
-}
-
-/// The keys that the version knows beside the first ones.
-fn later_keys(version: Version) -> &'static [Key]
-    ensures { keys version ≡ first_keys ++ result.now }
-{
-    match version {
-        Version::One => &[],
-        Version::Two => &LATER_KEYS,
-    }
-}
-
 /// The keys of an entry that are missing or wrong, in the order of `Key`.
-#[tactic(auto, using(crate::proofs::UnfitLemmas::filter_append))]
 pub fn unfit_keys(alloc: Global, version: Version, table: &Table) -> Result<Vec<Key>, AllocError>
     ensures { IfOk result (λ unfit. unfit.items ≡ unfit_keys version (table_view table.now)) }
 {
     let mut unfit = Vec::new(alloc);
-    push_unfit(&mut unfit, &FIRST_KEYS, table)?;
-    push_unfit(&mut unfit, later_keys(version), table)?;
+    for key in keys(version) {
+        if !is_fit(table, *key) {
+            unfit.push(*key)?;
+        }
+    }
     Ok(unfit)
 }
 

@@ -1,9 +1,0 @@
-use Rattle.std.proofs.Common.{◌≡◌, ◌++◌, drop, not}
-use Rattle.std.specs.Prelude.{filter}
-use Rattle.toml.specs.View.{table_view}
-use Rattle.rohc_links.specs.Unfit.{is_fit}
-use Rattle.rohc_links.proofs.unfit.push_unfit.Given as goal
-
-abbrev pub invariant-loop-key : goal.invariant-loop-key
-invariant-loop-key l = l.unfit.items ++ filter (λ k. not (is_fit k (table_view l.table))) (drop l.key-index l.keys)
-    ≡ l.initial.unfit.items ++ filter (λ k. not (is_fit k (table_view l.table))) l.keys
