@@ -16,7 +16,7 @@
 #include "block.h"
 #include "common.h"
 
-enum { BEAT_MS = 200, ALIVE_MS = 10000, NO_LINK = 29, MEMORY = 30, DIGEST = 32 };
+enum { BEAT_MS = 200, NO_LINK = 29, MEMORY = 30, DIGEST = 32 };
 
 /* What stands in the place of a promise, in the programs that a test wants to see fail. */
 #ifndef CONTROL
@@ -35,7 +35,7 @@ struct shard {
 static struct shard shards[MAX_SHARDS];
 static struct polorowan_link links[POLOROWAN_LINKS];
 static size_t link_count;
-static unsigned shard_count, base_blocks = 1000;
+static unsigned shard_count, base_blocks = 1000, alive_ms = 10000;
 static const char *name, *setup;
 static redisContext *redis;
 static uint64_t arrivals, written, second, rebuilt;
@@ -285,19 +285,29 @@ static redisReply *read_blocks(void) {
     return reply;
 }
 
-/* One turn: what has come is answered, and the answers are written. A shard whose log was cut while this worker slept is
- * entered anew, since blocks may be missing. */
+/* Enters those shards anew whose log was cut while this worker slept: blocks may be missing among what it read. */
+static void enter_cut_shards(bool *is_whole) {
+    redisReply *cuts = ask(redis, "HGETALL cut");
+    for (unsigned i = 0; i < shard_count; i++) is_whole[i] = true;
+    for (size_t i = 0; i + 1 < cuts->elements; i += 2) {
+        unsigned number = (unsigned)atoi(cuts->element[i]->str);
+        if (number >= shard_count || !is_later(id_in(cuts->element[i + 1]->str), shards[number].at)) continue;
+        say("shard %u was cut while this worker slept; it begins again at the base", number);
+        enter(number);
+        is_whole[number] = false;
+    }
+    freeReplyObject(cuts);
+}
+
+/* One turn: what has come is answered, and the answers are written. */
 static void turn(void) {
     redisReply *reply = read_blocks();
-    bool came[MAX_SHARDS] = {false};
+    bool is_whole[MAX_SHARDS], came[MAX_SHARDS] = {false};
     size_t batch = 0;
+    enter_cut_shards(is_whole);
     for (size_t i = 0; reply->type == REDIS_REPLY_ARRAY && i < reply->elements; i++) {
         unsigned number = (unsigned)atoi(reply->element[i]->element[0]->str + 3);
-        if (is_later(cut_of(number), shards[number].at)) {
-            say("shard %u was cut while this worker slept; it begins again at the base", number);
-            enter(number);
-            continue;
-        }
+        if (!is_whole[number]) continue;
         take(number, reply->element[i]->element[1], &batch);
         came[number] = true;
     }
@@ -312,7 +322,7 @@ static void turn(void) {
 
 /* Tells that this worker lives, where it reads and what it did, and looks whether the setup is still its own. */
 static void beat(void) {
-    freeReplyObject(ask(redis, "SET alive:%s 1 PX %d", name, ALIVE_MS));
+    freeReplyObject(ask(redis, "SET alive:%s 1 PX %u", name, alive_ms));
     for (unsigned i = 0; i < shard_count; i++) tell_place(i);
     freeReplyObject(ask(redis, "HSET worker:%s arrivals %llu written %llu second %llu rebuilt %llu", name,
                         (unsigned long long)arrivals, (unsigned long long)written, (unsigned long long)second,
@@ -345,15 +355,17 @@ static char *setup_of(const char *path) {
 }
 
 static const char *usage =
-    "usage: rohc-worker NAME --redis SOCKET|PORT --links FILE --shards N [--base BLOCKS]\n"
+    "usage: rohc-worker NAME --redis SOCKET|PORT --links FILE --shards N [--base BLOCKS] [--alive MILLISECONDS]\n"
     "\n"
     "Answers the blocks of arrivals in in:0 to in:N-1, in out:0 to out:N-1. FILE is the output of tools/link_lines.py for a\n"
-    "links file. PORT is one of 127.0.0.1. A base is written every BLOCKS blocks of a shard (1000). Ends at SIGTERM.\n"
+    "links file. PORT is one of 127.0.0.1. A base is written every BLOCKS blocks of a shard (1000). The log\n"
+    "isn't cut behind a worker that gave a sign of life in the last MILLISECONDS (10000). Ends at SIGTERM.\n"
     "Statuses: 0 ended, 2 words, 3 links, 4 Redis, 5 memory.\n";
 
 int main(int count, char **words) {
     static const struct option options[] = {{"redis", required_argument, NULL, 'r'}, {"links", required_argument, NULL, 'l'},
                                             {"shards", required_argument, NULL, 's'}, {"base", required_argument, NULL, 'b'},
+                                            {"alive", required_argument, NULL, 'a'},
                                             {"help", no_argument, NULL, 'h'}, {"version", no_argument, NULL, 'v'}, {0}};
     const char *where = NULL, *path = NULL;
     program = "rohc-worker";
@@ -362,6 +374,7 @@ int main(int count, char **words) {
         case 'l': path = optarg; break;
         case 's': shard_count = (unsigned)number_in("--shards", optarg, 1, MAX_SHARDS); break;
         case 'b': base_blocks = (unsigned)number_in("--base", optarg, 1, 1000000000); break;
+        case 'a': alive_ms = (unsigned)number_in("--alive", optarg, 2 * BEAT_MS, 3600000); break;
         case 'h': fputs(usage, stdout); return 0;
         case 'v': puts(polorowan_version()); return 0;
         default: fputs(usage, stderr); return BAD_WORDS;

@@ -1,0 +1,484 @@
+"""Calls that outlive a process: the programs of cluster/ over a Redis of the test's own.
+
+Every answer must be there once, in order, and equal to one replay of the log: with workers that are killed and stopped, with
+a Redis that is killed, from a base and a cut log. Programs that break a promise must be found out.
+"""
+
+import contextlib
+import os
+import random
+import re
+import shutil
+import signal
+import socket
+import struct
+import subprocess
+import sys
+import time
+from collections.abc import Callable, Iterator, Sequence
+from dataclasses import dataclass, field
+from pathlib import Path
+
+import redis_server
+from redis_server import Client, Server
+from trial import Trial
+
+sys.path.insert(0, str(Path(__file__).resolve().parent.parent))
+from random_script import line_of, made_calls
+
+SHARDS, LINKS, CALLS = 4, 20, 50
+ARRIVAL, ANSWER = struct.Struct("<BHQH"), struct.Struct("<HBBHBHBH")
+WAIT_SECONDS = 60.0
+ALIVE_MS = 600
+PARTS = ("twins", "redis", "whole", "controls")
+
+
+@dataclass(frozen=True)
+class Arrival:
+    """A packet of a link at a moment, or a reset of the link."""
+
+    link: int
+    moment: int = 0
+    octets: bytes | None = None
+
+    def packed(self) -> bytes:
+        """Its octets in a block."""
+        kind, octets = (1, b"") if self.octets is None else (0, self.octets)
+        return ARRIVAL.pack(kind, self.link, self.moment, len(octets)) + octets
+
+    def line(self) -> str:
+        """Its line in a script."""
+        if self.octets is None:
+            return f"reset {self.link}"
+        return f"arrive {self.link} {self.moment} {self.octets.hex() or '-'}"
+
+
+def arrivals_in(block: bytes) -> Iterator[Arrival]:
+    """The arrivals of a block."""
+    at = 0
+    while at < len(block):
+        kind, link, moment, count = ARRIVAL.unpack_from(block, at)
+        at += ARRIVAL.size + count
+        yield Arrival(link) if kind == 1 else Arrival(link, moment, block[at - count : at])
+
+
+def refusal_names(top: Path) -> dict[int, str]:
+    """The name of the refusal with each number."""
+    text = (top / "crates/rohc_context/src/refusal.rt").read_text()
+    return {int(number): name for name, number in re.findall(r"Refusal::(\w+) => (\d+),", text)}
+
+
+def lines_in(answers: bytes, names: dict[int, str]) -> Iterator[str]:
+    """The lines that a replay writes for the answers of a block."""
+    at = 0
+    while at < len(answers):
+        link, kind, outcome, cid, flags, packet, feedback, relayed = ANSWER.unpack_from(answers, at)
+        at += ANSWER.size
+        parts = []
+        for count in (relayed, packet, feedback):
+            parts.append(answers[at : at + count])
+            at += count
+        elements = parts[0]
+        while elements:
+            yield f"{link} - relay {elements[1 : 1 + elements[0]].hex() or '-'}"
+            elements = elements[1 + elements[0] :]
+        if flags & 1:
+            yield f"{link} {cid} ip {parts[1].hex() or '-'}"
+        if kind == 0 and outcome == 31:
+            yield f"{link} {cid} stored"
+        if flags & 2:
+            yield f"{link} {cid} feedback {parts[2].hex()}"
+        if outcome in names:
+            yield f"{link} {cid if kind == 0 else '-'} refused {names[outcome]}"
+
+
+@dataclass
+class Cluster:
+    """Programs that were built, a Redis, and workers that are started again when they end."""
+
+    trial: Trial
+    built: Path
+    folder: Path
+    lines: Path
+    server: Server = field(init=False)
+    processes: dict[str, subprocess.Popen[bytes]] = field(default_factory=dict)
+    calls: dict[str, list[str | Path]] = field(default_factory=dict)
+
+    def __post_init__(self) -> None:
+        self.folder.mkdir(parents=True)
+        self.server = Server(self.folder)
+
+    def __enter__(self) -> "Cluster":
+        self.server.start()
+        return self
+
+    def __exit__(self, *_: object) -> None:
+        for name in list(self.processes):
+            self.kill(name)
+        self.server.kill()
+
+    def start(self, name: str, program: str, *words: str | Path) -> None:
+        """Starts a program under a name of its own."""
+        self.calls[name] = [self.built / program, *words, "--redis", self.server.socket, "--shards", str(SHARDS)]
+        self.start_again(name)
+
+    def worker(self, name: str, base: int, program: str = "rohc-worker") -> None:
+        """Starts a worker."""
+        words = (name, "--links", self.lines, "--base", str(base), "--alive", str(ALIVE_MS))
+        self.start(name, program, *words)
+
+    def start_again(self, name: str) -> None:
+        """Starts a program once more."""
+        with (self.folder / f"{name}.log").open("ab") as log:
+            self.processes[name] = subprocess.Popen(self.calls[name], stderr=log)
+
+    def kill(self, name: str, number: int = signal.SIGKILL) -> None:
+        """Ends a program."""
+        process = self.processes.pop(name)
+        process.send_signal(signal.SIGCONT)
+        process.send_signal(number)
+        process.wait(WAIT_SECONDS)
+
+    def keep(self) -> None:
+        """Starts those again that have ended."""
+        for name, process in list(self.processes.items()):
+            if process.poll() is not None:
+                self.start_again(name)
+
+    def said(self, name: str) -> str:
+        """What a program wrote to standard error."""
+        return (self.folder / f"{name}.log").read_text()
+
+    def last(self, client: Client, stream: str) -> int:
+        """The number of a stream's last entry."""
+        with contextlib.suppress(redis_server.RedisError):
+            found = client.ask("XINFO", "STREAM", stream)
+            assert isinstance(found, list)
+            fields = dict(zip(found[::2], found[1::2], strict=True))  # type: ignore[type-var]
+            return int(fields[b"last-generated-id"].split(b"-")[0])  # type: ignore[union-attr]
+        return 0
+
+    def is_answered(self) -> bool:
+        """Whether each block has its answers."""
+        with self.server.client() as client:
+            return all(self.last(client, f"in:{i}") == self.last(client, f"out:{i}") for i in range(SHARDS))
+
+    def wait(self, seconds: float = WAIT_SECONDS, until: Callable[[], bool] | None = None) -> bool:
+        """Waits until each block has its answers. What ends is started again."""
+        end = time.monotonic() + seconds
+        while time.monotonic() < end:
+            with contextlib.suppress(OSError, redis_server.RedisError):
+                if (until or self.is_answered)():
+                    return True
+            self.keep()
+            time.sleep(0.02)
+        return False
+
+
+def made_arrivals(count: int, seed: int) -> list[Arrival]:
+    """Arrivals of fifty calls on each of twenty links, with damage, feedback and resets."""
+    dice = random.Random(seed)
+    pairs = [(link, cid) for link in range(1, LINKS + 1) for cid in range(16 if link % 2 else CALLS)]
+    calls = made_calls(dice, pairs)
+    found = []
+    for number in range(count):
+        line = f"reset {dice.randrange(1, LINKS + 2)}" if dice.random() < 0.002 else line_of(dice, *dice.choice(calls), number)
+        words = (line or "").split(" ")
+        if words[0] == "reset" and words[1] != "01":
+            found.append(Arrival(int(words[1])))
+        if words[0] == "arrive" and len(words) == 4 and words[3].islower() | (words[3] == "-"):
+            octets = b"" if words[3] == "-" else bytes.fromhex(words[3])
+            found.append(Arrival(int(words[1]), int(words[2]), octets))
+    return found
+
+
+def blocks_of(arrivals: Sequence[Arrival], count: int = 8) -> list[tuple[int, bytes]]:
+    """Blocks of so many arrivals, each with its shard, in the order in which they are full."""
+    filled: list[list[Arrival]] = [[] for _ in range(SHARDS)]
+    blocks = []
+    for arrival in arrivals:
+        own = filled[arrival.link % SHARDS]
+        own.append(arrival)
+        if len(own) == count:
+            blocks.append((arrival.link % SHARDS, b"".join(one.packed() for one in own)))
+            own.clear()
+    return blocks
+
+
+def wanted(trial: Trial, links: Path, blocks: Sequence[bytes]) -> str:
+    """What one replay of a shard's blocks writes."""
+    script = "".join(arrival.line() + "\n" for block in blocks for arrival in arrivals_in(block))
+    ended = trial.program.replay(links, script.encode())
+    trial.demand(ended.status == 0, f"the replay of the log: {ended.end()}", ended.call)
+    return ended.text
+
+
+def compare(cluster: Cluster, links: Path, logs: dict[int, list[bytes]]) -> bool:
+    """Whether each shard has each block's answers once, in order, and equal to one replay."""
+    names = refusal_names(cluster.trial.top)
+    is_same = True
+    with cluster.server.client() as client:
+        for shard, blocks in logs.items():
+            entries = client.entries(f"out:{shard}")
+            numbers = [number for number, _ in entries]
+            found = "".join(line + "\n" for _, answers in entries for line in lines_in(answers, names))
+            is_same &= numbers == list(range(1, len(blocks) + 1)) and found == wanted(cluster.trial, links, blocks)
+    return is_same
+
+
+def logs_of(blocks: Sequence[tuple[int, bytes]]) -> dict[int, list[bytes]]:
+    """The blocks of each shard."""
+    return {shard: [block for own, block in blocks if own == shard] for shard in range(SHARDS)}
+
+
+def append(client: Client, blocks: Sequence[tuple[int, bytes]], counts: list[int]) -> None:
+    """Appends blocks under the ids that follow."""
+    for shard, block in blocks:
+        counts[shard] += 1
+        client.send("XADD", f"in:{shard}", f"{counts[shard]}-0", "b", block)
+    for _ in blocks:
+        client.reply()
+
+
+def disturbed(cluster: Cluster, blocks: Sequence[tuple[int, bytes]], kills: int, stops: int) -> None:
+    """Appends blocks while workers are killed and stopped, each time another."""
+    dice = random.Random(7)
+    steps = ["kill"] * kills + ["stop"] * stops
+    dice.shuffle(steps)
+    part = len(blocks) // (len(steps) + 1)
+    counts, sleeping = [0] * SHARDS, ""
+    with cluster.server.client() as client:
+        for number, step in enumerate(steps):
+            append(client, blocks[number * part : (number + 1) * part], counts)
+            time.sleep(dice.random() * 0.15)
+            name = "ab"[number % 2]
+            if step == "kill" and name != sleeping:
+                cluster.kill(name)
+                cluster.start_again(name)
+            elif step == "stop":
+                if sleeping:
+                    cluster.processes[sleeping].send_signal(signal.SIGCONT)
+                cluster.processes[name].send_signal(signal.SIGSTOP)
+                sleeping = name
+                time.sleep(2 * ALIVE_MS / 1000 if number % 3 == 0 else 0.1)
+        append(client, blocks[len(steps) * part :], counts)
+    if sleeping:
+        cluster.processes[sleeping].send_signal(signal.SIGCONT)
+
+
+def check_twins(trial: Trial, made: "Made") -> None:
+    """Two workers, killed twenty times and stopped ten times; bases, and a cut log; a third that begins at a base."""
+    blocks = blocks_of(made_arrivals(20_000, 1))
+    with Cluster(trial, made.built, trial.scratch / "twins", made.lines) as cluster:
+        cluster.worker("a", 40)
+        cluster.worker("b", 40)
+        disturbed(cluster, blocks, 20, 10)
+        trial.demand(cluster.wait(), "twins: not every block has its answers")
+        cluster.worker("late", 40)
+        trial.demand(compare(cluster, made.links, logs_of(blocks)), "twins: the answers aren't those of one replay")
+        with cluster.server.client() as client:
+            lengths = [client.ask("XLEN", f"in:{i}") for i in range(SHARDS)]
+            logs = logs_of(blocks)
+            is_cut = all(int(length or 0) < len(logs[i]) for i, length in enumerate(lengths))  # type: ignore[arg-type]
+            trial.demand(is_cut, f"twins: the log wasn't cut: {lengths}")
+        told = "".join(cluster.said(name) for name in ("a", "b"))
+        slept = told.count("slept; it begins again")
+        trial.say(f"twins: {len(blocks)} blocks, 20 kills, 10 stops, {slept} times a log was cut behind a stopped worker")
+        ended = trial.ran(made.built / "rohc-metrics", "--redis", cluster.server.socket, "--shards", str(SHARDS))
+        trial.demand("polorowan_cluster_blocks_unanswered" in ended.text, f"rohc-metrics: {ended.end()}", ended.call)
+
+
+def free_port() -> int:
+    """A port of 127.0.0.1 that no one listens at."""
+    with socket.socket(socket.AF_INET, socket.SOCK_DGRAM) as one:
+        one.bind(("127.0.0.1", 0))
+        return int(one.getsockname()[1])
+
+
+def send_all(port: int, arrivals: Sequence[Arrival], at: Sequence[tuple[int, Callable[[], None]]] = ()) -> None:
+    """Sends the packets at a pace that the front keeps up with. Behind the n-th something is done."""
+    due = dict(at)
+    with socket.socket(socket.AF_INET, socket.SOCK_DGRAM) as sender:
+        for number, arrival in enumerate(arrivals):
+            if arrival.octets is not None:
+                sender.sendto(struct.pack(">H", arrival.link) + arrival.octets, ("127.0.0.1", port))
+            if number % 16 == 15:
+                time.sleep(0.001)
+            if number in due:
+                due[number]()
+
+
+def logged(cluster: Cluster) -> dict[int, list[bytes]]:
+    """The blocks that the front appended."""
+    with cluster.server.client() as client:
+        return {shard: [block for _, block in client.entries(f"in:{shard}")] for shard in range(SHARDS)}
+
+
+def check_redis(trial: Trial, made: "Made") -> None:
+    """A front, two workers, and a Redis that is killed three times."""
+    arrivals = made_arrivals(6_000, 2)
+    with Cluster(trial, made.built, trial.scratch / "redis", made.lines) as cluster:
+        port = free_port()
+        cluster.start("front", "rohc-front", "--port", str(port))
+        cluster.worker("a", 1_000_000)
+        cluster.worker("b", 1_000_000)
+        time.sleep(0.3)
+
+        def fall() -> None:
+            cluster.server.kill()
+            time.sleep(0.2)
+            cluster.server.start()
+            cluster.keep()
+
+        send_all(port, arrivals, [(1_500, fall), (3_000, fall), (4_500, fall)])
+        time.sleep(0.3)
+        trial.demand(cluster.wait(), "redis: not every block has its answers")
+        logs = logged(cluster)
+        trial.demand(compare(cluster, made.links, logs), "redis: the answers aren't those of one replay")
+        count = sum(1 for blocks in logs.values() for block in blocks for _ in arrivals_in(block))
+        trial.demand(count > 4_000, f"redis: only {count} arrivals are in the log")
+        trial.say(f"redis: {count} arrivals in the log, Redis killed three times")
+
+
+def check_whole(trial: Trial, made: "Made") -> None:
+    """Datagrams in, datagrams out, as one replay of the log says."""
+    arrivals = made_arrivals(4_000, 3)
+    names = refusal_names(trial.top)
+    with Cluster(trial, made.built, trial.scratch / "whole", made.lines) as cluster:
+        with contextlib.ExitStack() as stack:
+            receivers = {}
+            for kind in ("deliver", "feedback", "relay"):
+                one = stack.enter_context(socket.socket(socket.AF_INET, socket.SOCK_DGRAM))
+                one.setsockopt(socket.SOL_SOCKET, socket.SO_RCVBUF, 1 << 23)
+                one.bind(("127.0.0.1", 0))
+                one.settimeout(0.5)
+                receivers[kind] = one
+            text = "".join(
+                f"ports {link} {' '.join(str(one.getsockname()[1]) for one in receivers.values())}\n"
+                for link in range(1, LINKS + 1)
+            )
+            ports, port = trial.write("whole/ports", text), free_port()
+            cluster.start("front", "rohc-front", "--port", str(port))
+            cluster.worker("a", 1_000_000)
+            cluster.start("outlet", "rohc-outlet", "--ports", ports)
+            time.sleep(0.3)
+            send_all(port, arrivals)
+            time.sleep(0.3)
+            trial.demand(cluster.wait(), "whole: not every block has its answers")
+            found = {kind: sorted(received(one)) for kind, one in receivers.items()}
+        logs = logged(cluster)
+        trial.demand(compare(cluster, made.links, logs), "whole: the answers aren't those of one replay")
+        with cluster.server.client() as client:
+            answers = b"".join(octets for i in range(SHARDS) for _, octets in client.entries(f"out:{i}"))
+        for kind, word in (("deliver", "ip"), ("feedback", "feedback"), ("relay", "relay")):
+            lines = [line.split(" ") for line in lines_in(answers, names)]
+            sent = sorted(words[3] for words in lines if words[2] == word)
+            trial.demand(found[kind] == sent, f"whole: {len(found[kind])} datagrams at the {kind} port, {len(sent)} wanted")
+        for name in ("front", "a", "outlet"):
+            process = cluster.processes[name]
+            process.terminate()
+            trial.demand(process.wait(WAIT_SECONDS) == 0, f"whole: {name} ends with {process.returncode} at SIGTERM")
+
+
+def received(one: socket.socket) -> Iterator[str]:
+    """The datagrams that come to a socket until none comes for a while."""
+    with contextlib.suppress(TimeoutError):
+        while True:
+            yield one.recv(65_535).hex() or "-"
+
+
+def check_controls(trial: Trial, made: "Made") -> None:
+    """Programs that break a promise are found out."""
+    blocks = blocks_of(made_arrivals(3_000, 4))
+    half = len(blocks) // 2
+    with Cluster(trial, made.control(1), trial.scratch / "skips", made.lines) as cluster:
+        counts = [0] * SHARDS
+        cluster.worker("a", 1_000_000)
+        with cluster.server.client() as client:
+            append(client, blocks[:half], counts)
+            cluster.wait()
+            cluster.kill("a")
+            cluster.start_again("a")
+            append(client, blocks[half:], counts)
+        cluster.wait()
+        is_same = compare(cluster, made.links, logs_of(blocks))
+        trial.demand(not is_same, "control: a worker that doesn't rebuild was NOT found out")
+    with Cluster(trial, made.control(2), trial.scratch / "before", made.lines) as cluster:
+        counts = [0] * SHARDS
+        cluster.worker("a", 20)
+        with cluster.server.client() as client:
+            append(client, blocks, counts)
+        trial.demand(not cluster.wait(5.0), "control: a base before its answers was NOT found out")
+        trial.demand("ahead of the answers" in cluster.said("a"), "control: no word of a base that is ahead")
+    with Cluster(trial, made.control(1), trial.scratch / "ids", made.lines) as cluster:
+        port = free_port()
+        cluster.start("front", "rohc-front", "--port", str(port))
+        time.sleep(0.2)
+        send_all(port, made_arrivals(200, 5))
+        time.sleep(0.2)
+        cluster.kill("front", signal.SIGTERM)
+        cluster.start_again("front")
+        time.sleep(0.2)
+        send_all(port, made_arrivals(200, 6))
+        time.sleep(0.2)
+        trial.demand("another front writes" in cluster.said("front"), "control: a front that reuses ids was NOT found out")
+
+
+@dataclass(frozen=True)
+class Made:
+    """The programs that were built, and the links."""
+
+    trial: Trial
+    prefix: Path
+    built: Path
+    links: Path
+    lines: Path
+
+    def control(self, number: int) -> Path:
+        """The programs with one promise broken."""
+        folder = self.trial.scratch / f"control-{number}"
+        folder.mkdir(exist_ok=True)
+        build(self.trial, self.prefix, folder, f"CONTROL={number}")
+        return folder
+
+
+def build(trial: Trial, prefix: Path, folder: Path, *words: str) -> None:
+    """Builds the programs of the cluster over an installed library."""
+    trial.must_run("make", "-s", "-C", trial.top / "cluster", f"PREFIX={prefix}", f"OUT={folder}", *words)
+
+
+def make(trial: Trial) -> Made:
+    """Builds the programs, and writes the links."""
+    given = os.environ.get("POLOROWAN_PREFIX")
+    prefix = Path(given) if given else trial.scratch / "prefix"
+    if not given:
+        environment = {"POLOROWAN_OVER_GATE": "1" if trial.over_gate else ""}
+        trial.must_run(trial.top / "bin/install", "--library", prefix, environment=environment, seconds=3600)
+    built = trial.scratch / "built"
+    built.mkdir()
+    build(trial, prefix, built)
+    links = trial.made("links.toml", "python3", trial.top / "tools/limit_scripts.py", "links", str(LINKS))
+    text = links.read_text()
+    links.write_text(text.replace('mode = "U"', 'mode = "O"'))
+    lines = trial.made("links", trial.top / "tools/link_lines.py", links)
+    return Made(trial, prefix, built, links, lines)
+
+
+def is_part(top: Path, word: str) -> bool:
+    """Whether this is a part of the check."""
+    return word in PARTS
+
+
+def check(trial: Trial) -> None:
+    """Runs all of it."""
+    for tool in ("redis-server", "make", "pkg-config"):
+        if not shutil.which(tool):
+            trial.leave_out(f"{tool} is not installed, cluster/ was not run")
+            return
+    if trial.ran("pkg-config", "--exists", "hiredis", "libcrypto").status != 0:
+        trial.leave_out("hiredis or libcrypto is not installed, cluster/ was not run")
+        return
+    made = make(trial)
+    parts = dict(zip(PARTS, (check_twins, check_redis, check_whole, check_controls), strict=True))
+    for name in trial.chosen(PARTS):
+        parts[name](trial, made)
