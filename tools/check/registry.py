@@ -8,6 +8,7 @@ from pathlib import Path
 import bodies
 import closed
 import closed_test
+import cluster
 import documents
 import documents_test
 import ends
@@ -165,6 +166,13 @@ CHECKS = (
         "made and real calls, a lossy link, Wireshark's and scapy's readings, a fuzzer, bench/run's loads",
         knows=evidence.is_part,
     ),
+    Check(
+        "cluster",
+        ON_PROGRAM,
+        cluster.check,
+        "front, workers and outlet over Redis: killed, stopped, from a base; programs that break a promise",
+        knows=cluster.is_part,
+    ),
     Check("poverty", ON_PROGRAM, poverty.check, "each request for memory refused in turn"),
     Check("launcher", ON_PROGRAM, launcher.check, "bin/rohcd with a proved program and without one"),
     Check("install", ON_PROGRAM, installation.check, "bin/install, the completion, tools/link_lines.py on faulty files"),
@@ -195,6 +203,7 @@ TESTED = (
     Tested("Promise", "3. Each part is right", "gate library examples evidence"),
     Tested("Promise", "4. One event is one step of one context", "closed gate examples lines"),
     Tested("Promise", "5. What is delivered was sent", "gate limits evidence"),
+    Tested("Promise", "6. A cluster answers as one replay", "gate library cluster"),
     Tested("Key", "number, cid, max_cid", "gate program examples lines"),
     Tested("Key", "mode, range, k1, n1, k2, n2, packet_ms, static_nack_ms", "gate program examples"),
     Tested("Key", "deliver_port, feedback_port, relay_port", "gate program"),
@@ -225,6 +234,7 @@ TESTED = (
     Tested("Command", "serve", "gate program launcher"),
     Tested("Command", "rohctl totals, rohctl trace", "gate rohctl"),
     Tested("Command", "bin/rohcd", "launcher"),
+    Tested("Command", "cluster/up, cluster/down", "cluster"),
     Tested("Command", "bin/install, completion", "library install"),
     Tested("Text", "documents", "words documents documents_test"),
     Tested("Text", "manual pages", "manual words"),
