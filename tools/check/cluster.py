@@ -30,7 +30,7 @@ SHARDS, LINKS, CALLS = 4, 20, 50
 ARRIVAL, ANSWER = struct.Struct("<BHQH"), struct.Struct("<HBBHBHBH")
 WAIT_SECONDS = 60.0
 ALIVE_MS = 600
-PARTS = ("twins", "redis", "whole", "controls")
+PARTS = ("twins", "redis", "whole", "hosts", "controls")
 
 
 @dataclass(frozen=True)
@@ -120,6 +120,11 @@ class Cluster:
     def start(self, name: str, program: str, *words: str | Path) -> None:
         """Starts a program under a name of its own."""
         self.calls[name] = [self.built / program, *words, "--redis", self.server.socket, "--shards", str(SHARDS)]
+        self.start_again(name)
+
+    def start_in(self, host: str, name: str, *words: str | Path) -> None:
+        """Starts a program on a host, which is a network namespace."""
+        self.calls[name] = ["ip", "netns", "exec", host, *words]
         self.start_again(name)
 
     def worker(self, name: str, base: int, program: str = "rohc-worker") -> None:
@@ -387,6 +392,77 @@ def received(one: socket.socket) -> Iterator[str]:
             yield one.recv(65_535).hex() or "-"
 
 
+NEAR, FAR = "polorowan-near", "polorowan-far"
+SERVICE = """
+foreground = yes
+pid =
+sslVersionMin = TLSv1.3
+cert = {folder}/{own}.pem
+CAfile = {folder}/{other}.crt
+verifyPeer = yes
+[redis]
+{lines}
+"""
+
+
+@contextlib.contextmanager
+def hosts(trial: Trial) -> Iterator[bool]:
+    """Two hosts with a line between them. False if they can't be made here."""
+    steps = [f"netns add {NEAR}", f"netns add {FAR}"]
+    steps += [f"link add polorowan-a netns {NEAR} type veth peer name polorowan-b netns {FAR}"]
+    for host, number, line in ((NEAR, 1, "polorowan-a"), (FAR, 2, "polorowan-b")):
+        steps += [f"-n {host} addr add 10.77.0.{number}/24 dev {line}", f"-n {host} link set {line} up"]
+        steps += [f"-n {host} link set lo up"]
+    try:
+        yield all(trial.ran("ip", *step.split()).status == 0 for step in steps)
+    finally:
+        for host in (NEAR, FAR):
+            trial.ran("ip", "netns", "del", host)
+
+
+def certificates(trial: Trial, folder: Path) -> None:
+    """A certificate of each host."""
+    for name in ("near", "far"):
+        words = "req -x509 -newkey ec -pkeyopt ec_paramgen_curve:P-256 -nodes -days 2 -subj".split()
+        files = ("-keyout", folder / f"{name}.pem", "-out", folder / f"{name}.crt")
+        trial.must_run("openssl", *words, f"/CN={name}", *files)
+        with (folder / f"{name}.pem").open("ab") as pem:
+            pem.write((folder / f"{name}.crt").read_bytes())
+
+
+def check_hosts(trial: Trial, made: "Made") -> None:
+    """Two hosts with stunnel between them. The other host is taken away, and no call stops."""
+    if not all(shutil.which(tool) for tool in ("stunnel4", "ip", "openssl")) or os.geteuid() != 0:
+        trial.leave_out("stunnel4, ip or openssl is not there, or root isn't, the cluster was not run over hosts")
+        return
+    blocks = blocks_of(made_arrivals(3_000, 8))
+    half = len(blocks) // 2
+    with hosts(trial) as are_there:
+        if not are_there:
+            trial.leave_out("namespaces can't be made here, the cluster was not run over hosts")
+            return
+        with Cluster(trial, made.built, trial.scratch / "hosts", made.lines) as cluster:
+            certificates(trial, cluster.folder)
+            for host, own, other, lines in (
+                (NEAR, "near", "far", f"accept = 10.77.0.1:7443\nconnect = {cluster.server.socket}"),
+                (FAR, "far", "near", "client = yes\naccept = 127.0.0.1:6390\nconnect = 10.77.0.1:7443"),
+            ):
+                text = SERVICE.format(folder=cluster.folder, own=own, other=other, lines=lines)
+                cluster.start_in(host, f"tunnel-{own}", "stunnel4", trial.write(f"hosts/{own}.conf", text))
+            time.sleep(0.5)
+            worker = (made.built / "rohc-worker", "b", "--links", made.lines, "--shards", str(SHARDS))
+            cluster.start_in(FAR, "b", *worker, "--redis", "6390")
+            counts = [0] * SHARDS
+            with cluster.server.client() as client:
+                append(client, blocks[:half], counts)
+                trial.demand(cluster.wait(20.0), "hosts: the far worker alone doesn't answer")
+                cluster.worker("a", 40)
+                trial.ran("ip", "-n", FAR, "link", "set", "polorowan-b", "down")
+                append(client, blocks[half:], counts)
+            trial.demand(cluster.wait(20.0), "hosts: without the far host not every block has its answers")
+            trial.demand(compare(cluster, made.links, logs_of(blocks)), "hosts: the answers aren't those of one replay")
+
+
 def check_controls(trial: Trial, made: "Made") -> None:
     """Programs that break a promise are found out."""
     blocks = blocks_of(made_arrivals(3_000, 4))
@@ -479,6 +555,6 @@ def check(trial: Trial) -> None:
         trial.leave_out("hiredis or libcrypto is not installed, cluster/ was not run")
         return
     made = make(trial)
-    parts = dict(zip(PARTS, (check_twins, check_redis, check_whole, check_controls), strict=True))
+    parts = dict(zip(PARTS, (check_twins, check_redis, check_whole, check_hosts, check_controls), strict=True))
     for name in trial.chosen(PARTS):
         parts[name](trial, made)
