@@ -5,6 +5,7 @@ from inspect import cleandoc, getdoc
 from os import X_OK, access
 from pathlib import Path
 
+import proofs_table
 from registry import CHECKS, PROGRAM, TOP, Check, Needs
 from run import Order, run_checks
 from table import faults, page
@@ -34,6 +35,13 @@ def show_table() -> int:
     for fault in found:
         print(f"tools/check/registry.py: {fault}", file=sys.stderr)
     return int(bool(found))
+
+
+def write_proofs() -> int:
+    """Writes the part of docs/PROOFS.md that the sources have."""
+    text = proofs_table.page(TOP)
+    (TOP / "docs/PROOFS.md").write_text(text)
+    return 0
 
 
 def show_help(check: Check) -> int:
@@ -66,6 +74,8 @@ def main(words: list[str]) -> int:
         return show_list()
     if words == ["--table"]:
         return show_table()
+    if words == ["--proofs"]:
+        return write_proofs()
     if len(words) == 2 and words[0] in BY_NAME and words[1] == "--help":
         return show_help(BY_NAME[words[0]])
     is_given = words[:1] == ["--program"]
