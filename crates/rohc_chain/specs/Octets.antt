@@ -6,9 +6,43 @@ use Rattle.rohc_bits.specs.InTurn.{◌>>=◌}
 use Rattle.rohc_chain.specs.declared.refusal.ChainRefusal.{ChainRefusal}
 use Rattle.rohc_chain.specs.declared.refusal.ChainRefusal.TheVariants.{Truncated}
 
+-- the names of the fields of chains
+pub data Name : Type 0 where
+  Reserved : Name
+  Version : Name
+  Protocol : Name
+  Source : Name
+  Destination : Name
+  SourcePort : Name
+  DestinationPort : Name
+  Ssrc : Name
+  Tos : Name
+  Ttl : Name
+  Id : Name
+  Df : Name
+  Rnd : Name
+  Nbo : Name
+  ExtensionHeaders : Name
+  UdpSum : Name
+  V : Name
+  P : Name
+  Rx : Name
+  Cc : Name
+  M : Name
+  Pt : Name
+  Sn : Name
+  Ts : Name
+  CsrcList : Name
+  X : Name
+  Mode : Name
+  Tis : Name
+  Tss : Name
+  TsStride : Name
+  TimeStride : Name
+
 -- a piece of a packet, and what is read of it; a packet that ends too early is truncated
 abbrev pub ChainPiece : Type 0 → Type 1
-ChainPiece = Piece ChainRefusal
+ChainPiece = Piece Name ChainRefusal
 
 abbrev pub read : {A : Type 0} → ChainPiece A → List ℕ → Result (A × List ℕ) ChainRefusal
 read = reads Truncated

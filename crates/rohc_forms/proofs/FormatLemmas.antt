@@ -5,7 +5,7 @@ use Rattle.std.proofs.lemmas.Bool.Decides.{nat_tests}
 use Rattle.rohc_bits.specs.Reading.{bit}
 use Rattle.rohc_forms.specs.declared.form.FormKind.{FormKind}
 use Rattle.rohc_forms.specs.declared.form.FormKind.TheVariants.{Uo0, Uo1, Uo1Id, Uo1Ts, Uor2, Uor2Id, Uor2Ts}
-use Rattle.rohc_forms.specs.Octets.{slice}
+use Rattle.rohc_forms.specs.Slices.{slice}
 use Rattle.rohc_forms.specs.Content.{form_kind}
 use Rattle.rohc_forms.specs.Formats.{is_found, number_of, begin_with, has_format, base_of, FitsOne, FitsOneExtension}
 use Rattle.rohc_forms.specs.Table.{plus, minus, layout_0, layout_1, layout_2, short_layout, FirstOctet, IpOctet, RtpOctet, TypeOctet, Prefix, S, R-TS, Tsc, I, IP, RTP, TOS, TTL, DF, PR, IPX, NBO, RND, IP2, Mode, R-PT, M, R-X, CSRC, TSS, TIS, P, PT}

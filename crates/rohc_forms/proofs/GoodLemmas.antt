@@ -6,7 +6,7 @@ use Rattle.std.proofs.lemmas.Nat.{pow_pos, mod_below}
 use Rattle.std.proofs.lemmas.Bool.Decides.{nat_tests}
 use Rattle.rohc_bits.specs.Reading.{bit}
 use Rattle.rohc_bits.specs.LowBits.{LowBits}
-use Rattle.rohc_bits.proofs.Holds.{Holds, IsValueBits, all_left, all_right, holds_any, holds_says, holds_then, holds_as, holds_judged, holds_unless, holds_which, holds_named, octet_holds, word_holds, value_holds}
+use Rattle.rohc_bits.proofs.Holds.{Holds, IsValueBits, all_left, all_right, holds_any, holds_says, holds_then, holds_as, holds_judged, holds_unless, holds_which, holds_named, holds_called, octet_holds, word_holds, value_holds}
 use Rattle.rohc_bits.proofs.Widths.{joined_fits}
 use Rattle.rohc_frame.specs.Laws.{IsOctet}
 use Rattle.rohc_forms.specs.declared.form.FormKind.{FormKind}
@@ -16,17 +16,19 @@ use Rattle.rohc_forms.specs.declared.parts.IpFlags.{IpFlags}
 use Rattle.rohc_forms.specs.declared.parts.IpGiven.{IpGiven}
 use Rattle.rohc_forms.specs.declared.parts.RtpFlags.{RtpFlags}
 use Rattle.rohc_forms.specs.declared.refusal.FormRefusal.TheVariants.{ZeroStride, NoStride}
-use Rattle.rohc_forms.specs.Octets.{slice, behind, and_bits, octet_if, word_if}
-use Rattle.rohc_forms.specs.Table.{Said, Field, Sn, Ts, Id, S, R-TS, Tsc, I, IP, RTP, has, and_said, under, plus, minus, base_said, layout_0, layout_1, layout_2}
+use Rattle.rohc_forms.specs.Slices.{slice, behind, and_bits}
+use Rattle.rohc_forms.specs.Octets.{octet_if, word_if}
+use Rattle.rohc_forms.specs.Table.{TOS, TTL, TSS, RtpOctet, Of, By, UdpSum, row, Said, Field, Sn, Ts, Id, S, R-TS, Tsc, I, IP, RTP, has, and_said, under, plus, minus, base_said, layout_0, layout_1, layout_2}
 use Rattle.rohc_forms.specs.Content.{Head, form_kind, plain_head, id_said, offset_said, whole_said, stride_given, bits_said, whole_content}
 use Rattle.rohc_forms.specs.Given.{ValuesSaid, RtpSaid, Extended3, ip_values, rtp_values, rtp_flags, rnd_in_force, payload_type_in}
 use Rattle.rohc_forms.specs.Judging.{twice_fault, rtp_fault, stride_fault, no_stride_fault}
 use Rattle.rohc_forms.specs.Laws.{SaysGood}
-use Rattle.rohc_forms.specs.Extension.{ip_octet_at, with_sn, sn_at, with_ts, ts_at, behind_protocol, ip_given_at, and_offset, offset_at, stride_of, stride_at, behind_time_stride, behind_rtp_octet, rtp_at, rtp_given_at, behind_ip_octet}
-use Rattle.rohc_forms.specs.Packets.{base_at, short_extension_at, extension_3_at, extension_at, head_at, header_at, with_payload}
+use Rattle.rohc_forms.specs.Extension.{ip_octet_at, with_sn, sn_at, with_ts, ts_at, behind_protocol, ip_given_at, and_offset, offset_at, stride_of, stride_at, behind_time_stride, type_row, behind_rtp_octet, rtp_at, rtp_given_at, behind_ip_octet}
+use Rattle.rohc_forms.specs.Packets.{base_at, short_extension_at, extension_3_at, extension_row, extension_at, head_at, header_at, with_payload}
 use Rattle.rohc_forms.specs.Good.{IsBits, IsGoodValues, IsGoodContent}
 use Rattle.rohc_forms.specs.Kinds.{is_uor2, check_width}
-use Rattle.rohc_bits.specs.Grammar.{Octet, Word, Value, IfNamed, Judged}
+use Rattle.rohc_bits.specs.Grammar.{Octet, Word, Value, IfNamed, Judged, Called, Row}
+use Rattle.rohc_forms.proofs.SaysLemmas.{form_together}
 use Rattle.rohc_forms.proofs.CountLemmas.{counts_octets, counts_extension}
 
 -- bits within narrow bounds are within wider ones
@@ -186,8 +188,8 @@ type_good (Some octet) = mod_below (octet / 2 ^ 0) 128 (omega arith)
 
 stride_good : (named : Bool) → Holds (stride_at named) (λ stride. IfSome stride (λ n. (1 ≤ n) × (n ≤ 536870911)))
 unfolding stride_at
-stride_good named = holds_as stride_of (IfNamed named (Judged (λ d. stride_fault d.value) Value)) _ _
-    (holds_named named (Judged (λ d. stride_fault d.value) Value) (λ d. IsValueBits d × (stride_fault d.value ≡ None)) (holds_judged (λ d. stride_fault d.value) Value IsValueBits value_holds))
+stride_good named = holds_as stride_of (Called (By TSS) (IfNamed named (Judged (λ d. stride_fault d.value) Value))) _ _
+    (holds_called (By TSS) (IfNamed named (Judged (λ d. stride_fault d.value) Value)) _ (holds_named named (Judged (λ d. stride_fault d.value) Value) (λ d. IsValueBits d × (stride_fault d.value ≡ None)) (holds_judged (λ d. stride_fault d.value) Value IsValueBits value_holds)))
     ranged where
       some_stride : (value : ℕ) (zero : Bool) → (value == 0) ≡ zero → (if zero then Some ZeroStride else None) ≡ None → 1 ≤ value
       some_stride value true e f = cc
@@ -203,7 +205,7 @@ stride_good named = holds_as stride_of (IfNamed named (Judged (λ d. stride_faul
 rtp_named_good : (rtp : RtpFlags) → Holds (behind_rtp_octet rtp) IsGoodRtp
 unfolding behind_rtp_octet octet_if behind_time_stride
 rtp_named_good rtp =
-    holds_then (octet_if rtp.payload_type) _ (λ _. Unit {0}) IsGoodRtp (holds_any _) (λ octet _.
+    holds_then (Row type_row (octet_if rtp.payload_type)) _ (λ _. Unit {0}) IsGoodRtp (holds_any _) (λ octet _.
     holds_then (stride_at rtp.stride) _ _ IsGoodRtp (stride_good rtp.stride) (λ stride ranged.
     holds_then (behind_time_stride rtp.time_stride) _ (λ _. Unit {0}) IsGoodRtp (holds_any _) (λ _ _.
     holds_says _ IsGoodRtp (record { payload_type = type_good octet; stride = ranged }))))
@@ -211,35 +213,35 @@ rtp_named_good rtp =
 rtp_good : (named : Bool) → Holds (rtp_given_at named) (λ rtp. IfSome rtp IsGoodRtp × (is_some rtp ≡ named))
 unfolding rtp_given_at
 rtp_good named = holds_named named rtp_at IsGoodRtp
-    (holds_then (Judged rtp_fault Octet) _ (λ _. Unit {0}) IsGoodRtp (holds_any _) (λ octet _. rtp_named_good (rtp_flags octet)))
+    (holds_then (Judged rtp_fault (Row (λ _. row RtpOctet) Octet)) _ (λ _. Unit {0}) IsGoodRtp (holds_any _) (λ octet _. rtp_named_good (rtp_flags octet)))
 
 ip_good : (ip : Option IpFlags) → Holds (ip_given_at ip) (λ given. IfSome given IsGoodIp)
 unfolding ip_given_at octet_if
 ip_good None = holds_says None _ tt
 ip_good (Some ip) =
-    holds_then (octet_if ip.tos) _ _ _ (holds_named ip.tos Octet _ octet_holds) (λ tos is_tos.
-    holds_then (octet_if ip.ttl) _ _ _ (holds_named ip.ttl Octet _ octet_holds) (λ ttl is_ttl.
+    holds_then (Called (By TOS) (octet_if ip.tos)) _ _ _ (holds_called (By TOS) (octet_if ip.tos) _ (holds_named ip.tos Octet _ octet_holds)) (λ tos is_tos.
+    holds_then (Called (By TTL) (octet_if ip.ttl)) _ _ _ (holds_called (By TTL) (octet_if ip.ttl) _ (holds_named ip.ttl Octet _ octet_holds)) (λ ttl is_ttl.
     holds_then (behind_protocol ip.protocol) _ (λ _. Unit {0}) _ (holds_any _) (λ _ _.
     holds_says _ (λ given. IfSome given IsGoodIp) (record { tos = is_tos.0; ttl = is_ttl.0 }))))
 
 -- more bits of SN and of TS, and the whole offset
 sn_good : (named : Bool) (w : ℕ) (said : Said) → IsGoodSaid 6 5 w said → Holds (sn_at named said) (IsGoodSaid 16 5 w)
 unfolding sn_at
-sn_good named w said is = holds_as (with_sn said) (IfNamed named Octet) _ _ (holds_named named Octet _ octet_holds) more where
+sn_good named w said is = holds_as (with_sn said) (Called (Of Sn) (IfNamed named Octet)) _ _ (holds_called (Of Sn) (IfNamed named Octet) _ (holds_named named Octet _ octet_holds)) more where
   more : (octet : Option ℕ) → (IfSome octet (λ n. n < 256) × (is_some octet ≡ named)) → IsGoodSaid 16 5 w (with_sn said octet)
   more None fits = more_sn 6 16 5 w said is (omega arith)
   more (Some octet) fits = and_sn_good 6 5 w 8 16 (record { count = 8; value = octet }) said is (record { some = omega arith; narrow = omega arith; fits = fits.0 }) (omega arith) (omega arith)
 
 ts_good : (named : Bool) (w : ℕ) (said : Said) → IsGoodSaid 16 5 w said → Holds (ts_at named said) (IsGoodSaid 16 5 w)
 unfolding ts_at
-ts_good named w said is = holds_as (with_ts said) (IfNamed named Value) _ _ (holds_named named Value _ value_holds) more where
+ts_good named w said is = holds_as (with_ts said) (Called (Of Ts) (IfNamed named Value)) _ _ (holds_called (Of Ts) (IfNamed named Value) _ (holds_named named Value _ value_holds)) more where
   more : (value : Option LowBits) → (IfSome value IsValueBits × (is_some value ≡ named)) → IsGoodSaid 16 5 w (with_ts said value)
   more None fits = is
   more (Some value) fits = and_ts_good 16 5 w 29 value said is (record { some = omega (arith, fits.0.some); narrow = fits.0.narrow; fits = fits.0.fits }) (omega arith)
 
 offset_good : (named : Bool) (w : ℕ) (said : Said) → IsGoodSaid 16 5 w said → Holds (offset_at named said) (IsGoodSaid 16 16 w)
 unfolding offset_at word_if
-offset_good named w said is = holds_as (and_offset said) (IfNamed named Word) _ _ (holds_named named Word _ word_holds) more where
+offset_good named w said is = holds_as (and_offset said) (Called (Of Id) (IfNamed named Word)) _ _ (holds_called (Of Id) (IfNamed named Word) _ (holds_named named Word _ word_holds)) more where
   more : (offset : Option ℕ) → (IfSome offset (λ n. n < 65536) × (is_some offset ≡ named)) → IsGoodSaid 16 16 w (and_offset said offset)
   more None fits = more_id 16 5 16 w said is (omega arith)
   more (Some offset) fits = record { sn = is.sn; ts = is.ts; id = record { some = omega arith; narrow = omega arith; fits = fits.0 }; check = is.check }
@@ -327,7 +329,7 @@ unfolding head_at
 head_good first rnd known =
     holds_then (base_at first) _ (λ base. base.first ≡ first) _ (record { of = λ base text all is. (((counts_octets rnd).0 first base text).0 is).0 }) (λ base is.
     holds_which (base_said (form_kind base rnd) base.number).extended _ _ _
-    (holds_then Octet _ (λ _. Unit {0}) _ (holds_any _) (λ octet _. extension_good first base rnd known octet is))
+    (holds_then (Row (extension_row (form_kind base rnd)) Octet) _ (λ _. Unit {0}) _ (holds_any _) (λ octet _. extension_good first base rnd known octet is))
     (holds_says _ (IsGoodHead first known) (plain_good first base rnd known _ is (base_said_good (form_kind base rnd) base.number))))
 
 -- the Identification: the whole where it stands in the packet, else bits of its offset
@@ -372,12 +374,13 @@ header_good : (first : ℕ) (rnd udp_sum known : Bool) → Holds (header_at firs
 unfolding word_if
 header_good first rnd udp_sum known =
     holds_then (head_at first rnd known) _ _ _ (head_good first rnd known) (λ head is.
-    holds_then (IfNamed head.rnd Word) _ _ _ (holds_named head.rnd Word _ word_holds) (λ id is_id.
-    holds_then (IfNamed udp_sum Word) _ _ _ (holds_named udp_sum Word _ word_holds) (λ sum is_sum.
+    holds_then (Called (Of Id) (IfNamed head.rnd Word)) _ _ _ (holds_called (Of Id) (IfNamed head.rnd Word) _ (holds_named head.rnd Word _ word_holds)) (λ id is_id.
+    holds_then (Called UdpSum (IfNamed udp_sum Word)) _ _ _ (holds_called UdpSum (IfNamed udp_sum Word) _ (holds_named udp_sum Word _ word_holds)) (λ sum is_sum.
     holds_says (head, id, sum) _ (λ payload all. content_good first udp_sum known head id sum payload is is_id is_sum all))))
 
 pub says_good : SaysGood
 says_good = λ h rnd udp_sum known c all is.
-    let whole = subst (λ (t : List ℕ). All IsOctet t) is.whole all in
-    subst (IsGoodContent h.first udp_sum known) (sym is.content)
-    ((header_good h.first rnd udp_sum known).of is.said is.header (all_left is.header is.payload whole) is.says is.payload (all_right is.header is.payload whole))
+    let (said, header, payload, whole, says, content) = form_together h rnd udp_sum known c is in
+    let octets = subst (λ (t : List ℕ). All IsOctet t) whole all in
+    subst (IsGoodContent h.first udp_sum known) (sym content)
+    ((header_good h.first rnd udp_sum known).of said header (all_left header payload octets) says payload (all_right header payload octets))

@@ -8,7 +8,8 @@ use Rattle.rohc_forms.specs.declared.form.FormKind.{FormKind}
 use Rattle.rohc_bits.specs.Reading.{next_octet, next_word}
 use Rattle.rohc_forms.specs.declared.refusal.FormRefusal.{FormRefusal}
 use Rattle.rohc_forms.specs.declared.refusal.FormRefusal.TheVariants.{Truncated}
-use Rattle.rohc_forms.specs.Octets.{slice, read}
+use Rattle.rohc_forms.specs.Slices.{slice}
+use Rattle.rohc_forms.specs.Octets.{read}
 use Rattle.rohc_forms.specs.Packets.{short_extension_at}
 use Rattle.rohc_forms.specs.Table.{Said, Sn, and_said, plus, minus, under, layout_0, layout_1, layout_2}
 

@@ -3,7 +3,7 @@ use Rattle.std.specs.Prelude.{◌≡◌, ℕ, ◌+◌, ◌*◌, ◌/◌, ◌<◌
 use Rattle.rohc_forms.specs.declared.form.FormKind.{FormKind}
 use Rattle.rohc_forms.specs.declared.form.FormKind.TheVariants.{Uo0, Uo1, Uo1Id, Uo1Ts, Uor2, Uor2Id, Uor2Ts}
 use Rattle.rohc_forms.specs.declared.parts.Base.{Base}
-use Rattle.rohc_forms.specs.Octets.{slice}
+use Rattle.rohc_forms.specs.Slices.{slice}
 use Rattle.rohc_forms.specs.Table.{Field, Fixed, Sn, Ts, Id, Marker, Extended, Check, Layout, layout, layout_0, layout_1, layout_2, short_layout, width}
 use Rattle.rohc_forms.specs.Content.{form_kind}
 

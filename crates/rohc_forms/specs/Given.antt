@@ -72,6 +72,16 @@ abbrev pub payload_type_in : Option ℕ → Option ℕ
 payload_type_in None = None
 payload_type_in (Some octet) = Some (number_in PT octet)
 
+-- what the rtp octet gives, with that octet, if it is there, and the stride
+abbrev pub rtp_said : RtpFlags → Option ℕ → Option ℕ → RtpSaid
+rtp_said rtp octet stride = record {
+  marker = rtp.marker;
+  extension = rtp.extension;
+  padding = padding_in octet;
+  payload_type = payload_type_in octet;
+  stride = stride;
+}
+
 -- no value is given
 abbrev pub no_values : ValuesSaid
 no_values = record {
@@ -111,3 +121,7 @@ pub record Extended3 : Type 0 where
   pub said : Said
   pub marker : Bool
   pub values : ValuesSaid
+
+abbrev pub extended_3 : Said → Option IpGiven → Option RtpSaid → Extended3
+extended_3 said ip rtp =
+    record { said = said; marker = marker_in said.marker rtp; values = ip_values ip (rtp_values rtp) }

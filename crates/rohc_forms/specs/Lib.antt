@@ -9,4 +9,5 @@ pub mod Laws
 pub mod Octets
 pub mod Packets
 pub mod Says
+pub mod Slices
 pub mod Table

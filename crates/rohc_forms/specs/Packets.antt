@@ -1,6 +1,6 @@
 -- Whole packets of kind Other, piece by piece (RFC 3095 5.7.1 to 5.7.5).
-use Rattle.std.specs.Prelude.{ℕ, ◌+◌, ◌*◌, List, Bool, false, nat_lt, Option, Some, None, option_map, Result, Ok, Err}
-use Rattle.rohc_bits.specs.Grammar.{Octet, Word, Says, Which, As, Unless}
+use Rattle.std.specs.Prelude.{ℕ, ◌+◌, ◌*◌, List, take, drop, Bool, false, nat_lt, if◌then◌else◌, Option, Some, None, option_map, Result, Ok, Err}
+use Rattle.rohc_bits.specs.Grammar.{Octet, Word, Says, Which, As, Unless, Called, Row}
 use Rattle.rohc_bits.specs.InTurn.{◌>>=◌}
 use Rattle.rohc_frame.specs.Header.{Header}
 pub use Rattle.rohc_frame.specs.Header.{IsOther}
@@ -17,7 +17,7 @@ use Rattle.rohc_forms.specs.declared.parts.RtpGiven.{RtpGiven}
 use Rattle.rohc_forms.specs.declared.refusal.FormRefusal.{FormRefusal}
 use Rattle.rohc_bits.specs.LowBits.{low_bits}
 use Rattle.rohc_forms.specs.Octets.{FormPiece, read, word_if}
-use Rattle.rohc_forms.specs.Table.{Said, Tsc, I, IP, has, under, layout_0, layout_1, layout_2, base_said}
+use Rattle.rohc_forms.specs.Table.{Said, Id, Tsc, I, IP, FirstOctet, Name, Of, UdpSum, named, row, has, under, layout_0, layout_1, layout_2, short_layout, base_said}
 use Rattle.rohc_forms.specs.Judging.{twice_fault}
 use Rattle.rohc_forms.specs.Given.{RtpSaid, ValuesSaid, rnd_in_force, Extended3}
 use Rattle.rohc_forms.specs.Content.{Content, Head, IdSaid, Offset, Same, Whole, form_kind, plain_head, whole_content}
@@ -92,8 +92,10 @@ head_by h =
 unfoldable pub short_extension_at : FormKind → ℕ → Said → FormPiece Said
 short_extension_at kind first said =
     Which (nat_lt first 0x40) (Says (under (layout_0 kind) first said))
-    (Which (nat_lt first 0x80) (As (λ second. under (layout_1 kind) (first * 256 + second) said) Octet)
-    (As (λ low. under (layout_2 kind) (first * 65536 + low) said) Word))
+    (Which (nat_lt first 0x80) (As (λ second. under (layout_1 kind) (first * 256 + second) said)
+    (Row (λ _. named (drop 3 (layout_1 kind))) Octet))
+    (As (λ low. under (layout_2 kind) (first * 65536 + low) said)
+    (Row (λ _. named (drop 3 (layout_2 kind))) Word)))
 
 -- An extension 3, whose first octet starts with 11. The RND in force decides the format of the octets before
 -- it.
@@ -124,11 +126,16 @@ extension_at base rnd stride_known first =
     (short_extension_at (form_kind base rnd) first (base_said (form_kind base rnd) base.number)))
     (extension_3_at base rnd stride_known first)
 
+-- the fields of an extension's first octet, by its first bits
+abbrev pub extension_row : FormKind → ℕ → List (Name × ℕ)
+extension_row kind first =
+    if nat_lt first 0xc0 then named (take 3 (short_layout kind first)) else row FirstOctet
+
 -- after the octets before an extension: the extension, if X is set
 abbrev pub behind_base : Base → Bool → Bool → FormPiece Head
 behind_base base rnd stride_known =
     Which (base_said (form_kind base rnd) base.number).extended
-    (Octet >>= extension_at base rnd stride_known)
+    (Row (extension_row (form_kind base rnd)) Octet >>= extension_at base rnd stride_known)
     (Says (plain_head (form_kind base rnd) rnd (base_said (form_kind base rnd) base.number)))
 
 -- X, if the octets that hold it are there
@@ -151,8 +158,8 @@ head_at first rnd stride_known = do
 abbrev pub header_at : ℕ → Bool → Bool → Bool → FormPiece (Head × Option ℕ × Option ℕ)
 header_at first rnd udp_sum stride_known = do
   head ← head_at first rnd stride_known
-  id ← word_if head.rnd
-  sum ← word_if udp_sum
+  id ← Called (Of Id) (word_if head.rnd)
+  sum ← Called UdpSum (word_if udp_sum)
   Says (head, id, sum)
 
 abbrev pub id_by : IdBits → IdSaid

@@ -1,10 +1,10 @@
 -- The formats of packets and of extensions 0 to 2 (RFC 3095 5.7.1 to 5.7.5), and what their bits say.
-use Rattle.std.specs.Prelude.{ℕ, ◌+◌, ◌/◌, ◌%◌, ◌^◌, List, [], ◌∷◌, Bool, false, ◌==◌, nat_lt, if◌then◌else◌, Option, Some, None}
+use Rattle.std.specs.Prelude.{ℕ, ◌+◌, ◌/◌, ◌%◌, ◌^◌, List, [], ◌∷◌, map, Bool, false, ◌==◌, nat_lt, if◌then◌else◌, Option, Some, None}
 use Rattle.rohc_bits.specs.Reading.{bit}
 use Rattle.rohc_forms.specs.declared.form.FormKind.{FormKind}
 use Rattle.rohc_forms.specs.declared.form.FormKind.TheVariants.{Uo0, Uo1, Uo1Id, Uo1Ts, Uor2, Uor2Id, Uor2Ts}
 use Rattle.rohc_bits.specs.LowBits.{LowBits}
-use Rattle.rohc_forms.specs.Octets.{slice, and_bits}
+use Rattle.rohc_forms.specs.Slices.{slice, and_bits}
 
 -- A field's name: a number that is the same in each packet of the format, SN, TS, IP-ID, M, X, CRC.
 pub data Field : Type 0 where
@@ -138,6 +138,19 @@ parts FirstOctet = Prefix ∷ S ∷ R-TS ∷ Tsc ∷ I ∷ IP ∷ RTP ∷ []
 parts IpOctet = TOS ∷ TTL ∷ DF ∷ PR ∷ IPX ∷ NBO ∷ RND ∷ IP2 ∷ []
 parts RtpOctet = Mode ∷ R-PT ∷ M ∷ R-X ∷ CSRC ∷ TSS ∷ TIS ∷ []
 parts TypeOctet = P ∷ PT ∷ []
+
+-- The name of a field: of a format; of a part, or of what that flag announces; or the UDP checksum.
+pub data Name : Type 0 where
+  Of : Field → Name
+  By : Part → Name
+  UdpSum : Name
+
+-- the fields of a format, and those of an octet of an extension 3, with their names and widths
+abbrev pub named : Layout → List (Name × ℕ)
+named l = map (λ field. (Of field.0, field.1)) l
+
+abbrev pub row : Extension3Octet → List (Name × ℕ)
+row octet = map (λ part. (By part, size part)) (parts octet)
 
 -- The place of each part in its octet: how many less significant bits follow it. A law says that the octets
 -- are made of their parts.

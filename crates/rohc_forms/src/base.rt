@@ -4,7 +4,8 @@
 ghost use Rattle.std.specs.Prelude.{◌≡◌, option_map};
 ghost use Rattle.rohc_bits.specs.Reading.{Reads};
 ghost use Rattle.rohc_bits.specs.LowBits.{low_bits};
-ghost use Rattle.rohc_forms.specs.Octets.{slice, read};
+ghost use Rattle.rohc_forms.specs.Slices.{slice};
+ghost use Rattle.rohc_forms.specs.Octets.{read};
 ghost use Rattle.rohc_forms.specs.Table.{base_said, uor2_said};
 ghost use Rattle.rohc_forms.specs.Content.{form_kind};
 ghost use Rattle.rohc_forms.specs.Packets.{said_by, base_at};

@@ -2,7 +2,7 @@
 
 ghost use Rattle.std.specs.Prelude.{◌≡◌, option_map};
 ghost use Rattle.rohc_bits.specs.LowBits.{low_bits};
-ghost use Rattle.rohc_forms.specs.Octets.{and_bits};
+ghost use Rattle.rohc_forms.specs.Slices.{and_bits};
 ghost use Rattle.rohc_forms.specs.Table.{Sn, Ts, Id, and_said, plus, minus};
 ghost use Rattle.rohc_forms.specs.Packets.{said_by};
 

@@ -7,7 +7,8 @@ ghost use Rattle.rohc_bits.specs.Fronts.{value_bits};
 ghost use Rattle.rohc_frame.specs.Laws.{IsOctet};
 ghost use Rattle.rohc_bits.specs.LowBits.{low_bits};
 ghost use Rattle.rohc_bits.specs.Grammar.{Octet, Word, Value};
-ghost use Rattle.rohc_forms.specs.Octets.{slice, read, octet_if, word_if};
+ghost use Rattle.rohc_forms.specs.Slices.{slice};
+ghost use Rattle.rohc_forms.specs.Octets.{read, octet_if, word_if};
 
 use crate::refusal::FormRefusal;
 use rohc_bits::{Bits, Cursor, reading};
