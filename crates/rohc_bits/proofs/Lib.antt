@@ -8,3 +8,4 @@ pub mod Steps
 pub mod ValueSteps
 pub mod GrammarLemmas
 pub mod Holds
+pub mod PlaceLemmas

@@ -5,3 +5,4 @@ pub mod LowBits
 pub mod Reading
 pub mod Grammar
 pub mod InTurn
+pub mod Places

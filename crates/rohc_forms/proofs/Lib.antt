@@ -1,6 +1,7 @@
 pub mod FormatLemmas
 pub mod CountLemmas
 pub mod SaysLemmas
+pub mod ShownLemmas
 pub mod ShortLemmas
 pub mod UnextendedLemmas
 pub mod GoodLemmas

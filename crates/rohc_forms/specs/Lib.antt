@@ -9,5 +9,6 @@ pub mod Laws
 pub mod Octets
 pub mod Packets
 pub mod Says
+pub mod Shown
 pub mod Slices
 pub mod Table

@@ -3,6 +3,7 @@
 
 ghost use Rattle.rohc_forms.specs.Formats.{FitsOne, FitsOneExtension};
 ghost use Rattle.rohc_forms.specs.Laws.{CountsOctets, CountsExtension, BeginsWith11, HaveEightBits, StandInPlace, ReadsForms, SaysOne, SaysGood, RefusesForms};
+ghost use Rattle.rohc_forms.specs.Shown.{SaidInPlace, PartsInPlace};
 
 /// Under each RND exactly one format fits a packet whose first octet is below E0, and as many base
 /// octets are read as the format has. Exactly one of the extensions 0, 1 and 2 fits an extension whose
@@ -36,4 +37,10 @@ pub fn good_form()
 /// A packet is refused exactly by the first fault among its fields.
 pub fn first_fault()
     ensures { RefusesForms }
+{}
+
+/// What the octets of a format say, and those of an extension 3, is what stands at the places of their fields.
+pub fn in_place()
+    ensures format { SaidInPlace }
+    ensures extension_3 { PartsInPlace }
 {}
