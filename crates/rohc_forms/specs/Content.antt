@@ -6,7 +6,7 @@ use Rattle.rohc_forms.specs.declared.form.FormKind.TheVariants.{Uo0, Uo1, Uo1Id,
 use Rattle.rohc_forms.specs.declared.parts.Base.{Base}
 use Rattle.rohc_bits.specs.LowBits.{LowBits}
 use Rattle.rohc_forms.specs.Table.{Said}
-use Rattle.rohc_forms.specs.Given.{ValuesSaid}
+use Rattle.rohc_forms.specs.Given.{ValuesSaid, Extended3}
 
 -- The format of a packet, by the RND in force. The first octet starts with 0, 10 or 110. The T bit of UO-1 is
 -- bit 5 of the first octet, that of UOR-2 is bit 7 of the second.
@@ -29,6 +29,17 @@ pub record Head : Type 0 where
 abbrev pub plain_head : FormKind → Bool → Said → Head
 plain_head kind rnd said =
     record { kind = kind; rnd = rnd; said = said; tsc = None; marker = said.marker; values = None }
+
+-- the content with one
+abbrev pub extended_head : FormKind → Bool → Bool → Extended3 → Head
+extended_head kind rnd tsc extended = record {
+  kind = kind;
+  rnd = rnd;
+  said = extended.said;
+  tsc = Some tsc;
+  marker = extended.marker;
+  values = Some extended.values;
+}
 
 -- What is said of the Identification: nothing, bits of its offset, or the whole one.
 pub data IdSaid : Type 0 where

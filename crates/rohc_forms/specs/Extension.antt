@@ -1,4 +1,17 @@
 -- Extension 3 piece by piece (RFC 3095 5.7.5).
+--
+--   | 1     1  |  S  | R-TS| Tsc |  I  | ip  | rtp |
+--   | TOS | TTL | DF  | PR  | IPX | NBO | RND | ip2 |  if ip = 1
+--   |                      SN                       |  if S = 1
+--   /                      TS                       /  1 to 4 octets, if R-TS = 1
+--   |                      TOS                      |  if TOS = 1
+--   |                      TTL                      |  if TTL = 1
+--   |                   Protocol                    |  if PR = 1
+--   /                     IP-ID                     /  2 octets, if I = 1
+--   |   Mode    | R-PT|  M  | R-X |CSRC | TSS | TIS |  if rtp = 1
+--   |  P  |                  PT                     |  if R-PT = 1
+--   /                   TS_STRIDE                   /  1 to 4 octets, if TSS = 1
+--   /                  TIME_STRIDE                  /  1 to 4 octets, if TIS = 1
 use Rattle.std.specs.Prelude.{ℕ, ◌||◌, List, [], Bool, Option, Some, None, is_some}
 use Rattle.rohc_bits.specs.Grammar.{Octet, Value, Says, IfNamed, As, Judged, Unless, Called, Row}
 use Rattle.rohc_bits.specs.InTurn.{◌>>=◌}

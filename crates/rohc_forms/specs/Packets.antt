@@ -20,7 +20,7 @@ use Rattle.rohc_forms.specs.Octets.{FormPiece, read, word_if}
 use Rattle.rohc_forms.specs.Table.{Said, Id, Tsc, I, IP, FirstOctet, Name, Of, UdpSum, named, row, has, under, layout_0, layout_1, layout_2, short_layout, base_said}
 use Rattle.rohc_forms.specs.Judging.{twice_fault}
 use Rattle.rohc_forms.specs.Given.{RtpSaid, ValuesSaid, rnd_in_force, Extended3}
-use Rattle.rohc_forms.specs.Content.{Content, Head, IdSaid, Offset, Same, Whole, form_kind, plain_head, whole_content}
+use Rattle.rohc_forms.specs.Content.{Content, Head, IdSaid, Offset, Same, Whole, form_kind, plain_head, extended_head, whole_content}
 use Rattle.rohc_forms.specs.Extension.{ip_octet_at, behind_ip_octet}
 
 -- the fields of the code as plain data
@@ -105,18 +105,8 @@ extension_3_at base kept_rnd stride_known flags = do
   Unless (twice_fault (has I flags) (rnd_in_force kept_rnd ip)) (do
     extended ← behind_ip_octet flags stride_known ip
         (base_said (form_kind base (rnd_in_force kept_rnd ip)) base.number)
-    Says (
-        record {
-          kind = form_kind base (rnd_in_force kept_rnd ip);
-          rnd = rnd_in_force kept_rnd ip;
-          said =
-              extended.said;
-          tsc = Some (has Tsc flags);
-          marker = extended.marker;
-          values =
-              Some extended.values;
-        }
-        ))
+    Says (extended_head (form_kind base (rnd_in_force kept_rnd ip)) (rnd_in_force kept_rnd ip) (has Tsc flags)
+        extended))
 
 -- what follows the first octet of an extension
 unfoldable pub extension_at : Base → Bool → Bool → ℕ → FormPiece Head
