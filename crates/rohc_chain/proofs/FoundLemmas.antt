@@ -1,13 +1,16 @@
--- What is read from a text is spelled by it.
-use Rattle.std.proofs.Common.{◌≡◌, ℕ, ◌+◌, ◌*◌, ◌/◌, ◌%◌, ◌<◌, ◌≤◌, Bool, true, false, List, [], ◌∷◌, ◌++◌, length, Option, Some, None, Ok, refl, sym, ap, subst, ◌∙◌, append_assoc, arith}
+-- What a chain's pieces say of octets is spelled by these.
+use Rattle.std.proofs.Common.{◌≡◌, ℕ, ◌+◌, ◌*◌, ◌/◌, ◌%◌, ◌<◌, ◌≤◌, Bool, true, false, List, [], ◌∷◌, ◌++◌, length, Option, Some, None, Ok, refl, sym, ap, subst, ◌∙◌, arith}
 use Rattle.std.specs.Prelude.{◌==◌, All, if◌then◌else◌}
-use Rattle.std.proofs.Math.Seq.{drop-append_seam}
 use Rattle.std.proofs.lemmas.Bool.Decides.{nat_tests}
 use Rattle.std.proofs.lemmas.Bool.{eqb-true}
-use Rattle.std.proofs.lemmas.List.Elements.{All-head, All-tail, All-drop}
-use Rattle.rohc_bits.specs.Reading.{bit, next_word}
+use Rattle.std.proofs.lemmas.List.Elements.{All-head, All-tail}
+use Rattle.rohc_bits.specs.Reading.{bit}
 use Rattle.rohc_bits.specs.Spelling.{IsSpelled}
-use Rattle.rohc_bits.specs.Grammar.{Judged}
+use Rattle.rohc_bits.specs.Grammar.{Word, As, Judged, Called, SaidBy}
+use Rattle.std.proofs.lemmas.List.{append-nil}
+use Rattle.rohc_bits.proofs.Holds.{all_left, all_right}
+use Rattle.rohc_bits.proofs.GrammarLemmas.{found}
+use Rattle.rohc_bits.specs.Spelling.{Spells}
 use Rattle.rohc_header.specs.declared.fields.Static.{Static}
 use Rattle.rohc_header.specs.declared.fields.Dynamic.{Dynamic}
 use Rattle.rohc_chain.specs.declared.parts.Kept.{Kept}
@@ -15,13 +18,12 @@ use Rattle.rohc_chain.specs.declared.parts.IpDynamic.{IpDynamic}
 use Rattle.rohc_chain.specs.declared.parts.RtpDynamic.{RtpDynamic}
 use Rattle.rohc_chain.specs.declared.refusal.ChainRefusal.{ChainRefusal}
 use Rattle.rohc_chain.specs.declared.refusal.ChainRefusal.TheVariants.{Truncated, IpVersion, Protocol, ExtensionList, RtpVersion, Csrc, ZeroStride, ReliableMode}
-use Rattle.rohc_chain.specs.Octets.{read, octet_at, word_at, four_octets_at, quad_at, value_at}
-use Rattle.rohc_chain.specs.Faults.{unless, version_fault, protocol_fault, extension_list_fault, csrc_list_fault, rtp_fault, mode_fault, stride_fault}
-use Rattle.rohc_chain.specs.Chains.{judged_octet, ip_static_at, static_at, ip_dynamic_at, stride_at, behind_time_stride, flags_at, rtp_dynamic_at, joined, dynamic_at}
+use Rattle.rohc_chain.specs.Octets.{Name, TsStride, TimeStride, ChainPiece, read, four_octets_at, quad_at, value_at}
+use Rattle.rohc_chain.specs.Faults.{unless, stride_fault}
+use Rattle.rohc_chain.specs.Chains.{ip_static_at, static_at, ip_dynamic_at, stride_at, behind_time_stride, flags_at, rtp_dynamic_at, joined, dynamic_at}
 use Rattle.rohc_header.specs.Original.{word, quad, flag}
-use Rattle.rohc_chain.specs.ChainText.{SpellsIpStatic, SpellsStatic, SpellsIpDynamic, SpellsStride, SpellsTimeStride, SpellsFlags, SpellsGiven, SpellsRtpDynamic, SpellsDynamic}
-use Rattle.rohc_bits.proofs.Steps.{ok_is, bind_ok, octet_found, judged_ok, judged_found}
-use Rattle.rohc_chain.proofs.Values.{IsOctet, value_front}
+use Rattle.rohc_chain.specs.ChainText.{SpellsIpStatic, SpellsStatic, SpellsIpDynamic, SpellsStride, SpellsTimeStride, SpellsGiven, SpellsRtpDynamic, SpellsDynamic}
+use Rattle.rohc_chain.proofs.Values.{IsOctet}
 use Rattle.rohc_chain.proofs.BitLemmas.{ip_octet, rtp_first_octet, rtp_second_octet, given_octet}
 
 -- The text begins with this spelling, and these octets follow it.
@@ -29,17 +31,10 @@ pub record Found (text spelling rest : List ℕ) : Type 0 where
   pub whole : text ≡ spelling ++ rest
   pub octets : All IsOctet rest
 
--- one after the other
-pub found_then : (text a behind b rest : List ℕ) → Found text a behind → Found behind b rest → Found text (a ++ b) rest
-found_then text a behind b rest p q = record { whole = p.whole ∙ ap (λ (t : List ℕ). a ++ t) q.whole ∙ sym (append_assoc a b rest); octets = q.octets }
-
 pub one_found : (text : List ℕ) (octet : ℕ) (rest : List ℕ) → All IsOctet text → text ≡ octet ∷ rest → Found text (octet ∷ []) rest × (octet < 256)
 one_found text octet rest all e =
     let cells = rw e at all in
     (record { whole = e; octets = All-tail IsOctet octet rest cells }, All-head IsOctet octet rest cells)
-
-octet_read : (text : List ℕ) (x : ℕ × List ℕ) → All IsOctet text → octet_at text ≡ Ok x → Found text (x.0 ∷ []) x.1 × (x.0 < 256)
-octet_read text x all e = one_found text x.0 x.1 all (octet_found Truncated text x e)
 
 word_of : (high low : ℕ) → low < 256 → word (high * 256 + low) ≡ high ∷ low ∷ []
 word_of high low l =
@@ -47,19 +42,13 @@ word_of high low l =
     let m : (high * 256 + low) % 256 ≡ low = omega arith in
     rw (h, m) refl
 
-word_found : (text : List ℕ) (x : ℕ × List ℕ) → All IsOctet text → word_at text ≡ Ok x → Found text (word x.0) x.1 × (x.0 < 65536)
-unfolding next_word
-word_found text x all e =
-    let a = bind_ok (octet_at text) _ x e in
-    let b = bind_ok (octet_at a.0.1) _ x a.2 in
-    let high = octet_read text a.0 all a.1 in
-    let low = octet_read a.0.1 b.0 high.0.octets b.1 in
-    let is : ◌≡◌ {A = ℕ × List ℕ} (a.0.0 * 256 + b.0.0, b.0.1) x = ok_is _ x b.2 in
-    let both = found_then text (a.0.0 ∷ []) a.0.1 (b.0.0 ∷ []) b.0.1 high.0 low.0 in
-    let found : Found text (word (a.0.0 * 256 + b.0.0)) b.0.1 = rw (word_of a.0.0 b.0.0 low.1) both in
-    let h = high.1 in
-    let l = low.1 in
-    subst (λ (y : ℕ × List ℕ). Found text (word y.0) y.1 × (y.0 < 65536)) is (found, omega arith)
+-- what octets say as numbers, and as four octets
+word_said : (n : ℕ) (t : List ℕ) → All IsOctet t → SaidBy {N = Name} {E = ChainRefusal} Word n t → (t ≡ word n) × (n < 65536)
+word_said n t all (high, low, e, is) =
+    let cells = rw e at all in
+    let h : high < 256 = All-head IsOctet high (low ∷ []) cells in
+    let l : low < 256 = All-head IsOctet low [] (All-tail IsOctet high (low ∷ []) cells) in
+    (e ∙ sym (ap word is ∙ word_of high low l), omega (arith, is))
 
 quad_of : (high low : ℕ) → low < 65536 → quad (high * 65536 + low) ≡ word high ++ word low
 quad_of high low l =
@@ -67,278 +56,183 @@ quad_of high low l =
     let m : (high * 65536 + low) % 65536 ≡ low = omega arith in
     ap (λ (n : ℕ). word n ++ word ((high * 65536 + low) % 65536)) h ∙ ap (λ (n : ℕ). word high ++ word n) m
 
-quad_found : (text : List ℕ) (x : ℕ × List ℕ) → All IsOctet text → read quad_at text ≡ Ok x → Found text (quad x.0) x.1
+quad_said : (n : ℕ) (t : List ℕ) → All IsOctet t → SaidBy quad_at n t → t ≡ quad n
 unfolding quad_at
-quad_found text x all e =
-    let a = bind_ok (word_at text) _ x e in
-    let b = bind_ok (word_at a.0.1) _ x a.2 in
-    let high = word_found text a.0 all a.1 in
-    let low = word_found a.0.1 b.0 high.0.octets b.1 in
-    let is : ◌≡◌ {A = ℕ × List ℕ} (a.0.0 * 65536 + b.0.0, b.0.1) x = ok_is _ x b.2 in
-    let both = found_then text (word a.0.0) a.0.1 (word b.0.0) b.0.1 high.0 low.0 in
-    let found : Found text (quad (a.0.0 * 65536 + b.0.0)) b.0.1 = subst (λ (t : List ℕ). Found text t b.0.1) (sym (quad_of a.0.0 b.0.0 low.1)) both in
-    subst (λ (y : ℕ × List ℕ). Found text (quad y.0) y.1) is found
+quad_said n t all (high, f, b, e, is_high, (low, g, c, d, is_low, (end, made))) =
+    let whole = rw e at all in
+    let behind = rw d at (all_right f b whole) in
+    let h = word_said high f (all_left f b whole) is_high in
+    let l = word_said low g (all_left g c behind) is_low in
+    rw (e, d, h.0, l.0, end, made, append-nil (word low)) (sym (quad_of high low l.1))
 
-four_found : (text : List ℕ) (x : List ℕ × List ℕ) → All IsOctet text → read four_octets_at text ≡ Ok x → Found text x.0 x.1 × (length x.0 ≡ 4)
+four_said : (x t : List ℕ) → SaidBy four_octets_at x t → (t ≡ x) × (length x ≡ 4)
 unfolding four_octets_at
-four_found text x all e =
-    let a = bind_ok (octet_at text) _ x e in
-    let b = bind_ok (octet_at a.0.1) _ x a.2 in
-    let c = bind_ok (octet_at b.0.1) _ x b.2 in
-    let d = bind_ok (octet_at c.0.1) _ x c.2 in
-    let fa = octet_read text a.0 all a.1 in
-    let fb = octet_read a.0.1 b.0 fa.0.octets b.1 in
-    let fc = octet_read b.0.1 c.0 fb.0.octets c.1 in
-    let fd = octet_read c.0.1 d.0 fc.0.octets d.1 in
-    let is : ◌≡◌ {A = List ℕ × List ℕ} (a.0.0 ∷ b.0.0 ∷ c.0.0 ∷ d.0.0 ∷ [], d.0.1) x = ok_is _ x d.2 in
-    let cd = found_then b.0.1 (c.0.0 ∷ []) c.0.1 (d.0.0 ∷ []) d.0.1 fc.0 fd.0 in
-    let bcd = found_then a.0.1 (b.0.0 ∷ []) b.0.1 (c.0.0 ∷ d.0.0 ∷ []) d.0.1 fb.0 cd in
-    let found = found_then text (a.0.0 ∷ []) a.0.1 (b.0.0 ∷ c.0.0 ∷ d.0.0 ∷ []) d.0.1 fa.0 bcd in
-    subst (λ (y : List ℕ × List ℕ). Found text y.0 y.1 × (length y.0 ≡ 4)) is (found, refl)
-
--- an octet that isn't refused
-judged_read : (fault : ℕ → Option ChainRefusal) (text : List ℕ) (x : ℕ × List ℕ) → All IsOctet text → judged_octet fault text ≡ Ok x →
-    Found text (x.0 ∷ []) x.1 × (x.0 < 256) × (fault x.0 ≡ None)
-judged_read fault text x all e =
-    let found = judged_found Truncated fault text x e in
-    let one = one_found text x.0 x.1 all found.0 in
-    (one.0, one.1, found.1)
+four_said x t (a, f, b, e, is_a, (c, g, d, h, is_c, (i, j, k, l, is_i, (m, n, o, p, is_m, (end, made))))) =
+    rw (e, is_a, h, is_c, l, is_i, p, is_m, end, made) (refl, refl)
 
 -- the test holds
 pub unless_none : (holds : Bool) (refusal : ChainRefusal) → unless holds refusal ≡ None → holds ≡ true
 unless_none true refusal e = refl
 unless_none false refusal e = cc
 
-ip_static_found : (text : List ℕ) (x : (List ℕ × List ℕ) × List ℕ) → All IsOctet text → read ip_static_at text ≡ Ok x →
-    (spelling : List ℕ) × Found text spelling x.1 × SpellsIpStatic x.0.0 x.0.1 spelling
+ip_static_said : (x : List ℕ × List ℕ) (t : List ℕ) → SaidBy ip_static_at x t → SpellsIpStatic x.0 x.1 t
 unfolding ip_static_at
-ip_static_found text x all e =
-    let a = bind_ok (judged_octet version_fault text) _ x e in
-    let b = bind_ok (judged_octet protocol_fault a.0.1) _ x a.2 in
-    let c = bind_ok (read four_octets_at b.0.1) _ x b.2 in
-    let d = bind_ok (read four_octets_at c.0.1) _ x c.2 in
-    let fa = judged_read version_fault text a.0 all a.1 in
-    let fb = judged_read protocol_fault a.0.1 b.0 fa.0.octets b.1 in
-    let fc = four_found b.0.1 c.0 fb.0.octets c.1 in
-    let fd = four_found c.0.1 d.0 fc.0.octets d.1 in
-    let is : ◌≡◌ {A = (List ℕ × List ℕ) × List ℕ} ((c.0.0, d.0.0), d.0.1) x = ok_is _ x d.2 in
-    let version : a.0.0 / 16 ≡ 4 = eqb-true _ _ (unless_none (a.0.0 / 16 == 4) IpVersion fa.2) in
-    let protocol : b.0.0 ≡ 17 = eqb-true _ _ (unless_none (b.0.0 == 17) Protocol fb.2) in
-    let octet : a.0.0 ≡ 64 + a.0.0 % 16 = omega arith in
-    let cd = found_then b.0.1 c.0.0 c.0.1 d.0.0 d.0.1 fc.0 fd.0 in
-    let bcd = found_then a.0.1 (b.0.0 ∷ []) b.0.1 (c.0.0 ++ d.0.0) d.0.1 fb.0 cd in
-    let found = found_then text (a.0.0 ∷ []) a.0.1 (b.0.0 ∷ c.0.0 ++ d.0.0) d.0.1 fa.0 bcd in
-    let spells : SpellsIpStatic c.0.0 d.0.0 (a.0.0 ∷ b.0.0 ∷ c.0.0 ++ d.0.0) = record {
-      ignored = a.0.0 % 16;
+ip_static_said x t (version, a, b, e, (is_version, version_fine), (protocol, c, d, f, (is_protocol, protocol_fine), (source, g, h, i, is_source, (destination, j, k, l, is_destination, (end, made))))) =
+    let four = four_said source g is_source in
+    let also_four = four_said destination j is_destination in
+    let is_4 : version / 16 ≡ 4 = eqb-true _ _ (unless_none (version / 16 == 4) IpVersion version_fine) in
+    let is_17 : protocol ≡ 17 = eqb-true _ _ (unless_none (protocol == 17) Protocol protocol_fine) in
+    let octet : version ≡ 64 + version % 16 = omega arith in
+    let whole : t ≡ version ∷ protocol ∷ source ++ destination = rw (e, is_version, f, is_protocol, i, four.0, l, also_four.0, end, append-nil destination) refl in
+    rw made (record {
+      ignored = version % 16;
       four_bits = omega arith;
-      four_octets = fc.1;
-      also_four = fd.1;
-      whole = ap (λ (v : ℕ). v ∷ b.0.0 ∷ c.0.0 ++ d.0.0) octet ∙ ap (λ (p : ℕ). (64 + a.0.0 % 16) ∷ p ∷ c.0.0 ++ d.0.0) protocol;
-    } in
-    subst (λ (y : (List ℕ × List ℕ) × List ℕ). (spelling : List ℕ) × Found text spelling y.1 × SpellsIpStatic y.0.0 y.0.1 spelling) is
-    (a.0.0 ∷ b.0.0 ∷ c.0.0 ++ d.0.0, found, spells)
+      four_octets = four.1;
+      also_four = also_four.1;
+      whole = whole ∙ ap (λ (v : ℕ). v ∷ protocol ∷ source ++ destination) octet ∙ ap (λ (p : ℕ). (64 + version % 16) ∷ p ∷ source ++ destination) is_17;
+    })
 
-pub static_found : (text : List ℕ) (x : Static × List ℕ) → All IsOctet text → read static_at text ≡ Ok x →
-    (spelling : List ℕ) × Found text spelling x.1 × SpellsStatic x.0 spelling
+static_said : (x : Static) (t : List ℕ) → All IsOctet t → SaidBy static_at x t → SpellsStatic x t
 unfolding static_at
-static_found text x all e =
-    let a = bind_ok (read ip_static_at text) _ x e in
-    let b = bind_ok (word_at a.0.1) _ x a.2 in
-    let c = bind_ok (word_at b.0.1) _ x b.2 in
-    let d = bind_ok (read quad_at c.0.1) _ x c.2 in
-    let fa = ip_static_found text a.0 all a.1 in
-    let fb = word_found a.0.1 b.0 fa.1.octets b.1 in
-    let fc = word_found b.0.1 c.0 fb.0.octets c.1 in
-    let fd = quad_found c.0.1 d.0 fc.0.octets d.1 in
-    let made : Static × List ℕ = (record { source = a.0.0.0; destination = a.0.0.1; source_port = b.0.0; destination_port = c.0.0; ssrc = d.0.0 }, d.0.1) in
-    let is : made ≡ x = ok_is made x d.2 in
-    let cd = found_then b.0.1 (word c.0.0) c.0.1 (quad d.0.0) d.0.1 fc.0 fd in
-    let bcd = found_then a.0.1 (word b.0.0) b.0.1 (word c.0.0 ++ quad d.0.0) d.0.1 fb.0 cd in
-    let found = found_then text fa.0 a.0.1 (word b.0.0 ++ (word c.0.0 ++ quad d.0.0)) d.0.1 fa.1 bcd in
-    subst (λ (y : Static × List ℕ). (spelling : List ℕ) × Found text spelling y.1 × SpellsStatic y.0 spelling) is
-    (fa.0 ++ (word b.0.0 ++ (word c.0.0 ++ quad d.0.0)), found, record { ip = fa.0; spells_ip = fa.2; whole = refl })
+static_said x t all (addresses, a, b, e, is_addresses, (from, c, d, f, is_from, (to, g, h, i, is_to, (ssrc, j, k, l, is_ssrc, (end, made))))) =
+    let behind_ip = rw f at (all_right a b (rw e at all)) in
+    let behind_from = rw i at (all_right c d behind_ip) in
+    let behind_to = rw l at (all_right g h behind_from) in
+    let source = word_said from c (all_left c d behind_ip) is_from in
+    let destination = word_said to g (all_left g h behind_from) is_to in
+    let source_id = quad_said ssrc j (all_left j k behind_to) is_ssrc in
+    rw made (record {
+      ip = a;
+      spells_ip = ip_static_said addresses a is_addresses;
+      whole = rw (e, f, source.0, i, destination.0, l, source_id, end, append-nil (quad ssrc)) refl;
+    })
 
-ip_dynamic_found : (text : List ℕ) (x : IpDynamic × List ℕ) → All IsOctet text → read ip_dynamic_at text ≡ Ok x →
-    (spelling : List ℕ) × Found text spelling x.1 × ((udp_sum : ℕ) (rtp : RtpDynamic) → SpellsIpDynamic (joined x.0 udp_sum rtp) spelling)
+ip_dynamic_said : (x : IpDynamic) (t : List ℕ) → All IsOctet t → SaidBy ip_dynamic_at x t → (udp_sum : ℕ) (rtp : RtpDynamic) → SpellsIpDynamic (joined x udp_sum rtp) t
 unfolding ip_dynamic_at
-ip_dynamic_found text x all e =
-    let a = bind_ok (octet_at text) _ x e in
-    let b = bind_ok (octet_at a.0.1) _ x a.2 in
-    let c = bind_ok (word_at b.0.1) _ x b.2 in
-    let d = bind_ok (octet_at c.0.1) _ x c.2 in
-    let l = bind_ok (judged_octet extension_list_fault d.0.1) _ x d.2 in
-    let fa = octet_read text a.0 all a.1 in
-    let fb = octet_read a.0.1 b.0 fa.0.octets b.1 in
-    let fc = word_found b.0.1 c.0 fb.0.octets c.1 in
-    let fd = octet_read c.0.1 d.0 fc.0.octets d.1 in
-    let fl = judged_read extension_list_fault d.0.1 l.0 fd.0.octets l.1 in
-    let empty : l.0.0 ≡ 0 = eqb-true _ _ (unless_none (l.0.0 == 0) ExtensionList fl.2) in
-    let made : IpDynamic × List ℕ = (record { tos = a.0.0; ttl = b.0.0; id = c.0.0; df = bit 7 d.0.0; rnd = bit 6 d.0.0; nbo = bit 5 d.0.0 }, l.0.1) in
-    let is : made ≡ x = ok_is made x l.2 in
-    let dl = found_then c.0.1 (d.0.0 ∷ []) d.0.1 (l.0.0 ∷ []) l.0.1 fd.0 fl.0 in
-    let cdl = found_then b.0.1 (word c.0.0) c.0.1 (d.0.0 ∷ l.0.0 ∷ []) l.0.1 fc.0 dl in
-    let bcdl = found_then a.0.1 (b.0.0 ∷ []) b.0.1 (word c.0.0 ++ d.0.0 ∷ l.0.0 ∷ []) l.0.1 fb.0 cdl in
-    let found = found_then text (a.0.0 ∷ []) a.0.1 (b.0.0 ∷ word c.0.0 ++ d.0.0 ∷ l.0.0 ∷ []) l.0.1 fa.0 bcdl in
-    let spells : (udp_sum : ℕ) (rtp : RtpDynamic) → SpellsIpDynamic (joined made.0 udp_sum rtp) (a.0.0 ∷ b.0.0 ∷ word c.0.0 ++ d.0.0 ∷ l.0.0 ∷ []) = λ udp_sum rtp. record {
-      ignored = d.0.0 % 32;
+ip_dynamic_said x t all (tos, a, b, e, is_tos, (ttl, c, d, f, is_ttl, (id, g, h, i, is_id, (flags, j, k, l, is_flags, (list, m, n, o, (is_list, list_fine), (end, made)))))) udp_sum rtp =
+    let behind_tos = rw f at (all_right a b (rw e at all)) in
+    let behind_ttl = rw i at (all_right c d behind_tos) in
+    let behind_id = rw l at (all_right g h behind_ttl) in
+    let number = word_said id g (all_left g h behind_ttl) is_id in
+    let small : flags < 256 = All-head IsOctet flags [] (rw is_flags at (all_left j k behind_id)) in
+    let empty : list ≡ 0 = eqb-true _ _ (unless_none (list == 0) ExtensionList list_fine) in
+    let whole : t ≡ tos ∷ ttl ∷ word id ++ flags ∷ list ∷ [] = rw (e, is_tos, f, is_ttl, i, number.0, l, is_flags, o, is_list, end) refl in
+    rw made (record {
+      ignored = flags % 32;
       five_bits = omega arith;
-      whole = ap (λ (f : ℕ). a.0.0 ∷ b.0.0 ∷ word c.0.0 ++ f ∷ l.0.0 ∷ []) (ip_octet d.0.0 fd.1)
-          ∙ ap (λ (o : ℕ). a.0.0 ∷ b.0.0 ∷ word c.0.0 ++ (flag (bit 7 d.0.0) 128 + flag (bit 6 d.0.0) 64 + flag (bit 5 d.0.0) 32 + d.0.0 % 32) ∷ o ∷ []) empty;
-    } in
-    subst (λ (y : IpDynamic × List ℕ). (spelling : List ℕ) × Found text spelling y.1 × ((udp_sum : ℕ) (rtp : RtpDynamic) → SpellsIpDynamic (joined y.0 udp_sum rtp) spelling)) is
-    (a.0.0 ∷ b.0.0 ∷ word c.0.0 ++ d.0.0 ∷ l.0.0 ∷ [], found, spells)
+      whole = whole ∙ ap (λ (f : ℕ). tos ∷ ttl ∷ word id ++ f ∷ list ∷ []) (ip_octet flags small)
+          ∙ ap (λ (o : ℕ). tos ∷ ttl ∷ word id ++ (flag (bit 7 flags) 128 + flag (bit 6 flags) 64 + flag (bit 5 flags) 32 + flags % 32) ∷ o ∷ []) empty;
+    })
 
-pub all_right : (xs ys : List ℕ) → All IsOctet (xs ++ ys) → All IsOctet ys
-all_right xs ys all = rw drop-append_seam at (All-drop IsOctet (length xs) (xs ++ ys) all)
-
-value_spelled : (text : List ℕ) (x : ℕ × List ℕ) → All IsOctet text → read value_at text ≡ Ok x → (spelling : List ℕ) × Found text spelling x.1 × IsSpelled spelling x.0
-value_spelled text x all e =
-    let front = value_front text x.0 x.1 all e in
-    (front.spelling, record { whole = front.whole; octets = all_right front.spelling x.1 (rw front.whole at all) }, front.spelled)
+value_said : (v : ℕ) (t : List ℕ) → All IsOctet t → SaidBy value_at v t → IsSpelled t v
+unfolding value_at
+value_said v t all (d, (spells, counted), is) = record { octets = all; spells = subst (Spells t) (sym is) spells }
 
 above_zero : (stride : ℕ) (zero : Bool) → (stride == 0) ≡ zero → (if zero then Some ZeroStride else None) ≡ None → 1 ≤ stride
 above_zero stride true e none = cc
 above_zero stride false e none = grind (arith, nat_tests)
 
--- what a stride's octets spell, and what follows them
-abbrev pub StrideFound : ℕ → Option ℕ → List ℕ → Option ℕ × List ℕ → Type 0
-StrideFound flags kept text x = (spelling : List ℕ) × Found text spelling x.1 × SpellsStride (bit 0 flags) kept x.0 spelling
-
-nothing_found : (text : List ℕ) → All IsOctet text → Found text [] text
-nothing_found text all = record { whole = refl; octets = all }
-
-stride_found_by : (tss : Bool) (kept : Option ℕ) (flags : ℕ) (text : List ℕ) (x : Option ℕ × List ℕ) → All IsOctet text → bit 0 flags ≡ tss → read (stride_at kept flags) text ≡ Ok x → StrideFound flags kept text x
+stride_said : (tss : Bool) (kept : Option ℕ) (flags : ℕ) (x : Option ℕ) (t : List ℕ) → All IsOctet t → bit 0 flags ≡ tss → SaidBy (stride_at kept flags) x t → SpellsStride tss kept x t
 unfolding stride_at
-stride_found_by false kept flags text x all tss e =
-    let is : ◌≡◌ {A = Option ℕ × List ℕ} (kept, text) x = ok_is (kept, text) x (rw tss at e) in
-    subst (StrideFound flags kept text) is ([], nothing_found text all, rw tss (refl, refl))
-stride_found_by true kept flags text x all tss e =
-    let a = bind_ok (read (Judged stride_fault value_at) text) _ x (rw tss at e) in
-    let v = bind_ok (read value_at text) _ a.0 a.1 in
-    let j = judged_ok (stride_fault v.0.0) v.0 a.0 v.2 in
-    let front = value_spelled text v.0 all v.1 in
-    let is : ◌≡◌ {A = Option ℕ × List ℕ} (Some v.0.0, v.0.1) x = ap (λ (p : ℕ × List ℕ). (Some p.0, p.1)) j.1 ∙ ok_is _ x a.2 in
-    subst (StrideFound flags kept text) is (front.0, front.1, rw tss (front.2, above_zero v.0.0 (v.0.0 == 0) refl j.0))
+stride_said false kept flags x t all tss is = rw tss at is
+stride_said true kept flags x t all tss is =
+    let (v, (value, fine), made) : SaidBy {N = Name} (As Some (Judged stride_fault (Called TsStride value_at))) x t = rw tss at is in
+    rw made (value_said v t all value, above_zero v (v == 0) refl fine)
 
-stride_found : (kept : Option ℕ) (flags : ℕ) (text : List ℕ) (x : Option ℕ × List ℕ) → All IsOctet text → read (stride_at kept flags) text ≡ Ok x → StrideFound flags kept text x
-stride_found kept flags text x all e = stride_found_by (bit 0 flags) kept flags text x all refl e
-
-abbrev pub TimeFound : ℕ → List ℕ → Unit {0} × List ℕ → Type 0
-TimeFound flags text x = (spelling : List ℕ) × Found text spelling x.1 × SpellsTimeStride (bit 1 flags) spelling
-
-time_found_by : (tis : Bool) (flags : ℕ) (text : List ℕ) (x : Unit {0} × List ℕ) → All IsOctet text → bit 1 flags ≡ tis → read (behind_time_stride flags) text ≡ Ok x → TimeFound flags text x
+time_said : (tis : Bool) (flags : ℕ) (x : Unit {0}) (t : List ℕ) → All IsOctet t → bit 1 flags ≡ tis → SaidBy (behind_time_stride flags) x t → SpellsTimeStride tis t
 unfolding behind_time_stride
-time_found_by false flags text x all tis e =
-    let is : ◌≡◌ {A = Unit {0} × List ℕ} (tt, text) x = ok_is (tt, text) x (rw tis at e) in
-    subst (TimeFound flags text) is ([], nothing_found text all, rw tis refl)
-time_found_by true flags text x all tis e =
-    let v = bind_ok (read value_at text) _ x (rw tis at e) in
-    let front = value_spelled text v.0 all v.1 in
-    let is : ◌≡◌ {A = Unit {0} × List ℕ} (tt, v.0.1) x = ok_is _ x v.2 in
-    subst (TimeFound flags text) is (front.0, front.1, rw tis (v.0.0, front.2))
-
-time_found : (flags : ℕ) (text : List ℕ) (x : Unit {0} × List ℕ) → All IsOctet text → read (behind_time_stride flags) text ≡ Ok x → TimeFound flags text x
-time_found flags text x all e = time_found_by (bit 1 flags) flags text x all refl e
+time_said false flags x t all tis is = (rw tis at is).0
+time_said true flags x t all tis is =
+    let (v, value, made) : SaidBy {N = Name} {E = ChainRefusal} {A = Unit {0}} (As (λ _. tt) (Called TimeStride value_at)) x t = rw tis at is in
+    (v, value_said v t all value)
 
 not_three : (mode : ℕ) (reliable : Bool) → mode < 4 → (mode == 3) ≡ reliable → (if reliable then Some ReliableMode else None) ≡ None → mode < 3
 not_three mode true low e none = cc
 not_three mode false low e none = grind (arith, nat_tests)
 
-abbrev pub GivenFound : Bool → Kept → List ℕ → Kept × List ℕ → Type 0
-GivenFound rx kept text x = (spelling : List ℕ) × Found text spelling x.1 × SpellsGiven rx kept x.0.extension x.0.stride spelling
-
-flags_found : (rx : Bool) (kept : Kept) (text : List ℕ) (x : Kept × List ℕ) → All IsOctet text → read (flags_at kept rx) text ≡ Ok x → GivenFound rx kept text x
+flags_said : (rx : Bool) (kept : Kept) (x : Kept) (t : List ℕ) → All IsOctet t → SaidBy (flags_at kept rx) x t → SpellsGiven rx kept x.extension x.stride t
 unfolding flags_at
-flags_found false kept text x all e =
-    let is : ◌≡◌ {A = Kept × List ℕ} (kept, text) x = ok_is (kept, text) x e in
-    subst (GivenFound false kept text) is ([], nothing_found text all, (refl, refl, refl))
-flags_found true kept text x all e =
-    let a = bind_ok (judged_octet mode_fault text) _ x e in
-    let b = bind_ok (read (stride_at kept.stride a.0.0) a.0.1) _ x a.2 in
-    let c = bind_ok (read (behind_time_stride a.0.0) b.0.1) _ x b.2 in
-    let fa = judged_read mode_fault text a.0 all a.1 in
-    let fb = stride_found kept.stride a.0.0 a.0.1 b.0 fa.0.octets b.1 in
-    let fc = time_found a.0.0 b.0.1 c.0 fb.1.octets c.1 in
-    let made : Kept × List ℕ = (record { extension = bit 4 a.0.0; stride = b.0.0 }, c.0.1) in
-    let is : made ≡ x = ok_is made x c.2 in
-    let bc = found_then a.0.1 fb.0 b.0.1 fc.0 c.0.1 fb.1 fc.1 in
-    let found = found_then text (a.0.0 ∷ []) a.0.1 (fb.0 ++ fc.0) c.0.1 fa.0 bc in
-    let low = fa.1 in
-    let spells : SpellsFlags kept.stride (bit 4 a.0.0) b.0.0 (a.0.0 ∷ fb.0 ++ fc.0) = record {
-      ignored = a.0.0 / 32;
-      mode = a.0.0 / 4 % 4;
-      tis = bit 1 a.0.0;
-      tss = bit 0 a.0.0;
-      stride_text = fb.0;
-      time_text = fc.0;
+flags_said false kept x t all is = rw is.1 (is.0, refl, refl)
+flags_said true kept x t all (flags, a, b, e, (is_flags, fine), (stride, c, d, f, is_stride, (none, g, h, i, is_time, (end, made)))) =
+    let cells = rw e at all in
+    let small : flags < 256 = All-head IsOctet flags [] (rw is_flags at (all_left a b cells)) in
+    let behind = rw f at (all_right a b cells) in
+    let last = rw i at (all_right c d behind) in
+    let whole : t ≡ flags ∷ c ++ g = rw (e, is_flags, f, i, end, append-nil g) refl in
+    rw made (record {
+      ignored = flags / 32;
+      mode = flags / 4 % 4;
+      tis = bit 1 flags;
+      tss = bit 0 flags;
+      stride_text = c;
+      time_text = g;
       three_bits = omega arith;
-      not_reliable = not_three (a.0.0 / 4 % 4) (a.0.0 / 4 % 4 == 3) (omega arith) refl fa.2;
-      spells_stride = fb.2;
-      spells_time = fc.2;
-      whole = ap (λ (o : ℕ). o ∷ fb.0 ++ fc.0) (given_octet a.0.0);
-    } in
-    subst (GivenFound true kept text) is (a.0.0 ∷ fb.0 ++ fc.0, found, spells)
+      not_reliable = not_three (flags / 4 % 4) (flags / 4 % 4 == 3) (omega arith) refl fine;
+      spells_stride = stride_said (bit 0 flags) kept.stride flags stride c (all_left c d behind) refl is_stride;
+      spells_time = time_said (bit 1 flags) flags none g (all_left g h last) refl is_time;
+      whole = whole ∙ ap (λ (o : ℕ). o ∷ c ++ g) (given_octet flags);
+    })
 
 no_rtp_fault : (version sources : Bool) → (if version then unless sources Csrc else Some RtpVersion) ≡ None → (version ≡ true) × (sources ≡ true)
 no_rtp_fault true sources e = (refl, unless_none sources Csrc e)
 no_rtp_fault false sources e = cc
 
-abbrev pub RtpFound : Kept → List ℕ → RtpDynamic × List ℕ → Type 0
-RtpFound kept text x = (spelling : List ℕ) × Found text spelling x.1 × ((ip : IpDynamic) (udp_sum : ℕ) → SpellsRtpDynamic kept (joined ip udp_sum x.0) spelling)
-
 below_128 : (n : ℕ) → n % 128 < 128
 below_128 n = omega arith
 
-rtp_dynamic_found : (kept : Kept) (text : List ℕ) (x : RtpDynamic × List ℕ) → All IsOctet text → read (rtp_dynamic_at kept) text ≡ Ok x → RtpFound kept text x
+rtp_dynamic_said : (kept : Kept) (x : RtpDynamic) (t : List ℕ) → All IsOctet t → SaidBy (rtp_dynamic_at kept) x t → (ip : IpDynamic) (udp_sum : ℕ) → SpellsRtpDynamic kept (joined ip udp_sum x) t
 unfolding rtp_dynamic_at
-rtp_dynamic_found kept text x all e =
-    let a = bind_ok (judged_octet rtp_fault text) _ x e in
-    let b = bind_ok (octet_at a.0.1) _ x a.2 in
-    let c = bind_ok (word_at b.0.1) _ x b.2 in
-    let d = bind_ok (read quad_at c.0.1) _ x c.2 in
-    let l = bind_ok (judged_octet csrc_list_fault d.0.1) _ x d.2 in
-    let g = bind_ok (read (flags_at kept (bit 4 a.0.0)) l.0.1) _ x l.2 in
-    let fa = judged_read rtp_fault text a.0 all a.1 in
-    let fb = octet_read a.0.1 b.0 fa.0.octets b.1 in
-    let fc = word_found b.0.1 c.0 fb.0.octets c.1 in
-    let fd = quad_found c.0.1 d.0 fc.0.octets d.1 in
-    let fl = judged_read csrc_list_fault d.0.1 l.0 fd.octets l.1 in
-    let fg = flags_found (bit 4 a.0.0) kept l.0.1 g.0 fl.0.octets g.1 in
-    let tests = no_rtp_fault (a.0.0 / 64 == 2) (a.0.0 % 16 == 0) fa.2 in
-    let first = rtp_first_octet a.0.0 (eqb-true _ _ tests.0) (eqb-true _ _ tests.1) in
-    let second = rtp_second_octet b.0.0 fb.1 in
-    let empty : l.0.0 ≡ 0 = eqb-true _ _ (unless_none (l.0.0 == 0) Csrc fl.2) in
-    let made : RtpDynamic × List ℕ = (record { padding = bit 5 a.0.0; extension = g.0.0.extension; marker = bit 7 b.0.0; payload_type = b.0.0 % 128; sn = c.0.0; ts = d.0.0; stride = g.0.0.stride }, g.0.1) in
-    let is : made ≡ x = ok_is made x g.2 in
-    let lg = found_then d.0.1 (l.0.0 ∷ []) l.0.1 fg.0 g.0.1 fl.0 fg.1 in
-    let dlg = found_then c.0.1 (quad d.0.0) d.0.1 (l.0.0 ∷ fg.0) g.0.1 fd lg in
-    let cdlg = found_then b.0.1 (word c.0.0) c.0.1 (quad d.0.0 ++ l.0.0 ∷ fg.0) g.0.1 fc.0 dlg in
-    let bcdlg = found_then a.0.1 (b.0.0 ∷ []) b.0.1 (word c.0.0 ++ (quad d.0.0 ++ l.0.0 ∷ fg.0)) g.0.1 fb.0 cdlg in
-    let found = found_then text (a.0.0 ∷ []) a.0.1 (b.0.0 ∷ word c.0.0 ++ (quad d.0.0 ++ l.0.0 ∷ fg.0)) g.0.1 fa.0 bcdlg in
-    let spells : (ip : IpDynamic) (udp_sum : ℕ) → SpellsRtpDynamic kept (joined ip udp_sum made.0) (a.0.0 ∷ b.0.0 ∷ word c.0.0 ++ (quad d.0.0 ++ l.0.0 ∷ fg.0)) = λ ip udp_sum. record {
-      rx = bit 4 a.0.0;
-      given = fg.0;
-      seven_bits = below_128 b.0.0;
-      spells_given = fg.2;
-      whole = ap (λ (o : ℕ). o ∷ b.0.0 ∷ word c.0.0 ++ (quad d.0.0 ++ l.0.0 ∷ fg.0)) first
-          ∙ ap (λ (o : ℕ). (128 + flag (bit 5 a.0.0) 32 + flag (bit 4 a.0.0) 16) ∷ o ∷ word c.0.0 ++ (quad d.0.0 ++ l.0.0 ∷ fg.0)) second
-          ∙ ap (λ (o : ℕ). (128 + flag (bit 5 a.0.0) 32 + flag (bit 4 a.0.0) 16) ∷ (flag (bit 7 b.0.0) 128 + b.0.0 % 128) ∷ word c.0.0 ++ (quad d.0.0 ++ o ∷ fg.0)) empty;
-    } in
-    subst (RtpFound kept text) is (a.0.0 ∷ b.0.0 ∷ word c.0.0 ++ (quad d.0.0 ++ l.0.0 ∷ fg.0), found, spells)
+rtp_dynamic_said kept x t all (first, a, b, e, (is_first, first_fine), (second, c, d, f, is_second, (sn, g, h, i, is_sn, (ts, j, k, l, is_ts, (list, m, n, o, (is_list, list_fine), (given, p, q, r, is_given, (end, made))))))) ip udp_sum =
+    let behind_first = rw f at (all_right a b (rw e at all)) in
+    let behind_second = rw i at (all_right c d behind_first) in
+    let behind_sn = rw l at (all_right g h behind_second) in
+    let behind_ts = rw o at (all_right j k behind_sn) in
+    let behind_list = rw r at (all_right m n behind_ts) in
+    let small : second < 256 = All-head IsOctet second [] (rw is_second at (all_left c d behind_first)) in
+    let sn_is = word_said sn g (all_left g h behind_second) is_sn in
+    let ts_is = quad_said ts j (all_left j k behind_sn) is_ts in
+    let tests = no_rtp_fault (first / 64 == 2) (first % 16 == 0) first_fine in
+    let first_is = rtp_first_octet first (eqb-true _ _ tests.0) (eqb-true _ _ tests.1) in
+    let second_is = rtp_second_octet second small in
+    let empty : list ≡ 0 = eqb-true _ _ (unless_none (list == 0) Csrc list_fine) in
+    let whole : t ≡ first ∷ second ∷ word sn ++ (quad ts ++ list ∷ p) = rw (e, is_first, f, is_second, i, sn_is.0, l, ts_is, o, is_list, r, end, append-nil p) refl in
+    rw made (record {
+      rx = bit 4 first;
+      given = p;
+      seven_bits = below_128 second;
+      spells_given = flags_said (bit 4 first) kept given p (all_left p q behind_list) is_given;
+      whole = whole ∙ ap (λ (o : ℕ). o ∷ second ∷ word sn ++ (quad ts ++ list ∷ p)) first_is
+          ∙ ap (λ (o : ℕ). (128 + flag (bit 5 first) 32 + flag (bit 4 first) 16) ∷ o ∷ word sn ++ (quad ts ++ list ∷ p)) second_is
+          ∙ ap (λ (o : ℕ). (128 + flag (bit 5 first) 32 + flag (bit 4 first) 16) ∷ (flag (bit 7 second) 128 + second % 128) ∷ word sn ++ (quad ts ++ o ∷ p)) empty;
+    })
+
+dynamic_said : (kept : Kept) (x : Dynamic) (t : List ℕ) → All IsOctet t → SaidBy (dynamic_at kept) x t → SpellsDynamic kept x t
+unfolding dynamic_at
+dynamic_said kept x t all (ip, a, b, e, is_ip, (udp_sum, c, d, f, is_sum, (rtp, g, h, i, is_rtp, (end, made)))) =
+    let cells = rw e at all in
+    let behind_ip = rw f at (all_right a b cells) in
+    let behind_sum = rw i at (all_right c d behind_ip) in
+    let number = word_said udp_sum c (all_left c d behind_ip) is_sum in
+    rw made (record {
+      ip = a;
+      rtp = g;
+      spells_ip = ip_dynamic_said ip a (all_left a b cells) is_ip udp_sum rtp;
+      spells_rtp = rtp_dynamic_said kept rtp g (all_left g h behind_sum) is_rtp ip udp_sum;
+      whole = rw (e, f, number.0, i, end, append-nil g) refl;
+    })
+
+-- what is read of octets stands at their front
+front_found : {A : Type 0} (piece : ChainPiece A) (Spells : A → List ℕ → Type 0) (text : List ℕ) (x : A × List ℕ) → ((y : A) (t : List ℕ) → All IsOctet t → SaidBy piece y t → Spells y t) →
+    All IsOctet text → read piece text ≡ Ok x → (spelling : List ℕ) × Found text spelling x.1 × Spells x.0 spelling
+front_found piece Spells text x said all e =
+    let f = found Truncated piece text x.1 x.0 e in
+    let cells = subst (All IsOctet) f.1 all in
+    (f.0, record { whole = f.1; octets = all_right f.0 x.1 cells }, said x.0 f.0 (all_left f.0 x.1 cells) f.2)
+
+pub static_found : (text : List ℕ) (x : Static × List ℕ) → All IsOctet text → read static_at text ≡ Ok x →
+    (spelling : List ℕ) × Found text spelling x.1 × SpellsStatic x.0 spelling
+static_found text x all e = front_found static_at SpellsStatic text x static_said all e
 
 pub dynamic_found : (kept : Kept) (text : List ℕ) (x : Dynamic × List ℕ) → All IsOctet text → read (dynamic_at kept) text ≡ Ok x →
     (spelling : List ℕ) × Found text spelling x.1 × SpellsDynamic kept x.0 spelling
-unfolding dynamic_at
-dynamic_found kept text x all e =
-    let a = bind_ok (read ip_dynamic_at text) _ x e in
-    let b = bind_ok (word_at a.0.1) _ x a.2 in
-    let c = bind_ok (read (rtp_dynamic_at kept) b.0.1) _ x b.2 in
-    let fa = ip_dynamic_found text a.0 all a.1 in
-    let fb = word_found a.0.1 b.0 fa.1.octets b.1 in
-    let fc = rtp_dynamic_found kept b.0.1 c.0 fb.0.octets c.1 in
-    let made : Dynamic × List ℕ = (joined a.0.0 b.0.0 c.0.0, c.0.1) in
-    let is : made ≡ x = ok_is made x c.2 in
-    let bc = found_then a.0.1 (word b.0.0) b.0.1 fc.0 c.0.1 fb.0 fc.1 in
-    let found = found_then text fa.0 a.0.1 (word b.0.0 ++ fc.0) c.0.1 fa.1 bc in
-    subst (λ (y : Dynamic × List ℕ). (spelling : List ℕ) × Found text spelling y.1 × SpellsDynamic kept y.0 spelling) is
-    (fa.0 ++ (word b.0.0 ++ fc.0), found, record { ip = fa.0; rtp = fc.0; spells_ip = fa.2 b.0.0 c.0.0; spells_rtp = fc.2 a.0.0 b.0.0; whole = refl })
+dynamic_found kept text x all e = front_found (dynamic_at kept) (SpellsDynamic kept) text x (dynamic_said kept) all e

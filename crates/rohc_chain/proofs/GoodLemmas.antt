@@ -1,8 +1,7 @@
 -- What octets spell lies in the ranges of its fields.
-use Rattle.std.proofs.Common.{◌≡◌, ℕ, ◌+◌, ◌/◌, ◌%◌, ◌<◌, Bool, true, false, List, [], ◌∷◌, ◌++◌, length, Option, Some, None, sym, subst, arith}
+use Rattle.std.proofs.Common.{◌≡◌, ℕ, ◌+◌, ◌/◌, ◌%◌, ◌<◌, Bool, true, false, List, [], ◌∷◌, ◌++◌, Option, Some, None, sym, subst, arith}
 use Rattle.std.specs.Prelude.{All, Result, Ok, Err, IfOk}
-use Rattle.std.proofs.Math.Seq.{take-append_seam}
-use Rattle.std.proofs.lemmas.List.Elements.{All-head, All-tail, All-take}
+use Rattle.std.proofs.lemmas.List.Elements.{All-head, All-tail}
 use Rattle.rohc_bits.proofs.Values.{value_bound}
 use Rattle.rohc_frame.specs.Header.{Header}
 use Rattle.rohc_frame.specs.Laws.{IsOctet}
@@ -17,10 +16,7 @@ use Rattle.rohc_chain.specs.ChainText.{SpellsStatic, SpellsStride, SpellsGiven, 
 use Rattle.rohc_chain.specs.Good.{IsGoodStatic, IsGoodStride, IsGoodDynamic, IsGoodContent}
 use Rattle.rohc_chain.specs.Packets.{IrContent, Plain, StaticOnly, Whole, ir_content, DynContent, dyn_content, nothing_kept}
 use Rattle.rohc_chain.specs.Texts.{IsIrText, IsIrDynText}
-use Rattle.rohc_chain.proofs.FoundLemmas.{all_right}
-
-all_left : (xs ys : List ℕ) → All IsOctet (xs ++ ys) → All IsOctet xs
-all_left xs ys all = rw take-append_seam at (All-take IsOctet (length xs) (xs ++ ys) all)
+use Rattle.rohc_bits.proofs.Holds.{all_left, all_right}
 
 word_good : (n : ℕ) → All IsOctet (word n) → n < 65536
 word_good n all = let high : n / 256 < 256 = All-head IsOctet (n / 256) (n % 256 ∷ []) all in omega arith
