@@ -1,8 +1,8 @@
 """A ROHC decompressor for many links: packets in, IP packets and feedback out.
 
-A thin layer over the library for C, libpolorowan.so, which `bin/lib` builds. It is taken from the folder or file that the
-environment variable POLOROWAN_LIBRARY names, else from the folder out/ of this repository, else from the system's libraries. The
-library is proved; this layer isn't.
+A thin layer over the library for C, libpolorowan.so, which `bin/lib` builds and a wheel of `bin/wheel` contains. It is
+taken from the folder or file that the environment variable POLOROWAN_LIBRARY names, else from this package, else from the
+folder out/ of this repository, else from the system's libraries. The library is proved; this layer isn't.
 
     from polorowan import Concentrator, Link
 

@@ -80,8 +80,9 @@ def _path() -> str:
     given = os.environ.get("POLOROWAN_LIBRARY")
     if given:
         return str(Path(given) / "libpolorowan.so") if Path(given).is_dir() else given
-    built = Path(__file__).resolve().parents[2] / "out" / "libpolorowan.so"
-    found = str(built) if built.exists() else ctypes.util.find_library("polorowan")
+    folder = Path(__file__).resolve().parent
+    built = [folder / "libpolorowan.so", folder.parent.parent / "out/libpolorowan.so"]
+    found = next((str(file) for file in built if file.exists()), None) or ctypes.util.find_library("polorowan")
     if found is None:
         raise OSError("there is no libpolorowan.so: build it by bin/lib, or name it in POLOROWAN_LIBRARY")
     return found

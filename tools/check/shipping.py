@@ -7,6 +7,7 @@ library is linked with --whole-archive, with -flto, into a plugin, twice into on
 
 import re
 import shutil
+import zipfile
 from collections.abc import Iterator
 from pathlib import Path
 
@@ -66,6 +67,11 @@ add_executable(shared_gateway {gateway})
 target_link_libraries(shared_gateway polorowan::polorowan)
 add_executable(static_gateway {gateway})
 target_link_libraries(static_gateway polorowan::static)
+"""
+FROM_WHEEL = """
+from polorowan import Concentrator, Link
+with Concentrator([Link(1)]) as concentrator:
+    print(concentrator.arrive(1, 0, bytes.fromhex("fc00b745aa")).packet.hex())
 """
 VERSIONS = (
     ("python/pyproject.toml", r'^version = "([^"]*)"$'),
@@ -198,8 +204,37 @@ def check_cmake(trial: Trial, prefix: Path, links: Path, script: Path, answers: 
             trial.same(f"CMake: {name}", answers, ended.output, ended.call)
 
 
+def check_wheel(trial: Trial, folder: Path) -> None:
+    """The wheel is the same each time, contains the library, and answers from a folder where nothing else is."""
+    if not (folder / "libpolorowan.so").exists():
+        return
+    wheels = []
+    for name in ("first", "second"):
+        made = trial.scratch / "wheels" / name
+        trial.must_run(trial.top / "bin/wheel", made, environment={"POLOROWAN_LIBRARY": str(folder)})
+        wheels += made.glob("*.whl")
+    if trial.demand(len(wheels) == 2, "bin/wheel made no wheel"):
+        trial.demand(wheels[0].read_bytes() == wheels[1].read_bytes(), "bin/wheel: two wheels of the same sources differ")
+        target = trial.scratch / "wheels/target"
+        with zipfile.ZipFile(wheels[0]) as wheel:
+            wheel.extractall(target)
+        ended = trial.ran("python3", "-c", FROM_WHEEL, environment={"PYTHONPATH": str(target), "POLOROWAN_LIBRARY": ""})
+        trial.same("the package from its wheel", "45aa\n", ended.output, ended.call)
+
+
+def check_types(trial: Trial) -> None:
+    """The package has no fault of types."""
+    if not shutil.which("mypy"):
+        trial.leave_out("mypy is not installed, the types of the package in Python were not checked")
+        return
+    cache = f"--cache-dir={trial.scratch / 'types'}"
+    trial.must_run("mypy", "--strict", cache, trial.top / "python/polorowan", environment={"MYPYPATH": str(trial.top / "python")})
+
+
 def check(trial: Trial, folder: Path, links: Path, script: Path, answers: bytes) -> None:
     """All that needs no installed library."""
     check_versions(trial)
     check_symbols(trial, folder)
     check_ways(trial, folder, links, script, answers)
+    check_wheel(trial, folder)
+    check_types(trial)
