@@ -1,0 +1,130 @@
+//! What is answered to a packet.
+
+use std::fmt;
+
+use crate::ffi;
+
+/// A refusal, by its number (docs/OPERATING.md).
+#[derive(Clone, Copy, PartialEq, Eq, Hash)]
+pub struct Refusal(u8);
+
+impl Refusal {
+    pub(crate) fn of(number: u8) -> Option<Refusal> {
+        (1..=30).contains(&number).then_some(Refusal(number))
+    }
+
+    /// Its number: 1 to 30.
+    #[must_use]
+    pub fn number(self) -> u8 {
+        self.0
+    }
+
+    /// Its name, such as `NoContext`.
+    #[must_use]
+    pub fn name(self) -> String {
+        let mut name = [0u8; ffi::NAME_ROOM];
+        // SAFETY: the buffer has as many octets as its length says.
+        let length = unsafe { ffi::polorowan_refusal_name(self.0, name.as_mut_ptr(), name.len()) };
+        String::from_utf8_lossy(&name[..length]).into_owned()
+    }
+}
+
+impl fmt::Display for Refusal {
+    fn fmt(&self, f: &mut fmt::Formatter<'_>) -> fmt::Result {
+        f.write_str(&self.name())
+    }
+}
+
+impl fmt::Debug for Refusal {
+    fn fmt(&self, f: &mut fmt::Formatter<'_>) -> fmt::Result {
+        f.write_str(&self.name())
+    }
+}
+
+/// What became of a packet.
+#[derive(Clone, Copy, Debug, PartialEq, Eq)]
+pub enum Outcome {
+    /// The context of this CID rebuilt a packet.
+    Delivered {
+        /// The CID.
+        cid: u16,
+    },
+    /// The context of this CID was made or renewed without a packet.
+    Stored {
+        /// The CID.
+        cid: u16,
+    },
+    /// The packet has only padding and feedback.
+    OnlyFeedback,
+    /// The packet was refused.
+    Refused {
+        /// The CID, if the packet has one.
+        cid: Option<u16>,
+        /// Why.
+        refusal: Refusal,
+    },
+}
+
+/// The answer to a packet. Its octets stand in the gateway until the next arrival.
+#[derive(Clone, Copy, Debug)]
+pub struct Answer<'a> {
+    /// What became of the packet.
+    pub outcome: Outcome,
+    /// The rebuilt packet.
+    pub packet: Option<&'a [u8]>,
+    /// The feedback for the compressor at the other end.
+    pub feedback: Option<&'a [u8]>,
+    pub(crate) relayed: &'a [u8],
+}
+
+impl<'a> Answer<'a> {
+    /// The feedback that the packet carried for this side's compressor, element by element.
+    pub fn relayed(&self) -> impl Iterator<Item = &'a [u8]> {
+        let mut left = self.relayed;
+        std::iter::from_fn(move || {
+            let (count, rest) = left.split_first()?;
+            let element = rest.get(..usize::from(*count))?;
+            left = &rest[element.len()..];
+            Some(element)
+        })
+    }
+}
+
+/// The state of a context (RFC 3095 4.3.2).
+#[derive(Clone, Copy, Debug, PartialEq, Eq)]
+pub enum State {
+    /// Only an IR is taken.
+    NoContext,
+    /// The static part is known.
+    StaticContext,
+    /// Every packet may be taken.
+    FullContext,
+}
+
+/// What is shown of a context.
+#[derive(Clone, Copy, Debug, PartialEq, Eq)]
+pub struct Context {
+    /// Its CID.
+    pub cid: u16,
+    /// Its profile: 0x0000 or 0x0001.
+    pub profile: u16,
+    /// Its state.
+    pub state: State,
+    /// When its last packet was accepted, in milliseconds.
+    pub accepted: u64,
+}
+
+impl Context {
+    pub(crate) fn of(context: &ffi::ContextInfo) -> Context {
+        Context {
+            cid: context.cid,
+            profile: context.profile,
+            state: match context.state {
+                0 => State::NoContext,
+                1 => State::StaticContext,
+                _ => State::FullContext,
+            },
+            accepted: context.accepted,
+        }
+    }
+}

@@ -1,0 +1,273 @@
+//! A gateway.
+
+use std::fmt;
+
+use crate::answer::{Answer, Context, Outcome, Refusal};
+use crate::ffi;
+use crate::settings::{Link, SetupError, SetupFault};
+
+/// There is no such link.
+#[derive(Clone, Copy, Debug, PartialEq, Eq)]
+pub struct NoLink;
+
+impl fmt::Display for NoLink {
+    fn fmt(&self, f: &mut fmt::Formatter<'_>) -> fmt::Result {
+        f.write_str("there is no such link")
+    }
+}
+
+impl std::error::Error for NoLink {}
+
+/// Why a gateway doesn't go on from octets.
+#[derive(Clone, Copy, Debug, PartialEq, Eq)]
+pub enum SavedError {
+    /// A fault of the links.
+    Setup(SetupError),
+    /// A fault of the octets: its number in `enum polorowan_not_restored`, and its place.
+    Octets {
+        /// The number.
+        fault: u8,
+        /// The place of the octet, from 0.
+        place: usize,
+    },
+}
+
+impl fmt::Display for SavedError {
+    fn fmt(&self, f: &mut fmt::Formatter<'_>) -> fmt::Result {
+        match self {
+            SavedError::Setup(error) => error.fmt(f),
+            SavedError::Octets { fault, place } => {
+                let what = match fault {
+                    7 => "these aren't saved calls",
+                    8 => "they are of another version",
+                    9 => "they end too soon",
+                    10 => "a value of a link is bad",
+                    11 => "a value of a context is bad",
+                    12 => "a link or a CID comes twice, or a CID is above the greatest of its link",
+                    13 => "the digest isn't that of the octets",
+                    _ => "octets follow the digest",
+                };
+                write!(f, "{what} (octet {place})")
+            }
+        }
+    }
+}
+
+impl std::error::Error for SavedError {}
+
+/// What was restored, and what was left out.
+#[derive(Clone, Copy, Debug, Default, PartialEq, Eq)]
+pub struct Restored {
+    /// The moment of saving, in milliseconds.
+    pub moment: u64,
+    /// Links that were taken.
+    pub links: u64,
+    /// Links that aren't in the settings.
+    pub unknown_links: u64,
+    /// Links of another CID kind in the settings.
+    pub other_links: u64,
+    /// Contexts that were taken.
+    pub contexts: u64,
+    /// Contexts that were left out with their link.
+    pub left_contexts: u64,
+    /// Contexts above the greatest CID of the settings.
+    pub high_contexts: u64,
+}
+
+/// All contexts of all links.
+pub struct Gateway {
+    raw: ffi::Gateway,
+    packet: Vec<u8>,
+    feedback: [u8; ffi::FEEDBACK_ROOM],
+    relayed: Vec<u8>,
+}
+
+// SAFETY: a gateway belongs to no thread, and nothing else points to what it has.
+unsafe impl Send for Gateway {}
+// SAFETY: the calls that take `&self` write nothing.
+unsafe impl Sync for Gateway {}
+
+fn links_for_c(links: &[Link]) -> Result<Vec<ffi::Link>, SetupError> {
+    let many = |place| SetupError { fault: SetupFault::TooManyRanges, place: Some(place) };
+    links.iter().enumerate().map(|(place, link)| link.for_c().ok_or_else(|| many(place))).collect()
+}
+
+fn setup_error(number: u8, place: usize) -> SetupError {
+    SetupError { fault: SetupFault::of(number), place: place.checked_sub(1) }
+}
+
+impl Gateway {
+    fn empty() -> Gateway {
+        Gateway {
+            raw: ffi::Gateway { live: false, at: std::ptr::null_mut() },
+            packet: Vec::new(),
+            feedback: [0; ffi::FEEDBACK_ROOM],
+            relayed: Vec::new(),
+        }
+    }
+
+    /// A gateway with these links, in this order and without contexts.
+    ///
+    /// # Errors
+    ///
+    /// The first fault of the links, with its place.
+    pub fn new(links: &[Link]) -> Result<Gateway, SetupError> {
+        let links = links_for_c(links)?;
+        let (mut made, mut place) = (Gateway::empty(), 0);
+        // SAFETY: the links are as many as is said, and the gateway is none yet.
+        let fault = unsafe { ffi::polorowan_new(&mut made.raw, links.as_ptr(), links.len(), &mut place) };
+        if fault == 0 {
+            Ok(made)
+        } else {
+            Err(setup_error(fault, place))
+        }
+    }
+
+    /// A gateway with these links that goes on from what [`Gateway::save`] gave.
+    ///
+    /// # Errors
+    ///
+    /// The first fault, of the links and then of the octets.
+    pub fn restored(links: &[Link], octets: &[u8]) -> Result<(Gateway, Restored), SavedError> {
+        let links = links_for_c(links).map_err(SavedError::Setup)?;
+        let (mut made, mut place, mut told) = (Gateway::empty(), 0, ffi::Restored::default());
+        // SAFETY: the links and the octets are as many as is said, and the gateway is none yet.
+        let fault = unsafe {
+            let (at, count) = (octets.as_ptr(), octets.len());
+            ffi::polorowan_restore(&mut made.raw, links.as_ptr(), links.len(), at, count, &mut told, &mut place)
+        };
+        match fault {
+            0 => Ok((
+                made,
+                Restored {
+                    moment: told.moment,
+                    links: told.links,
+                    unknown_links: told.unknown_links,
+                    other_links: told.other_links,
+                    contexts: told.contexts,
+                    left_contexts: told.left_contexts,
+                    high_contexts: told.high_contexts,
+                },
+            )),
+            1..=ffi::NO_MEMORY => Err(SavedError::Setup(setup_error(fault, place))),
+            _ => Err(SavedError::Octets { fault, place }),
+        }
+    }
+
+    /// Takes one packet of a link. `moment` is its arrival time in milliseconds.
+    ///
+    /// A refused packet is an answer too. The octets of the answer stand in the gateway until the next arrival.
+    pub fn arrive(&mut self, link: u16, moment: u64, octets: &[u8]) -> Answer<'_> {
+        let room = octets.len() + ffi::HEAD_ROOM;
+        if self.packet.len() < room {
+            self.packet.resize(room.max(2048), 0);
+            self.relayed.resize(room.max(2048), 0);
+        }
+        let mut told = ffi::Arrival::default();
+        // SAFETY: each buffer is as long as is said, and none overlaps another.
+        let status = unsafe {
+            ffi::polorowan_arrive(
+                &mut self.raw,
+                link,
+                moment,
+                octets.as_ptr(),
+                octets.len(),
+                self.packet.as_mut_ptr(),
+                self.packet.len(),
+                self.feedback.as_mut_ptr(),
+                self.feedback.len(),
+                self.relayed.as_mut_ptr(),
+                self.relayed.len(),
+                &mut told,
+            )
+        };
+        assert_eq!(status, 0, "there is a concentrator, and the buffers have room");
+        Answer {
+            outcome: outcome(&told),
+            packet: told.has_packet.then(|| &self.packet[..told.packet_length]),
+            feedback: told.has_feedback.then(|| &self.feedback[..told.feedback_length]),
+            relayed: &self.relayed[..told.relayed_length],
+        }
+    }
+
+    /// Forgets every context of a link.
+    ///
+    /// # Errors
+    ///
+    /// There is no such link.
+    pub fn reset(&mut self, link: u16) -> Result<(), NoLink> {
+        // SAFETY: the gateway is a good one.
+        match unsafe { ffi::polorowan_reset(&mut self.raw, link) } {
+            0 => Ok(()),
+            _ => Err(NoLink),
+        }
+    }
+
+    /// Whether there is a context for a CID of a link, even one that counts as none because it was idle too long.
+    #[must_use]
+    pub fn has_context(&self, link: u16, cid: u16) -> bool {
+        // SAFETY: the gateway is a good one, and isn't written.
+        unsafe { ffi::polorowan_has_context(&self.raw, link, cid) }
+    }
+
+    /// The numbers of the links, in their order.
+    pub fn links(&self) -> impl Iterator<Item = u16> + '_ {
+        (0..).map_while(move |place| {
+            let mut link = 0;
+            // SAFETY: the gateway is a good one, and isn't written.
+            unsafe { ffi::polorowan_link_at(&self.raw, place, &mut link) }.then_some(link)
+        })
+    }
+
+    /// The contexts of a link, in the order of their first IR.
+    pub fn contexts(&self, link: u16) -> impl Iterator<Item = Context> + '_ {
+        (0..).map_while(move |place| {
+            let mut context = ffi::ContextInfo::default();
+            // SAFETY: the gateway is a good one, and isn't written.
+            unsafe { ffi::polorowan_context_at(&self.raw, link, place, &mut context) }.then(|| Context::of(&context))
+        })
+    }
+
+    /// All that the gateway keeps, as octets. `moment` is that of saving, in milliseconds of the clock of the arrivals.
+    /// None, if there is no memory.
+    #[must_use]
+    pub fn save(&self, moment: u64) -> Option<Vec<u8>> {
+        let (mut octets, mut count) = (vec![0u8; 1], 0);
+        loop {
+            // SAFETY: the buffer is as long as is said, and the gateway isn't written.
+            let status =
+                unsafe { ffi::polorowan_save(&self.raw, moment, octets.as_mut_ptr(), octets.len(), &mut count) };
+            match status {
+                0 => {
+                    octets.truncate(count);
+                    return Some(octets);
+                }
+                2 if octets.len() < count => octets.resize(count, 0),
+                _ => return None,
+            }
+        }
+    }
+}
+
+impl Drop for Gateway {
+    fn drop(&mut self) {
+        // SAFETY: the gateway is a good one.
+        unsafe { ffi::polorowan_free(&mut self.raw) }
+    }
+}
+
+impl fmt::Debug for Gateway {
+    fn fmt(&self, f: &mut fmt::Formatter<'_>) -> fmt::Result {
+        f.debug_struct("Gateway").field("links", &self.links().collect::<Vec<_>>()).finish_non_exhaustive()
+    }
+}
+
+fn outcome(told: &ffi::Arrival) -> Outcome {
+    let cid = (told.kind == 0).then_some(told.cid);
+    match (told.kind, told.outcome, Refusal::of(told.outcome)) {
+        (1, _, _) => Outcome::OnlyFeedback,
+        (_, _, Some(refusal)) => Outcome::Refused { cid, refusal },
+        (_, 0, None) => Outcome::Delivered { cid: told.cid },
+        (_, _, None) => Outcome::Stored { cid: told.cid },
+    }
+}
