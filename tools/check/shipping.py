@@ -75,6 +75,7 @@ with Concentrator([Link(1)]) as concentrator:
 """
 VERSIONS = (
     ("python/pyproject.toml", r'^version = "([^"]*)"$'),
+    ("bindings/rust/Cargo.toml", r'^version = "([^"]*)"$'),
     ("crates/rohctl_program/src/command.rt", r'\.version\("([^"]*)"\)'),
     ("CHANGELOG.md", r"^## ([0-9.]+)\b"),
 )
@@ -204,6 +205,19 @@ def check_cmake(trial: Trial, prefix: Path, links: Path, script: Path, answers: 
             trial.same(f"CMake: {name}", answers, ended.output, ended.call)
 
 
+def check_rust(trial: Trial, folder: Path) -> None:
+    """The layer in Rust: its tests, its examples and its lints."""
+    if not shutil.which("cargo"):
+        trial.leave_out("cargo is not installed, the layer in Rust was not run")
+        return
+    environment = {"POLOROWAN_LIBRARY": str(folder), "CARGO_TARGET_DIR": str(trial.scratch / "rust")}
+    manifest = ("--offline", "--quiet", "--manifest-path", trial.top / "bindings/rust/Cargo.toml")
+    trial.must_run("cargo", "test", *manifest, environment=environment)
+    if trial.ran("cargo", "clippy", "--version").status == 0:
+        trial.must_run("cargo", "clippy", *manifest, "--all-targets", "--", "-D", "warnings", environment=environment)
+    trial.must_run("cargo", "fmt", "--check", "--manifest-path", trial.top / "bindings/rust/Cargo.toml")
+
+
 def check_wheel(trial: Trial, folder: Path) -> None:
     """The wheel is the same each time, contains the library, and answers from a folder where nothing else is."""
     if not (folder / "libpolorowan.so").exists():
@@ -237,4 +251,5 @@ def check(trial: Trial, folder: Path, links: Path, script: Path, answers: bytes)
     check_symbols(trial, folder)
     check_ways(trial, folder, links, script, answers)
     check_wheel(trial, folder)
+    check_rust(trial, folder)
     check_types(trial)

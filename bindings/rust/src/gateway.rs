@@ -157,6 +157,10 @@ impl Gateway {
     /// Takes one packet of a link. `moment` is its arrival time in milliseconds.
     ///
     /// A refused packet is an answer too. The octets of the answer stand in the gateway until the next arrival.
+    ///
+    /// # Panics
+    ///
+    /// Never: the library refuses a call without a concentrator, or with too little room, and neither is possible here.
     pub fn arrive(&mut self, link: u16, moment: u64, octets: &[u8]) -> Answer<'_> {
         let room = octets.len() + ffi::HEAD_ROOM;
         if self.packet.len() < room {
