@@ -7,3 +7,4 @@ pub mod FoundLemmas
 pub mod TextLemmas
 pub mod GoodLemmas
 pub mod EachLemmas
+pub mod RowLemmas

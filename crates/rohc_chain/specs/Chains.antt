@@ -9,12 +9,34 @@ use Rattle.rohc_chain.specs.declared.parts.IpDynamic.{IpDynamic}
 use Rattle.rohc_chain.specs.declared.parts.RtpDynamic.{RtpDynamic}
 use Rattle.rohc_chain.specs.declared.parts.Kept.{Kept}
 use Rattle.rohc_chain.specs.declared.refusal.ChainRefusal.{ChainRefusal}
-use Rattle.rohc_chain.specs.Octets.{Reserved, Version, Protocol, Source, Destination, SourcePort, DestinationPort, Ssrc, Tos, Ttl, Id, Df, Rnd, Nbo, ExtensionHeaders, UdpSum, V, P, Rx, Cc, M, Pt, Sn, Ts, CsrcList, X, Mode, Tis, Tss, TsStride, TimeStride, ChainPiece, read, four_octets_at, quad_at, value_at}
+use Rattle.rohc_chain.specs.Octets.{Name, Reserved, Version, Protocol, Source, Destination, SourcePort, DestinationPort, Ssrc, Tos, Ttl, Id, Df, Rnd, Nbo, ExtensionHeaders, UdpSum, V, P, Rx, Cc, M, Pt, Sn, Ts, CsrcList, X, Mode, Tis, Tss, TsStride, TimeStride, ChainPiece, read, four_octets_at, quad_at, value_at}
 use Rattle.rohc_chain.specs.Faults.{version_fault, protocol_fault, extension_list_fault, csrc_list_fault, rtp_fault, mode_fault, stride_fault}
 
 -- an octet, unless it is refused
 abbrev pub judged_octet : (ℕ → Option ChainRefusal) → List ℕ → Result (ℕ × List ℕ) ChainRefusal
 judged_octet fault = read (Judged fault Octet)
+
+-- the octets with several fields; a law says that what is said of them stands at these places
+--
+--   |  Version = 4  |       0       |
+--   | DF|RND|NBO|         0         |
+--   |  V=2  | P | RX|    CC = 0     |
+--   | M |            PT             |
+--   | Reserved  | X | Mode  |TIS|TSS|
+abbrev pub version_row : List (Name × ℕ)
+version_row = (Version, 4) ∷ (Reserved, 4) ∷ []
+
+abbrev pub ip_row : List (Name × ℕ)
+ip_row = (Df, 1) ∷ (Rnd, 1) ∷ (Nbo, 1) ∷ (Reserved, 5) ∷ []
+
+abbrev pub rtp_row : List (Name × ℕ)
+rtp_row = (V, 2) ∷ (P, 1) ∷ (Rx, 1) ∷ (Cc, 4) ∷ []
+
+abbrev pub type_row : List (Name × ℕ)
+type_row = (M, 1) ∷ (Pt, 7) ∷ []
+
+abbrev pub given_row : List (Name × ℕ)
+given_row = (Reserved, 3) ∷ (X, 1) ∷ (Mode, 2) ∷ (Tis, 1) ∷ (Tss, 1) ∷ []
 
 -- what the octets of a chain say
 abbrev pub static_of : List ℕ × List ℕ → ℕ → ℕ → ℕ → Static
@@ -44,7 +66,7 @@ rtp_dynamic_of first second sn ts given = record {
 -- the static chain of IPv4: version, protocol, the addresses
 unfoldable pub ip_static_at : ChainPiece (List ℕ × List ℕ)
 ip_static_at = do
-  version ← Judged version_fault (Row (λ _. (Version, 4) ∷ (Reserved, 4) ∷ []) Octet)
+  version ← Judged version_fault (Row (λ _. version_row) Octet)
   protocol ← Judged protocol_fault (Called Protocol Octet)
   source ← Called Source four_octets_at
   destination ← Called Destination four_octets_at
@@ -65,7 +87,7 @@ ip_dynamic_at = do
   tos ← Called Tos Octet
   ttl ← Called Ttl Octet
   id ← Called Id Word
-  flags ← Row (λ _. (Df, 1) ∷ (Rnd, 1) ∷ (Nbo, 1) ∷ (Reserved, 5) ∷ []) Octet
+  flags ← Row (λ _. ip_row) Octet
   extensions ← Judged extension_list_fault (Called ExtensionHeaders Octet)
   Says (ip_dynamic_of tos ttl id flags)
 
@@ -80,7 +102,7 @@ behind_time_stride flags = Which (bit 1 flags) (As (λ _. tt) (Called TimeStride
 -- the flag X and the stride, if there is an octet of flags, else those that are kept
 unfoldable pub flags_at : Kept → Bool → ChainPiece Kept
 flags_at kept named = Which named (do
-  flags ← Judged mode_fault (Row (λ _. (Reserved, 3) ∷ (X, 1) ∷ (Mode, 2) ∷ (Tis, 1) ∷ (Tss, 1) ∷ []) Octet)
+  flags ← Judged mode_fault (Row (λ _. given_row) Octet)
   stride ← stride_at kept.stride flags
   _ ← behind_time_stride flags
   Says (record { extension = bit 4 flags; stride = stride })) (Says kept)
@@ -88,8 +110,8 @@ flags_at kept named = Which named (do
 -- the dynamic chain of RTP
 unfoldable pub rtp_dynamic_at : Kept → ChainPiece RtpDynamic
 rtp_dynamic_at kept = do
-  first ← Judged rtp_fault (Row (λ _. (V, 2) ∷ (P, 1) ∷ (Rx, 1) ∷ (Cc, 4) ∷ []) Octet)
-  second ← Row (λ _. (M, 1) ∷ (Pt, 7) ∷ []) Octet
+  first ← Judged rtp_fault (Row (λ _. rtp_row) Octet)
+  second ← Row (λ _. type_row) Octet
   sn ← Called Sn Word
   ts ← Called Ts quad_at
   sources ← Judged csrc_list_fault (Called CsrcList Octet)

@@ -1,7 +1,7 @@
 //! Laws of the definitions, as contracts of functions that do nothing. The crates above rely on them
 //! for what a packet says.
 
-ghost use Rattle.rohc_chain.specs.Laws.{ReadsIrs, RefusesIrs, SaysOne, SaysGood, ReadsIrDyns, RefusesIrDyns, DynSaysOne, DynSaysGood, SpellsEachStatic, SpellsEachDynamic};
+ghost use Rattle.rohc_chain.specs.Laws.{ReadsIrs, RefusesIrs, SaysOne, SaysGood, ReadsIrDyns, RefusesIrDyns, DynSaysOne, DynSaysGood, SpellsEachStatic, SpellsEachDynamic, RowsInPlace};
 
 /// An IR of octets is read exactly if its octets encode what is read and the rebuilt packet isn't too
 /// long. Otherwise its first fault is the refusal. An IR says at most one thing, and its numbers are
@@ -26,4 +26,9 @@ pub fn one_ir_dyn()
 pub fn each_chain()
     ensures fixed { SpellsEachStatic }
     ensures moving { SpellsEachDynamic }
+{}
+
+/// What a chain says of an octet with several fields stands at their places.
+pub fn in_place()
+    ensures { RowsInPlace }
 {}
