@@ -5,7 +5,7 @@ use Rattle.std.proofs.lemmas.List.{take-append-drop, drop-take, length-drop, len
 use Rattle.std.proofs.lemmas.Nat.{div-mul-add}
 use Rattle.std.proofs.Math.Nat.{mul-add-mod_self_right, mod-eq_of_lt}
 use Rattle.rohc_bits.specs.Bits.{bits_of, number}
-use Rattle.rohc_bits.specs.Places.{row_places, number_at, widths, cut}
+use Rattle.rohc_bits.specs.Places.{row_places, shown_at, widths, cut}
 use Rattle.rohc_bits.proofs.BitLists.{number-below, number-append, length-bits_of}
 
 -- c bits, with k bits before them and w bits behind
@@ -27,14 +27,15 @@ slice_at xs k c w l =
     ∙ ap (λ n. n % 2 ^ c) parts ∙ mul-add-mod_self_right (number (take k front)) (2 ^ c) (number middle) ∙ mod-eq_of_lt small
 
 row_stands : {N : Type 0} (row : List (N × ℕ)) (octets : List ℕ) (first : ℕ) → 8 * length octets ≡ first + widths row →
-    map (number_at octets) (row_places first row) ≡ cut row (number (bits_of octets))
+    map (shown_at octets) (row_places first row) ≡ cut row (number (bits_of octets))
 row_stands [] octets first l = refl
 row_stands ((name, count) ∷ more) octets first l =
     let here : number (bits_of octets) / 2 ^ widths more % 2 ^ count ≡ number (take count (drop first (bits_of octets))) =
     slice_at (bits_of octets) first count (widths more) (length-bits_of octets ∙ l ∙ omega arith) in
     let there = row_stands more octets (first + count) (l ∙ omega arith) in
-    ap (λ n. n ∷ map (number_at octets) (row_places (first + count) more)) (sym here) ∙ ap (λ ns. number (bits_of octets) / 2 ^ widths more % 2 ^ count ∷ ns) there
+    ap (λ n. (name, n) ∷ map (shown_at octets) (row_places (first + count) more)) (sym here)
+    ∙ ap (λ ns. (name, number (bits_of octets) / 2 ^ widths more % 2 ^ count) ∷ ns) there
 
 -- Fields of whole octets cut the number of these octets into what stands at their places.
-pub stands : {N : Type 0} (row : List (N × ℕ)) (octets : List ℕ) → widths row ≡ 8 * length octets → map (number_at octets) (row_places 0 row) ≡ cut row (number (bits_of octets))
+pub stands : {N : Type 0} (row : List (N × ℕ)) (octets : List ℕ) → widths row ≡ 8 * length octets → map (shown_at octets) (row_places 0 row) ≡ cut row (number (bits_of octets))
 stands row octets l = row_stands row octets 0 (sym l ∙ omega arith)

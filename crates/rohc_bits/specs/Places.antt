@@ -45,9 +45,10 @@ places short (Called name piece) at text =
 places short (Row fields piece) at text =
     places_in (reads short piece text) (λ x behind. row_places (8 * at) (fields x))
 
--- the number that stands at a place
-abbrev pub number_at : {N : Type 0} → List ℕ → Place N → ℕ
-number_at octets place = number (take place.count (drop place.first_bit (bits_of octets)))
+-- a field's name, with the number that stands at its place
+abbrev pub shown_at : {N : Type 0} → List ℕ → Place N → N × ℕ
+shown_at octets place =
+    (place.name, number (take place.count (drop place.first_bit (bits_of octets))))
 
 -- how many bits fields have
 abbrev pub widths : {N : Type 0} → List (N × ℕ) → ℕ
@@ -55,6 +56,6 @@ widths [] = 0
 widths ((name, count) ∷ more) = count + widths more
 
 -- the numbers that fields cut a number into, the most significant first
-abbrev pub cut : {N : Type 0} → List (N × ℕ) → ℕ → List ℕ
+abbrev pub cut : {N : Type 0} → List (N × ℕ) → ℕ → List (N × ℕ)
 cut [] n = []
-cut ((name, count) ∷ more) n = n / 2 ^ widths more % 2 ^ count ∷ cut more n
+cut ((name, count) ∷ more) n = (name, n / 2 ^ widths more % 2 ^ count) ∷ cut more n

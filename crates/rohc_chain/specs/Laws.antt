@@ -1,6 +1,6 @@
 -- How the readers of IR and IR-DYN packets and the definitions of their octets fit together.
 use Rattle.std.specs.Prelude.{◌≡◌, ℕ, ◌/◌, ◌%◌, ◌<◌, ◌≤◌, ◌↔◌, List, [], ◌∷◌, length, map, All, Some, Ok, Err}
-use Rattle.rohc_bits.specs.Places.{row_places, number_at}
+use Rattle.rohc_bits.specs.Places.{row_places, shown_at}
 use Rattle.rohc_frame.specs.Header.{Header}
 use Rattle.rohc_frame.specs.Laws.{IsOctet}
 use Rattle.rohc_header.specs.declared.fields.Static.{Static}
@@ -10,7 +10,7 @@ use Rattle.rohc_chain.specs.declared.refusal.ChainRefusal.{ChainRefusal}
 use Rattle.rohc_chain.specs.Packets.{IrContent, DynContent, IsIr, IsIrDyn, nothing_kept, longest_payload, ir_at, ir_dyn_at}
 use Rattle.rohc_chain.specs.Good.{IsGoodStatic, IsGoodStride, IsGoodDynamic, IsGoodContent}
 use Rattle.rohc_chain.specs.ChainText.{SpellsStatic, SpellsDynamic}
-use Rattle.rohc_chain.specs.Octets.{Name}
+use Rattle.rohc_chain.specs.Octets.{Name, Reserved, Version, Df, Rnd, Nbo, V, P, Rx, Cc, M, Pt, X, Mode, Tis, Tss}
 use Rattle.rohc_chain.specs.Chains.{version_row, ip_row, rtp_row, type_row, given_row}
 use Rattle.rohc_chain.specs.Texts.{IsIrText, IsIrDynText, IsShort, ir_fault, ir_dyn_fault}
 
@@ -65,17 +65,19 @@ abbrev pub SpellsEachDynamic : Type 0
 SpellsEachDynamic = (moving : Dynamic) → IsGoodDynamic moving →
     (text : List ℕ) × All IsOctet text × SpellsDynamic nothing_kept moving text
 
--- the numbers in the fields of an octet, by their places
-abbrev pub numbers_in : ℕ → List (Name × ℕ) → List ℕ
-numbers_in octet row = map (number_at (octet ∷ [])) (row_places 0 row)
+-- the fields of an octet with the numbers at their places
+abbrev pub fields_of : ℕ → List (Name × ℕ) → List (Name × ℕ)
+fields_of octet row = map (shown_at (octet ∷ [])) (row_places 0 row)
 
 -- what is said or judged of an octet with several fields stands at their places
 pub record StandInPlace (n : ℕ) : Type 0 where
-  pub version : numbers_in n version_row ≡ n / 16 ∷ n % 16 ∷ []
-  pub ip : numbers_in n ip_row ≡ n / 128 ∷ n / 64 % 2 ∷ n / 32 % 2 ∷ n % 32 ∷ []
-  pub rtp : numbers_in n rtp_row ≡ n / 64 ∷ n / 32 % 2 ∷ n / 16 % 2 ∷ n % 16 ∷ []
-  pub type : numbers_in n type_row ≡ n / 128 ∷ n % 128 ∷ []
-  pub given : numbers_in n given_row ≡ n / 32 ∷ n / 16 % 2 ∷ n / 4 % 4 ∷ n / 2 % 2 ∷ n % 2 ∷ []
+  pub version : fields_of n version_row ≡ (Version, n / 16) ∷ (Reserved, n % 16) ∷ []
+  pub ip : fields_of n ip_row
+      ≡ (Df, n / 128) ∷ (Rnd, n / 64 % 2) ∷ (Nbo, n / 32 % 2) ∷ (Reserved, n % 32) ∷ []
+  pub rtp : fields_of n rtp_row ≡ (V, n / 64) ∷ (P, n / 32 % 2) ∷ (Rx, n / 16 % 2) ∷ (Cc, n % 16) ∷ []
+  pub type : fields_of n type_row ≡ (M, n / 128) ∷ (Pt, n % 128) ∷ []
+  pub given : fields_of n given_row
+      ≡ (Reserved, n / 32) ∷ (X, n / 16 % 2) ∷ (Mode, n / 4 % 4) ∷ (Tis, n / 2 % 2) ∷ (Tss, n % 2) ∷ []
 
 abbrev pub RowsInPlace : Type 0
 RowsInPlace = (n : ℕ) → n < 256 → StandInPlace n

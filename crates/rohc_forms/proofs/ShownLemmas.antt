@@ -9,7 +9,7 @@ use Rattle.rohc_bits.specs.Places.{widths, cut}
 use Rattle.rohc_bits.proofs.BitLists.{number-octets}
 use Rattle.rohc_bits.proofs.PlaceLemmas.{stands}
 use Rattle.rohc_forms.specs.Slices.{slice}
-use Rattle.rohc_forms.specs.Table.{Layout, Said, Extension3Octet, FirstOctet, IpOctet, RtpOctet, TypeOctet, named, row, parts, width, under, and_said, number_in}
+use Rattle.rohc_forms.specs.Table.{By, Layout, Said, Extension3Octet, FirstOctet, IpOctet, RtpOctet, TypeOctet, named, row, parts, width, under, and_said, number_in}
 use Rattle.rohc_forms.specs.Formats.{number_of}
 use Rattle.rohc_forms.specs.Shown.{with_numbers, SaidInPlace, PartsInPlace}
 
@@ -53,7 +53,7 @@ whole_row IpOctet = refl
 whole_row RtpOctet = refl
 whole_row TypeOctet = refl
 
-parts_cut : (octet : Extension3Octet) (n : ℕ) → map (λ part. number_in part n) (parts octet) ≡ cut (row octet) n
+parts_cut : (octet : Extension3Octet) (n : ℕ) → map (λ part. (By part, number_in part n)) (parts octet) ≡ cut (row octet) n
 parts_cut FirstOctet n = refl
 parts_cut IpOctet n = refl
 parts_cut RtpOctet n = refl

@@ -2,11 +2,11 @@
 -- behind its CID octets.
 use Rattle.std.specs.Prelude.{◌≡◌, ℕ, ◌*◌, ◌<◌, List, [], ◌∷◌, ◌++◌, length, map, All, Bool}
 use Rattle.rohc_bits.specs.Bits.{IsOctet}
-use Rattle.rohc_bits.specs.Places.{Place, row_places, places_in, places, number_at}
+use Rattle.rohc_bits.specs.Places.{Place, row_places, places_in, places, shown_at}
 use Rattle.rohc_frame.specs.Header.{Header}
 use Rattle.rohc_forms.specs.declared.refusal.FormRefusal.TheVariants.{Truncated}
 use Rattle.rohc_forms.specs.Octets.{read}
-use Rattle.rohc_forms.specs.Table.{Name, Layout, Said, Extension3Octet, layout, named, row, parts, width, under, and_said, number_in}
+use Rattle.rohc_forms.specs.Table.{Name, By, Layout, Said, Extension3Octet, layout, named, row, parts, width, under, and_said, number_in}
 use Rattle.rohc_forms.specs.Formats.{number_of}
 use Rattle.rohc_forms.specs.Packets.{head_at, header_at}
 
@@ -18,19 +18,19 @@ form_places h rnd udp_sum stride_known =
     ++ places Truncated (header_at h.first rnd udp_sum stride_known) 1 h.rest
 
 -- what numbers say as the fields of a format
-abbrev pub with_numbers : Layout → List ℕ → Said → Said
+abbrev pub with_numbers : Layout → List (Name × ℕ) → Said → Said
 with_numbers [] numbers said = said
-with_numbers (field ∷ more) [] said = said
-with_numbers ((field, bits) ∷ more) (n ∷ numbers) said =
+with_numbers ((field, bits) ∷ more) [] said = said
+with_numbers ((field, bits) ∷ more) ((name, n) ∷ numbers) said =
     with_numbers more numbers (and_said field (record { count = bits; value = n }) said)
 
 -- what octets say under a format is what stands at the places of its fields
 abbrev pub SaidInPlace : Type 0
 SaidInPlace = (l : Layout) (octets : List ℕ) (before : Said) → All IsOctet octets → width l ≡ 8 * length octets →
     under l (number_of octets) before
-    ≡ with_numbers l (map (number_at octets) (row_places 0 (named l))) before
+    ≡ with_numbers l (map (shown_at octets) (row_places 0 (named l))) before
 
 -- and so is what an octet of an extension 3 says of its parts
 abbrev pub PartsInPlace : Type 0
 PartsInPlace = (octet : Extension3Octet) (n : ℕ) → n < 256 →
-    map (λ part. number_in part n) (parts octet) ≡ map (number_at (n ∷ [])) (row_places 0 (row octet))
+    map (λ part. (By part, number_in part n)) (parts octet) ≡ map (shown_at (n ∷ [])) (row_places 0 (row octet))
