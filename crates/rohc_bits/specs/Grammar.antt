@@ -60,8 +60,8 @@ SaidBy Octet n text = text ≡ n ∷ []
 SaidBy Word n text = (high : ℕ) × (low : ℕ) × (text ≡ high ∷ low ∷ []) × (n ≡ high * 256 + low)
 SaidBy Value d text = Spells text d.value × (d.count ≡ value_bits (length text))
 SaidBy (Says x) y text = (text ≡ []) × (y ≡ x)
-SaidBy (Then {A} first more) y text = (x : A) × (front : List ℕ) × (behind : List ℕ) × (text ≡ front ++ behind)
-    × SaidBy first x front × SaidBy (more x) y behind
+SaidBy (Then {A} first more) y text = (x : A) × (front : List ℕ) × (behind : List ℕ)
+    × (text ≡ front ++ behind) × SaidBy first x front × SaidBy (more x) y behind
 SaidBy (IfNamed named piece) x text = Named named (SaidBy piece) x text
 SaidBy (Which test first other) x text = Either test (SaidBy first x text) (SaidBy other x text)
 SaidBy (As {A} f piece) y text = (x : A) × SaidBy piece x text × (y ≡ f x)
@@ -72,8 +72,8 @@ SaidBy (Row fields piece) x text = SaidBy piece x text
 
 -- The octets at the start of a text say this, and those behind them are such.
 abbrev pub SaidBefore : {N E A : Type 0} → Piece N E A → (A → List ℕ → Type 0) → List ℕ → Type 0
-SaidBefore {N} {E} {A} piece Behind text = (x : A) × (front : List ℕ) × (behind : List ℕ) × (text ≡ front ++ behind)
-    × SaidBy piece x front × Behind x behind
+SaidBefore {N} {E} {A} piece Behind text = (x : A) × (front : List ℕ) × (behind : List ℕ)
+    × (text ≡ front ++ behind) × SaidBy piece x front × Behind x behind
 
 -- the first of two refusals
 abbrev pub or_else : {E : Type 0} → Option E → Option E → Option E

@@ -21,7 +21,8 @@ place_of name at zero = []
 place_of name at (suc octets) = record { name = name; first_bit = 8 * at; count = 8 * suc octets } ∷ []
 
 -- the places in what was read, if it was
-abbrev pub places_in : {N E A : Type 0} → Result (A × List ℕ) E → (A → List ℕ → List (Place N)) → List (Place N)
+abbrev pub places_in : {N E A : Type 0} → Result (A × List ℕ) E → (A → List ℕ → List (Place N)) →
+    List (Place N)
 places_in (Ok x) f = f x.0 x.1
 places_in (Err refusal) f = []
 

@@ -93,7 +93,8 @@ ip_dynamic_at = do
 
 -- TS_STRIDE, if the flags announce it, else the stride that is kept
 unfoldable pub stride_at : Option ℕ → ℕ → ChainPiece (Option ℕ)
-stride_at kept flags = Which (bit 0 flags) (As Some (Judged stride_fault (Called TsStride value_at))) (Says kept)
+stride_at kept flags =
+    Which (bit 0 flags) (As Some (Judged stride_fault (Called TsStride value_at))) (Says kept)
 
 -- TIME_STRIDE, if the flags announce it, says nothing
 unfoldable pub behind_time_stride : ℕ → ChainPiece (Unit {0})

@@ -177,7 +177,8 @@ abbrev pub with_payload : Head × Option ℕ × Option ℕ → List ℕ → Cont
 with_payload (head, id, sum) payload = whole_content head id sum payload
 
 -- the content of a packet, or its refusal
-abbrev pub content_in : Result ((Head × Option ℕ × Option ℕ) × List ℕ) FormRefusal → Result Content FormRefusal
+abbrev pub content_in : Result ((Head × Option ℕ × Option ℕ) × List ℕ) FormRefusal →
+    Result Content FormRefusal
 content_in (Ok (said, payload)) = Ok (with_payload said payload)
 content_in (Err refusal) = Err refusal
 

@@ -8,8 +8,8 @@ use Rattle.rohc_forms.specs.Octets.{word_if}
 use Rattle.rohc_forms.specs.Content.{Content, whole_content}
 use Rattle.rohc_forms.specs.Packets.{head_at, header_at}
 
--- After the first octet of a packet: the octets up to the end of its extension, the Identification, if the RND
--- in force is 1, the UDP checksum, if packets carry one, and the payload.
+-- After the first octet of a packet: the octets up to the end of its extension, the Identification, if the
+-- RND in force is 1, the UDP checksum, if packets carry one, and the payload.
 abbrev pub IsForm : Header → Bool → Bool → Bool → Content → Type 0
 IsForm h rnd udp_sum stride_known c =
     SaidBefore (head_at h.first rnd stride_known) (λ head.

@@ -1,5 +1,5 @@
--- The places of a packet's fields, for those who show packets. A packet's octets are its first octet and those
--- behind its CID octets.
+-- The places of a packet's fields, for those who show packets. A packet's octets are its first octet and
+-- those behind its CID octets.
 use Rattle.std.specs.Prelude.{◌≡◌, ℕ, ◌*◌, ◌<◌, List, [], ◌∷◌, ◌++◌, length, map, All, Bool}
 use Rattle.rohc_bits.specs.Bits.{IsOctet}
 use Rattle.rohc_bits.specs.Places.{Place, row_places, places_in, places, shown_at}
@@ -14,7 +14,8 @@ use Rattle.rohc_forms.specs.Packets.{head_at, header_at}
 -- force, and those behind.
 abbrev pub form_places : Header → Bool → Bool → Bool → List (Place Name)
 form_places h rnd udp_sum stride_known =
-    places_in (read (head_at h.first rnd stride_known) h.rest) (λ head _. row_places 0 (named (layout head.kind)))
+    places_in (read (head_at h.first rnd stride_known) h.rest)
+    (λ head _. row_places 0 (named (layout head.kind)))
     ++ places Truncated (header_at h.first rnd udp_sum stride_known) 1 h.rest
 
 -- what numbers say as the fields of a format
@@ -26,11 +27,13 @@ with_numbers ((field, bits) ∷ more) ((name, n) ∷ numbers) said =
 
 -- what octets say under a format is what stands at the places of its fields
 abbrev pub SaidInPlace : Type 0
-SaidInPlace = (l : Layout) (octets : List ℕ) (before : Said) → All IsOctet octets → width l ≡ 8 * length octets →
+SaidInPlace = (l : Layout) (octets : List ℕ) (before : Said) → All IsOctet octets →
+    width l ≡ 8 * length octets →
     under l (number_of octets) before
     ≡ with_numbers l (map (shown_at octets) (row_places 0 (named l))) before
 
 -- and so is what an octet of an extension 3 says of its parts
 abbrev pub PartsInPlace : Type 0
 PartsInPlace = (octet : Extension3Octet) (n : ℕ) → n < 256 →
-    map (λ part. (By part, number_in part n)) (parts octet) ≡ map (shown_at (n ∷ [])) (row_places 0 (row octet))
+    map (λ part. (By part, number_in part n)) (parts octet)
+    ≡ map (shown_at (n ∷ [])) (row_places 0 (row octet))
