@@ -8,6 +8,8 @@ use Rattle.rohc_chain.specs.declared.refusal.ChainRefusal.TheVariants.{Truncated
 
 -- the names of the fields of chains
 pub data Name : Type 0 where
+  Profile : Name
+  Crc : Name
   Reserved : Name
   Version : Name
   Protocol : Name

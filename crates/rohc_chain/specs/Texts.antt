@@ -9,10 +9,11 @@ use Rattle.rohc_chain.specs.declared.parts.Kept.{Kept}
 use Rattle.rohc_chain.specs.declared.refusal.ChainRefusal.{ChainRefusal}
 use Rattle.rohc_chain.specs.Packets.{IrContent, Plain, StaticOnly, Whole, DynContent, is_dynamic, plain_cover, cover, before, nothing_kept, longest_payload, length_fault, check_fault, ended}
 use Rattle.rohc_chain.specs.ChainText.{SpellsStatic, SpellsDynamic}
-use Rattle.rohc_bits.specs.Grammar.{Octet, Says, Which, As, Judged, or_else, fault_after, first_fault}
+use Rattle.rohc_bits.specs.Grammar.{Octet, Says, Which, As, Judged, Called, or_else, fault_after, first_fault}
 use Rattle.rohc_bits.specs.InTurn.{◌>>=◌}
+use Rattle.rohc_bits.specs.Places.{Place, places}
 use Rattle.rohc_chain.specs.declared.refusal.ChainRefusal.TheVariants.{Truncated}
-use Rattle.rohc_chain.specs.Octets.{ChainPiece, read}
+use Rattle.rohc_chain.specs.Octets.{Name, Profile, Crc, ChainPiece, read}
 use Rattle.rohc_chain.specs.Faults.{ir_profile_fault, dyn_profile_fault}
 use Rattle.rohc_chain.specs.Chains.{static_at, dynamic_at}
 
@@ -100,16 +101,24 @@ chain_pieces dynamic profile = Which (profile == 0) (Says tt) (do
 -- after the first octet of an IR: the Profile octet, the check octet, the chains
 abbrev pub ir_pieces : Bool → ChainPiece (Unit {0})
 ir_pieces dynamic = do
-  profile ← Judged (ir_profile_fault dynamic) Octet
-  check ← Octet
+  profile ← Judged (ir_profile_fault dynamic) (Called Profile Octet)
+  check ← Called Crc Octet
   chain_pieces dynamic profile
 
 -- the same of an IR-DYN for a context of this profile
 abbrev pub ir_dyn_pieces : ℕ → ChainPiece Dynamic
 ir_dyn_pieces profile = do
-  given ← Judged (dyn_profile_fault profile) Octet
-  check ← Octet
+  given ← Judged (dyn_profile_fault profile) (Called Profile Octet)
+  check ← Called Crc Octet
   dynamic_at nothing_kept
+
+-- The places of the fields of an IR and of an IR-DYN, for those who show packets. A packet's octets are its
+-- first octet and those behind its CID octets.
+abbrev pub ir_places : Header → List (Place Name)
+ir_places h = places Truncated (ir_pieces (is_dynamic h.kind)) 1 h.rest
+
+abbrev pub ir_dyn_places : Header → ℕ → List (Place Name)
+ir_dyn_places h profile = places Truncated (ir_dyn_pieces profile) 1 h.rest
 
 -- the first fault among the pieces, else the fault that is judged last
 abbrev pub fault_among : {A : Type 0} → (List ℕ → Option ChainRefusal) → ChainPiece A → List ℕ →
