@@ -205,6 +205,22 @@ def check_cmake(trial: Trial, prefix: Path, links: Path, script: Path, answers: 
             trial.same(f"CMake: {name}", answers, ended.output, ended.call)
 
 
+def check_cpp(trial: Trial, folder: Path) -> None:
+    """The layer in C++: as C++17 and C++20, and its test, under the sanitizers for addresses and for threads."""
+    include, archive = ("-I", trial.top / "include"), folder / "libpolorowan.a"
+    warnings = ("-Wall", "-Wextra", "-Wpedantic", "-Werror")
+    for language in ("-std=c++17", "-std=c++20"):
+        trial.must_run("c++", language, *warnings, *include, "-fsyntax-only", "tools/library_cpp.cpp")
+    for sanitizer in ("", "-fsanitize=address,undefined", "-fsanitize=thread"):
+        program = trial.scratch / f"cpp{sanitizer.partition('=')[2].replace(',', '_')}"
+        words = ("c++", "-std=c++17", "-g", *sanitizer.split(), *warnings, *include, "-o", program, "tools/library_cpp.cpp")
+        if trial.ran(*words, archive, "-lpthread").status != 0:
+            trial.leave_out(f"the layer in C++ can't be built with {sanitizer or 'c++'}")
+            continue
+        ended = trial.ran(program)
+        trial.demand(ended.status == 0, f"library_cpp {sanitizer}: {ended.end()} {ended.text}", ended.call)
+
+
 def check_rust(trial: Trial, folder: Path) -> None:
     """The layer in Rust: its tests, its examples and its lints."""
     if not shutil.which("cargo"):
@@ -252,4 +268,5 @@ def check(trial: Trial, folder: Path, links: Path, script: Path, answers: bytes)
     check_ways(trial, folder, links, script, answers)
     check_wheel(trial, folder)
     check_rust(trial, folder)
+    check_cpp(trial, folder)
     check_types(trial)

@@ -1,0 +1,201 @@
+/**
+ * @file polorowan.hpp
+ * @brief The library for C++17: a gateway that frees itself, can be moved and not copied, and throws nothing.
+ *
+ * What each call means stands in polorowan.h. Buffers for answers are the gateway's own and grow with the longest packet;
+ * octets of an answer stay until the next arrival. Calls that only read are const, and may run beside one another.
+ */
+#ifndef POLOROWAN_HPP
+#define POLOROWAN_HPP
+
+#include <cstddef>
+#include <cstdint>
+#include <cstring>
+#include <memory>
+#include <new>
+#include <optional>
+#include <string_view>
+#include <utility>
+#include <vector>
+
+#include "polorowan.h"
+
+namespace polorowan {
+
+/** Octets that someone else owns. */
+class octets {
+public:
+    constexpr octets() noexcept = default;
+    constexpr octets(const std::uint8_t *data, std::size_t size) noexcept : data_(data), size_(size) {}
+    octets(const std::vector<std::uint8_t> &from) noexcept : data_(from.data()), size_(from.size()) {}
+
+    [[nodiscard]] constexpr const std::uint8_t *data() const noexcept { return data_; }
+    [[nodiscard]] constexpr std::size_t size() const noexcept { return size_; }
+    [[nodiscard]] constexpr bool empty() const noexcept { return size_ == 0; }
+    [[nodiscard]] constexpr const std::uint8_t *begin() const noexcept { return data_; }
+    [[nodiscard]] constexpr const std::uint8_t *end() const noexcept { return data_ + size_; }
+
+    friend bool operator==(octets a, octets b) noexcept {
+        return a.size_ == b.size_ && (a.size_ == 0 || std::memcmp(a.data_, b.data_, a.size_) == 0);
+    }
+    friend bool operator!=(octets a, octets b) noexcept { return !(a == b); }
+
+private:
+    const std::uint8_t *data_ = nullptr;
+    std::size_t size_ = 0;
+};
+
+/** What became of a packet. */
+enum class outcome : std::uint8_t {
+    delivered,     /**< A packet was rebuilt. */
+    stored,        /**< The context was made or renewed without a packet. */
+    only_feedback, /**< The packet has only padding and feedback. */
+    refused        /**< The packet was refused: see answer::refusal. */
+};
+
+/** The answer to a packet. */
+struct answer {
+    polorowan::outcome outcome;
+    std::uint8_t refusal;               /**< The refusal's number, 1 to 30, or 0. */
+    std::optional<std::uint16_t> cid;   /**< The CID, if the packet has one. */
+    std::optional<octets> packet;       /**< The rebuilt packet. */
+    std::optional<octets> feedback;     /**< The feedback for the compressor. */
+    octets relayed;                     /**< Elements for this side's compressor, each after an octet that counts it. */
+
+    /** Calls a function with each relayed element. */
+    template <typename F>
+    void each_relayed(F &&take) const {
+        for (std::size_t at = 0; at < relayed.size(); at += 1 + std::size_t{relayed.data()[at]})
+            take(octets{relayed.data() + at + 1, relayed.data()[at]});
+    }
+};
+
+/** Why no gateway was made, and the place of the link or octet at fault, as polorowan_new() and polorowan_restore() say. */
+struct fault {
+    std::uint8_t number = POLOROWAN_MADE;
+    std::size_t place = 0;
+};
+
+/** All contexts of all links. */
+class gateway {
+public:
+    /** A gateway with these links; none at a fault, or without memory. */
+    [[nodiscard]] static std::optional<gateway> make(const std::vector<polorowan_link> &links, fault *why = nullptr) noexcept {
+        gateway made;
+        fault found;
+        found.number = made.state_ ? polorowan_new(&made.state_->raw, links.data(), links.size(), &found.place)
+                                   : std::uint8_t{POLOROWAN_NO_MEMORY};
+        if (why) *why = found;
+        if (found.number != POLOROWAN_MADE) return std::nullopt;
+        return made;
+    }
+
+    /** A gateway with these links that goes on from what save() gave. */
+    [[nodiscard]] static std::optional<gateway> restore(const std::vector<polorowan_link> &links, octets saved,
+                                                        polorowan_restored *told = nullptr, fault *why = nullptr) noexcept {
+        gateway made;
+        fault found;
+        polorowan_restored restored{};
+        found.number = made.state_ ? polorowan_restore(&made.state_->raw, links.data(), links.size(), saved.data(), saved.size(),
+                                                       &restored, &found.place)
+                                   : std::uint8_t{POLOROWAN_NO_MEMORY};
+        if (why) *why = found;
+        if (found.number != POLOROWAN_MADE) return std::nullopt;
+        if (told) *told = restored;
+        return made;
+    }
+
+    /** Takes one packet of a link. None without memory for the buffers: then the packet wasn't taken. */
+    [[nodiscard]] std::optional<answer> arrive(std::uint16_t link, std::uint64_t moment, octets packet) noexcept {
+        polorowan_arrival told{};
+        if (!state_ || !state_->has_room(packet.size())) return std::nullopt;
+        if (polorowan_arrive(&state_->raw, link, moment, packet.data(), packet.size(), state_->packet.get(), state_->room,
+                             state_->feedback, sizeof state_->feedback, state_->relayed.get(), state_->room,
+                             &told) != POLOROWAN_ARRIVED)
+            return std::nullopt;
+        return read(told);
+    }
+
+    /** Forgets every context of a link. False if there is no such link. */
+    bool reset(std::uint16_t link) noexcept { return state_ && polorowan_reset(&state_->raw, link) == POLOROWAN_FORGOT; }
+
+    /** Whether there is a context for a CID of a link, even one that counts as none because it was idle too long. */
+    [[nodiscard]] bool has_context(std::uint16_t link, std::uint16_t cid) const noexcept {
+        return state_ && polorowan_has_context(&state_->raw, link, cid);
+    }
+
+    /** The number of the link at a place. */
+    [[nodiscard]] std::optional<std::uint16_t> link_at(std::size_t place) const noexcept {
+        std::uint16_t link = 0;
+        if (!state_ || !polorowan_link_at(&state_->raw, place, &link)) return std::nullopt;
+        return link;
+    }
+
+    /** The context at a place among those of a link. */
+    [[nodiscard]] std::optional<polorowan_context_info> context_at(std::uint16_t link, std::size_t place) const noexcept {
+        polorowan_context_info context{};
+        if (!state_ || !polorowan_context_at(&state_->raw, link, place, &context)) return std::nullopt;
+        return context;
+    }
+
+    /** All that the gateway keeps, as octets. None without memory. */
+    [[nodiscard]] std::optional<std::vector<std::uint8_t>> save(std::uint64_t moment) const {
+        std::uint8_t none = 0;
+        std::size_t count = 0;
+        if (!state_ || polorowan_save(&state_->raw, moment, &none, 0, &count) != POLOROWAN_SAVED_NO_ROOM) return std::nullopt;
+        std::vector<std::uint8_t> saved(count);
+        if (polorowan_save(&state_->raw, moment, saved.data(), saved.size(), &count) != POLOROWAN_SAVED) return std::nullopt;
+        return saved;
+    }
+
+private:
+    struct state {
+        polorowan_gateway raw{};
+        std::size_t room = 0;
+        std::unique_ptr<std::uint8_t[]> packet, relayed;
+        std::uint8_t feedback[POLOROWAN_FEEDBACK_ROOM]{};
+
+        state() noexcept = default;
+        state(const state &) = delete;
+        state &operator=(const state &) = delete;
+        ~state() { polorowan_free(&raw); }
+
+        /** Whether there is room for the answer to a packet of so many octets; it is made if there isn't. */
+        bool has_room(std::size_t count) noexcept {
+            const std::size_t wanted = count + POLOROWAN_HEAD_ROOM;
+            if (wanted <= room) return true;
+            const std::size_t next = wanted < 2048 ? 2048 : wanted;
+            std::unique_ptr<std::uint8_t[]> a(new (std::nothrow) std::uint8_t[next]), b(new (std::nothrow) std::uint8_t[next]);
+            if (!a || !b) return false;
+            packet = std::move(a);
+            relayed = std::move(b);
+            room = next;
+            return true;
+        }
+    };
+
+    gateway() noexcept : state_(new (std::nothrow) state) {}
+
+    [[nodiscard]] answer read(const polorowan_arrival &told) const noexcept {
+        answer made{outcome::refused, 0, std::nullopt, std::nullopt, std::nullopt, {state_->relayed.get(), told.relayed_length}};
+        if (told.kind == POLOROWAN_CONTEXT) made.cid = told.cid;
+        if (told.kind == POLOROWAN_FEEDBACK) made.outcome = outcome::only_feedback;
+        else if (told.outcome == POLOROWAN_DELIVERED) made.outcome = outcome::delivered;
+        else if (told.outcome == POLOROWAN_STORED) made.outcome = outcome::stored;
+        else made.refusal = told.outcome;
+        if (told.has_packet) made.packet = octets{state_->packet.get(), told.packet_length};
+        if (told.has_feedback) made.feedback = octets{state_->feedback, told.feedback_length};
+        return made;
+    }
+
+    std::unique_ptr<state> state_;
+};
+
+/** The name of a refusal, or an empty text if there is none of this number. */
+[[nodiscard]] inline std::string_view refusal_name(std::uint8_t number, char (&room)[POLOROWAN_NAME_ROOM]) noexcept {
+    return {room, polorowan_refusal_name(number, reinterpret_cast<std::uint8_t *>(room), sizeof room)};
+}
+
+} // namespace polorowan
+
+#endif
