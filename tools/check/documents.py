@@ -12,7 +12,6 @@
   documents.
 - The examples of docs/EXAMPLES.md are those of tools/worked_examples.txt and of examples/worked.
 - docs/OPERATING.md has each key, each fault of the links file, each status's text and each refusal with its number.
-- docs/GLOSSARY.md has each word of docs/DEFINITIONS.md.
 - What documents say of the number of scripts, of test data and of refusals is true.
 - The pictures are those that tools/draw_pictures.py draws.
 - docs/TESTED.md is what `bin/check --table` writes, and that table lacks nothing.
@@ -39,7 +38,7 @@ from trial import Trial
 
 README_WORDS = 1200
 # Documents in which each name between back quotes must stand in the sources, except paths and octets.
-NAMING = [f"docs/{name}.md" for name in "PROOFS PROMISES THREATS DEFINITIONS GLOSSARY ARCHITECTURE DECISIONS".split()]
+NAMING = [f"docs/{name}.md" for name in "PROOFS PROMISES THREATS DEFINITIONS ARCHITECTURE DECISIONS".split()]
 EDITS = ("must-fail*/*.edit", "statements/*.edit")
 FOLDERS = "docs|bin|tools|examples|crates|man|bench|completion|python|include"
 PLACE = re.compile(rf"(?<![\w/.-])(?:{FOLDERS})/[\w./*-]*\w")
@@ -236,19 +235,6 @@ def check_operating(top: Path) -> Iterator[str]:
             yield f"docs/OPERATING.md lacks {word}"
 
 
-def check_glossary(top: Path) -> Iterator[str]:
-    """Finds words of docs/DEFINITIONS.md that docs/GLOSSARY.md lacks."""
-    texts = documents(top)
-    heads = re.findall(r"^\*\*([^*]+)\*\*", texts["docs/DEFINITIONS.md"], re.MULTILINE)
-    cells = re.findall(r"^\| ([^|]+) \|", texts["docs/GLOSSARY.md"], re.MULTILINE)
-    known = {word.strip().lower() for cell in cells for word in cell.split(",")}
-    for word in (word.strip() for head in heads for word in head.split(",")):
-        if word.lower() not in known:
-            yield f"docs/GLOSSARY.md lacks {word}"
-    if not heads:
-        yield "docs/DEFINITIONS.md defines no word"
-
-
 def check_counts(top: Path) -> Iterator[str]:
     """Finds counts in documents that aren't true."""
     names = (top / "crates/rohc_context/specs/Refusal.antt").read_text().count("\nname_of ")
@@ -290,7 +276,6 @@ CHECKS = (
     check_names,
     check_examples,
     check_operating,
-    check_glossary,
     check_counts,
     check_pictures,
     check_tested,

@@ -89,7 +89,6 @@ IN_WORDS: tuple[Plant, ...] = (
     ),
     ("lacks a row of BadKey", "docs/OPERATING.md", "| BadKey |", "| BadKeys |"),
     ("lacks `rohcd: sockets", "crates/rohc_end/src/lib.rt", "\"rohcd: socket\"", "\"rohcd: sockets\""),
-    ("lacks Lone step", "docs/GLOSSARY.md", "| Lone step |", "| Single step |"),
     ("counts 35 where 36", "README.md", "36 whole", "35 whole"),
     ("counts 2,514 where 2,777", "README.md", "2,777 lines", "2,514 lines"),
     (
