@@ -5,12 +5,15 @@ _rohctl() {
     local word=${COMP_WORDS[COMP_CWORD]} options=''
     COMPREPLY=()
     if [ "$COMP_CWORD" -eq 1 ]; then
-        mapfile -t COMPREPLY < <(compgen -W 'totals trace' -- "$word")
+        mapfile -t COMPREPLY < <(compgen -W 'totals links trace diff plan' -- "$word")
         return
     fi
     case ${COMP_WORDS[1]} in
     totals) options='--json --prometheus' ;;
+    links) options='--json --new' ;;
     trace) options='--links' ;;
+    diff) options='--json' ;;
+    plan) options='--damage --packet-ms --window --calls --split --links --json' ;;
     esac
     if [[ $word == -* ]]; then
         mapfile -t COMPREPLY < <(compgen -W "$options" -- "$word")

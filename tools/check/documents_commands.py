@@ -29,7 +29,8 @@ def check_commands(trial: Trial, names: Sequence[str]) -> None:
     for name in names:
         folder = trial.scratch / "documents" / name
         (folder / "bin").mkdir(parents=True)
-        for link, target in ("bin/rohcd", trial.file), ("rohcd", trial.file), ("examples", trial.top / "examples"):
+        rohctl = trial.top / "crates/rohctl/out/rohctl"
+        for link, target in (("bin/rohcd", trial.file), ("rohcd", trial.file), ("rohctl", rohctl), ("examples", trial.top / "examples")):
             (folder / link).symlink_to(target)
         environment = {"PATH": f"{folder}:{os.environ['PATH']}", "LC_ALL": "C"}
         for line, command, wanted in marked_commands(documents(trial.top)[name]):

@@ -9,6 +9,7 @@ from program import Call, Ended, run
 from trial import Trial
 
 USAGE = "usage: bin/install PREFIX"
+ROHCTL = "crates/rohctl/out/rohctl"
 NOT_PROVED = "bin/install: no program stands that was proved"
 # Prints the completion of its words; the last is being typed.
 COMPLETE = (
@@ -59,8 +60,10 @@ class Tree:
             shutil.copytree(top / name, self.folder / name)
         shutil.copy(top / "crates.txt", self.folder)
         self.program.parent.mkdir(parents=True)
+        (self.folder / ROHCTL).parent.mkdir(parents=True)
         self.source("a source\n")
         shutil.copy(self.trial.file, self.program)
+        shutil.copy(top / ROHCTL, self.folder / ROHCTL)
 
     def source(self, text: str) -> None:
         """Gives its source this text."""
@@ -102,7 +105,17 @@ def check_installed(tree: Tree) -> None:
     trial, share = tree.trial, tree.prefix / "share"
     ended = tree.install(tree.prefix)
     trial.demand(ended.status == 0, f"bin/install: refused a proved program: {ended.end()}", ended.call)
+    trial.demand(not (tree.prefix / "bin/rohctl").exists(), "bin/install: a rohctl was put that was never recorded")
+    digest = trial.ran(tree.folder / "bin/sources", "digest").text.strip()
+    trial.must_run(tree.folder / "bin/sources", "record", digest, "rohctl")
+    again = tree.install(tree.prefix)
+    trial.demand(again.status == 0, f"bin/install: refused two proved programs: {again.end()}", again.call)
     pairs = (
+        (trial.top / ROHCTL, tree.prefix / "bin/rohctl"),
+        (trial.top / "completion/rohctl.bash", share / "bash-completion/completions/rohctl"),
+        (trial.top / "completion/_rohctl", share / "zsh/site-functions/_rohctl"),
+        (trial.top / "completion/rohctl.fish", share / "fish/vendor_completions.d/rohctl.fish"),
+        (trial.top / "man/rohctl.1", share / "man/man1/rohctl.1"),
         (trial.file, tree.prefix / "bin/rohcd"),
         (trial.top / "man/rohcd.1", share / "man/man1/rohcd.1"),
         (trial.top / "man/rohc-links.5", share / "man/man5/rohc-links.5"),

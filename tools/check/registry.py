@@ -44,11 +44,11 @@ def knows_none(top: Path, word: str) -> bool:
 
 
 def gate(trial: Trial) -> None:
-    """Runs `rt ci`. What it says is shown as it says it, and the program is recorded as proved from these sources."""
+    """Runs `rt ci`. What it says is shown as it says it, and the programs are recorded as proved from these sources."""
     digest = trial.ran("bin/sources", "digest").text.strip()
     status = trial.shown_live("rt", "ci")
     if trial.demand(status == 0, f"gate: status {status}"):
-        recorded = trial.ran("bin/sources", "record", digest).status == 0
+        recorded = all(trial.ran("bin/sources", "record", digest, name).status == 0 for name in ("rohcd", "rohctl"))
         trial.demand(recorded, "gate: a source changed during the gate, or it left no program")
 
 
@@ -158,7 +158,7 @@ CHECKS = (
         "256 links, all CIDs, 2^20 reads, 2^32 octets; a call and an honest sender in a flood",
         knows=limits.is_part,
     ),
-    Check("rohctl", ON_PROGRAM, rohctl.check, "the totals, traces and statuses of rohctl"),
+    Check("rohctl", ON_PROGRAM, rohctl.check, "all that rohctl tells, and its statuses"),
     Check(
         "evidence",
         ON_PROGRAM,
@@ -232,7 +232,7 @@ TESTED = (
     Tested("Refusal", "NoMemory", "gate library poverty"),
     Tested("Command", "replay", "gate program examples lines random limits poverty"),
     Tested("Command", "serve", "gate program launcher"),
-    Tested("Command", "rohctl totals, rohctl trace", "gate rohctl"),
+    Tested("Command", "rohctl totals, links, trace, diff, plan", "gate rohctl"),
     Tested("Command", "bin/rohcd", "launcher"),
     Tested("Command", "cluster/up, cluster/down", "cluster"),
     Tested("Command", "bin/install, completion", "library install"),

@@ -8,6 +8,9 @@ from collections import Counter
 from collections.abc import Sequence
 from pathlib import Path
 
+import rohctl_diff
+import rohctl_links
+import rohctl_plan
 from installation import COMPLETE
 from program import Call, Ended, run
 from trial import Trial
@@ -51,8 +54,10 @@ HOSTILE = b"\x1b[31m\n1 0 ip \x00\n\xff\xfe refused Check\n1 0 refused \"}\n" + 
 
 # What bash completes, and behind which words.
 COMPLETIONS = (
-    ("totals trace", ("",)),
+    ("diff links plan totals trace", ("",)),
     ("totals", ("to",)),
+    ("--json --new", ("links", "--")),
+    ("--calls --damage --json --links --packet-ms --split --window", ("plan", "--")),
     ("--json --prometheus", ("totals", "--")),
     ("--links", ("trace", "--l")),
     ("links.toml", ("trace", "--links", "li")),
@@ -127,12 +132,12 @@ def check_metrics(trial: Trial) -> None:
     """The metrics of --prometheus: each sample stands behind its HELP and TYPE."""
     ended = call(trial, "totals", "--prometheus", f"{PLAIN}.answers")
     for line in (
-        "# TYPE rohc_delivered_total counter",
-        'rohc_delivered_total{link="1",cid="0"} 2',
-        'rohc_feedback_total{link="1",cid="0",kind="plain"} 1',
-        'rohc_refused_total{link="1",cid="0",refusal="Check"} 1',
-        'rohc_refused_since_delivery{link="1",cid="0"} 2',
-        'rohc_lines_total{kind="bad"} 1',
+        "# TYPE polorowan_delivered_total counter",
+        'polorowan_delivered_total{link="1",cid="0"} 2',
+        'polorowan_feedback_total{link="1",cid="0",kind="plain"} 1',
+        'polorowan_refused_total{link="1",cid="0",refusal="Check"} 1',
+        'polorowan_refused_since_delivery{link="1",cid="0"} 2',
+        'polorowan_lines_total{kind="bad"} 1',
     ):
         trial.demand(line in ended.text.splitlines(), f"no line '{line}'", ended.call)
     names: set[str] = set()
@@ -235,10 +240,10 @@ def check_completion(trial: Trial) -> None:
 
 def check_ends(trial: Trial) -> None:
     """The statuses of wrong words and files; help and version."""
-    for words in (("--help",), ("--version",), ("totals", "--help"), ("trace", "--help")):
+    for words in (("--help",), ("--version",), ("totals", "--help"), ("trace", "--help"), ("links", "--help"), ("diff", "--help"), ("plan", "--help")):
         ended = call(trial, *words)
         trial.demand(ended.status == 0 and ended.text != "", f"rohctl {words}: {ended.end()}", ended.call)
-    for words in ((), ("frob",), ("trace",), ("totals", "--json", "--prometheus"), ("totals", "a", "b")):
+    for words in ((), ("frob",), ("trace",), ("links",), ("diff", "a"), ("totals", "--json", "--prometheus"), ("totals", "a", "b")):
         ended = call(trial, *words)
         trial.demand(ended.status == 2, f"rohctl {words}: {ended.end()}; wanted 2", ended.call)
     ends(trial, call(trial, "trace", "--links", "nothing.toml"), 3, "rohctl: links file: Unreadable")
@@ -250,5 +255,6 @@ def check_ends(trial: Trial) -> None:
 
 def check(trial: Trial) -> None:
     """All of it, on the program that the gate left."""
-    for part in (check_totals, check_json, check_metrics, check_hostile, check_trace, check_whole, check_colour, check_completion, check_ends):
+    for part in (check_totals, check_json, check_metrics, check_hostile, check_trace, check_whole, check_colour, check_completion, check_ends,
+                 rohctl_links.check, rohctl_diff.check, rohctl_plan.check):
         part(trial)

@@ -38,7 +38,7 @@ inner g f unfit (Some x) k n next = next x
 optional : {A B : Type 0} (g : Option A → Result B Key) (f : B → Result (LinkSetting × Ports) Key) (unfit : List Key)
     (d : Option Data) (read : Data → Option A) (k : Key) (n : ℕ) → ((x : Option A) → Tells n (g x >>= f) unfit)
     → Tells n ((option_map_or (λ v. ok_or (option_map Some (read v)) k) d (Ok None) >>= g) >>= f)
-        (cond (not (is_ok (option_map_or (λ v. ok_or (option_map Some (read v)) k) d (Ok None)))) (k ∷ unfit) unfit)
+    (cond (not (is_ok (option_map_or (λ v. ok_or (option_map Some (read v)) k) d (Ok None)))) (k ∷ unfit) unfit)
 optional g f unfit None read k n next = next None
 optional g f unfit (Some v) read k n next = inner g f unfit (option_map Some (read v)) k n next
 

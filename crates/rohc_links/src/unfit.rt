@@ -27,7 +27,9 @@ fn is_fit(table: &Table, key: Key) -> bool
         Key::Mode => required_field::<Mode>(table, key).is_ok(),
         Key::Number | Key::MaxCid => required_field::<u16>(table, key).is_ok(),
         Key::K1 | Key::N1 | Key::K2 | Key::N2 => required_field::<u8>(table, key).is_ok(),
-        Key::PacketMs | Key::StaticNackMs | Key::IdleMs => required_field::<u32>(table, key).is_ok(),
+        Key::PacketMs | Key::StaticNackMs | Key::IdleMs => required_field::<u32>(
+            table, key,
+        ).is_ok(),
         Key::DeliverPort | Key::FeedbackPort | Key::RelayPort => port(table, key).is_ok(),
         Key::Range => optional_field::<ArrayVec<CidRange, 8>>(table, key).is_ok(),
     }

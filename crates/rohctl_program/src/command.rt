@@ -5,6 +5,9 @@ use clap::error::ErrorKind;
 use clap::{Arg, ArgAction, ArgMatches, Command};
 use std::alloc::{AllocError, Global};
 
+/// The most processes over which links are spread.
+const MOST_PROCESSES: u64 = 256;
+
 /// How a result is written.
 #[derive(Clone, Copy, Debug, PartialEq, Eq)]
 pub(crate) enum Form {
@@ -16,13 +19,53 @@ pub(crate) enum Form {
     Prometheus,
 }
 
+/// What is asked of `plan`.
+#[derive(Clone, Copy, Debug)]
+pub(crate) struct Plan<'a> {
+    /// How many of a hundred headers are damaged.
+    pub(crate) damage: f64,
+    /// The time between two packets of a call, in milliseconds.
+    pub(crate) packet_ms: u32,
+    /// A window that is asked for, K/N.
+    pub(crate) window: Option<(u8, u8)>,
+    /// The calls whose memory is asked for.
+    pub(crate) calls: Option<u64>,
+    /// The processes over which links are spread.
+    pub(crate) split: Option<u16>,
+    /// The links file.
+    pub(crate) links: Option<&'a str>,
+    /// Whether JSON is wanted.
+    pub(crate) json: bool,
+}
+
 /// What the command line asks for.
 #[derive(Clone, Copy, Debug)]
 pub(crate) enum Request<'a> {
     /// Count the answer lines of this file; `-` is standard input.
-    Totals { answers: &'a str, form: Form },
+    Totals {
+        answers: &'a str,
+        form: Form,
+    },
+    /// Tell all faults of this links file, or what it sets.
+    Links {
+        links: &'a str,
+        json: bool,
+    },
+    /// Write a links file to start from.
+    NewLinks,
+    /// Compare two answers, or traces.
+    Diff {
+        first: &'a str,
+        second: &'a str,
+        json: bool,
+    },
+    /// Tell what windows mean, what memory calls take, or how links are spread.
+    Plan(Plan<'a>),
     /// Trace the script of this file, with the links of another; `-` is standard input.
-    Trace { links: &'a str, script: &'a str },
+    Trace {
+        links: &'a str,
+        script: &'a str,
+    },
 }
 
 /// An option without a value.
@@ -46,6 +89,123 @@ fn totals<'a>(alloc: Global) -> Result<Command<'a>, AllocError> {
         .arg(flag(alloc, "prometheus", "Write the text format of Prometheus").conflicts_with(
             "json",
         )?)
+}
+
+/// The subcommand `links`.
+fn links<'a>(alloc: Global) -> Result<Command<'a>, AllocError> {
+    Command::new(alloc, "links")
+        .about("Tell all faults of a links file, or what a good one sets")
+        .arg(
+            Arg::new(alloc, "FILE")
+                .help("The links file; - is standard input")
+                .required_unless_present("new")?,
+        )?
+        .arg(flag(alloc, "json", "Write JSON, one object a line"))?
+        .arg(flag(alloc, "new", "Write a links file to start from").conflicts_with("FILE")?)
+}
+
+/// An option with a value.
+fn valued<'a>(
+    alloc: Global,
+    name: &'static str,
+    value: &'static str,
+    help: &'static str,
+) -> Arg<'a> {
+    Arg::new(alloc, name)
+        .long(name)
+        .value_name(value)
+        .help(help)
+        .action(ArgAction::Set)
+}
+
+/// The subcommand `diff`.
+fn diff<'a>(alloc: Global) -> Result<Command<'a>, AllocError> {
+    Command::new(alloc, "diff")
+        .about(
+            "Tell the first difference of each call in two answers, or two traces, of one script",
+        )
+        .arg(
+            Arg::new(alloc, "A")
+                .help("The first text; - is standard input")
+                .required(true),
+        )?
+        .arg(Arg::new(alloc, "B").help("The second text").required(true))?
+        .arg(flag(alloc, "json", "Write JSON, one object a line"))
+}
+
+/// The subcommand `plan`.
+fn plan_words<'a>(alloc: Global) -> Result<Command<'a>, AllocError> {
+    Command::new(alloc, "plan")
+        .about("Tell what k and n mean on a link, what memory calls take, or how to spread links")
+        .arg(valued(
+            alloc,
+            "damage",
+            "PERCENT",
+            "How many of 100 headers are damaged",
+        )
+        .default_value("1"))?
+        .arg(valued(
+            alloc,
+            "packet-ms",
+            "MS",
+            "The time between two packets of a call",
+        )
+        .default_value("20"))?
+        .arg(valued(alloc, "window", "K/N", "A window of at most 16 outcomes"))?
+        .arg(valued(alloc, "calls", "COUNT", "Tell the memory of so many calls"))?
+        .arg(valued(
+            alloc,
+            "split",
+            "COUNT",
+            "Spread the links over so many processes",
+        )
+        .requires_arg("links")?)?
+        .arg(valued(alloc, "links", "FILE", "The links to spread").requires_arg("split")?)?
+        .arg(flag(alloc, "json", "Write JSON, one object a line"))
+}
+
+/// The two numbers of a window, K/N.
+fn window_of(text: &str) -> Option<(u8, u8)> {
+    let (k, n) = text.split_once("/")?;
+    Some((k.parse().ok()?, n.parse().ok()?))
+}
+
+/// A number that may be missing, and is wrong if it can't be read.
+fn number_of(options: &ArgMatches<'_>, name: &str) -> Option<Option<u64>> {
+    match options.get_str(name) {
+        Some(text) => match text.parse() {
+            Ok(number) => Some(Some(number)),
+            Err(_) => None,
+        },
+        None => Some(None),
+    }
+}
+
+/// What is asked of `plan`, if its numbers can be read.
+fn plan_of<'a>(options: &ArgMatches<'a>) -> Option<Plan<'a>> {
+    let window = match options.get_str("window") {
+        Some(text) => Some(window_of(text)?),
+        None => None,
+    };
+    let damage: f64 = options.get_str("damage")?.parse().ok()?;
+    let packet_ms: u32 = options.get_str("packet-ms")?.parse().ok()?;
+    if damage < 0.0 || damage > 100.0 || packet_ms > 60_000 {
+        return None;
+    }
+    let split = match number_of(options, "split")? {
+        Some(count) if 1 <= count && count <= MOST_PROCESSES => u16::try_from(count).ok(),
+        Some(_) => return None,
+        None => None,
+    };
+    Some(Plan {
+        damage,
+        packet_ms,
+        window,
+        calls: number_of(options, "calls")?,
+        split,
+        links: options.get_str("links"),
+        json: options.get_flag("json"),
+    })
 }
 
 /// The subcommand `trace`.
@@ -77,7 +237,10 @@ fn command<'a>(alloc: Global) -> Result<Command<'a>, AllocError> {
         .subcommand_required(true)
         .arg_required_else_help(true)
         .subcommand(totals(alloc)?)?
-        .subcommand(trace(alloc)?)
+        .subcommand(trace(alloc)?)?
+        .subcommand(links(alloc)?)?
+        .subcommand(diff(alloc)?)?
+        .subcommand(plan_words(alloc)?)
 }
 
 /// The form that is asked for.
@@ -98,6 +261,17 @@ fn asked_for<'a>(matches: &ArgMatches<'a>) -> Option<Request<'a>> {
             answers: options.get_str("ANSWERS")?,
             form: form_of(options),
         }),
+        ("links", options) if options.get_flag("new") => Some(Request::NewLinks),
+        ("links", options) => Some(Request::Links {
+            links: options.get_str("FILE")?,
+            json: options.get_flag("json"),
+        }),
+        ("diff", options) => Some(Request::Diff {
+            first: options.get_str("A")?,
+            second: options.get_str("B")?,
+            json: options.get_flag("json"),
+        }),
+        ("plan", options) => Some(Request::Plan(plan_of(options)?)),
         ("trace", options) => Some(Request::Trace {
             links: options.get_str("links")?,
             script: options.get_str("SCRIPT")?,

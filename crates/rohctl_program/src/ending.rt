@@ -7,12 +7,15 @@ use std::fmt;
 pub enum Ending {
     /// All was done, and nothing was found.
     Good,
-    /// All was done, and something was found: a call to which nothing is delivered, or a line that isn't good.
+    /// All was done, and something was found: a call to which nothing is delivered, a line that isn't good, a fault or
+    /// a difference.
     Findings,
     /// The words are not a command. What is wrong was printed.
     CommandLine,
     /// The links file can't be read, or it has the fault of this name.
     LinksFile(&'static str),
+    /// What was found is not what rohcd finds. This is a fault of this program.
+    Differs,
     /// A read failed.
     Read,
     /// A write failed.
@@ -22,14 +25,19 @@ pub enum Ending {
 }
 
 impl Ending {
+    ghost use Rattle.std.specs.Prelude.{◌≡◌};
+    ghost use Rattle.rohctl_program.specs.Ending.{status_of};
+
     /// The exit status of the program.
-    pub fn status(&self) -> u8 {
+    pub fn status(&self) -> u8
+        ensures { result ≡ status_of self.now }
+    {
         match self {
             Ending::Good => 0,
             Ending::Findings => 1,
             Ending::CommandLine => 2,
             Ending::LinksFile(_) => 3,
-            Ending::Read | Ending::Write => 4,
+            Ending::Differs | Ending::Read | Ending::Write => 4,
             Ending::Memory => 5,
         }
     }
@@ -44,6 +52,7 @@ impl fmt::Display for Ending {
                 f.write_str(name)?;
                 f.write_str("\n")
             }
+            Ending::Differs => f.write_str("rohctl: not as rohcd has it\n"),
             Ending::Read => f.write_str("rohctl: read\n"),
             Ending::Write => f.write_str("rohctl: write\n"),
             Ending::Memory => f.write_str("rohctl: memory\n"),

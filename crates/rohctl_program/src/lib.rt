@@ -4,12 +4,20 @@
 #![tactic(auto)]
 
 mod command;
+mod differences;
 mod ending;
+mod faults;
 mod file;
+mod finding;
 mod json;
 mod links;
 mod metrics;
+mod new_file;
+mod places;
+mod plan;
 mod program;
+mod quoted;
+mod settings;
 mod table;
 
 pub use ending::Ending;

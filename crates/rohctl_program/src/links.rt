@@ -2,7 +2,8 @@
 
 use crate::ending::Ending;
 use rohc_concentrator::{Concentrator, SetupFault};
-use rohc_links::{LinksFault, read_links};
+use rohc_links::{Links, LinksFault, read_links};
+use std::alloc::Global;
 use std::io::Read;
 use std::rt::Files;
 use std::{fs, io};
@@ -19,11 +20,10 @@ fn unreadable(e: &io::Error) -> Ending {
     }
 }
 
-/// Reads the text of the file, up to the limit and no further.
-fn links_text<R: Files + AllocGlobal>(rt: &R, path: &str) -> Result<String, Ending> {
-    let file = fs::open(rt, path).map_err(|e| unreadable(&e))?;
-    let mut octets = Vec::new(rt.alloc());
-    let mut limited = file.take(LONGEST_FILE + 1);
+/// Reads a text, up to the limit and no further.
+fn text_of<S: Read + Drop>(alloc: Global, source: S) -> Result<String, Ending> {
+    let mut octets = Vec::new(alloc);
+    let mut limited = source.take(LONGEST_FILE + 1);
     limited
         .read_to_end(&mut octets)
         .map_err(|e| unreadable(&e))?;
@@ -33,13 +33,42 @@ fn links_text<R: Files + AllocGlobal>(rt: &R, path: &str) -> Result<String, Endi
     String::from_utf8(octets).map_err(|_| Ending::LinksFile("Unreadable"))
 }
 
+/// The text of the file; `-` is standard input.
+pub(crate) fn links_text<R: Files + Input + AllocGlobal>(
+    rt: &R,
+    path: &str,
+) -> Result<String, Ending> {
+    if path == "-" {
+        return text_of(rt.alloc(), rt.reader());
+    }
+    let file = fs::open(rt, path).map_err(|e| unreadable(&e))?;
+    text_of(rt.alloc(), file)
+}
+
+/// What the file says, whether its settings are good or not.
+fn read_file<R: Files + Input + AllocGlobal>(rt: &R, path: &str) -> Result<Links, Ending> {
+    let text = links_text(rt, path)?;
+    read_links(rt.alloc(), text.as_str()).map_err(|fault| links_end(&fault))
+}
+
+/// The links of a file that rohcd takes.
+pub(crate) fn good_links<R: Files + Input + AllocGlobal>(
+    rt: &R,
+    path: &str,
+) -> Result<Links, Ending> {
+    let links = read_file(rt, path)?;
+    match Concentrator::new(rt.alloc(), links.settings()) {
+        Ok(_) => Ok(links),
+        Err(fault) => Err(setup_end(&fault)),
+    }
+}
+
 /// A concentrator with the links of the file, without a record.
-pub(crate) fn concentrator_of<R: Files + AllocGlobal>(
+pub(crate) fn concentrator_of<R: Files + Input + AllocGlobal>(
     rt: &R,
     path: &str,
 ) -> Result<Concentrator, Ending> {
-    let text = links_text(rt, path)?;
-    let links = read_links(rt.alloc(), text.as_str()).map_err(|fault| links_end(&fault))?;
+    let links = read_file(rt, path)?;
     Concentrator::new(rt.alloc(), links.settings()).map_err(|fault| setup_end(&fault))
 }
 

@@ -43,7 +43,7 @@ fn write_feedback<W: Write>(out: &mut W, row: &CallRow) -> io::Result<()> {
     ] {
         writeln!(
             out,
-            "rohc_feedback_total{{link=\"{}\",cid=\"{}\",kind=\"{name}\"}} {}",
+            "polorowan_feedback_total{{link=\"{}\",cid=\"{}\",kind=\"{name}\"}} {}",
             row.link,
             row.cid,
             counts.of(kind)
@@ -59,7 +59,7 @@ fn write_refused<W: Write>(out: &mut W, row: &CallRow) -> io::Result<()> {
         if count > 0 {
             writeln!(
                 out,
-                "rohc_refused_total{{link=\"{}\",cid=\"{}\",refusal=\"{refusal}\"}} {count}",
+                "polorowan_refused_total{{link=\"{}\",cid=\"{}\",refusal=\"{refusal}\"}} {count}",
                 row.link, row.cid
             )?;
         }
@@ -71,30 +71,30 @@ fn write_refused<W: Write>(out: &mut W, row: &CallRow) -> io::Result<()> {
 fn write_sums<W: Write>(out: &mut W, totals: &Totals) -> io::Result<()> {
     write_head(
         out,
-        "rohc_link_refused_total",
+        "polorowan_link_refused_total",
         "counter",
         "Refusals of a link, with a CID or without.",
     )?;
     for (link, of_link) in &totals.links {
         writeln!(
             out,
-            "rohc_link_refused_total{{link=\"{link}\"}} {}",
+            "polorowan_link_refused_total{{link=\"{link}\"}} {}",
             refused(&of_link.counts)
         )?;
     }
     write_head(
         out,
-        "rohc_relayed_total",
+        "polorowan_relayed_total",
         "counter",
         "Feedback elements for this side's compressor.",
     )?;
     for (link, of_link) in &totals.links {
         let count = of_link.counts.of(LineKind::Relayed);
-        writeln!(out, "rohc_relayed_total{{link=\"{link}\"}} {count}")?;
+        writeln!(out, "polorowan_relayed_total{{link=\"{link}\"}} {count}")?;
     }
     write_head(
         out,
-        "rohc_lines_total",
+        "polorowan_lines_total",
         "counter",
         "Lines, by what they are.",
     )?;
@@ -102,10 +102,17 @@ fn write_sums<W: Write>(out: &mut W, totals: &Totals) -> io::Result<()> {
     let bad = counts.of(LineKind::BadLine);
     let long = counts.of(LineKind::LongLine);
     let no_answer = counts.of(LineKind::NoAnswer);
-    writeln!(out, "rohc_lines_total{{kind=\"all\"}} {}", totals.lines)?;
-    writeln!(out, "rohc_lines_total{{kind=\"bad\"}} {bad}")?;
-    writeln!(out, "rohc_lines_total{{kind=\"long\"}} {long}")?;
-    writeln!(out, "rohc_lines_total{{kind=\"no_answer\"}} {no_answer}")
+    writeln!(
+        out,
+        "polorowan_lines_total{{kind=\"all\"}} {}",
+        totals.lines
+    )?;
+    writeln!(out, "polorowan_lines_total{{kind=\"bad\"}} {bad}")?;
+    writeln!(out, "polorowan_lines_total{{kind=\"long\"}} {long}")?;
+    writeln!(
+        out,
+        "polorowan_lines_total{{kind=\"no_answer\"}} {no_answer}"
+    )
 }
 
 /// Writes all metrics.
@@ -116,41 +123,46 @@ pub(crate) fn write_metrics<W: Write>(
 ) -> io::Result<()> {
     write_kind(
         out,
-        "rohc_delivered_total",
+        "polorowan_delivered_total",
         "Rebuilt packets.",
         LineKind::Delivered,
         rows,
     )?;
     write_kind(
         out,
-        "rohc_stored_total",
+        "polorowan_stored_total",
         "Contexts made without a packet.",
         LineKind::Stored,
         rows,
     )?;
     write_head(
         out,
-        "rohc_feedback_total",
+        "polorowan_feedback_total",
         "counter",
         "Feedback for the compressor, by kind.",
     )?;
     for row in rows {
         write_feedback(out, row)?;
     }
-    write_head(out, "rohc_refused_total", "counter", "Refusals, by name.")?;
+    write_head(
+        out,
+        "polorowan_refused_total",
+        "counter",
+        "Refusals, by name.",
+    )?;
     for row in rows {
         write_refused(out, row)?;
     }
     write_head(
         out,
-        "rohc_refused_since_delivery",
+        "polorowan_refused_since_delivery",
         "gauge",
         "Refusals since the last delivery.",
     )?;
     for row in rows {
         writeln!(
             out,
-            "rohc_refused_since_delivery{{link=\"{}\",cid=\"{}\"}} {}",
+            "polorowan_refused_since_delivery{{link=\"{}\",cid=\"{}\"}} {}",
             row.link, row.cid, row.totals.refused
         )?;
     }

@@ -1,11 +1,15 @@
 //! The program, from the words after its name to how it ends.
 
-use crate::command::{Form, Request, read_request};
+use crate::command::{Form, Plan, Request, read_request};
+use crate::differences::run_diff;
 use crate::ending::Ending;
+use crate::faults::run_links;
 use crate::file::totals_of;
 use crate::json::write_json;
-use crate::links::concentrator_of;
+use crate::links::{concentrator_of, good_links};
 use crate::metrics::write_metrics;
+use crate::new_file::NEW_FILE;
+use crate::plan::{write_memory, write_plan, write_split};
 use crate::table::write_table;
 use rohc_totals::{CallRow, LineKind, Totals, call_rows};
 use rohc_trace::{TraceFault, trace};
@@ -31,7 +35,51 @@ where
 {
     match read_request(rt, words)? {
         Request::Totals { answers, form } => run_totals(rt, answers, form, colour),
+        Request::Links { links, json } => run_links(rt, links, json),
+        Request::NewLinks => write_new(rt),
+        Request::Diff {
+            first,
+            second,
+            json,
+        } => run_diff(rt, first, second, json),
+        Request::Plan(plan) => run_plan(rt, &plan),
         Request::Trace { links, script } => run_trace(rt, links, script),
+    }
+}
+
+/// Writes a links file to start from.
+fn write_new<R: Print + AllocGlobal>(rt: &R) -> Result<Ending, Ending> {
+    let mut out = io::writer(rt);
+    match out.write_all(NEW_FILE.as_bytes()) {
+        Ok(()) => Ok(Ending::Good),
+        Err(_) => Err(Ending::Write),
+    }
+}
+
+/// Tells what was asked of `plan`.
+fn run_plan<R: Files + Input + Print + AllocGlobal>(
+    rt: &R,
+    plan: &Plan<'_>,
+) -> Result<Ending, Ending> {
+    let Ok(mut out) = BufWriter::new(rt.alloc(), io::writer(rt)) else {
+        return Err(Ending::Memory);
+    };
+    let ending = if let Some(calls) = plan.calls {
+        write_memory(&mut out, calls)?
+    } else if let Some(processes) = plan.split {
+        let links = good_links(rt, plan.links.unwrap_or("-"))?;
+        write_split(
+            &mut out,
+            rt.alloc(),
+            links.settings(),
+            usize::from(processes),
+        )?
+    } else {
+        write_plan(&mut out, rt.alloc(), plan)?
+    };
+    match out.flush() {
+        Ok(()) => Ok(ending),
+        Err(_) => Err(Ending::Write),
     }
 }
 

@@ -1,0 +1,13 @@
+# Completion of rohctl's words in fish.
+set -l commands totals links trace diff plan
+complete -c rohctl -f -n "not __fish_seen_subcommand_from $commands" -a "$commands"
+complete -c rohctl -F -n "__fish_seen_subcommand_from totals links trace diff"
+complete -c rohctl -l json -n "__fish_seen_subcommand_from totals links diff plan" -d 'Write JSON, one object a line'
+complete -c rohctl -l prometheus -n "__fish_seen_subcommand_from totals" -d 'Write the text format of Prometheus'
+complete -c rohctl -l new -n "__fish_seen_subcommand_from links" -d 'Write a links file to start from'
+complete -c rohctl -l links -r -F -n "__fish_seen_subcommand_from trace plan" -d 'The links file'
+complete -c rohctl -l damage -x -n "__fish_seen_subcommand_from plan" -d 'How many of 100 headers are damaged'
+complete -c rohctl -l packet-ms -x -n "__fish_seen_subcommand_from plan" -d 'The packet time'
+complete -c rohctl -l window -x -n "__fish_seen_subcommand_from plan" -d 'A window, K/N'
+complete -c rohctl -l calls -x -n "__fish_seen_subcommand_from plan" -d 'Tell the memory of so many calls'
+complete -c rohctl -l split -x -n "__fish_seen_subcommand_from plan" -d 'Spread the links over so many processes'

@@ -1,0 +1,4 @@
+pub mod FileLemmas
+pub mod LimitLemmas
+pub mod NearestLemmas
+pub mod ReadLemmas

@@ -1,0 +1,224 @@
+//! The subcommand `links`: all faults of a links file, or what a good one sets.
+
+use crate::ending::Ending;
+use crate::finding::{Finding, Wrong, findings, no_toml};
+use crate::links::links_text;
+use crate::quoted::{write_quoted, write_value};
+use crate::settings::{write_links, write_links_json};
+use rohc_concentrator::{Concentrator, SetupFault};
+use rohc_faults::all_faults;
+use rohc_links::{Links, LinksFault, read_links};
+use std::alloc::Global;
+use std::io;
+use std::io::{BufWriter, Write};
+use std::rt::Files;
+use toml::Value;
+
+/// What rohcd would say of a links file: its links, or the name of its fault.
+#[derive(Drop)]
+enum Verdict {
+    Taken(Links),
+    Refused(&'static str),
+}
+
+/// What rohcd would say of the text, by the same two calls.
+fn verdict_on(alloc: Global, text: &str) -> Result<Verdict, Ending> {
+    let links = match read_links(alloc, text) {
+        Ok(links) => links,
+        Err(LinksFault::NoMemory) => return Err(Ending::Memory),
+        Err(fault) => return Ok(Verdict::Refused(fault.name())),
+    };
+    match Concentrator::new(alloc, links.settings()) {
+        Ok(_) => Ok(Verdict::Taken(links)),
+        Err(SetupFault::NoMemory) => Err(Ending::Memory),
+        Err(fault) => Ok(Verdict::Refused(fault.name())),
+    }
+}
+
+/// Writes a fault as a line for a reader.
+fn write_line<W: Write>(out: &mut W, path: &str, finding: &Finding<'_>) -> io::Result<()> {
+    write!(out, "{path}:")?;
+    if let Some(line) = finding.line {
+        write!(out, "{line}:")?;
+    }
+    match (finding.entry, finding.link) {
+        (0, _) => write!(out, " ")?,
+        (_, Some(link)) => write!(out, " link {link}: ")?,
+        (entry, None) => write!(out, " entry {entry}: ")?,
+    }
+    match finding.wrong {
+        Wrong::NoToml => return writeln!(out, "the text is no TOML document"),
+        Wrong::Unknown(near) => {
+            write_quoted(out, finding.name)?;
+            return match near {
+                Some(key) => writeln!(out, " is no key; the nearest is {}", key.name()),
+                None => writeln!(out, " is no key"),
+            };
+        }
+        Wrong::Twice(earlier) => {
+            return writeln!(
+                out,
+                "number: entry {earlier} has it too; {} may stand there",
+                finding.may
+            );
+        }
+        Wrong::Unfit | Wrong::Beyond | Wrong::Count => {}
+    }
+    write!(out, "{}: ", finding.name)?;
+    write_value(out, finding.value)?;
+    writeln!(out, " stands there; {} may", finding.may)
+}
+
+/// The word of JSON for what is wrong.
+fn word(wrong: Wrong) -> &'static str {
+    match wrong {
+        Wrong::Unknown(_) => "unknown",
+        Wrong::Unfit => "unfit",
+        Wrong::Beyond => "beyond",
+        Wrong::Twice(_) => "twice",
+        Wrong::NoToml => "no_toml",
+        Wrong::Count => "count",
+    }
+}
+
+/// Writes what stands at a key as a value of JSON.
+fn write_json_value<W: Write>(out: &mut W, value: Option<&Value>) -> io::Result<()> {
+    match value {
+        None => write!(out, "null"),
+        Some(Value::String(_) | Value::Integer(_) | Value::Boolean(_)) => write_value(out, value),
+        Some(_) => {
+            write!(out, "\"")?;
+            write_value(out, value)?;
+            write!(out, "\"")
+        }
+    }
+}
+
+/// Writes a fault as an object.
+fn write_object<W: Write>(out: &mut W, finding: &Finding<'_>) -> io::Result<()> {
+    write!(out, "{{\"line\":")?;
+    match finding.line {
+        Some(line) => write!(out, "{line}")?,
+        None => write!(out, "null")?,
+    }
+    write!(out, ",\"entry\":{},\"link\":", finding.entry)?;
+    match finding.link {
+        Some(link) => write!(out, "{link}")?,
+        None => write!(out, "null")?,
+    }
+    write!(out, ",\"key\":")?;
+    write_quoted(out, finding.name)?;
+    write!(out, ",\"fault\":\"{}\",\"stands\":", word(finding.wrong))?;
+    write_json_value(out, finding.value)?;
+    write!(out, ",\"may\":")?;
+    write_quoted(out, finding.may)?;
+    write!(out, ",\"nearest\":")?;
+    match finding.wrong {
+        Wrong::Unknown(Some(key)) => writeln!(out, "\"{}\"}}", key.name()),
+        _ => writeln!(out, "null}}"),
+    }
+}
+
+/// Writes all faults, and last the one name that rohcd would give.
+fn write_faults<W: Write>(
+    out: &mut W,
+    path: &str,
+    all: &[Finding<'_>],
+    name: &str,
+    json: bool,
+) -> io::Result<()> {
+    for finding in all {
+        if json {
+            write_object(out, finding)?;
+        } else {
+            write_line(out, path, finding)?;
+        }
+    }
+    if json {
+        writeln!(out, "{{\"name\":\"{name}\"}}")
+    } else {
+        writeln!(out, "rohcd: links file: {name}")
+    }
+}
+
+/// Writes all faults of a refused text.
+fn write_refused<W: Write>(
+    out: &mut W,
+    alloc: Global,
+    path: &str,
+    text: &str,
+    name: &str,
+    json: bool,
+) -> Result<Ending, Ending> {
+    let written = match toml::table_from_str(alloc, text) {
+        Ok(table) => {
+            let faults = all_faults(alloc, &table).map_err(|_| Ending::Memory)?;
+            if faults.is_none() {
+                return Err(Ending::Differs);
+            }
+            let all = findings(alloc, text, &table, &faults).map_err(|_| Ending::Memory)?;
+            write_faults(out, path, all.as_slice(), name, json)
+        }
+        Err(error) if error.is_memory() => return Err(Ending::Memory),
+        Err(error) => write_faults(out, path, &[no_toml(text, &error)], name, json),
+    };
+    match written {
+        Ok(()) => Ok(Ending::Findings),
+        Err(_) => Err(Ending::Write),
+    }
+}
+
+/// Checks that no fault is told of a text that rohcd takes, and writes what its links are.
+fn write_taken<W: Write>(
+    out: &mut W,
+    alloc: Global,
+    text: &str,
+    links: &Links,
+    json: bool,
+) -> Result<Ending, Ending> {
+    match toml::table_from_str(alloc, text) {
+        Ok(table) => {
+            let faults = all_faults(alloc, &table).map_err(|_| Ending::Memory)?;
+            if !faults.is_none() {
+                return Err(Ending::Differs);
+            }
+        }
+        Err(error) if error.is_memory() => return Err(Ending::Memory),
+        Err(_) => return Err(Ending::Differs),
+    }
+    let written = if json {
+        write_links_json(out, links)
+    } else {
+        write_links(out, links)
+    };
+    match written {
+        Ok(()) => Ok(Ending::Good),
+        Err(_) => Err(Ending::Write),
+    }
+}
+
+/// Tells all faults of the links file, or what it sets.
+pub(crate) fn run_links<R>(rt: &R, path: &str, json: bool) -> Result<Ending, Ending>
+where
+    R: Files + Input + Print + AllocGlobal,
+{
+    let text = links_text(rt, path)?;
+    let Ok(mut out) = BufWriter::new(rt.alloc(), io::writer(rt)) else {
+        return Err(Ending::Memory);
+    };
+    let ending = match verdict_on(rt.alloc(), text.as_str())? {
+        Verdict::Taken(links) => write_taken(&mut out, rt.alloc(), text.as_str(), &links, json)?,
+        Verdict::Refused(name) => write_refused(
+            &mut out,
+            rt.alloc(),
+            path,
+            text.as_str(),
+            name,
+            json,
+        )?,
+    };
+    match out.flush() {
+        Ok(()) => Ok(ending),
+        Err(_) => Err(Ending::Write),
+    }
+}

@@ -1,0 +1,234 @@
+//! The subcommand `plan`: what k and n of a window mean, what memory calls take, and links spread over processes.
+
+use crate::command::Plan;
+use crate::ending::Ending;
+use crate::settings::{CALL, calls_of};
+use rohc_concentrator::LinkSetting;
+use rohc_plan::{Chain, Window, least_share};
+use std::alloc::Global;
+use std::io;
+use std::io::Write;
+
+/// The windows that are shown if none is asked for.
+const SHOWN: [(u8, u8); 4] = [(2, 3), (2, 5), (3, 5), (4, 8)];
+
+/// The longest window that is proposed.
+const LONGEST: u8 = 8;
+
+/// The share of damaged headers, and of headers against a lost context, that a check of 3 bits finds.
+const FOUND: f64 = 0.875;
+
+/// A good call may fall once in so many milliseconds with a window that is proposed: an hour.
+const SELDOM: f64 = 3_600_000.0;
+
+/// What a window means on a link.
+#[derive(Clone, Copy)]
+struct Meaning {
+    k: u8,
+    n: u8,
+    /// After how many milliseconds a good call falls, on average.
+    falls: f64,
+    /// How many milliseconds a lost context stays unnoticed, on average.
+    unnoticed: f64,
+}
+
+/// What the window means where this share of headers is damaged.
+fn meaning_of(alloc: Global, k: u8, n: u8, plan: &Plan<'_>) -> Result<Option<Meaning>, Ending> {
+    let Some(window) = Window::new(k, n) else {
+        return Ok(None);
+    };
+    let failing = plan.damage / 100.0 * FOUND;
+    let Ok(good) = Chain::new(window, failing).mean_packets(alloc) else {
+        return Err(Ending::Memory);
+    };
+    let Ok(lost) = Chain::new(window, FOUND).mean_packets(alloc) else {
+        return Err(Ending::Memory);
+    };
+    let packet_ms = f64::from(plan.packet_ms);
+    Ok(Some(Meaning {
+        k,
+        n,
+        falls: good * packet_ms,
+        unnoticed: lost * packet_ms,
+    }))
+}
+
+/// The window that notices a lost context first, of those with which a good call falls seldom.
+fn proposed(alloc: Global, plan: &Plan<'_>) -> Result<Option<Meaning>, Ending> {
+    let mut best: Option<Meaning> = None;
+    for n in 1..=LONGEST {
+        for k in 1..=n {
+            if let Some(other) = meaning_of(alloc, k, n, plan)?
+                && other.falls >= SELDOM
+            {
+                best = match best {
+                    Some(first) if first.unnoticed <= other.unnoticed => Some(first),
+                    _ => Some(other),
+                };
+            }
+        }
+    }
+    Ok(best)
+}
+
+/// The units of time, each with its milliseconds, and with the time from which on it is used.
+const UNITS: [(f64, f64, &str); 5] = [
+    (315_360_000_000.0, 31_536_000_000.0, "years"),
+    (864_000_000.0, 86_400_000.0, "days"),
+    (36_000_000.0, 3_600_000.0, "hours"),
+    (600_000.0, 60_000.0, "min"),
+    (10_000.0, 1_000.0, "s"),
+];
+
+/// More milliseconds than these are never: a thousand years.
+const NEVER: f64 = 31_536_000_000_000.0;
+
+/// Writes a time in a unit that fits.
+fn write_time<W: Write>(out: &mut W, ms: f64) -> io::Result<()> {
+    if ms > NEVER {
+        return write!(out, "{:>16}", "never");
+    }
+    for (least, unit, name) in UNITS {
+        if ms >= least {
+            return write!(out, "{:>10.0} {name:>5}", ms / unit);
+        }
+    }
+    write!(out, "{ms:>10.0} {:>5}", "ms")
+}
+
+/// Writes a time in JSON.
+fn write_ms<W: Write>(out: &mut W, ms: f64) -> io::Result<()> {
+    if ms > NEVER {
+        write!(out, "null")
+    } else {
+        write!(out, "{ms:.0}")
+    }
+}
+
+/// Writes the row of a window.
+fn write_row<W: Write>(out: &mut W, row: &Meaning, json: bool) -> io::Result<()> {
+    if json {
+        write!(out, "{{\"k\":{},\"n\":{},\"falls_after_ms\":", row.k, row.n)?;
+        write_ms(out, row.falls)?;
+        write!(out, ",\"unnoticed_ms\":")?;
+        write_ms(out, row.unnoticed)?;
+        return writeln!(out, "}}");
+    }
+    write!(out, "{:>3}/{:<3} ", row.k, row.n)?;
+    write_time(out, row.falls)?;
+    write!(out, "{:>10}", "")?;
+    write_time(out, row.unnoticed)?;
+    writeln!(out, "")
+}
+
+/// Writes what windows mean.
+pub(crate) fn write_plan<W: Write>(
+    out: &mut W,
+    alloc: Global,
+    plan: &Plan<'_>,
+) -> Result<Ending, Ending> {
+    let mut rows = Vec::new(alloc);
+    for (k, n) in plan.window.as_slice().iter().copied().chain(SHOWN) {
+        let Some(row) = meaning_of(alloc, k, n, plan)? else {
+            return Err(Ending::CommandLine);
+        };
+        if rows.push(row).is_err() {
+            return Err(Ending::Memory);
+        }
+    }
+    let best = proposed(alloc, plan)?;
+    match write_rows(out, rows.as_slice(), best, plan.json) {
+        Ok(()) => Ok(Ending::Good),
+        Err(_) => Err(Ending::Write),
+    }
+}
+
+/// Writes the rows, and the window that is proposed.
+fn write_rows<W: Write>(
+    out: &mut W,
+    rows: &[Meaning],
+    best: Option<Meaning>,
+    json: bool,
+) -> io::Result<()> {
+    if !json {
+        writeln!(
+            out,
+            "k/n     a good call falls after   a lost context is noticed after"
+        )?;
+    }
+    for row in rows {
+        write_row(out, row, json)?;
+    }
+    if json {
+        return Ok(());
+    }
+    match best {
+        Some(best) => writeln!(
+            out,
+            "take {}/{}: of the windows up to {LONGEST} in which a good call falls at most once an hour, it notices first",
+            best.k, best.n
+        )?,
+        None => writeln!(
+            out,
+            "no window up to {LONGEST} lets a good call fall at most once an hour"
+        )?,
+    }
+    writeln!(out, "losses alone make no failures")
+}
+
+/// Writes the memory that so many calls take.
+pub(crate) fn write_memory<W: Write>(out: &mut W, calls: u64) -> Result<Ending, Ending> {
+    match writeln!(
+        out,
+        "calls {calls} memory at most {} octets",
+        calls.saturating_mul(CALL)
+    ) {
+        Ok(()) => Ok(Ending::Good),
+        Err(_) => Err(Ending::Write),
+    }
+}
+
+/// Spreads links over processes, each link to the process with the fewest calls so far, and writes a row for each.
+pub(crate) fn write_split<W: Write>(
+    out: &mut W,
+    alloc: Global,
+    settings: &[LinkSetting],
+    processes: usize,
+) -> Result<Ending, Ending> {
+    let Ok(mut shares) = vec![in alloc; 0u64; processes] else {
+        return Err(Ending::Memory);
+    };
+    let mut homes = Vec::new(alloc);
+    for setting in settings {
+        let home = least_share(shares.as_slice()).unwrap_or(0);
+        if let Some(share) = shares.get_mut(home) {
+            *share = share.saturating_add(calls_of(setting));
+        }
+        if homes.push((home, setting.link)).is_err() {
+            return Err(Ending::Memory);
+        }
+    }
+    match write_shares(out, shares.as_slice(), homes.as_slice()) {
+        Ok(()) => Ok(Ending::Good),
+        Err(_) => Err(Ending::Write),
+    }
+}
+
+/// Writes a row for each process: its calls, its memory and its links.
+fn write_shares<W: Write>(out: &mut W, shares: &[u64], homes: &[(usize, u16)]) -> io::Result<()> {
+    for (place, share) in shares.iter().enumerate() {
+        write!(
+            out,
+            "process {} calls {share} memory at most {} octets, links",
+            place.saturating_add(1),
+            share.saturating_mul(CALL)
+        )?;
+        for (home, link) in homes {
+            if *home == place {
+                write!(out, " {link}")?;
+            }
+        }
+        writeln!(out, "")?;
+    }
+    Ok(())
+}

@@ -1,0 +1,72 @@
+"""Compares what `rohctl plan` says of windows with a simulation of them, and with what is known of short ones."""
+
+import json
+import random
+
+from program import Call, Ended, run
+from trial import Trial
+
+PROGRAM = "crates/rohctl/out/rohctl"
+SEED = 3
+FALLS = 3_000
+# A packet time so great that the milliseconds told have the packets to five places.
+PACKET_MS = 60_000
+# Of 100 damaged headers a check of 3 bits finds 87.5.
+FOUND = 0.875
+# The share of damaged headers, and windows, so that a fall takes few packets.
+CASES = ((20, 2, 3), (20, 2, 5), (30, 3, 5), (40, 4, 8), (10, 1, 1), (15, 2, 16), (50, 8, 8))
+
+
+def plan(trial: Trial, *words: str) -> Ended:
+    """How `rohctl plan` ends with these words."""
+    return run(Call((trial.top / PROGRAM, "plan", *words), folder=trial.top))
+
+
+def packets(trial: Trial, damage: float, k: int, n: int) -> tuple[float, float]:
+    """The packets until a good call falls, and until a lost context is noticed, as rohctl tells them."""
+    told = plan(trial, "--json", "--damage", str(damage), "--packet-ms", str(PACKET_MS), "--window", f"{k}/{n}")
+    row = json.loads(told.text.splitlines()[0])
+    trial.demand((row["k"], row["n"]) == (k, n), f"the first row isn't {k}/{n}", told.call)
+    return row["falls_after_ms"] / PACKET_MS, row["unnoticed_ms"] / PACKET_MS
+
+
+def simulated(chance: random.Random, failing: float, k: int, n: int) -> float:
+    """The packets until k of the last n outcomes are failures, on average over many falls."""
+    total = 0
+    for _ in range(FALLS):
+        outcomes: list[bool] = []
+        while sum(outcomes[-n:]) < k:
+            outcomes.append(chance.random() < failing)
+        total += len(outcomes)
+    return total / FALLS
+
+
+def near(found: float, wanted: float, share: float) -> bool:
+    """Whether a number is within a share of another."""
+    return abs(found - wanted) <= share * wanted
+
+
+def check(trial: Trial) -> None:
+    """Windows against a simulation and by hand; the table, memory and shares."""
+    chance = random.Random(SEED)
+    for damage, k, n in CASES:
+        falls, unnoticed = packets(trial, damage, k, n)
+        for found, failing in ((falls, damage / 100 * FOUND), (unnoticed, FOUND)):
+            wanted = simulated(chance, failing, k, n)
+            trial.demand(near(found, wanted, 0.1), f"{k}/{n} at {failing:.3f}: {found:.2f} packets, simulated {wanted:.2f}")
+    # One failure: 1 / f packets. Two of two: (1 + f) / f^2.
+    for damage, k, n, wanted in ((1, 1, 1, 1 / 0.00875), (2, 2, 2, 1.0175 / 0.0175**2), (0.01, 1, 4, 1 / 0.0000875)):
+        falls, _ = packets(trial, damage, k, n)
+        trial.demand(near(falls, wanted, 1e-6), f"{k}/{n} at {damage} %: {falls:.6f} packets, by hand {wanted:.6f}")
+    table = plan(trial, "--damage", "2")
+    for text in ("2/3", "2/5", "3/5", "4/8", "take ", "losses alone make no failures"):
+        trial.demand(text in table.text, f"the table has no '{text}'", table.call)
+    trial.demand("never" in plan(trial, "--damage", "0").text, "without damage a call falls")
+    for words in (("--window", "4/3"), ("--window", "1/17"), ("--damage", "-1"), ("--damage", "x"), ("--split", "2")):
+        ended = plan(trial, *words)
+        trial.demand(ended.status == 2, f"rohctl plan {words}: {ended.end()}; wanted 2", ended.call)
+    memory = plan(trial, "--calls", "1000")
+    trial.same("the memory", "calls 1000 memory at most 310000 octets\n", memory.text, memory.call)
+    shares = plan(trial, "--split", "2", "--links", "examples/two-links.toml")
+    wanted_rows = "process 1 calls 16 memory at most 4960 octets, links 1\nprocess 2 calls 16384 memory at most 5079040 octets, links 2\n"
+    trial.same("the shares", wanted_rows, shares.text, shares.call)
