@@ -1,6 +1,7 @@
 /* Times the arrivals of a script through the library for C:  library LINKS SCRIPT TURNS
  * LINKS is the output of tools/link_lines.py for a links file. The script is read before the clock starts. Each turn starts
  * without contexts. The program prints the number of packets, the number delivered, and the nanoseconds of the best turn. */
+#define POLOROWAN_IN_PLACE
 #include <inttypes.h>
 #include <stdio.h>
 #include <stdlib.h>

@@ -5,6 +5,7 @@
  * so each worker has the same octets to write, and Redis refuses an id that isn't greater than the last. The first stands.
  * Every so many blocks, whoever is ahead writes the saved contexts of the shard and their id to base:SHARD, and cuts the log
  * before what is still read. A worker begins at the base. */
+#define POLOROWAN_IN_PLACE
 #define _POSIX_C_SOURCE 200809L
 #include <getopt.h>
 #include <openssl/evp.h>

@@ -12,7 +12,7 @@
 
 enum { PACKET = 65535, LINE = 131200 };
 
-static struct polorowan_gateway gateway;
+static polorowan_gateway *gateway;
 static struct polorowan_link links[POLOROWAN_LINKS];
 /* The time of the last arrival. */
 static uint64_t latest;
@@ -34,7 +34,7 @@ static void arrive(unsigned link, uint64_t moment, const uint8_t *octets, size_t
     struct polorowan_arrival a;
     char cid[8] = "-";
     latest = moment;
-    if (polorowan_arrive(&gateway, (uint16_t)link, moment, octets, count, packet, sizeof packet, feedback, sizeof feedback,
+    if (polorowan_arrive(gateway, (uint16_t)link, moment, octets, count, packet, sizeof packet, feedback, sizeof feedback,
                     relayed, sizeof relayed, &a) != POLOROWAN_ARRIVED) exit(4);
     for (size_t at = 0; at < a.relayed_length; at += 1 + relayed[at]) {
         printf("%u - relay ", link);
@@ -78,7 +78,7 @@ static bool run(const char *line, size_t length) {
     if (sscanf(line, "reset %u", &link) != 1 || link > UINT16_MAX) return false;
     at = (size_t)sprintf(text, "reset %u", link);
     if (at != length || memcmp(line, text, length) != 0) return false;
-    if (polorowan_reset(&gateway, (uint16_t)link) == POLOROWAN_FORGOT_LINK) print_refusal(link, "-", 29);
+    if (polorowan_reset(gateway, (uint16_t)link) == POLOROWAN_FORGOT_LINK) print_refusal(link, "-", 29);
     return true;
 }
 
@@ -93,7 +93,7 @@ static void restore(const char *path, size_t count) {
     if (!octets) exit(5);
     length = fread(octets, 1, room, file);
     fclose(file);
-    status = polorowan_restore(&gateway, links, count, octets, length, &restored, &place);
+    status = polorowan_open_saved(links, count, octets, length, &restored, &place, &gateway);
     free(octets);
     if (status == POLOROWAN_MADE) return;
     fprintf(stderr, "gateway: %s: refused with %u at octet %zu\n", path, status, place);
@@ -106,9 +106,9 @@ static void save(const char *path) {
     size_t length = 0;
     uint8_t *octets, none = 0;
     FILE *file;
-    if (!name || polorowan_save(&gateway, latest, &none, 0, &length) != POLOROWAN_SAVED_NO_ROOM) exit(5);
+    if (!name || polorowan_save(gateway, latest, &none, 0, &length) != POLOROWAN_SAVED_NO_ROOM) exit(5);
     octets = malloc(length);
-    if (!octets || polorowan_save(&gateway, latest, octets, length, &length) != POLOROWAN_SAVED) exit(5);
+    if (!octets || polorowan_save(gateway, latest, octets, length, &length) != POLOROWAN_SAVED) exit(5);
     file = fopen(strcat(strcpy(name, path), ".new"), "wb");
     if (!file || fwrite(octets, 1, length, file) != length || fclose(file) != 0 || rename(name, path) != 0) exit(4);
     free(octets);
@@ -123,7 +123,7 @@ int main(int count, char **words) {
     if (!file) return 3;
     links_count = read_links(file, links);
     fclose(file);
-    if (polorowan_new(&gateway, links, links_count, &place) != POLOROWAN_MADE) return 3;
+    if (polorowan_open(links, links_count, &place, &gateway) != POLOROWAN_MADE) return 3;
     if (count == 3) restore(words[2], links_count);
     do {
         octet = getchar();
@@ -137,6 +137,6 @@ int main(int count, char **words) {
         }
     } while (octet != EOF);
     if (count == 3) save(words[2]);
-    polorowan_free(&gateway);
+    polorowan_close(gateway);
     return 0;
 }

@@ -99,46 +99,56 @@ static size_t receive(int socket, struct batch *batch, size_t most) {
     return count < 0 ? 0 : (size_t)count;
 }
 
-/* Takes one packet of a link, and sends what it gives. */
-static void take(struct polorowan_gateway *gateway, uint16_t link, int socket, const uint8_t *octets, size_t count,
+/* Sends what a packet of a link gives. The octets of its answer stand in its part of the room. */
+static void give(const struct polorowan_arrival *a, const uint8_t *part, size_t count, int socket,
                  const struct sockaddr_in *peer, const struct targets *to) {
-    static uint8_t packet[PACKET + POLOROWAN_HEAD_ROOM], relayed[PACKET];
-    uint8_t feedback[POLOROWAN_FEEDBACK_ROOM];
-    struct polorowan_arrival a;
-    if (polorowan_arrive(gateway, link, milliseconds(), octets, count, packet, sizeof packet, feedback, sizeof feedback, relayed,
-                    sizeof relayed, &a) != POLOROWAN_ARRIVED) abort(); /* there is a concentrator, and the buffers have room */
-    for (size_t at = 0; at < a.relayed_length; at += 1 + relayed[at])
+    const uint8_t *feedback = part + count + POLOROWAN_HEAD_ROOM, *relayed = feedback + POLOROWAN_FEEDBACK_ROOM;
+    for (size_t at = 0; at < a->relayed_length; at += 1 + relayed[at])
         send_octets(socket, &to->relay, relayed + at + 1, relayed[at]);
-    if (a.has_packet) send_octets(socket, &to->deliver, packet, a.packet_length);
-    if (a.has_feedback) send_octets(socket, peer, feedback, a.feedback_length);
-    if (a.outcome != POLOROWAN_DELIVERED && a.outcome < POLOROWAN_STORED) refused[a.outcome]++;
+    if (a->has_packet) send_octets(socket, &to->deliver, part, a->packet_length);
+    if (a->has_feedback) send_octets(socket, peer, feedback, a->feedback_length);
+    if (a->outcome != POLOROWAN_DELIVERED && a->outcome < POLOROWAN_STORED) refused[a->outcome]++;
+}
+
+/* Takes the packets of a batch that came on a link, and sends what they give. */
+static void take(polorowan_gateway *gateway, uint16_t link, int socket, struct batch *batch, size_t count,
+                 const struct targets *to) {
+    static uint8_t room[BATCH * POLOROWAN_ROOM(PACKET)];
+    static struct polorowan_packet packets[BATCH];
+    static struct polorowan_arrival arrivals[BATCH];
+    uint64_t now = milliseconds();
+    for (size_t i = 0; i < count; i++)
+        packets[i] = (struct polorowan_packet){link, now, i * PACKET, batch->messages[i].msg_len};
+    if (polorowan_arrive_many(gateway, packets, count, batch->octets[0], sizeof batch->octets, room, sizeof room, arrivals,
+                              BATCH) != POLOROWAN_ARRIVED) abort(); /* there is room for all of them */
+    const uint8_t *part = room;
+    for (size_t i = 0; i < count; i++) {
+        give(&arrivals[i], part, packets[i].count, socket, &batch->peers[i], to);
+        part += POLOROWAN_ROOM(packets[i].count);
+    }
 }
 
 /* Prints each context of each link, and how many packets were refused by each name. */
-static void show(struct polorowan_gateway *gateway) {
+static void show(const polorowan_gateway *gateway) {
     static const char *const states[] = {"No Context", "Static Context", "Full Context"};
     struct polorowan_context_info context;
-    uint8_t name[POLOROWAN_NAME_ROOM];
     uint16_t link;
     for (size_t i = 0; polorowan_link_at(gateway, i, &link); i++)
         for (size_t j = 0; polorowan_context_at(gateway, link, j, &context); j++)
             printf("link %u CID %u: profile 0x%04x, %s\n", link, context.cid, context.profile, states[context.state]);
     for (uint8_t number = 0; number < POLOROWAN_STORED; number++)
-        if (refused[number] > 0) {
-            size_t length = polorowan_refusal_name(number, name, sizeof name);
-            printf("refused %.*s: %" PRIu64 "\n", (int)length, (const char *)name, refused[number]);
-        }
+        if (refused[number] > 0) printf("refused %s: %" PRIu64 "\n", polorowan_name_of(number), refused[number]);
 }
 
-/* Makes the concentrator, and returns how many links it has. */
-static size_t make(struct polorowan_gateway *gateway, const char *path, struct polorowan_link *links) {
+/* Makes the gateway, and returns how many links it has. */
+static size_t make(polorowan_gateway **gateway, const char *path, struct polorowan_link *links) {
     FILE *file = fopen(path, "r");
     if (!file) {
         fprintf(stderr, "udp_gateway: %s: %s\n", path, strerror(errno));
         exit(BAD_LINKS);
     }
     size_t place, count = read_links(file, links);
-    uint8_t fault = polorowan_new(gateway, links, count, &place);
+    uint8_t fault = polorowan_open(links, count, &place, gateway);
     fclose(file);
     if (fault == POLOROWAN_MADE) return count;
     if (fault == POLOROWAN_NO_MEMORY) fprintf(stderr, "udp_gateway: there is no memory\n");
@@ -149,7 +159,7 @@ static size_t make(struct polorowan_gateway *gateway, const char *path, struct p
 
 /* Takes what comes at the sockets, until so many packets came or a signal does. A signal comes while the program waits, and
  * at no other time. */
-static void run(struct polorowan_gateway *gateway, const struct polorowan_link *links, struct pollfd *sockets, size_t count,
+static void run(polorowan_gateway *gateway, const struct polorowan_link *links, struct pollfd *sockets, size_t count,
                 const struct targets *to, unsigned long left) {
     static struct batch batch;
     sigset_t none;
@@ -158,8 +168,7 @@ static void run(struct polorowan_gateway *gateway, const struct polorowan_link *
         for (size_t i = 0; i < count; i++) {
             if (!(sockets[i].revents & POLLIN)) continue;
             size_t came = receive(sockets[i].fd, &batch, left < BATCH ? left : BATCH);
-            for (size_t j = 0; j < came; j++)
-                take(gateway, links[i].link, sockets[i].fd, batch.octets[j], batch.messages[j].msg_len, &batch.peers[j], to);
+            take(gateway, links[i].link, sockets[i].fd, &batch, came, to);
             left -= came;
         }
 }
@@ -174,7 +183,7 @@ static void end_at(int number, sigset_t *blocked) {
 int main(int count, char **words) {
     static struct polorowan_link links[POLOROWAN_LINKS];
     static struct pollfd sockets[POLOROWAN_LINKS];
-    struct polorowan_gateway gateway = {0};
+    polorowan_gateway *gateway;
     sigset_t blocked;
     if (count != 5 && count != 6) {
         fprintf(stderr, "usage: udp_gateway LINKS PORT DELIVER RELAY [COUNT]\n");
@@ -193,9 +202,9 @@ int main(int count, char **words) {
     sigprocmask(SIG_BLOCK, &blocked, NULL);
     puts("ready");
     fflush(stdout);
-    run(&gateway, links, sockets, link_count, &to, left);
+    run(gateway, links, sockets, link_count, &to, left);
     for (size_t i = 0; i < link_count; i++) close(sockets[i].fd);
-    show(&gateway);
-    polorowan_free(&gateway);
+    show(gateway);
+    polorowan_close(gateway);
     return 0;
 }

@@ -5,15 +5,12 @@
  * Profiles 0x0000 and 0x0001 of RFC 3095 in U and O mode, with the framing and feedback of RFC 5795. docs/LIBRARY.md says
  * what is proved of the library. The proof holds only if the caller guarantees the following:
  *
- * - A gateway is all zeros before its first call. It is never copied, and neither of its fields is read or written.
- * - No pointer is null or dangling, even if its length is 0, and each is aligned for its type.
- * - No buffer of a call overlaps another, or a struct of the same call; @p octets and @p links may only be read meanwhile.
- * - Each buffer has as many octets as its length says, and each `bool` is 0 or 1.
- * - A gateway serves one call at a time. Between calls it may go to another thread, ordered by a lock or a join.
+ * - A gateway comes from polorowan_open() or polorowan_open_saved(), and is closed once.
+ * - No pointer dangles, and each is aligned for its type. NULL stands only where the length behind it is 0.
+ * - No buffer of a call overlaps another or a struct of the call; it is as long as its length says; each `bool` is 0 or 1.
+ * - A gateway serves one call at a time. Calls that take it as const may run beside one another, in any number of threads.
  * - No call is made from a signal handler, or in the forked child of a process with threads.
  * - malloc, realloc and free are of one allocator, and align blocks as C asks.
- *
- * A gateway with other octets, or one that was freed by other means, can't be told from a good one.
  */
 #ifndef POLOROWAN_H
 #define POLOROWAN_H
@@ -42,7 +39,12 @@ extern "C" {
 /** The greatest number of ranges of a link. */
 #define POLOROWAN_RANGES 8
 
-/** What polorowan_new() returns. */
+/** The greatest number of packets of a call of polorowan_arrive_many(). */
+#define POLOROWAN_MANY 1024
+/** The room for the answer to a packet of so many octets, in polorowan_arrive_many(). */
+#define POLOROWAN_ROOM(count) (2 * (count) + POLOROWAN_HEAD_ROOM + POLOROWAN_FEEDBACK_ROOM)
+
+/** What polorowan_open() returns. */
 enum polorowan_made {
     POLOROWAN_MADE = 0,            /**< There is a concentrator. */
     POLOROWAN_NO_LINKS = 1,        /**< There are no links. */
@@ -53,15 +55,16 @@ enum polorowan_made {
     POLOROWAN_NO_MEMORY = 6        /**< There is no memory. */
 };
 
-/** What polorowan_save() returns. */
+/** What polorowan_save() and polorowan_save_link() return. */
 enum polorowan_saved {
     POLOROWAN_SAVED = 0,           /**< The octets stand in the buffer. */
     POLOROWAN_SAVED_NONE = 1,      /**< There is no concentrator. */
     POLOROWAN_SAVED_NO_ROOM = 2,   /**< The buffer is too short. */
-    POLOROWAN_SAVED_NO_MEMORY = 3  /**< There is no memory. */
+    POLOROWAN_SAVED_NO_MEMORY = 3, /**< There is no memory. */
+    POLOROWAN_SAVED_NO_LINK = 4    /**< There is no such link: of polorowan_save_link() alone. */
 };
 
-/** What polorowan_restore() returns, beside POLOROWAN_MADE to POLOROWAN_NO_MEMORY of enum polorowan_made. */
+/** What polorowan_open_saved() returns, beside POLOROWAN_MADE to POLOROWAN_NO_MEMORY of enum polorowan_made. */
 enum polorowan_not_restored {
     POLOROWAN_NOT_SAVED = 7,    /**< The octets don't begin as those of a saved concentrator do. */
     POLOROWAN_VERSION = 8,      /**< They are of another version. */
@@ -80,9 +83,21 @@ enum polorowan_arrived {
     POLOROWAN_NO_ROOM = 2       /**< A buffer is below its bound. Nothing was changed. */
 };
 
-/** What polorowan_reset() returns. */
+/** What polorowan_add_link() and polorowan_change_link() return. */
+enum polorowan_linked {
+    POLOROWAN_LINKED = 0,                 /**< That is done. */
+    POLOROWAN_LINKED_NONE = 1,            /**< There is no concentrator. */
+    POLOROWAN_LINKED_TOO_MANY = 2,        /**< There are #POLOROWAN_LINKS. */
+    POLOROWAN_LINKED_TOO_MANY_RANGES = 3, /**< The link counts more than #POLOROWAN_RANGES ranges. */
+    POLOROWAN_LINKED_BAD_SETTING = 4,     /**< The settings or ranges are outside their limits. */
+    POLOROWAN_LINKED_DUPLICATE = 5,       /**< The link is there. */
+    POLOROWAN_LINKED_NO_MEMORY = 6,       /**< There is no memory. */
+    POLOROWAN_LINKED_NO_LINK = 7          /**< There is no such link. */
+};
+
+/** What the functions return that forget contexts. */
 enum polorowan_forgot {
-    POLOROWAN_FORGOT = 0,      /**< The link's contexts are forgotten. */
+    POLOROWAN_FORGOT = 0,      /**< That is done. */
     POLOROWAN_FORGOT_NONE = 1, /**< There is no concentrator. */
     POLOROWAN_FORGOT_LINK = 2  /**< There is no such link. */
 };
@@ -100,6 +115,40 @@ enum polorowan_outcome {
     POLOROWAN_STORED = 31    /**< The context was made or renewed without a packet. */
 };
 
+/** Why a packet was refused: what polorowan_arrival.outcome is then. polorowan_text_of() says what each means. */
+enum polorowan_refusal {
+    POLOROWAN_REFUSED_EMPTY = 1,
+    POLOROWAN_REFUSED_FEEDBACK_SHORT = 2,
+    POLOROWAN_REFUSED_AFTER_ADD_CID = 3,
+    POLOROWAN_REFUSED_SEGMENT = 4,
+    POLOROWAN_REFUSED_RESERVED_TYPE = 5,
+    POLOROWAN_REFUSED_ADD_CID_ON_LARGE = 6,
+    POLOROWAN_REFUSED_LARGE_CID = 7,
+    POLOROWAN_REFUSED_CID_RANGE = 8,
+    POLOROWAN_REFUSED_NO_HEADER = 9,
+    POLOROWAN_REFUSED_NO_CONTEXT = 10,
+    POLOROWAN_REFUSED_PROFILE = 11,
+    POLOROWAN_REFUSED_PROFILE_CHANGE = 12,
+    POLOROWAN_REFUSED_TRUNCATED = 13,
+    POLOROWAN_REFUSED_IP_VERSION = 14,
+    POLOROWAN_REFUSED_PROTOCOL = 15,
+    POLOROWAN_REFUSED_EXTENSION_LIST = 16,
+    POLOROWAN_REFUSED_RTP_VERSION = 17,
+    POLOROWAN_REFUSED_CSRC = 18,
+    POLOROWAN_REFUSED_ZERO_STRIDE = 19,
+    POLOROWAN_REFUSED_RELIABLE_MODE = 20,
+    POLOROWAN_REFUSED_OUTER_HEADER = 21,
+    POLOROWAN_REFUSED_NO_STRIDE = 22,
+    POLOROWAN_REFUSED_RND_IN_UO1 = 23,
+    POLOROWAN_REFUSED_IP_ID_TWICE = 24,
+    POLOROWAN_REFUSED_TRAILING = 25,
+    POLOROWAN_REFUSED_TOO_LONG = 26,
+    POLOROWAN_REFUSED_STATE_TOO_LOW = 27,
+    POLOROWAN_REFUSED_CHECK = 28,
+    POLOROWAN_REFUSED_NO_LINK = 29,
+    POLOROWAN_REFUSED_NO_MEMORY = 30
+};
+
 /** The state of a decompressor for one context (RFC 3095 4.3.2). */
 enum polorowan_state {
     POLOROWAN_NO_CONTEXT = 0,     /**< Only an IR is taken. */
@@ -107,11 +156,16 @@ enum polorowan_state {
     POLOROWAN_FULL_CONTEXT = 2    /**< Every packet may be taken. Profile 0x0000 is always in this state. */
 };
 
-/** A gateway: a concentrator, or none. All zeros is none. */
+/** A gateway: all links with their contexts. The library makes it and frees it. */
+typedef struct polorowan_gateway polorowan_gateway;
+
+#ifdef POLOROWAN_IN_PLACE
+/** A gateway in memory of the caller's own. All zeros has no concentrator. It is never copied. */
 struct polorowan_gateway {
     bool live; /**< The library's own. */
     void *at;  /**< The library's own. */
 };
+#endif
 
 /** A range of CIDs with a mode of its own. */
 struct polorowan_range {
@@ -150,6 +204,14 @@ struct polorowan_arrival {
     size_t relayed_count;   /**< How many elements are relayed. Each is one octet, which counts its data, and the data. */
 };
 
+/** One packet of polorowan_arrive_many(). */
+struct polorowan_packet {
+    uint16_t link;   /**< Its link's number. */
+    uint64_t moment; /**< Its arrival time, in milliseconds. */
+    size_t at;       /**< Where it begins among the octets of all packets. */
+    size_t count;    /**< How many octets it has. */
+};
+
 /** What is shown of a context. */
 struct polorowan_context_info {
     uint16_t cid;      /**< Its CID. */
@@ -170,22 +232,40 @@ struct polorowan_restored {
 };
 
 /**
- * Makes a concentrator with these links, in this order and without contexts, in place of what the gateway had.
+ * Makes a gateway with these links, in this order and without contexts.
  *
- * The first fault is returned: the order is that of their numbers, but POLOROWAN_BAD_SETTING and POLOROWAN_DUPLICATE_LINK are judged
- * link by link. POLOROWAN_NO_MEMORY may come before any of POLOROWAN_NO_LINKS, POLOROWAN_BAD_SETTING and POLOROWAN_DUPLICATE_LINK. After a
- * fault the gateway stays as it was.
+ * The first fault is returned: the order is that of their numbers, but POLOROWAN_BAD_SETTING and POLOROWAN_DUPLICATE_LINK
+ * are judged link by link. POLOROWAN_NO_MEMORY may come before any other.
  *
- * @param gateway the gateway
  * @param links the links
  * @param count how many links there are
  * @param place is set to the place of the link at fault, counted from 1, or to 0 if the fault is of no single link
+ * @param gateway is set to the gateway, or to NULL after a fault
  * @return one of enum polorowan_made
  */
-uint8_t polorowan_new(struct polorowan_gateway *gateway, const struct polorowan_link *links, size_t count, size_t *place);
+uint8_t polorowan_open(const struct polorowan_link *links, size_t count, size_t *place, polorowan_gateway **gateway);
 
-/** Frees the concentrator, if there is one. The gateway then has none. */
-void polorowan_free(struct polorowan_gateway *gateway);
+/**
+ * Makes a gateway with these links that goes on from what was saved.
+ *
+ * Saved links that aren't among these, or are of another CID kind, are left out, and so are contexts above the greatest
+ * CID of their link; other settings may differ. After a fault @p restored stays as it was.
+ *
+ * @param links the links
+ * @param count how many links there are
+ * @param octets what polorowan_save() wrote
+ * @param octets_count how many octets these are
+ * @param restored gets what was taken and left out
+ * @param place is set to the place of the link at fault, counted from 1, or of the octet, counted from 0; else to 0
+ * @param gateway is set to the gateway, or to NULL after a fault
+ * @return 0, or one of enum polorowan_made or enum polorowan_not_restored: the first fault, of the links and then of the
+ * octets
+ */
+uint8_t polorowan_open_saved(const struct polorowan_link *links, size_t count, const uint8_t *octets, size_t octets_count,
+                             struct polorowan_restored *restored, size_t *place, polorowan_gateway **gateway);
+
+/** Frees a gateway with all that it holds. NULL is none. */
+void polorowan_close(polorowan_gateway *gateway);
 
 /**
  * Takes one packet of a link, and writes the whole answer into the struct and the buffers.
@@ -207,31 +287,84 @@ void polorowan_free(struct polorowan_gateway *gateway);
  * @param arrival gets the rest of the answer
  * @return one of enum polorowan_arrived
  */
-uint8_t polorowan_arrive(struct polorowan_gateway *gateway, uint16_t link, uint64_t moment, const uint8_t *octets, size_t count,
-                    uint8_t *packet, size_t packet_room, uint8_t *feedback, size_t feedback_room, uint8_t *relayed,
-                    size_t relayed_room, struct polorowan_arrival *arrival);
-
-/** Forgets every context of a link, and no other context. @return one of enum polorowan_forgot */
-uint8_t polorowan_reset(struct polorowan_gateway *gateway, uint16_t link);
+uint8_t polorowan_arrive(polorowan_gateway *gateway, uint16_t link, uint64_t moment, const uint8_t *octets, size_t count,
+                         uint8_t *packet, size_t packet_room, uint8_t *feedback, size_t feedback_room, uint8_t *relayed,
+                         size_t relayed_room, struct polorowan_arrival *arrival);
 
 /**
- * Whether there is a context for a CID of a link, even one that counts as none because it was idle too long. The gateway
- * stays as it was.
- */
-bool polorowan_has_context(struct polorowan_gateway *gateway, uint16_t link, uint16_t cid);
-
-/**
- * Gives the number of the link at a place. The gateway stays as it was.
+ * Takes packets one after the other, as so many calls of polorowan_arrive() do.
+ *
+ * The answers stand in the structs, in their order, and their octets in the room, one part of #POLOROWAN_ROOM octets for
+ * each packet in turn: the rebuilt packet, then from @p count + #POLOROWAN_HEAD_ROOM on the feedback, and behind its
+ * #POLOROWAN_FEEDBACK_ROOM octets the relayed feedback. At all but POLOROWAN_ARRIVED nothing is changed.
  *
  * @param gateway the gateway
- * @param place the place, counted from 0 in the order of polorowan_new()'s links
+ * @param packets the packets
+ * @param count how many there are, at most #POLOROWAN_MANY
+ * @param octets the octets of all packets
+ * @param octets_count how many octets these are
+ * @param room gets the octets of the answers
+ * @param room_count at least the sum of #POLOROWAN_ROOM of the packets
+ * @param arrivals gets the rest of the answers
+ * @param arrivals_count at least @p count
+ * @return one of enum polorowan_arrived; POLOROWAN_NO_ROOM also if there are too many packets, or one lies elsewhere
+ */
+uint8_t polorowan_arrive_many(polorowan_gateway *gateway, const struct polorowan_packet *packets, size_t count,
+                              const uint8_t *octets, size_t octets_count, uint8_t *room, size_t room_count,
+                              struct polorowan_arrival *arrivals, size_t arrivals_count);
+
+/** Adds a link behind the others, without a context. @return one of enum polorowan_linked; at all but 0 nothing changes */
+uint8_t polorowan_add_link(polorowan_gateway *gateway, const struct polorowan_link *link);
+
+/**
+ * Removes a link with its contexts, and nothing else. @p count is set to how many contexts went.
+ * @return one of enum polorowan_forgot; at all but 0 nothing changes
+ */
+uint8_t polorowan_remove_link(polorowan_gateway *gateway, uint16_t link, size_t *count);
+
+/**
+ * Changes the setting of the link of this number. Its contexts stay, unless the CID kind changes or their CID is above the
+ * new greatest; @p count is set to how many went.
+ * @return one of enum polorowan_linked; at all but 0 nothing changes
+ */
+uint8_t polorowan_change_link(polorowan_gateway *gateway, const struct polorowan_link *link, size_t *count);
+
+/**
+ * Forgets the context of one CID of a link, and no other. @p count is set to how many went, 0 or 1.
+ * @return one of enum polorowan_forgot; at all but 0 nothing changes
+ */
+uint8_t polorowan_forget(polorowan_gateway *gateway, uint16_t link, uint16_t cid, size_t *count);
+
+/**
+ * Forgets the contexts of a link that have expired at a moment, and gives their memory back. @p count is set to how many
+ * went.
+ * @return one of enum polorowan_forgot; at all but 0 nothing changes
+ */
+uint8_t polorowan_forget_expired(polorowan_gateway *gateway, uint16_t link, uint64_t moment, size_t *count);
+
+/** Forgets every context of a link, and no other context. @return one of enum polorowan_forgot */
+uint8_t polorowan_reset(polorowan_gateway *gateway, uint16_t link);
+
+/**
+ * Whether there is a context for a CID of a link, even one that counts as none because it was idle too long.
+ */
+bool polorowan_has_context(const polorowan_gateway *gateway, uint16_t link, uint16_t cid);
+
+/** Whether the context of a CID of a link has expired at a moment, and so is answered as none is; false if there is none. */
+bool polorowan_has_expired(const polorowan_gateway *gateway, uint16_t link, uint16_t cid, uint64_t moment);
+
+/**
+ * Gives the number of the link at a place.
+ *
+ * @param gateway the gateway
+ * @param place the place, counted from 0 in the order in which the links came
  * @param link gets the number
  * @return whether there is a link at the place; if not, @p link stays as it was
  */
-bool polorowan_link_at(struct polorowan_gateway *gateway, size_t place, uint16_t *link);
+bool polorowan_link_at(const polorowan_gateway *gateway, size_t place, uint16_t *link);
 
 /**
- * Gives the context at a place among those of a link. The gateway stays as it was.
+ * Gives the context at a place among those of a link.
  *
  * Contexts are in the order of their first IR. A context has its place even if it counts as none because it was idle too
  * long. A renewed context keeps its place. polorowan_reset() forgets all contexts of a link.
@@ -242,11 +375,12 @@ bool polorowan_link_at(struct polorowan_gateway *gateway, size_t place, uint16_t
  * @param context gets the context
  * @return whether there is a context at the place; if not, @p context stays as it was
  */
-bool polorowan_context_at(struct polorowan_gateway *gateway, uint16_t link, size_t place, struct polorowan_context_info *context);
+bool polorowan_context_at(const polorowan_gateway *gateway, uint16_t link, size_t place,
+                          struct polorowan_context_info *context);
 
 /**
- * Writes all that the concentrator keeps into a buffer, so that polorowan_restore() goes on from there. The gateway stays as it
- * was. docs/FORMATS.md describes the octets: at most 77 for a context, 8 for a link, and 53.
+ * Writes all that the gateway keeps into a buffer, so that polorowan_open_saved() goes on from there. docs/FORMATS.md
+ * describes the octets: at most 77 for a context, 8 for a link, and 53.
  *
  * @param gateway the gateway
  * @param moment the moment of saving, in milliseconds, of the clock of the arrivals
@@ -255,25 +389,17 @@ bool polorowan_context_at(struct polorowan_gateway *gateway, uint16_t link, size
  * @param count is set to how many octets are needed, at POLOROWAN_SAVED and POLOROWAN_SAVED_NO_ROOM
  * @return one of enum polorowan_saved; at all but POLOROWAN_SAVED the buffer stays as it was
  */
-uint8_t polorowan_save(struct polorowan_gateway *gateway, uint64_t moment, uint8_t *octets, size_t room, size_t *count);
+uint8_t polorowan_save(const polorowan_gateway *gateway, uint64_t moment, uint8_t *octets, size_t room, size_t *count);
 
-/**
- * Makes a concentrator with these links that goes on from what was saved, in place of what the gateway had.
- *
- * Saved links that aren't among these, or are of another CID kind, are left out, and so are contexts above the greatest
- * CID of their link; other settings may differ. After a fault the gateway and @p restored stay as they were.
- *
- * @param gateway the gateway
- * @param links the links
- * @param count how many links there are
- * @param octets what polorowan_save() wrote
- * @param octets_count how many octets these are
- * @param restored gets what was taken and left out
- * @param place is set to the place of the link at fault, counted from 1, or of the octet, counted from 0; else to 0
- * @return 0, or one of enum polorowan_made or enum polorowan_not_restored: the first fault, of the links and then of the octets
- */
-uint8_t polorowan_restore(struct polorowan_gateway *gateway, const struct polorowan_link *links, size_t count, const uint8_t *octets,
-                     size_t octets_count, struct polorowan_restored *restored, size_t *place);
+/** Writes one link in the same form, as polorowan_save() writes all. */
+uint8_t polorowan_save_link(const polorowan_gateway *gateway, uint16_t link, uint64_t moment, uint8_t *octets, size_t room,
+                            size_t *count);
+
+/** The name of a refusal, one of enum polorowan_refusal, or NULL if there is none of this number. It stays. */
+const char *polorowan_name_of(uint8_t refusal);
+
+/** What a refusal means, in a sentence, or NULL if there is none of this number. It stays. */
+const char *polorowan_text_of(uint8_t refusal);
 
 /**
  * Writes the name of a refusal, followed by an octet 0, into a buffer.
@@ -291,6 +417,18 @@ size_t polorowan_refusal_name(uint8_t number, uint8_t *name, size_t room);
  */
 const char *polorowan_version(void);
 
+#ifdef POLOROWAN_IN_PLACE
+/** As polorowan_open(), in place of what the gateway had. After a fault it stays as it was. */
+uint8_t polorowan_new(polorowan_gateway *gateway, const struct polorowan_link *links, size_t count, size_t *place);
+
+/** Frees the concentrator, if there is one. The gateway then has none. */
+void polorowan_free(polorowan_gateway *gateway);
+
+/** As polorowan_open_saved(), in place of what the gateway had. After a fault it stays as it was. */
+uint8_t polorowan_restore(polorowan_gateway *gateway, const struct polorowan_link *links, size_t count,
+                          const uint8_t *octets, size_t octets_count, struct polorowan_restored *restored, size_t *place);
+#endif
+
 #ifdef __cplusplus
 }
 #endif
@@ -305,7 +443,11 @@ const char *polorowan_version(void);
 #endif
 
 POLOROWAN_LAYOUT(sizeof(size_t) == 8 && sizeof(bool) == 1);
+#ifdef POLOROWAN_IN_PLACE
 POLOROWAN_LAYOUT(sizeof(struct polorowan_gateway) == 16 && offsetof(struct polorowan_gateway, at) == 8);
+#endif
+POLOROWAN_LAYOUT(sizeof(struct polorowan_packet) == 32 && offsetof(struct polorowan_packet, moment) == 8);
+POLOROWAN_LAYOUT(offsetof(struct polorowan_packet, at) == 16 && offsetof(struct polorowan_packet, count) == 24);
 POLOROWAN_LAYOUT(sizeof(struct polorowan_range) == 6 && offsetof(struct polorowan_range, last) == 2);
 POLOROWAN_LAYOUT(offsetof(struct polorowan_range, optimistic) == 4);
 POLOROWAN_LAYOUT(sizeof(struct polorowan_link) == 72 && offsetof(struct polorowan_link, max_cid) == 2);

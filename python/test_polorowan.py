@@ -173,6 +173,41 @@ class Calls(unittest.TestCase):
                 with self.assertRaises(TypeError):
                     concentrator.arrive(1, 0, other)  # type: ignore[arg-type]
 
+    def test_many_are_as_single_ones(self) -> None:
+        kinds = ["fc00b745aa", "e1fc003045aa", "45ab01", "e145ac", "f12045ad", "f22021", "e0e0", "fd0100", ""]
+        source = random.Random(1)
+        packets = [(source.choice([1, 1, 1, 9]), at, bytes.fromhex(source.choice(kinds))) for at in range(3000)]
+        with Concentrator([Link(1)]) as many, Concentrator([Link(1)]) as single:
+            self.assertEqual(many.arrive_many(iter(packets)), [single.arrive(*packet) for packet in packets])
+            self.assertEqual(many.save(3000), single.save(3000))
+            self.assertEqual(many.arrive_many([]), [])
+            with self.assertRaises(OverflowError):
+                many.arrive_many([(65536, 0, b"")])
+            self.assertEqual(many.arrive_many([(1, 0, memoryview(b"\xe0\xe0").cast("H"))])[0].kind, Kind.FEEDBACK)
+
+    def test_links_come_and_go(self) -> None:
+        with Concentrator([Link(1, idle_ms=100)]) as it:
+            it.arrive(1, 0, bytes.fromhex("fc00b745aa"))
+            it.arrive(1, 50, bytes.fromhex("e1fc003045aa"))
+            it.add_link(Link(2))
+            with self.assertRaises(SetupError):
+                it.add_link(Link(2))
+            with self.assertRaises(SetupError):
+                it.change_link(Link(1, max_cid=16))
+            with self.assertRaises(NoLink):
+                it.change_link(Link(3))
+            self.assertEqual((it.change_link(Link(1, max_cid=1, idle_ms=100)), it.links()), (0, [1, 2]))
+            self.assertEqual((it.has_expired(1, 0, 100), it.has_expired(1, 1, 100)), (True, False))
+            self.assertEqual((it.forget_expired(1, 100), it.forget(1, 1), it.forget(1, 1)), (1, True, False))
+            with self.assertRaises(NoLink):
+                it.forget(3, 0)
+            self.assertEqual(it.save_link(2, 7)[:9], b"Polorowan")
+            with self.assertRaises(NoLink):
+                it.save_link(3, 7)
+            self.assertEqual((it.remove_link(1), it.links()), (0, [2]))
+            with self.assertRaises(NoLink):
+                it.remove_link(1)
+
     def test_saved_and_restored(self) -> None:
         with Concentrator([Link(1), Link(2)]) as concentrator:
             self.assertEqual(concentrator.arrive(1, 3, self.IR).packet, b"\x45\xaa")

@@ -2,6 +2,7 @@
  * Calls the library for C at its limits: no gateway, each fault, buffers of exactly the bound and one less, lack of memory.
  * bin/check library links it with --wrap=malloc and --wrap=realloc. The octets are those of docs/EXAMPLES.md.
  */
+#define POLOROWAN_IN_PLACE
 #include <stdio.h>
 #include <stdlib.h>
 #include <string.h>

@@ -3,6 +3,7 @@
  * so. bin/check library links it with --wrap for malloc, calloc, realloc and free. The octets are those of
  * docs/EXAMPLES.md.
  */
+#define POLOROWAN_IN_PLACE
 #include <stdio.h>
 #include <stdlib.h>
 #include <string.h>

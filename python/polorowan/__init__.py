@@ -16,7 +16,8 @@ from __future__ import annotations
 from collections.abc import Callable, Iterable, Iterator, Sequence
 from dataclasses import dataclass
 from enum import IntEnum
-from typing import NoReturn, TypeVar
+from itertools import islice
+from typing import NamedTuple, NoReturn, TypeVar
 
 from . import _library
 from ._errors import NOT_RESTORED, Closed, Error, NoLink, SavedError, SetupError
@@ -98,8 +99,7 @@ class Link:
     ranges: Sequence[Range] = ()
 
 
-@dataclass(frozen=True)
-class Answer:
+class Answer(NamedTuple):
     """The answer to a packet."""
 
     kind: Kind
@@ -174,20 +174,94 @@ class Concentrator:
             raise MemoryError
         return octets
 
+    def save_link(self, link: int, moment: int) -> bytes:
+        """One link in the same form. The error is `NoLink`."""
+        number, time = _within(link, 16), _within(moment, 64)
+        with self._room as room:
+            status, octets = _library.save(room.gateway, time, number)
+        if status == _library.NO_SAVED_LINK:
+            raise NoLink(link)
+        if status != 0:
+            raise MemoryError
+        return octets
+
     def arrive(self, link: int, moment: int, octets: bytes | bytearray | memoryview) -> Answer:
         """Takes one packet of a link, with its arrival time in milliseconds, and returns the answer.
 
         The packet is all octets of a bytes-like object, whatever its items are.
         """
-        packet = octets if type(octets) is bytes else memoryview(octets).tobytes()
-        number, time = _within(link, 16), _within(moment, 64)
+        number, time, packet = _packet(link, moment, octets)
         with self._room as room:
             room.arrive(number, time, packet)
             arrival = room.arrival
-            kind = _KINDS[arrival.kind]
-            cid = arrival.cid if kind is Kind.CONTEXT else None
+            cid = arrival.cid if arrival.kind == Kind.CONTEXT else None
             refusal = _library.refusal_names()[arrival.outcome]
-            return Answer(kind, cid, room.packet, room.feedback, room.relayed, refusal)
+            return Answer(_KINDS[arrival.kind], cid, room.packet, room.feedback, room.relayed, refusal)
+
+    def arrive_many(
+        self, packets: Iterable[tuple[int, int, bytes | bytearray | memoryview]]
+    ) -> list[Answer]:
+        """Takes packets one after the other, as so many calls of `arrive`, and returns their answers.
+
+        Each packet has its link, its arrival time in milliseconds and its octets. If one is refused by this layer, as for a
+        number that is too great, those of its batch of up to 1,024 aren't taken, nor those behind.
+        """
+        answers: list[Answer] = []
+        names, rest = _library.refusal_names(), iter(packets)
+        with self._room as room:
+            while batch := [_packet(*packet) for packet in islice(rest, _library.MANY)]:
+                answers += [
+                    Answer(_KINDS[kind], cid if kind == 0 else None, packet, feedback, relayed, names[outcome])
+                    for kind, outcome, cid, packet, feedback, relayed in room.arrive_many(batch)
+                ]
+        return answers
+
+    def add_link(self, link: Link) -> None:
+        """Adds a link behind the others, without a context. The error is `SetupError`; then nothing changes."""
+        raw = _link(link)
+        with self._room as room:
+            status = _library.add_link(room.gateway, raw)
+        if status != 0:
+            raise SetupError(status, 0)
+
+    def change_link(self, link: Link) -> int:
+        """Changes the setting of the link of this number, and returns how many contexts went.
+
+        Contexts stay, unless the CID kind changes or their CID is above the new greatest. The error is `NoLink` or
+        `SetupError`; then nothing changes.
+        """
+        raw = _link(link)
+        with self._room as room:
+            status, count = _library.change_link(room.gateway, raw)
+        if status == _library.NO_LINK:
+            raise NoLink(link.link)
+        if status != 0:
+            raise SetupError(status, 0)
+        return count
+
+    def remove_link(self, link: int) -> int:
+        """Removes a link with its contexts, and returns how many went."""
+        number = _within(link, 16)
+        with self._room as room:
+            return _gone(link, *_library.remove_link(room.gateway, number))
+
+    def forget(self, link: int, cid: int) -> bool:
+        """Forgets the context of one CID of a link, and no other. Returns whether there was one."""
+        number, identifier = _within(link, 16), _within(cid, 16)
+        with self._room as room:
+            return _gone(link, *_library.forget(room.gateway, number, identifier)) != 0
+
+    def forget_expired(self, link: int, moment: int) -> int:
+        """Forgets the contexts of a link that have expired at a moment, and returns how many went."""
+        number, time = _within(link, 16), _within(moment, 64)
+        with self._room as room:
+            return _gone(link, *_library.forget_expired(room.gateway, number, time))
+
+    def has_expired(self, link: int, cid: int, moment: int) -> bool:
+        """Whether the context of a CID of a link has expired at a moment; False if there is none."""
+        number, identifier, time = _within(link, 16), _within(cid, 16), _within(moment, 64)
+        with self._room as room:
+            return _library.has_expired(room.gateway, number, identifier, time)
 
     def reset(self, link: int) -> None:
         """Forgets every context of a link, and no other context."""
@@ -241,6 +315,20 @@ def _standing(at: Callable[[int], T | None]) -> Iterator[T]:
     while (found := at(place)) is not None:
         yield found
         place += 1
+
+
+def _gone(link: int, status: int, count: int) -> int:
+    """How many contexts went, if the link was there."""
+    if status != 0:
+        raise NoLink(link)
+    return count
+
+
+def _packet(link: int, moment: int, octets: bytes | bytearray | memoryview) -> tuple[int, int, bytes]:
+    """A packet with its numbers, if they fit, and all its octets, whatever the items of `octets` are."""
+    if not 0 <= link < 1 << 16 or not 0 <= moment < 1 << 64:
+        raise OverflowError(f"{link} is no number of 16 bits, or {moment} none of 64")
+    return link, moment, octets if type(octets) is bytes else memoryview(octets).tobytes()
 
 
 def _within(number: int, bits: int) -> int:

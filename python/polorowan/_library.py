@@ -5,7 +5,9 @@ from __future__ import annotations
 import ctypes
 import ctypes.util
 import os
+import struct
 from ctypes import POINTER, byref, c_bool, c_size_t, c_uint8, c_uint16, c_uint32, c_uint64, c_void_p
+from collections.abc import Iterator, Sequence
 from functools import cache
 from pathlib import Path
 from threading import Lock
@@ -13,7 +15,17 @@ from threading import Lock
 from ._errors import Closed
 
 HEAD_ROOM, FEEDBACK_ROOM, NAME_ROOM = 40, 8, 16
+MANY = 1024
 NO_ROOM = 2
+NO_LINK = 7
+NO_SAVED_LINK = 4
+
+# `struct polorowan_packet` and `struct polorowan_arrival`, as the module struct writes and reads them.
+PACKET = "H6xQQQ"
+ARRIVAL = struct.Struct("=BBH??2xQQQQ")
+
+Told = tuple[int, int, int, bytes | None, bytes | None, tuple[bytes, ...]]
+"""Kind, outcome, CID, packet, feedback and relayed feedback."""
 
 
 class Gateway(ctypes.Structure):
@@ -100,6 +112,17 @@ def _functions() -> ctypes.PyDLL:
             c_uint8,
             [POINTER(Gateway), c_uint16, c_uint64, *[octets, c_size_t] * 4, POINTER(Arrival)],
         ),
+        "polorowan_arrive_many": (c_uint8, [POINTER(Gateway), *[octets, c_size_t] * 4]),
+        "polorowan_add_link": (c_uint8, [POINTER(Gateway), POINTER(Link)]),
+        "polorowan_remove_link": (c_uint8, [POINTER(Gateway), c_uint16, POINTER(c_size_t)]),
+        "polorowan_change_link": (c_uint8, [POINTER(Gateway), POINTER(Link), POINTER(c_size_t)]),
+        "polorowan_forget": (c_uint8, [POINTER(Gateway), c_uint16, c_uint16, POINTER(c_size_t)]),
+        "polorowan_forget_expired": (c_uint8, [POINTER(Gateway), c_uint16, c_uint64, POINTER(c_size_t)]),
+        "polorowan_has_expired": (c_bool, [POINTER(Gateway), c_uint16, c_uint16, c_uint64]),
+        "polorowan_save_link": (
+            c_uint8,
+            [POINTER(Gateway), c_uint16, c_uint64, octets, c_size_t, POINTER(c_size_t)],
+        ),
         "polorowan_reset": (c_uint8, [POINTER(Gateway), c_uint16]),
         "polorowan_has_context": (c_bool, [POINTER(Gateway), c_uint16, c_uint16]),
         "polorowan_link_at": (c_bool, [POINTER(Gateway), c_size_t, POINTER(c_uint16)]),
@@ -134,15 +157,56 @@ def restore(gateway: Gateway, links: list[Link], octets: bytes) -> tuple[int, in
     return status, place.value, restored
 
 
-def save(gateway: Gateway, moment: int) -> tuple[int, bytes]:
-    """The status, and the octets of a concentrator that is saved at this moment."""
+def save(gateway: Gateway, moment: int, link: int | None = None) -> tuple[int, bytes]:
+    """The status, and the octets of a concentrator, or of one link, that is saved at this moment."""
+    function, of = (
+        (_functions().polorowan_save, ()) if link is None else (_functions().polorowan_save_link, (link,))
+    )
     count, none = c_size_t(), ctypes.create_string_buffer(1)
-    status = _functions().polorowan_save(byref(gateway), moment, none, 0, byref(count))
+    status = function(byref(gateway), *of, moment, none, 0, byref(count))
     if status != NO_ROOM:
         return status, b""
     octets = ctypes.create_string_buffer(count.value)
-    status = _functions().polorowan_save(byref(gateway), moment, octets, count.value, byref(count))
+    status = function(byref(gateway), *of, moment, octets, count.value, byref(count))
     return status, octets.raw
+
+
+def add_link(gateway: Gateway, link: Link) -> int:
+    return _functions().polorowan_add_link(byref(gateway), byref(link))
+
+
+def change_link(gateway: Gateway, link: Link) -> tuple[int, int]:
+    """The status, and how many contexts went."""
+    count = c_size_t()
+    return _functions().polorowan_change_link(byref(gateway), byref(link), byref(count)), count.value
+
+
+def remove_link(gateway: Gateway, link: int) -> tuple[int, int]:
+    """The status, and how many contexts went."""
+    count = c_size_t()
+    return _functions().polorowan_remove_link(byref(gateway), link, byref(count)), count.value
+
+
+def forget(gateway: Gateway, link: int, cid: int) -> tuple[int, int]:
+    """The status, and how many contexts went."""
+    count = c_size_t()
+    return _functions().polorowan_forget(byref(gateway), link, cid, byref(count)), count.value
+
+
+def forget_expired(gateway: Gateway, link: int, moment: int) -> tuple[int, int]:
+    """The status, and how many contexts went."""
+    count = c_size_t()
+    return _functions().polorowan_forget_expired(byref(gateway), link, moment, byref(count)), count.value
+
+
+def has_expired(gateway: Gateway, link: int, cid: int, moment: int) -> bool:
+    return _functions().polorowan_has_expired(byref(gateway), link, cid, moment)
+
+
+@cache
+def _packets_of(count: int) -> struct.Struct:
+    """So many structs of a packet."""
+    return struct.Struct("=" + PACKET * count)
 
 
 class Room:
@@ -152,6 +216,8 @@ class Room:
         self._lock = Lock()
         self.gateway = Gateway()
         self.arrival = Arrival()
+        self._many = ctypes.create_string_buffer(1)
+        self._arrivals = ctypes.create_string_buffer(MANY * ARRIVAL.size)
         self._grow(2048)
 
     def _grow(self, count: int) -> None:
@@ -189,6 +255,34 @@ class Room:
         if status != 0:
             raise RuntimeError(f"polorowan_arrive answered {status}")
 
+    def arrive_many(self, packets: Sequence[tuple[int, int, bytes]]) -> Iterator[Told]:
+        """Takes up to `MANY` packets, each with its link and moment, and gives what is told of each."""
+        count = len(packets)
+        octets = b"".join([packet[2] for packet in packets])
+        words, at = [], 0
+        for link, moment, packet in packets:
+            words += (link, moment, at, len(packet))
+            at += len(packet)
+        needed = 2 * at + count * (HEAD_ROOM + FEEDBACK_ROOM)
+        if needed > len(self._many):
+            self._many = ctypes.create_string_buffer(2 * needed)
+        status = _functions().polorowan_arrive_many(
+            byref(self.gateway),
+            _packets_of(count).pack(*words),
+            count,
+            octets,
+            at,
+            self._many,
+            needed,
+            self._arrivals,
+            count,
+        )
+        if status != 0:
+            raise RuntimeError(f"polorowan_arrive_many answered {status}")
+        room = ctypes.string_at(self._many, needed)
+        told = ARRIVAL.iter_unpack(ctypes.string_at(self._arrivals, count * ARRIVAL.size))
+        return _answers(room, [len(packet[2]) for packet in packets], told)
+
     @property
     def packet(self) -> bytes | None:
         """The rebuilt packet of the last answer."""
@@ -204,6 +298,24 @@ class Room:
         """The feedback that the last packet carried for this side."""
         count = self.arrival.relayed_length
         return _elements(ctypes.string_at(self._relayed, count)) if count else ()
+
+
+def _answers(room: bytes, lengths: list[int], arrivals: Iterator[tuple[int, ...]]) -> Iterator[Told]:
+    """What is told of each packet: its answer's octets stand in its part of the room."""
+    at = 0
+    for length, arrival in zip(lengths, arrivals, strict=True):
+        kind, outcome, cid, has_packet, has_feedback, packet_length, feedback_length, relayed_length, _ = arrival
+        behind = at + length + HEAD_ROOM
+        relayed = behind + FEEDBACK_ROOM
+        yield (
+            kind,
+            outcome,
+            cid,
+            room[at : at + packet_length] if has_packet else None,
+            room[behind : behind + feedback_length] if has_feedback else None,
+            _elements(room[relayed : relayed + relayed_length]) if relayed_length else (),
+        )
+        at = relayed + length
 
 
 def _elements(octets: bytes) -> tuple[bytes, ...]:

@@ -40,7 +40,7 @@ README_WORDS = 1200
 # Documents in which each name between back quotes must stand in the sources, except paths and octets.
 NAMING = [f"docs/{name}.md" for name in "PROOFS PROMISES THREATS DEFINITIONS ARCHITECTURE DECISIONS".split()]
 EDITS = ("must-fail*/*.edit", "statements/*.edit")
-FOLDERS = "docs|bin|tools|examples|crates|man|bench|completion|python|include"
+FOLDERS = "docs|bin|tools|examples|crates|man|bench|completion|python|include|library"
 PLACE = re.compile(rf"(?<![\w/.-])(?:{FOLDERS})/[\w./*-]*\w")
 
 
@@ -153,7 +153,7 @@ def check_proofs(top: Path) -> Iterator[str]:
 
 def check_names(top: Path) -> Iterator[str]:
     """Finds names of code in the documents that don't stand in the sources."""
-    files = [*top.glob("crates/*/src/**/*.rt"), *top.glob("crates/*/specs/**/*.antt"), top / "crates.txt"]
+    files = [*top.glob("crates/*/src/**/*.rt"), *top.glob("crates/*/specs/**/*.antt"), top / "crates.txt", *top.glob("include/*.h")]
     words = set(re.findall(r"[\w-]+", " ".join(file.read_text() for file in files)))
     stems = {file.stem for kind in (*EDITS, "proofs/**/*.antt") for file in top.glob(f"crates/*/{kind}")}
     words |= {word for stem in stems for word in stem.split(".")}

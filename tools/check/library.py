@@ -1,8 +1,9 @@
 """Builds the library for C, and runs it from C.
 
 examples/gateway.c must answer each example and each whole script as expected, octet for octet, and random scripts as the
-program does. tools/library_calls.c calls the library at its limits. Both run under the address sanitizer and under
-valgrind, if these are installed. tools/library_memory.c counts the memory that calls ask for and give back. The header
+program does. tools/library_calls.c calls the library at its limits, and tools/library_running.c while links come and go,
+with many packets in one call, and from four threads that read at once. All run under the address sanitizer and under
+valgrind, if these are installed, and the readers under helgrind. tools/library_memory.c counts the memory that calls ask for and give back. The header
 is compiled as C99, C11 and C++. Scripts go on in other processes from saved calls. examples/udp_gateway.c takes a packet,
 the package in Python runs the examples, and pkg-config and CMake find the installed library. shipping.py has what the
 library is to others.
@@ -25,10 +26,12 @@ LANGUAGES = (
     "-x c++ -std=c++98 -Wno-long-long",
     "-x c++ -std=c++11",
 )
+RUNNING = "-std=c11 -pthread"
 EDGES = "-std=c11 -Wl,--wrap=malloc,--wrap=realloc"
 COUNTING = "-std=c11 -Wl,--wrap=malloc,--wrap=calloc,--wrap=realloc,--wrap=free"
 SANITIZER = "-g -fsanitize=address,undefined -fno-sanitize-recover=all"
 VALGRIND = ("valgrind", "-q", "--error-exitcode=9", "--leak-check=full")
+HELGRIND = ("valgrind", "-q", "--error-exitcode=9", "--tool=helgrind")
 INSTALLED = ("lib/libpolorowan.a", "lib/pkgconfig/polorowan.pc", "include/polorowan.h", "share/doc/polorowan/LIBRARY.md")
 SECONDS = 3600
 
@@ -134,14 +137,17 @@ def check_sanitized(library: Library) -> None:
     if sanitizes(library):
         all_answers(library, library.build(f"-std=c99 {SANITIZER}", "examples/gateway.c", "sanitized_gateway"))
         must_end_well(library, library.build(f"{EDGES} {SANITIZER}", "tools/library_calls.c", "sanitized_calls"))
+        must_end_well(library, library.build(f"{RUNNING} {SANITIZER}", "tools/library_running.c", "sanitized_running"))
 
 
-def check_valgrind(library: Library, gateway: Path, calls: Path) -> None:
-    """The calls, and one example, under valgrind."""
+def check_valgrind(library: Library, gateway: Path, calls: Path, running: Path) -> None:
+    """The calls, and one example, under valgrind; threads that read at once under helgrind."""
     if not shutil.which("valgrind"):
         library.trial.leave_out("valgrind is not installed, the library was not run with it")
         return
     must_end_well(library, *VALGRIND, calls)
+    must_end_well(library, *VALGRIND, running)
+    must_end_well(library, *HELGRIND, running, "readers")
     answers_call(library, *VALGRIND, gateway)
 
 
@@ -229,11 +235,13 @@ def check(trial: Trial) -> None:
         gateway = library.build("-std=c99 -O2", "examples/gateway.c", "gateway")
         calls = library.build(EDGES, "tools/library_calls.c", "calls")
         memory = library.build(COUNTING, "tools/library_memory.c", "memory")
+        running = library.build(f"{RUNNING} -O2", "tools/library_running.c", "running")
         all_answers(library, gateway)
         must_end_well(library, calls)
+        must_end_well(library, running)
         must_end_well(library, memory)
         check_sanitized(library)
-        check_valgrind(library, gateway, calls)
+        check_valgrind(library, gateway, calls, running)
         check_random(library, gateway)
         check_restarts(library, gateway)
         check_beside(library)

@@ -2,33 +2,34 @@
  * Bugs that the fuzzer must find, one for each value of PLANTED. It is linked with --wrap for polorowan_arrive, polorowan_new and
  * polorowan_restore, and alters the library's answers in one rare case each.
  */
+#define POLOROWAN_IN_PLACE
 #include <stdbool.h>
 #include <stdint.h>
 #include <string.h>
 
 #include "polorowan.h"
 
-uint8_t __real_rohc_new(struct polorowan_gateway *gateway, const struct polorowan_link *links, size_t count, size_t *place);
-uint8_t __real_rohc_arrive(struct polorowan_gateway *gateway, uint16_t link, uint64_t moment, const uint8_t *octets, size_t count,
+uint8_t __real_polorowan_new(struct polorowan_gateway *gateway, const struct polorowan_link *links, size_t count, size_t *place);
+uint8_t __real_polorowan_arrive(struct polorowan_gateway *gateway, uint16_t link, uint64_t moment, const uint8_t *octets, size_t count,
                            uint8_t *packet, size_t packet_room, uint8_t *feedback, size_t feedback_room, uint8_t *relayed,
                            size_t relayed_room, struct polorowan_arrival *arrival);
 
-uint8_t __real_rohc_restore(struct polorowan_gateway *gateway, const struct polorowan_link *links, size_t count, const uint8_t *octets,
+uint8_t __real_polorowan_restore(struct polorowan_gateway *gateway, const struct polorowan_link *links, size_t count, const uint8_t *octets,
                             size_t octets_count, struct polorowan_restored *restored, size_t *place);
 
 /* Whether a context of this gateway has fallen to No Context, and which; and whether the gateway was restored. */
 static bool fell, is_restored;
 static uint16_t fallen;
 
-uint8_t __wrap_rohc_new(struct polorowan_gateway *gateway, const struct polorowan_link *links, size_t count, size_t *place) {
+uint8_t __wrap_polorowan_new(struct polorowan_gateway *gateway, const struct polorowan_link *links, size_t count, size_t *place) {
     fell = is_restored = false;
-    return __real_rohc_new(gateway, links, count, place);
+    return __real_polorowan_new(gateway, links, count, place);
 }
 
-uint8_t __wrap_rohc_restore(struct polorowan_gateway *gateway, const struct polorowan_link *links, size_t count, const uint8_t *octets,
+uint8_t __wrap_polorowan_restore(struct polorowan_gateway *gateway, const struct polorowan_link *links, size_t count, const uint8_t *octets,
                             size_t octets_count, struct polorowan_restored *restored, size_t *place) {
     is_restored = true;
-    return __real_rohc_restore(gateway, links, count, octets, octets_count, restored, place);
+    return __real_polorowan_restore(gateway, links, count, octets, octets_count, restored, place);
 }
 
 /* The Acktype of feedback, or 3 if it has none. */
@@ -59,10 +60,10 @@ static void plant(const uint8_t *octets, uint8_t *packet, uint8_t *feedback, str
 #endif
 }
 
-uint8_t __wrap_rohc_arrive(struct polorowan_gateway *gateway, uint16_t link, uint64_t moment, const uint8_t *octets, size_t count,
+uint8_t __wrap_polorowan_arrive(struct polorowan_gateway *gateway, uint16_t link, uint64_t moment, const uint8_t *octets, size_t count,
                            uint8_t *packet, size_t packet_room, uint8_t *feedback, size_t feedback_room, uint8_t *relayed,
                            size_t relayed_room, struct polorowan_arrival *arrival) {
-    uint8_t status = __real_rohc_arrive(gateway, link, moment, octets, count, packet, packet_room, feedback, feedback_room,
+    uint8_t status = __real_polorowan_arrive(gateway, link, moment, octets, count, packet, packet_room, feedback, feedback_room,
                                         relayed, relayed_room, arrival);
     if (status == POLOROWAN_ARRIVED) plant(octets, packet, feedback, arrival);
     return status;

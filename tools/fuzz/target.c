@@ -16,6 +16,7 @@
  * in a gateway of its own, and must be answered as before. What the answers are is also what libFuzzer is told to vary,
  * beside the counters that the library has if it was built with them.
  */
+#define POLOROWAN_IN_PLACE
 #include <stdbool.h>
 #include <stdint.h>
 #include <stdio.h>

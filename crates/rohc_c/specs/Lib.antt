@@ -1,9 +1,12 @@
 pub mod Held
+pub mod Lending
 pub mod Settings
 pub mod Setup
 pub mod Standing
 pub mod Relay
 pub mod Written
 pub mod Calls
+pub mod Changing
+pub mod Many
 pub mod Names
 pub mod Saved

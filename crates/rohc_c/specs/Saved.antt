@@ -1,10 +1,12 @@
--- Saving and restoring as C calls them. Words: IsStored, TooShort; told; fault_of_saved; IsBack, IsNotBack;
+-- Saving and restoring as C calls them. Words: IsStored, TooShort; IsLinkStored, IsLinkTooLong, IsSavedAs; told; fault_of_saved; IsBack, IsNotBack;
 -- not_back_number, not_back_place.
-use Rattle.std.specs.Prelude.{◌≡◌, ℕ, ◌<◌, List, length, All, Ok, ◌⊎◌}
+use Rattle.std.specs.Prelude.{◌≡◌, ℕ, ◌<◌, List, length, All, Some, None, Ok, ◌⊎◌}
 use Rattle.rohc_concentrator.specs.declared.concentrator.Concentrator.{Concentrator}
 use Rattle.rohc_concentrator.specs.declared.setup.SetupFault.TheVariants as setup
 use Rattle.rohc_concentrator.specs.Setup.{AreFine, entry_of}
-use Rattle.rohc_saved.specs.Form.{Form, saved_form}
+use Rattle.rohc_concentrator.specs.declared.setting.LinkSetting.{LinkSetting}
+use Rattle.rohc_concentrator.specs.Tables.{setting_at}
+use Rattle.rohc_saved.specs.Form.{Form, saved_form, saved_link}
 use Rattle.rohc_saved.specs.Reading.{restored}
 use Rattle.rohc_saved.specs.Restoring.{Restores, IsToldOfForm, IsRefusal}
 use Rattle.rohc_saved.specs.declared.restored.Restored.{Restored}
@@ -17,6 +19,8 @@ use Rattle.rohc_c.specs.declared.link.RohcLink.{RohcLink}
 use Rattle.rohc_c.specs.declared.setup.NewFault.{NewFault}
 use Rattle.rohc_c.specs.declared.setup.NewFault.TheVariants.{Setup}
 use Rattle.rohc_c.specs.declared.saved.RohcRestored.{RohcRestored}
+use Rattle.rohc_c.specs.declared.saved.SavedLink.{SavedLink}
+use Rattle.rohc_c.specs.declared.saved.SavedLink.TheVariants.{Saved, NoLink, NoMemory}
 use Rattle.rohc_c.specs.declared.saved.BackFault.{BackFault}
 use Rattle.rohc_c.specs.declared.saved.BackFault.TheVariants.{New, NotSaved, Version, Short, BadLink, BadContext, BadOrder, Digest, Long}
 
@@ -28,6 +32,26 @@ IsStored k moment place count = StandsIn (saved_form moment k) count place
 pub record TooShort (k : Concentrator) (moment : ℕ) (place : List ℕ) (count : ℕ) : Type 0 where
   pub needed : count ≡ length (saved_form moment k)
   pub room : length place < count
+
+-- the octets of the link that is saved at this moment stand at the start of a buffer; this many
+pub record IsLinkStored (k : Concentrator) (link moment : ℕ) (place : List ℕ) (count : ℕ) : Type 0 where
+  pub setting : LinkSetting
+  pub there : setting_at k link ≡ Some setting
+  pub stands : StandsIn (saved_link moment k setting) count place
+
+-- they are more than the buffer has room for
+pub record IsLinkTooLong (k : Concentrator) (link moment : ℕ) (place : List ℕ) (count : ℕ) : Type 0 where
+  pub setting : LinkSetting
+  pub there : setting_at k link ≡ Some setting
+  pub needed : count ≡ length (saved_link moment k setting)
+  pub room : length place < count
+
+-- a link that was saved: its octets, or why there are none
+abbrev pub IsSavedAs : Concentrator → (link moment : ℕ) → SavedLink → Type 0
+IsSavedAs k link moment (Saved octets) =
+    (s : LinkSetting) × (setting_at k link ≡ Some s) × (octets.items ≡ saved_link moment k s)
+IsSavedAs k link moment NoLink = setting_at k link ≡ None
+IsSavedAs k link moment NoMemory = Unit {0}
 
 -- what is told of a restore, for C
 abbrev pub told : Restored → RohcRestored

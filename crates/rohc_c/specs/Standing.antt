@@ -1,6 +1,6 @@
--- What stands at a place. Words: profile_number, state_number; link_at, identifier_at;
--- IsContextAt.
-use Rattle.std.specs.Prelude.{◌≡◌, ℕ, Option, Some, None, option_map, slice_get}
+-- What stands at a place. Words: profile_number, state_number; link_at, identifier_at; IsContextAt;
+-- expired_of, has_expired.
+use Rattle.std.specs.Prelude.{◌≡◌, ℕ, Bool, false, Option, Some, None, option_map, slice_get}
 use Rattle.rohc_context.specs.Record.{Record}
 use Rattle.rohc_context.specs.Standing.{profile_of, context_state_of}
 use Rattle.rohc_context.specs.declared.standing.Profile.{Profile}
@@ -8,7 +8,9 @@ use Rattle.rohc_context.specs.declared.standing.Profile.TheVariants as profiles
 use Rattle.rohc_context.specs.declared.standing.ContextState.{ContextState}
 use Rattle.rohc_context.specs.declared.standing.ContextState.TheVariants as states
 use Rattle.rohc_concentrator.specs.declared.concentrator.Concentrator.{Concentrator}
-use Rattle.rohc_concentrator.specs.Tables.{settings_in_order, identifiers_at, record_at}
+use Rattle.rohc_concentrator.specs.Tables.{settings_in_order, setting_at, identifiers_at, record_at}
+use Rattle.rohc_concentrator.specs.Leaving.{is_expired}
+use Rattle.rohc_concentrator.specs.declared.setting.LinkSetting.{LinkSetting}
 use Rattle.rohc_c.specs.declared.standing.RohcContextInfo.{RohcContextInfo}
 
 -- the number of a profile (RFC 3095 8)
@@ -44,3 +46,14 @@ pub record IsContextAt (g : Option Concentrator) (link place : ℕ) (c : RohcCon
   pub profile : c.profile ≡ profile_number (profile_of its_record.state)
   pub state : c.state ≡ state_number (context_state_of its_record.state)
   pub accepted : c.accepted ≡ its_record.accepted
+
+-- whether a record has expired at a moment, by its link's setting; none hasn't
+abbrev pub expired_of : Option LinkSetting → Option Record → (moment : ℕ) → Bool
+expired_of None r moment = false
+expired_of (Some s) None moment = false
+expired_of (Some s) (Some r) moment = is_expired s.settings.idle_ms moment r
+
+-- there is a concentrator, and the record of this CID has expired at a moment
+abbrev pub has_expired : Option Concentrator → (link cid moment : ℕ) → Bool
+has_expired None link cid moment = false
+has_expired (Some k) link cid moment = expired_of (setting_at k link) (record_at k link cid) moment

@@ -1,18 +1,21 @@
 //! The functions that C calls.
 
 ghost use Rattle.std.specs.Prelude.{◌≡◌, ◌≢◌, ◌≤◌, ◌⊎◌, ◌↔◌, length, IsTrue, Some, None, true, false, IfSome, IsSome};
+ghost use Rattle.rohc_concentrator.specs.Tables.{setting_at};
 ghost use Rattle.rohc_c.specs.Setup.{IsNew, IsNewFault, fault_number, fault_place};
 ghost use Rattle.rohc_c.specs.declared.setup.NewFault.{NewFault};
 
 use crate::arrival::RohcArrival;
 use crate::gateway::Gateway;
 use crate::link::RohcLink;
+use crate::many::RohcPacket;
 use crate::names::{put_name, refusal_of};
 use crate::room::has_room;
-use crate::saved::{RohcRestored, put_octets, rebuild, saved_octets};
+use crate::saved::{RohcRestored, SavedLink, put_octets, rebuild, saved_link, saved_octets};
 use crate::setup::build;
-use crate::standing::{RohcContextInfo, context_at};
+use crate::standing::{RohcContextInfo, context_at, has_expired};
 use crate::taking::take_packet;
+use crate::taking_many::{has_room_for_many, take_many};
 use std::alloc::Global;
 
 /// Makes a concentrator with these links, in this order and without a record, in place of what the gateway had.
@@ -67,7 +70,6 @@ ghost use Rattle.rohc_c.specs.Calls.{HasRoom, HasArrived};
 /// packet for relayed feedback. At 1 and 2 nothing is changed.
 #[unsafe(no_mangle)]
 pub extern "C" fn polorowan_arrive(
-    alloc: Global,
     gateway: &mut Gateway,
     link: u16,
     moment: u64,
@@ -93,9 +95,8 @@ pub extern "C" fn polorowan_arrive(
     if !has_room(octets, packet, feedback, relayed) {
         return 2;
     }
-    let mut concentrator = gateway.take(alloc);
     take_packet(
-        &mut concentrator,
+        gateway.handle.lend(),
         link,
         moment,
         octets,
@@ -104,7 +105,40 @@ pub extern "C" fn polorowan_arrive(
         relayed,
         arrival,
     );
-    gateway.put(concentrator);
+    0
+}
+
+ghost use Rattle.rohc_c.specs.Changing.{Changes};
+ghost use Rattle.rohc_c.specs.Many.{HasRoomForMany, HaveArrived};
+
+/// Takes packets one after the other, as so many single calls do, and writes the answers: the structs in their order, and
+/// into the room, for each packet in turn, its rebuilt packet (40 octets more than the packet), its feedback (8 octets) and
+/// its relayed feedback (as many octets as the packet).
+///
+/// Returns 0 if that is done, 1 if there is no concentrator, and 2 if there are more than 1,024 packets or fewer structs, a
+/// packet lies outside the octets, or the room is too short. At 1 and 2 nothing is changed.
+#[unsafe(no_mangle)]
+pub extern "C" fn polorowan_arrive_many(
+    gateway: &mut Gateway,
+    packets: &[RohcPacket],
+    octets: &[u8],
+    room: &mut [u8],
+    answers: &mut [RohcArrival],
+) -> u8
+    ensures done { result ≡ 0 → Changes (record { old = gateway.old.handle.concentrator; new = gateway.new.handle.concentrator })
+        (λ k n. HaveArrived k packets.now octets.now room.new answers.new n) }
+    ensures absent { (result ≡ 1) ↔ (gateway.old.handle.concentrator ≡ None) }
+    ensures tight { IsSome gateway.old.handle.concentrator → ((result ≡ 2) ↔ (¬ HasRoomForMany packets.now octets.now room.old answers.old)) }
+    ensures kept { (result ≡ 1) ⊎ (result ≡ 2) → (gateway.new ≡ gateway.old) × (room.new ≡ room.old) × (answers.new ≡ answers.old) }
+    ensures within { result ≤ 2 }
+{
+    if !gateway.live {
+        return 1;
+    }
+    if !has_room_for_many(packets, octets, room, answers) {
+        return 2;
+    }
+    take_many(gateway.handle.lend(), packets, octets, room, answers);
     0
 }
 
@@ -113,7 +147,7 @@ ghost use Rattle.rohc_c.specs.Calls.{HasReset, has_link, has_record};
 /// Forgets every record of a link, and no other record. Returns 0 if that is done, 1 if there is no concentrator, and
 /// 2 if it has no such link.
 #[unsafe(no_mangle)]
-pub extern "C" fn polorowan_reset(alloc: Global, gateway: &mut Gateway, link: u16) -> u8
+pub extern "C" fn polorowan_reset(gateway: &mut Gateway, link: u16) -> u8
     ensures done { result ≢ 1 → HasReset (record { old = gateway.old.handle.concentrator; new = gateway.new.handle.concentrator }) link }
     ensures known { (result ≡ 0) ↔ IsTrue (has_link gateway.old.handle.concentrator link) }
     ensures unknown { result ≢ 0 → result ≢ 1 → result ≡ 2 }
@@ -123,10 +157,7 @@ pub extern "C" fn polorowan_reset(alloc: Global, gateway: &mut Gateway, link: u1
     if !gateway.live {
         return 1;
     }
-    let mut concentrator = gateway.take(alloc);
-    let outcome = concentrator.reset(link);
-    gateway.put(concentrator);
-    match outcome {
+    match gateway.handle.lend().reset(link) {
         Ok(()) => 0,
         Err(_) => 2,
     }
@@ -135,47 +166,49 @@ pub extern "C" fn polorowan_reset(alloc: Global, gateway: &mut Gateway, link: u1
 /// Whether a CID of a link has a record, even one that counts as none because it was idle too long; false if there is
 /// no concentrator.
 #[unsafe(no_mangle)]
-pub extern "C" fn polorowan_has_context(
-    alloc: Global,
-    gateway: &mut Gateway,
-    link: u16,
-    cid: u16,
-) -> bool
+pub extern "C" fn polorowan_has_context(gateway: &mut Gateway, link: u16, cid: u16) -> bool
     ensures answer { result ≡ has_record gateway.old.handle.concentrator link cid }
-    ensures kept { gateway.new.handle.concentrator ≡ gateway.old.handle.concentrator }
+    ensures kept { gateway.new ≡ gateway.old }
 {
     if !gateway.live {
         return false;
     }
-    let concentrator = gateway.take(alloc);
-    let stands = concentrator.has_context(link, cid);
-    gateway.put(concentrator);
-    stands
+    gateway.handle.lend().has_context(link, cid)
 }
 
-ghost use Rattle.rohc_c.specs.Standing.{link_at, identifier_at, IsContextAt};
+/// Whether the context of a CID of a link has expired at a moment, in milliseconds of the clock of the arrivals, and so is
+/// answered as none is; false if there is no such context or no concentrator.
+#[unsafe(no_mangle)]
+pub extern "C" fn polorowan_has_expired(
+    gateway: &mut Gateway,
+    link: u16,
+    cid: u16,
+    moment: u64,
+) -> bool
+    ensures answer { result ≡ has_expired gateway.old.handle.concentrator link cid moment }
+    ensures kept { gateway.new ≡ gateway.old }
+{
+    if !gateway.live {
+        return false;
+    }
+    has_expired(gateway.handle.lend(), link, cid, moment)
+}
+
+ghost use Rattle.rohc_c.specs.Standing.{link_at, identifier_at, IsContextAt, has_expired};
 
 /// Gives the number of the link at a place, counted from 0 in the order of the settings. Returns whether there is one.
 ///
 /// After the last link, and without a concentrator, `link` stays as it was.
 #[unsafe(no_mangle)]
-pub extern "C" fn polorowan_link_at(
-    alloc: Global,
-    gateway: &mut Gateway,
-    place: usize,
-    link: &mut u16,
-) -> bool
+pub extern "C" fn polorowan_link_at(gateway: &mut Gateway, place: usize, link: &mut u16) -> bool
     ensures shown { result ≡ true → link_at gateway.old.handle.concentrator place ≡ Some link.new }
     ensures behind { result ≡ false → (link_at gateway.old.handle.concentrator place ≡ None) × (link.new ≡ link.old) }
-    ensures kept { gateway.new.handle.concentrator ≡ gateway.old.handle.concentrator }
+    ensures kept { gateway.new ≡ gateway.old }
 {
     if !gateway.live {
         return false;
     }
-    let concentrator = gateway.take(alloc);
-    let number = concentrator.link_at(place);
-    gateway.put(concentrator);
-    let Some(number) = number else {
+    let Some(number) = gateway.handle.lend().link_at(place) else {
         return false;
     };
     *link = number;
@@ -188,7 +221,6 @@ pub extern "C" fn polorowan_link_at(
 /// After the last one, without such a link, and without a concentrator, `context` stays as it was.
 #[unsafe(no_mangle)]
 pub extern "C" fn polorowan_context_at(
-    alloc: Global,
     gateway: &mut Gateway,
     link: u16,
     place: usize,
@@ -196,15 +228,12 @@ pub extern "C" fn polorowan_context_at(
 ) -> bool
     ensures shown { result ≡ true → IsContextAt gateway.old.handle.concentrator link place context.new }
     ensures behind { result ≡ false → (identifier_at gateway.old.handle.concentrator link place ≡ None) × (context.new ≡ context.old) }
-    ensures kept { gateway.new.handle.concentrator ≡ gateway.old.handle.concentrator }
+    ensures kept { gateway.new ≡ gateway.old }
 {
     if !gateway.live {
         return false;
     }
-    let concentrator = gateway.take(alloc);
-    let shown = context_at(&concentrator, link, place);
-    gateway.put(concentrator);
-    let Some(shown) = shown else {
+    let Some(shown) = context_at(gateway.handle.lend(), link, place) else {
         return false;
     };
     *context = shown;
@@ -254,7 +283,7 @@ pub extern "C" fn polorowan_save(
     ensures saved { result ≡ 0 → IfSome gateway.old.handle.concentrator (λ k. IsStored k moment octets.new length.new) }
     ensures short { result ≡ 2 → IfSome gateway.old.handle.concentrator (λ k. TooShort k moment octets.old length.new) }
     ensures absent { (result ≡ 1) ↔ (gateway.old.handle.concentrator ≡ None) }
-    ensures kept { gateway.new.handle.concentrator ≡ gateway.old.handle.concentrator }
+    ensures kept { gateway.new ≡ gateway.old }
     ensures untouched { result ≢ 0 → octets.new ≡ octets.old }
     ensures unknown { (result ≡ 1) ⊎ (result ≡ 3) → length.new ≡ length.old }
     ensures within { result ≤ 3 }
@@ -262,11 +291,47 @@ pub extern "C" fn polorowan_save(
     if !gateway.live {
         return 1;
     }
-    let concentrator = gateway.take(alloc);
-    let saved = saved_octets(alloc, &concentrator, moment);
-    gateway.put(concentrator);
-    let Some(saved) = saved else {
+    let Some(saved) = saved_octets(alloc, gateway.handle.lend(), moment) else {
         return 3;
+    };
+    *length = saved.len();
+    if put_octets(saved.as_slice(), octets) {
+        0
+    } else {
+        2
+    }
+}
+
+ghost use Rattle.rohc_c.specs.Saved.{IsLinkStored, IsLinkTooLong};
+
+/// Writes one link of the concentrator into a buffer, in the same form, as it is saved at this moment.
+///
+/// Returns 0 to 3 as `polorowan_save` does, and 4 if there is no such link. `length` is set as it is there.
+#[unsafe(no_mangle)]
+pub extern "C" fn polorowan_save_link(
+    alloc: Global,
+    gateway: &mut Gateway,
+    link: u16,
+    moment: u64,
+    octets: &mut [u8],
+    length: &mut usize,
+) -> u8
+    ensures saved { result ≡ 0 → IfSome gateway.old.handle.concentrator (λ k. IsLinkStored k link moment octets.new length.new) }
+    ensures short { result ≡ 2 → IfSome gateway.old.handle.concentrator (λ k. IsLinkTooLong k link moment octets.old length.new) }
+    ensures absent { (result ≡ 1) ↔ (gateway.old.handle.concentrator ≡ None) }
+    ensures unknown_link { result ≡ 4 → IfSome gateway.old.handle.concentrator (λ k. setting_at k link ≡ None) }
+    ensures kept { gateway.new ≡ gateway.old }
+    ensures untouched { result ≢ 0 → octets.new ≡ octets.old }
+    ensures unknown { (result ≡ 1) ⊎ (result ≡ 3) ⊎ (result ≡ 4) → length.new ≡ length.old }
+    ensures within { result ≤ 4 }
+{
+    if !gateway.live {
+        return 1;
+    }
+    let saved = match saved_link(alloc, gateway.handle.lend(), link, moment) {
+        SavedLink::Saved(saved) => saved,
+        SavedLink::NoLink => return 4,
+        SavedLink::NoMemory => return 3,
     };
     *length = saved.len();
     if put_octets(saved.as_slice(), octets) {

@@ -5,16 +5,21 @@
 #![tactic(auto)]
 
 pub mod arrival;
+pub mod changing;
 pub mod exports;
 pub mod gateway;
 pub mod handle;
+mod lending;
 pub mod link;
 mod loose;
+pub mod many;
 mod names;
 mod payload;
 mod relay;
 mod room;
+pub mod running;
 pub mod saved;
 pub mod setup;
 pub mod standing;
 mod taking;
+mod taking_many;

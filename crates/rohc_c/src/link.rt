@@ -77,7 +77,7 @@ fn ranges_of(ranges: &[RohcRange]) -> ArrayVec<CidRange, 8>
 }
 
 /// The setting of a link.
-fn setting_of(link: &RohcLink) -> LinkSetting
+pub(crate) fn setting_of(link: &RohcLink) -> LinkSetting
     requires { HasFewRanges link.now }
     ensures { result ≡ setting_of link.now }
 {

@@ -7,7 +7,7 @@ ghost use Rattle.rohc_c.specs.Calls.{HasRoom};
 pub(crate) const HEAD: usize = 40;
 
 /// The longest feedback element, in octets.
-const FEEDBACK: usize = 8;
+pub(crate) const FEEDBACK: usize = 8;
 
 /// Whether the buffers have room for any answer to a packet of these octets.
 pub(crate) fn has_room(octets: &[u8], packet: &[u8], feedback: &[u8], relayed: &[u8]) -> bool

@@ -3,12 +3,12 @@
 ghost use Rattle.std.specs.Prelude.{◌≡◌, ◌<◌, length, true, false, IfOk, IfErr, IfSome};
 ghost use Rattle.rohc_saved.specs.Form.{saved_form};
 ghost use Rattle.rohc_c.specs.Written.{StandsIn};
-ghost use Rattle.rohc_c.specs.Saved.{IsBack, IsNotBack, told};
+ghost use Rattle.rohc_c.specs.Saved.{IsSavedAs, IsBack, IsNotBack, told};
 
 use crate::link::{RohcLink, link_settings};
 use crate::setup::{NewFault, judge};
 use rohc_concentrator::{Concentrator, SetupFault};
-use rohc_saved::{Restored, SavedFault, restore, save};
+use rohc_saved::{Restored, SaveFault, SavedFault, restore, save, save_link};
 use std::alloc::Global;
 
 /// What was restored: `struct polorowan_restored` of include/polorowan.h. Each count stays at the greatest number of 64 bits.
@@ -170,6 +170,34 @@ pub(crate) fn saved_octets(
     match save(concentrator, moment, &mut octets) {
         Ok(_) => Some(octets),
         Err(_) => None,
+    }
+}
+
+/// A link that was saved: its octets, or why there are none.
+#[derive(Debug, Drop)]
+pub enum SavedLink {
+    /// The octets.
+    Saved(Vec<u8>),
+    /// The link isn't there.
+    NoLink,
+    /// There is no memory.
+    NoMemory,
+}
+
+/// The octets of a link that is saved at this moment.
+pub(crate) fn saved_link(
+    alloc: Global,
+    concentrator: &Concentrator,
+    link: u16,
+    moment: u64,
+) -> SavedLink
+    ensures { IsSavedAs concentrator.now link moment result }
+{
+    let mut octets = Vec::new(alloc);
+    match save_link(concentrator, link, moment, &mut octets) {
+        Ok(_) => SavedLink::Saved(octets),
+        Err(SaveFault::NoLink) => SavedLink::NoLink,
+        Err(SaveFault::Write { .. }) => SavedLink::NoMemory,
     }
 }
 

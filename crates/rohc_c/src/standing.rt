@@ -1,7 +1,8 @@
 //! What stands at a place, as C reads it.
 
 ghost use Rattle.std.specs.Prelude.{◌≡◌, Some, None, IfSome};
-ghost use Rattle.rohc_c.specs.Standing.{profile_number, state_number, identifier_at, IsContextAt};
+ghost use Rattle.rohc_concentrator.specs.Tables.{setting_at, record_at};
+ghost use Rattle.rohc_c.specs.Standing.{profile_number, state_number, identifier_at, IsContextAt, expired_of};
 
 use rohc_concentrator::Concentrator;
 use rohc_context::{ContextState, Profile};
@@ -57,4 +58,17 @@ pub(crate) fn context_at(
         state: state_number(context.state()),
         accepted: context.accepted(),
     })
+}
+
+/// Whether the record of a CID of a link has expired at a moment; false if there is none.
+pub(crate) fn has_expired(concentrator: &Concentrator, link: u16, cid: u16, moment: u64) -> bool
+    ensures { result ≡ expired_of (setting_at concentrator.now link) (record_at concentrator.now link cid) moment }
+{
+    let Some(records) = concentrator.tables().get(&link) else {
+        return false;
+    };
+    match records.contexts.get(&cid) {
+        Some(context) => records.setting.has_expired(context, moment),
+        None => false,
+    }
 }

@@ -1,4 +1,4 @@
-use Rattle.std.proofs.Common.{refl, Some, ap, sym, ◌∙◌}
+use Rattle.std.proofs.Common.{refl, sym}
 use Rattle.rohc_c.proofs.exports.polorowan_arrive.Goals as goal
 
 pub returns-then-not-has_room-clause-kept : goal.returns-then-not-has_room-clause-kept
@@ -7,4 +7,4 @@ returns-then-not-has_room-clause-kept c = λ _. (refl, refl, refl, refl, refl)
 pub returns-clause-done : goal.returns-clause-done
 returns-clause-done c = λ _.
     let t = c.take_packet.ensures in
-    (t.0, record { before = c.deref_mut.result.now; after = c.take_packet.new.concentrator; was = c.take-concentrator.ensures.taken ∙ ap Some (sym c.deref_mut.ensures.value); is = c.put.ensures; arrives = t.1 }, t.2)
+    (t.0, record { before = c.lend.result.now; after = c.take_packet.new.concentrator; was = sym c.lend.ensures.value; is = refl; arrives = t.1 }, t.2)

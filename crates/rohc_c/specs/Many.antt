@@ -1,0 +1,50 @@
+-- Many arrivals in one call. Words: octets_of; needed, buffers_in, are_within; HasRoomForMany;
+-- HaveArrived.
+use Rattle.std.specs.Prelude.{◌≡◌, ℕ, ◌+◌, ◌-◌, ◌≤◌, length, List, [], ◌∷◌, take, drop, Bool, true, ◌&&◌, nat_le}
+use Rattle.rohc_concentrator.specs.declared.concentrator.Concentrator.{Concentrator}
+use Rattle.rohc_concentrator.specs.Report.{Report}
+use Rattle.rohc_concentrator.specs.Events.{Arrives}
+use Rattle.rohc_c.specs.Written.{Buffers, IsAnswerWritten}
+use Rattle.rohc_c.specs.declared.arrival.RohcArrival.{RohcArrival}
+use Rattle.rohc_c.specs.declared.many.RohcPacket.{RohcPacket}
+
+-- a packet's octets, which stand among those of all
+abbrev pub octets_of : RohcPacket → List ℕ → List ℕ
+octets_of p octets = take p.count (drop p.at octets)
+
+-- the room for an answer to so many octets: for the rebuilt packet, for feedback, and for relayed feedback
+abbrev pub needed : ℕ → ℕ
+needed count = count + 40 + (8 + count)
+
+-- the three buffers of the first answer in a room, one behind the other
+abbrev pub buffers_in : ℕ → List ℕ → Buffers
+buffers_in count room = record {
+  packet = take (count + 40) room;
+  feedback = take 8 (drop (count + 40) room);
+  relayed = take count (drop 8 (drop (count + 40) room));
+}
+
+-- each packet lies within so many octets, and there is room for all answers
+abbrev pub are_within : List RohcPacket → (most room : ℕ) → Bool
+are_within [] most room = true
+are_within (p ∷ ps) most room =
+    nat_le (p.at + p.count) most && nat_le (needed p.count) room && are_within ps most (room - needed p.count)
+
+-- there are at most 1,024 packets, and as many structs at least; each packet lies within the octets, and there
+-- is room for all answers
+pub record HasRoomForMany (packets : List RohcPacket) (octets room : List ℕ) (answers : List RohcArrival) :
+    Type 0 where
+  pub few : length packets ≤ 1024
+  pub structs : length packets ≤ length answers
+  pub within : are_within packets (length octets) (length room) ≡ true
+
+-- packets arrive one after the other, and the answer to each is written as that of a single call, in its own
+-- part of the room
+abbrev pub HaveArrived : Concentrator → List RohcPacket → (octets room : List ℕ) → List RohcArrival →
+    Concentrator → Type 0
+HaveArrived old [] octets room answers new = new ≡ old
+HaveArrived old (p ∷ ps) octets room [] new = ⊥
+HaveArrived old (p ∷ ps) octets room (a ∷ answers) new =
+    (mid : Concentrator) × (report : Report) × Arrives old p.link p.moment (octets_of p octets) report mid
+    × IsAnswerWritten report (buffers_in p.count room) a
+    × HaveArrived mid ps octets (drop (needed p.count) room) answers new
