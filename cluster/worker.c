@@ -26,8 +26,7 @@ enum { BEAT_MS = 200, NO_LINK = 29, MEMORY = 30, DIGEST = 32 };
 enum { SKIPS_REBUILDING = 1, BASE_BEFORE_ANSWERS = 2 };
 
 struct shard {
-    bool has_links;
-    struct polorowan_gateway gateway;
+    polorowan_gateway *gateway; /* NULL, if none of the links is the shard's */
     struct id at;   /* the last block that was taken */
     struct id done; /* the last block that had its answers when this worker began here */
     struct id base; /* the block that the last base stands behind */
@@ -47,10 +46,10 @@ static void answer_one(struct shard *shard, const struct block_arrival *arrival,
     static uint8_t packet[LONGEST + POLOROWAN_HEAD_ROOM], relayed[LONGEST], feedback[POLOROWAN_FEEDBACK_ROOM];
     struct polorowan_arrival told = {.kind = POLOROWAN_REFUSED, .outcome = NO_LINK};
     if (arrival->kind == LINK_RESETS) {
-        if (shard->has_links && polorowan_reset(&shard->gateway, arrival->link) == POLOROWAN_FORGOT)
+        if (shard->gateway && polorowan_reset(shard->gateway, arrival->link) == POLOROWAN_FORGOT)
             told = (struct polorowan_arrival){.kind = POLOROWAN_FEEDBACK};
-    } else if (shard->has_links) {
-        polorowan_arrive(&shard->gateway, arrival->link, arrival->moment, arrival->octets, arrival->count, packet,
+    } else if (shard->gateway) {
+        polorowan_arrive(shard->gateway, arrival->link, arrival->moment, arrival->octets, arrival->count, packet,
                          sizeof packet, feedback, sizeof feedback, relayed, sizeof relayed, &told);
     }
     if (told.kind != POLOROWAN_FEEDBACK && told.outcome == MEMORY)
@@ -107,11 +106,10 @@ static void make(unsigned number, const redisReply *saved) {
     struct polorowan_restored restored;
     struct shard *shard = &shards[number];
     size_t count = own_links(number, own), place;
-    shard->has_links = count > 0;
     if (count == 0) return;
     uint8_t fault = saved->type == REDIS_REPLY_STRING
-        ? polorowan_restore(&shard->gateway, own, count, (const uint8_t *)saved->str, saved->len, &restored, &place)
-        : polorowan_new(&shard->gateway, own, count, &place);
+        ? polorowan_open_saved(own, count, (const uint8_t *)saved->str, saved->len, &restored, &place, &shard->gateway)
+        : polorowan_open(own, count, &place, &shard->gateway);
     if (fault == POLOROWAN_NO_MEMORY) end_with(NO_MEMORY, "there is no memory for shard %u", number);
     if (fault != POLOROWAN_MADE && saved->type == REDIS_REPLY_STRING)
         end_with(BAD_REDIS, "base:%u isn't a good base: fault %u at octet %zu", number, fault, place);
@@ -138,7 +136,8 @@ static void enter(unsigned number) {
     do {
         redisReply *base = ask(redis, "HMGET base:%u id contexts", number);
         const redisReply *id = base->element[0];
-        polorowan_free(&shard->gateway);
+        polorowan_close(shard->gateway);
+        shard->gateway = NULL;
         make(number, base->element[1]);
         shard->at = shard->base = id_in(id->type == REDIS_REPLY_STRING ? id->str : "");
         freeReplyObject(base);
@@ -158,9 +157,8 @@ static bool is_alive(const char *other) {
     return alive;
 }
 
-/* Cuts the log before its base and before what any living worker still reads. */
-static void cut(unsigned number) {
-    char text[ID_TEXT];
+/* The least place at which a living worker still reads, or the base. */
+static struct id least_place(unsigned number) {
     struct id least = shards[number].base;
     redisReply *places = ask(redis, "HGETALL at:%u", number);
     for (size_t i = 0; i + 1 < places->elements; i += 2) {
@@ -169,6 +167,19 @@ static void cut(unsigned number) {
         else if (is_later(least, place)) least = place;
     }
     freeReplyObject(places);
+    return least;
+}
+
+/* Cuts the log before its base and before what any living worker still reads. Up to where it was cut is told with it, and
+ * never less than before: a worker that slept would not see that blocks are missing. */
+static void cut(unsigned number) {
+    char text[ID_TEXT];
+    freeReplyObject(ask(redis, "WATCH cut"));
+    struct id least = least_place(number);
+    if (!is_later(least, cut_of(number))) {
+        freeReplyObject(ask(redis, "UNWATCH"));
+        return;
+    }
     id_text(least, text);
     freeReplyObject(ask(redis, "MULTI"));
     freeReplyObject(ask(redis, "HSET cut %u %s", number, text));
@@ -181,10 +192,10 @@ static bool write_base(unsigned number, struct id newest) {
     struct shard *shard = &shards[number];
     char text[ID_TEXT];
     size_t room = 0;
-    if (polorowan_save(&shard->gateway, 0, (uint8_t *)text, 0, &room) != POLOROWAN_SAVED_NO_ROOM) return false;
+    if (polorowan_save(shard->gateway, 0, NULL, 0, &room) != POLOROWAN_SAVED_NO_ROOM) return false;
     uint8_t *octets = malloc(room);
     bool is_written = false;
-    if (octets && polorowan_save(&shard->gateway, 0, octets, room, &room) == POLOROWAN_SAVED && is_later(shard->at, newest)) {
+    if (octets && polorowan_save(shard->gateway, 0, octets, room, &room) == POLOROWAN_SAVED && is_later(shard->at, newest)) {
         freeReplyObject(ask(redis, "MULTI"));
         freeReplyObject(ask(redis, "HSET base:%u id %s contexts %b", number, id_text(shard->at, text), octets, room));
         redisReply *done = ask(redis, "EXEC");
@@ -198,7 +209,7 @@ static bool write_base(unsigned number, struct id newest) {
 /* Writes a base if it is time for one. Its answers are written. */
 static void keep_base(unsigned number) {
     struct shard *shard = &shards[number];
-    if (!shard->has_links || shard->at.number < shard->base.number + base_blocks) return;
+    if (!shard->gateway || shard->at.number < shard->base.number + base_blocks) return;
     freeReplyObject(ask(redis, "WATCH base:%u", number));
     redisReply *reply = ask(redis, "HGET base:%u id", number);
     struct id newest = id_in(reply->type == REDIS_REPLY_STRING ? reply->str : "");
@@ -402,6 +413,6 @@ int main(int count, char **words) {
     }
     freeReplyObject(ask(redis, "DEL alive:%s", name));
     redisFree(redis);
-    for (unsigned i = 0; i < shard_count; i++) polorowan_free(&shards[i].gateway);
+    for (unsigned i = 0; i < shard_count; i++) polorowan_close(shards[i].gateway);
     return 0;
 }

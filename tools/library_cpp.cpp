@@ -40,10 +40,9 @@ int main() {
     must(*answer->packet == polorowan::octets(std::vector<std::uint8_t>{0x45, 0xaa}), "another packet");
     must(*answer->feedback == polorowan::octets(std::vector<std::uint8_t>{0xf1, 0x00}), "another feedback");
 
-    char room[POLOROWAN_NAME_ROOM];
     answer = moved.arrive(2, 0, first);
     must(answer && answer->outcome == polorowan::outcome::refused && !answer->cid, "a link that isn't there");
-    must(polorowan::refusal_name(answer->refusal, room) == "NoLink", "another refusal");
+    must(polorowan::refusal_name(answer->refusal) == "NoLink", "another refusal");
     const std::vector<std::uint8_t> relay{0xf2, 0x01, 0x02};
     answer = moved.arrive(1, 0, relay);
     std::size_t count = 0;
@@ -67,6 +66,9 @@ int main() {
                 must(shared.has_context(1, 0) && shared.link_at(0) == 1 && shared.context_at(1, 0)->profile == 0, "a reader");
         });
     for (auto &reader : readers) reader.join();
+    must(other->add_link(link(7)) == POLOROWAN_LINKED && other->link_at(1) == 7, "a link isn't added");
+    must(other->remove_link(7) == 0u && !other->remove_link(7), "a link isn't removed");
+    must(other->forget_expired(1, 100) == 0u, "a context without idle_ms has expired");
     must(other->reset(1) && !other->has_context(1, 0) && !other->reset(2), "reset");
     std::puts("library_cpp: as wanted");
     return 0;

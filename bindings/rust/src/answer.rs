@@ -1,6 +1,8 @@
 //! What is answered to a packet.
 
+use std::ffi::CStr;
 use std::fmt;
+use std::os::raw::c_char;
 
 use crate::ffi;
 
@@ -21,23 +23,41 @@ impl Refusal {
 
     /// Its name, such as `NoContext`.
     #[must_use]
-    pub fn name(self) -> String {
-        let mut name = [0u8; ffi::NAME_ROOM];
-        // SAFETY: the buffer has as many octets as its length says.
-        let length = unsafe { ffi::polorowan_refusal_name(self.0, name.as_mut_ptr(), name.len()) };
-        String::from_utf8_lossy(&name[..length]).into_owned()
+    pub fn name(self) -> &'static str {
+        // SAFETY: the texts of refusals stay, and end with an octet 0.
+        unsafe { text(ffi::polorowan_name_of(self.0)) }
     }
+
+    /// What it means, in a sentence.
+    #[must_use]
+    pub fn meaning(self) -> &'static str {
+        // SAFETY: the texts of refusals stay, and end with an octet 0.
+        unsafe { text(ffi::polorowan_text_of(self.0)) }
+    }
+}
+
+/// A text of the library; nothing, if there is none.
+///
+/// # Safety
+///
+/// The pointer is null, or to a text that stays and ends with an octet 0.
+pub(crate) unsafe fn text(from: *const c_char) -> &'static str {
+    if from.is_null() {
+        return "";
+    }
+    // SAFETY: by this function's own condition.
+    unsafe { CStr::from_ptr(from) }.to_str().unwrap_or("")
 }
 
 impl fmt::Display for Refusal {
     fn fmt(&self, f: &mut fmt::Formatter<'_>) -> fmt::Result {
-        f.write_str(&self.name())
+        f.write_str(self.name())
     }
 }
 
 impl fmt::Debug for Refusal {
     fn fmt(&self, f: &mut fmt::Formatter<'_>) -> fmt::Result {
-        f.write_str(&self.name())
+        f.write_str(self.name())
     }
 }
 

@@ -1,18 +1,18 @@
 //! The library for C: its structs and functions, as in polorowan.h.
 
-use std::ffi::c_void;
+use std::marker::{PhantomData, PhantomPinned};
 use std::os::raw::c_char;
 
 pub(crate) const HEAD_ROOM: usize = 40;
 pub(crate) const FEEDBACK_ROOM: usize = 8;
-pub(crate) const NAME_ROOM: usize = 16;
 pub(crate) const RANGES: usize = 8;
 pub(crate) const NO_MEMORY: u8 = 6;
 
+/// A gateway of the library, which is never seen inside.
 #[repr(C)]
 pub(crate) struct Gateway {
-    pub(crate) live: bool,
-    pub(crate) at: *mut c_void,
+    _octets: [u8; 0],
+    _not_shared: PhantomData<(*mut u8, PhantomPinned)>,
 }
 
 #[repr(C)]
@@ -78,8 +78,18 @@ pub(crate) struct Restored {
 
 extern "C" {
     pub(crate) fn polorowan_version() -> *const c_char;
-    pub(crate) fn polorowan_new(gateway: *mut Gateway, links: *const Link, count: usize, place: *mut usize) -> u8;
-    pub(crate) fn polorowan_free(gateway: *mut Gateway);
+    pub(crate) fn polorowan_open(links: *const Link, count: usize, place: *mut usize, gateway: *mut *mut Gateway)
+        -> u8;
+    pub(crate) fn polorowan_open_saved(
+        links: *const Link,
+        count: usize,
+        octets: *const u8,
+        octets_count: usize,
+        restored: *mut Restored,
+        place: *mut usize,
+        gateway: *mut *mut Gateway,
+    ) -> u8;
+    pub(crate) fn polorowan_close(gateway: *mut Gateway);
     pub(crate) fn polorowan_arrive(
         gateway: *mut Gateway,
         link: u16,
@@ -94,8 +104,14 @@ extern "C" {
         relayed_room: usize,
         arrival: *mut Arrival,
     ) -> u8;
+    pub(crate) fn polorowan_add_link(gateway: *mut Gateway, link: *const Link) -> u8;
+    pub(crate) fn polorowan_remove_link(gateway: *mut Gateway, link: u16, count: *mut usize) -> u8;
+    pub(crate) fn polorowan_change_link(gateway: *mut Gateway, link: *const Link, count: *mut usize) -> u8;
+    pub(crate) fn polorowan_forget(gateway: *mut Gateway, link: u16, cid: u16, count: *mut usize) -> u8;
+    pub(crate) fn polorowan_forget_expired(gateway: *mut Gateway, link: u16, moment: u64, count: *mut usize) -> u8;
     pub(crate) fn polorowan_reset(gateway: *mut Gateway, link: u16) -> u8;
     pub(crate) fn polorowan_has_context(gateway: *const Gateway, link: u16, cid: u16) -> bool;
+    pub(crate) fn polorowan_has_expired(gateway: *const Gateway, link: u16, cid: u16, moment: u64) -> bool;
     pub(crate) fn polorowan_link_at(gateway: *const Gateway, place: usize, link: *mut u16) -> bool;
     pub(crate) fn polorowan_context_at(
         gateway: *const Gateway,
@@ -110,14 +126,6 @@ extern "C" {
         room: usize,
         count: *mut usize,
     ) -> u8;
-    pub(crate) fn polorowan_restore(
-        gateway: *mut Gateway,
-        links: *const Link,
-        count: usize,
-        octets: *const u8,
-        octets_count: usize,
-        restored: *mut Restored,
-        place: *mut usize,
-    ) -> u8;
-    pub(crate) fn polorowan_refusal_name(number: u8, name: *mut u8, room: usize) -> usize;
+    pub(crate) fn polorowan_name_of(refusal: u8) -> *const c_char;
+    pub(crate) fn polorowan_text_of(refusal: u8) -> *const c_char;
 }

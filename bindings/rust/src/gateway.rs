@@ -1,6 +1,7 @@
 //! A gateway.
 
 use std::fmt;
+use std::ptr::{null_mut, NonNull};
 
 use crate::answer::{Answer, Context, Outcome, Refusal};
 use crate::ffi;
@@ -74,9 +75,68 @@ pub struct Restored {
     pub high_contexts: u64,
 }
 
+impl Restored {
+    fn of(told: &ffi::Restored) -> Restored {
+        Restored {
+            moment: told.moment,
+            links: told.links,
+            unknown_links: told.unknown_links,
+            other_links: told.other_links,
+            contexts: told.contexts,
+            left_contexts: told.left_contexts,
+            high_contexts: told.high_contexts,
+        }
+    }
+}
+
+/// Why a link isn't added or changed.
+#[derive(Clone, Copy, Debug, PartialEq, Eq)]
+pub enum LinkError {
+    /// There are 256 links.
+    TooManyLinks,
+    /// The link has more than eight ranges.
+    TooManyRanges,
+    /// Its settings or ranges are outside their limits.
+    BadSetting,
+    /// The link is there.
+    DuplicateLink,
+    /// There is no memory.
+    NoMemory,
+    /// There is no such link.
+    NoLink,
+}
+
+impl LinkError {
+    fn of(number: u8) -> LinkError {
+        match number {
+            2 => LinkError::TooManyLinks,
+            3 => LinkError::TooManyRanges,
+            4 => LinkError::BadSetting,
+            5 => LinkError::DuplicateLink,
+            7 => LinkError::NoLink,
+            _ => LinkError::NoMemory,
+        }
+    }
+}
+
+impl fmt::Display for LinkError {
+    fn fmt(&self, f: &mut fmt::Formatter<'_>) -> fmt::Result {
+        f.write_str(match self {
+            LinkError::TooManyLinks => "there are 256 links",
+            LinkError::TooManyRanges => "the link has more than eight ranges",
+            LinkError::BadSetting => "the link's settings are outside their limits",
+            LinkError::DuplicateLink => "the link is there",
+            LinkError::NoMemory => "there is no memory",
+            LinkError::NoLink => "there is no such link",
+        })
+    }
+}
+
+impl std::error::Error for LinkError {}
+
 /// All contexts of all links.
 pub struct Gateway {
-    raw: ffi::Gateway,
+    raw: NonNull<ffi::Gateway>,
     packet: Vec<u8>,
     feedback: [u8; ffi::FEEDBACK_ROOM],
     relayed: Vec<u8>,
@@ -97,13 +157,10 @@ fn setup_error(number: u8, place: usize) -> SetupError {
 }
 
 impl Gateway {
-    fn empty() -> Gateway {
-        Gateway {
-            raw: ffi::Gateway { live: false, at: std::ptr::null_mut() },
-            packet: Vec::new(),
-            feedback: [0; ffi::FEEDBACK_ROOM],
-            relayed: Vec::new(),
-        }
+    /// The gateway that the library made, or a fault.
+    fn made(fault: u8, raw: *mut ffi::Gateway) -> Result<Gateway, u8> {
+        let raw = NonNull::new(raw).filter(|_| fault == 0).ok_or(fault)?;
+        Ok(Gateway { raw, packet: Vec::new(), feedback: [0; ffi::FEEDBACK_ROOM], relayed: Vec::new() })
     }
 
     /// A gateway with these links, in this order and without contexts.
@@ -113,14 +170,10 @@ impl Gateway {
     /// The first fault of the links, with its place.
     pub fn new(links: &[Link]) -> Result<Gateway, SetupError> {
         let links = links_for_c(links)?;
-        let (mut made, mut place) = (Gateway::empty(), 0);
-        // SAFETY: the links are as many as is said, and the gateway is none yet.
-        let fault = unsafe { ffi::polorowan_new(&mut made.raw, links.as_ptr(), links.len(), &mut place) };
-        if fault == 0 {
-            Ok(made)
-        } else {
-            Err(setup_error(fault, place))
-        }
+        let (mut raw, mut place) = (null_mut(), 0);
+        // SAFETY: the links are as many as is said.
+        let fault = unsafe { ffi::polorowan_open(links.as_ptr(), links.len(), &mut place, &mut raw) };
+        Gateway::made(fault, raw).map_err(|fault| setup_error(fault, place))
     }
 
     /// A gateway with these links that goes on from what [`Gateway::save`] gave.
@@ -130,27 +183,16 @@ impl Gateway {
     /// The first fault, of the links and then of the octets.
     pub fn restored(links: &[Link], octets: &[u8]) -> Result<(Gateway, Restored), SavedError> {
         let links = links_for_c(links).map_err(SavedError::Setup)?;
-        let (mut made, mut place, mut told) = (Gateway::empty(), 0, ffi::Restored::default());
-        // SAFETY: the links and the octets are as many as is said, and the gateway is none yet.
+        let (mut raw, mut place, mut told) = (null_mut(), 0, ffi::Restored::default());
+        // SAFETY: the links and the octets are as many as is said.
         let fault = unsafe {
             let (at, count) = (octets.as_ptr(), octets.len());
-            ffi::polorowan_restore(&mut made.raw, links.as_ptr(), links.len(), at, count, &mut told, &mut place)
+            ffi::polorowan_open_saved(links.as_ptr(), links.len(), at, count, &mut told, &mut place, &mut raw)
         };
-        match fault {
-            0 => Ok((
-                made,
-                Restored {
-                    moment: told.moment,
-                    links: told.links,
-                    unknown_links: told.unknown_links,
-                    other_links: told.other_links,
-                    contexts: told.contexts,
-                    left_contexts: told.left_contexts,
-                    high_contexts: told.high_contexts,
-                },
-            )),
-            1..=ffi::NO_MEMORY => Err(SavedError::Setup(setup_error(fault, place))),
-            _ => Err(SavedError::Octets { fault, place }),
+        match Gateway::made(fault, raw) {
+            Ok(made) => Ok((made, Restored::of(&told))),
+            Err(1..=ffi::NO_MEMORY) => Err(SavedError::Setup(setup_error(fault, place))),
+            Err(fault) => Err(SavedError::Octets { fault, place }),
         }
     }
 
@@ -171,7 +213,7 @@ impl Gateway {
         // SAFETY: each buffer is as long as is said, and none overlaps another.
         let status = unsafe {
             ffi::polorowan_arrive(
-                &mut self.raw,
+                self.raw.as_ptr(),
                 link,
                 moment,
                 octets.as_ptr(),
@@ -194,6 +236,77 @@ impl Gateway {
         }
     }
 
+    /// Adds a link behind the others, without a context.
+    ///
+    /// # Errors
+    ///
+    /// The first fault of the link. Then nothing changes.
+    pub fn add_link(&mut self, link: &Link) -> Result<(), LinkError> {
+        let link = link.for_c().ok_or(LinkError::TooManyRanges)?;
+        // SAFETY: the gateway is a good one, and the link stands there during the call.
+        match unsafe { ffi::polorowan_add_link(self.raw.as_ptr(), &link) } {
+            0 => Ok(()),
+            fault => Err(LinkError::of(fault)),
+        }
+    }
+
+    /// Changes the setting of the link of this number. Its contexts stay, unless the CID kind changes or their CID is above
+    /// the new greatest. Returns how many went.
+    ///
+    /// # Errors
+    ///
+    /// The first fault of the link. Then nothing changes.
+    pub fn change_link(&mut self, link: &Link) -> Result<usize, LinkError> {
+        let (link, mut count) = (link.for_c().ok_or(LinkError::TooManyRanges)?, 0);
+        // SAFETY: the gateway is a good one, and the link stands there during the call.
+        match unsafe { ffi::polorowan_change_link(self.raw.as_ptr(), &link, &mut count) } {
+            0 => Ok(count),
+            fault => Err(LinkError::of(fault)),
+        }
+    }
+
+    /// Removes a link with its contexts. Returns how many went.
+    ///
+    /// # Errors
+    ///
+    /// There is no such link.
+    pub fn remove_link(&mut self, link: u16) -> Result<usize, NoLink> {
+        let mut count = 0;
+        // SAFETY: the gateway is a good one.
+        match unsafe { ffi::polorowan_remove_link(self.raw.as_ptr(), link, &mut count) } {
+            0 => Ok(count),
+            _ => Err(NoLink),
+        }
+    }
+
+    /// Forgets the context of one CID of a link, and no other. Returns how many went, 0 or 1.
+    ///
+    /// # Errors
+    ///
+    /// There is no such link.
+    pub fn forget(&mut self, link: u16, cid: u16) -> Result<usize, NoLink> {
+        let mut count = 0;
+        // SAFETY: the gateway is a good one.
+        match unsafe { ffi::polorowan_forget(self.raw.as_ptr(), link, cid, &mut count) } {
+            0 => Ok(count),
+            _ => Err(NoLink),
+        }
+    }
+
+    /// Forgets the contexts of a link that have expired at a moment. Returns how many went.
+    ///
+    /// # Errors
+    ///
+    /// There is no such link.
+    pub fn forget_expired(&mut self, link: u16, moment: u64) -> Result<usize, NoLink> {
+        let mut count = 0;
+        // SAFETY: the gateway is a good one.
+        match unsafe { ffi::polorowan_forget_expired(self.raw.as_ptr(), link, moment, &mut count) } {
+            0 => Ok(count),
+            _ => Err(NoLink),
+        }
+    }
+
     /// Forgets every context of a link.
     ///
     /// # Errors
@@ -201,7 +314,7 @@ impl Gateway {
     /// There is no such link.
     pub fn reset(&mut self, link: u16) -> Result<(), NoLink> {
         // SAFETY: the gateway is a good one.
-        match unsafe { ffi::polorowan_reset(&mut self.raw, link) } {
+        match unsafe { ffi::polorowan_reset(self.raw.as_ptr(), link) } {
             0 => Ok(()),
             _ => Err(NoLink),
         }
@@ -211,7 +324,14 @@ impl Gateway {
     #[must_use]
     pub fn has_context(&self, link: u16, cid: u16) -> bool {
         // SAFETY: the gateway is a good one, and isn't written.
-        unsafe { ffi::polorowan_has_context(&self.raw, link, cid) }
+        unsafe { ffi::polorowan_has_context(self.raw.as_ptr(), link, cid) }
+    }
+
+    /// Whether the context of a CID of a link has expired at a moment, and so is answered as none is.
+    #[must_use]
+    pub fn has_expired(&self, link: u16, cid: u16, moment: u64) -> bool {
+        // SAFETY: the gateway is a good one, and isn't written.
+        unsafe { ffi::polorowan_has_expired(self.raw.as_ptr(), link, cid, moment) }
     }
 
     /// The numbers of the links, in their order.
@@ -219,7 +339,7 @@ impl Gateway {
         (0..).map_while(move |place| {
             let mut link = 0;
             // SAFETY: the gateway is a good one, and isn't written.
-            unsafe { ffi::polorowan_link_at(&self.raw, place, &mut link) }.then_some(link)
+            unsafe { ffi::polorowan_link_at(self.raw.as_ptr(), place, &mut link) }.then_some(link)
         })
     }
 
@@ -228,7 +348,8 @@ impl Gateway {
         (0..).map_while(move |place| {
             let mut context = ffi::ContextInfo::default();
             // SAFETY: the gateway is a good one, and isn't written.
-            unsafe { ffi::polorowan_context_at(&self.raw, link, place, &mut context) }.then(|| Context::of(&context))
+            unsafe { ffi::polorowan_context_at(self.raw.as_ptr(), link, place, &mut context) }
+                .then(|| Context::of(&context))
         })
     }
 
@@ -239,8 +360,9 @@ impl Gateway {
         let (mut octets, mut count) = (vec![0u8; 1], 0);
         loop {
             // SAFETY: the buffer is as long as is said, and the gateway isn't written.
-            let status =
-                unsafe { ffi::polorowan_save(&self.raw, moment, octets.as_mut_ptr(), octets.len(), &mut count) };
+            let status = unsafe {
+                ffi::polorowan_save(self.raw.as_ptr(), moment, octets.as_mut_ptr(), octets.len(), &mut count)
+            };
             match status {
                 0 => {
                     octets.truncate(count);
@@ -256,7 +378,7 @@ impl Gateway {
 impl Drop for Gateway {
     fn drop(&mut self) {
         // SAFETY: the gateway is a good one.
-        unsafe { ffi::polorowan_free(&mut self.raw) }
+        unsafe { ffi::polorowan_close(self.raw.as_ptr()) }
     }
 }
 

@@ -21,13 +21,12 @@ mod gateway;
 mod settings;
 
 pub use answer::{Answer, Context, Outcome, Refusal, State};
-pub use gateway::{Gateway, NoLink, Restored, SavedError};
+pub use gateway::{Gateway, LinkError, NoLink, Restored, SavedError};
 pub use settings::{Link, Mode, Range, SetupError, SetupFault};
 
 /// The version of the library, and the digests of the sources and of the logic that it was proved in.
 #[must_use]
 pub fn version() -> &'static str {
     // SAFETY: the text stays, and ends with an octet 0.
-    let text = unsafe { std::ffi::CStr::from_ptr(ffi::polorowan_version()) };
-    text.to_str().unwrap_or("")
+    unsafe { answer::text(ffi::polorowan_version()) }
 }

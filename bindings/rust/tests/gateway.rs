@@ -156,6 +156,22 @@ fn a_reset() {
 }
 
 #[test]
+fn links_that_come_and_go() {
+    let mut gateway = Gateway::new(&links()).expect("good links");
+    gateway.arrive(1, 0, &octets("fc00b745aa"));
+    assert_eq!(gateway.add_link(&Link::new(7)), Ok(()));
+    assert_eq!(gateway.add_link(&Link::new(7)), Err(polorowan::LinkError::DuplicateLink));
+    assert_eq!(gateway.links().collect::<Vec<_>>(), [1, 2, 7]);
+    assert_eq!(gateway.change_link(&Link { idle_ms: 10, ..Link::new(1) }), Ok(0));
+    assert!(!gateway.has_expired(1, 0, 9) && gateway.has_expired(1, 0, 10));
+    assert_eq!((gateway.forget_expired(1, 9), gateway.forget_expired(1, 10)), (Ok(0), Ok(1)));
+    assert_eq!((gateway.forget(2, 3), gateway.forget(9, 3)), (Ok(0), Err(NoLink)));
+    assert_eq!((gateway.remove_link(7), gateway.remove_link(7)), (Ok(0), Err(NoLink)));
+    let unknown = Link::new(7);
+    assert_eq!(gateway.change_link(&unknown), Err(polorowan::LinkError::NoLink));
+}
+
+#[test]
 fn the_version() {
     assert!(polorowan::version().starts_with(env!("CARGO_PKG_VERSION")));
 }
