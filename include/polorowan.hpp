@@ -70,7 +70,7 @@ struct answer {
     }
 };
 
-/** Why no gateway was made, and the place of the link or octet at fault, as polorowan_new() and polorowan_restore() say. */
+/** Why no gateway was made, and the place of the link or octet at fault, as polorowan_open() and polorowan_open_saved() say. */
 struct fault {
     std::uint8_t number = POLOROWAN_MADE;
     std::size_t place = 0;
@@ -81,132 +81,163 @@ class gateway {
 public:
     /** A gateway with these links; none at a fault, or without memory. */
     [[nodiscard]] static std::optional<gateway> make(const std::vector<polorowan_link> &links, fault *why = nullptr) noexcept {
-        polorowan_gateway *raw = nullptr;
+        gateway made;
         fault found;
-        found.number = polorowan_open(links.data(), links.size(), &found.place, &raw);
-        return made(raw, found, why);
+        found.number = made.state_ ? polorowan_open(links.data(), links.size(), &found.place, &made.state_->raw)
+                                   : std::uint8_t{POLOROWAN_NO_MEMORY};
+        if (why) *why = found;
+        if (found.number != POLOROWAN_MADE) return std::nullopt;
+        return made;
     }
 
     /** A gateway with these links that goes on from what save() gave. */
     [[nodiscard]] static std::optional<gateway> restore(const std::vector<polorowan_link> &links, octets saved,
                                                         polorowan_restored *told = nullptr, fault *why = nullptr) noexcept {
-        polorowan_gateway *raw = nullptr;
-        polorowan_restored restored{};
+        gateway made;
         fault found;
-        found.number = polorowan_open_saved(links.data(), links.size(), saved.data(), saved.size(), &restored, &found.place, &raw);
-        if (told && found.number == POLOROWAN_MADE) *told = restored;
-        return made(raw, found, why);
+        polorowan_restored restored{};
+        found.number = made.state_ ? polorowan_open_saved(links.data(), links.size(), saved.data(), saved.size(),
+                                                          &restored, &found.place, &made.state_->raw)
+                                   : std::uint8_t{POLOROWAN_NO_MEMORY};
+        if (why) *why = found;
+        if (found.number != POLOROWAN_MADE) return std::nullopt;
+        if (told) *told = restored;
+        return made;
     }
 
     /** Takes one packet of a link. None without memory for the buffers: then the packet wasn't taken. */
     [[nodiscard]] std::optional<answer> arrive(std::uint16_t link, std::uint64_t moment, octets packet) noexcept {
         polorowan_arrival told{};
-        if (!raw_ || !has_room(packet.size())) return std::nullopt;
-        if (polorowan_arrive(raw_.get(), link, moment, packet.data(), packet.size(), packet_.get(), room_, feedback_,
-                             sizeof feedback_, relayed_.get(), room_, &told) != POLOROWAN_ARRIVED)
+        if (!state_ || !state_->has_room(packet.size())) return std::nullopt;
+        if (polorowan_arrive(state_->raw, link, moment, packet.data(), packet.size(), state_->packet.get(), state_->room,
+                             state_->feedback, sizeof state_->feedback, state_->relayed.get(), state_->room,
+                             &told) != POLOROWAN_ARRIVED)
             return std::nullopt;
         return read(told);
     }
 
-    /** Adds a link behind the others. One of enum polorowan_linked; at all but POLOROWAN_LINKED nothing changes. */
-    [[nodiscard]] std::uint8_t add_link(const polorowan_link &link) noexcept {
-        return raw_ ? polorowan_add_link(raw_.get(), &link) : std::uint8_t{POLOROWAN_LINKED_NONE};
+    /** Forgets every context of a link. False if there is no such link. */
+    bool reset(std::uint16_t link) noexcept { return state_ && polorowan_reset(state_->raw, link) == POLOROWAN_FORGOT; }
+
+    /** Adds a link behind the others, without a context. @return one of enum polorowan_linked */
+    std::uint8_t add_link(const polorowan_link &link) noexcept {
+        return state_ ? polorowan_add_link(state_->raw, &link) : std::uint8_t{POLOROWAN_LINKED_NONE};
     }
 
-    /** Removes a link with its contexts. How many went; none if there is no such link. */
+    /** Changes the setting of the link of this number. @return one of enum polorowan_linked */
+    std::uint8_t change_link(const polorowan_link &link) noexcept {
+        std::size_t count = 0;
+        return state_ ? polorowan_change_link(state_->raw, &link, &count) : std::uint8_t{POLOROWAN_LINKED_NONE};
+    }
+
+    /** Removes a link, and says how many contexts went with it. None if there is no such link. */
     std::optional<std::size_t> remove_link(std::uint16_t link) noexcept {
         std::size_t count = 0;
-        if (!raw_ || polorowan_remove_link(raw_.get(), link, &count) != POLOROWAN_FORGOT) return std::nullopt;
+        if (!state_ || polorowan_remove_link(state_->raw, link, &count) != POLOROWAN_FORGOT) return std::nullopt;
         return count;
     }
 
-    /** Forgets the contexts of a link that have expired at a moment. How many went; none if there is no such link. */
+    /** Forgets the context of one CID of a link, and says how many went. None if there is no such link. */
+    std::optional<std::size_t> forget(std::uint16_t link, std::uint16_t cid) noexcept {
+        std::size_t count = 0;
+        if (!state_ || polorowan_forget(state_->raw, link, cid, &count) != POLOROWAN_FORGOT) return std::nullopt;
+        return count;
+    }
+
+    /** Forgets the contexts of a link that have expired, and says how many went. None if there is no such link. */
     std::optional<std::size_t> forget_expired(std::uint16_t link, std::uint64_t moment) noexcept {
         std::size_t count = 0;
-        if (!raw_ || polorowan_forget_expired(raw_.get(), link, moment, &count) != POLOROWAN_FORGOT) return std::nullopt;
+        if (!state_ || polorowan_forget_expired(state_->raw, link, moment, &count) != POLOROWAN_FORGOT) return std::nullopt;
         return count;
     }
 
-    /** Forgets every context of a link. False if there is no such link. */
-    bool reset(std::uint16_t link) noexcept { return raw_ && polorowan_reset(raw_.get(), link) == POLOROWAN_FORGOT; }
+    /** Whether the context of a CID of a link has expired at a moment; false if there is none. */
+    [[nodiscard]] bool has_expired(std::uint16_t link, std::uint16_t cid, std::uint64_t moment) const noexcept {
+        return state_ && polorowan_has_expired(state_->raw, link, cid, moment);
+    }
 
     /** Whether there is a context for a CID of a link, even one that counts as none because it was idle too long. */
     [[nodiscard]] bool has_context(std::uint16_t link, std::uint16_t cid) const noexcept {
-        return raw_ && polorowan_has_context(raw_.get(), link, cid);
+        return state_ && polorowan_has_context(state_->raw, link, cid);
     }
 
     /** The number of the link at a place. */
     [[nodiscard]] std::optional<std::uint16_t> link_at(std::size_t place) const noexcept {
         std::uint16_t link = 0;
-        if (!raw_ || !polorowan_link_at(raw_.get(), place, &link)) return std::nullopt;
+        if (!state_ || !polorowan_link_at(state_->raw, place, &link)) return std::nullopt;
         return link;
     }
 
     /** The context at a place among those of a link. */
     [[nodiscard]] std::optional<polorowan_context_info> context_at(std::uint16_t link, std::size_t place) const noexcept {
         polorowan_context_info context{};
-        if (!raw_ || !polorowan_context_at(raw_.get(), link, place, &context)) return std::nullopt;
+        if (!state_ || !polorowan_context_at(state_->raw, link, place, &context)) return std::nullopt;
         return context;
     }
 
     /** All that the gateway keeps, as octets. None without memory. */
     [[nodiscard]] std::optional<std::vector<std::uint8_t>> save(std::uint64_t moment) const {
+        std::uint8_t none = 0;
         std::size_t count = 0;
-        if (!raw_ || polorowan_save(raw_.get(), moment, nullptr, 0, &count) != POLOROWAN_SAVED_NO_ROOM) return std::nullopt;
+        if (!state_ || polorowan_save(state_->raw, moment, &none, 0, &count) != POLOROWAN_SAVED_NO_ROOM) return std::nullopt;
         std::vector<std::uint8_t> saved(count);
-        if (polorowan_save(raw_.get(), moment, saved.data(), saved.size(), &count) != POLOROWAN_SAVED) return std::nullopt;
+        if (polorowan_save(state_->raw, moment, saved.data(), saved.size(), &count) != POLOROWAN_SAVED) return std::nullopt;
         return saved;
     }
 
 private:
-    struct close {
-        void operator()(polorowan_gateway *raw) const noexcept { polorowan_close(raw); }
+    struct state {
+        polorowan_gateway *raw = nullptr;
+        std::size_t room = 0;
+        std::unique_ptr<std::uint8_t[]> packet, relayed;
+        std::uint8_t feedback[POLOROWAN_FEEDBACK_ROOM]{};
+
+        state() noexcept = default;
+        state(const state &) = delete;
+        state &operator=(const state &) = delete;
+        ~state() { polorowan_close(raw); }
+
+        /** Whether there is room for the answer to a packet of so many octets; it is made if there isn't. */
+        bool has_room(std::size_t count) noexcept {
+            const std::size_t wanted = count + POLOROWAN_HEAD_ROOM;
+            if (wanted <= room) return true;
+            const std::size_t next = wanted < 2048 ? 2048 : wanted;
+            std::unique_ptr<std::uint8_t[]> a(new (std::nothrow) std::uint8_t[next]), b(new (std::nothrow) std::uint8_t[next]);
+            if (!a || !b) return false;
+            packet = std::move(a);
+            relayed = std::move(b);
+            room = next;
+            return true;
+        }
     };
 
-    explicit gateway(polorowan_gateway *raw) noexcept : raw_(raw) {}
-
-    static std::optional<gateway> made(polorowan_gateway *raw, const fault &found, fault *why) noexcept {
-        if (why) *why = found;
-        if (found.number != POLOROWAN_MADE) return std::nullopt;
-        return gateway(raw);
-    }
-
-    /** Whether there is room for the answer to a packet of so many octets; it is made if there isn't. */
-    bool has_room(std::size_t count) noexcept {
-        const std::size_t wanted = count + POLOROWAN_HEAD_ROOM;
-        if (wanted <= room_) return true;
-        const std::size_t next = wanted < 2048 ? 2048 : wanted;
-        std::unique_ptr<std::uint8_t[]> packet(new (std::nothrow) std::uint8_t[next]);
-        std::unique_ptr<std::uint8_t[]> relayed(new (std::nothrow) std::uint8_t[next]);
-        if (!packet || !relayed) return false;
-        packet_ = std::move(packet);
-        relayed_ = std::move(relayed);
-        room_ = next;
-        return true;
-    }
+    gateway() noexcept : state_(new (std::nothrow) state) {}
 
     [[nodiscard]] answer read(const polorowan_arrival &told) const noexcept {
-        answer made{outcome::refused, 0, std::nullopt, std::nullopt, std::nullopt, {relayed_.get(), told.relayed_length}};
+        answer made{outcome::refused, 0, std::nullopt, std::nullopt, std::nullopt, {state_->relayed.get(), told.relayed_length}};
         if (told.kind == POLOROWAN_CONTEXT) made.cid = told.cid;
         if (told.kind == POLOROWAN_FEEDBACK) made.outcome = outcome::only_feedback;
         else if (told.outcome == POLOROWAN_DELIVERED) made.outcome = outcome::delivered;
         else if (told.outcome == POLOROWAN_STORED) made.outcome = outcome::stored;
         else made.refusal = told.outcome;
-        if (told.has_packet) made.packet = octets{packet_.get(), told.packet_length};
-        if (told.has_feedback) made.feedback = octets{feedback_, told.feedback_length};
+        if (told.has_packet) made.packet = octets{state_->packet.get(), told.packet_length};
+        if (told.has_feedback) made.feedback = octets{state_->feedback, told.feedback_length};
         return made;
     }
 
-    std::unique_ptr<polorowan_gateway, close> raw_;
-    std::size_t room_ = 0;
-    std::unique_ptr<std::uint8_t[]> packet_, relayed_;
-    std::uint8_t feedback_[POLOROWAN_FEEDBACK_ROOM]{};
+    std::unique_ptr<state> state_;
 };
 
-/** The name of a refusal, or an empty text if there is none of this number. It stays. */
+/** The name of a refusal, or an empty text if there is none of this number. */
 [[nodiscard]] inline std::string_view refusal_name(std::uint8_t number) noexcept {
     const char *name = polorowan_name_of(number);
-    return name ? name : std::string_view{};
+    return name ? std::string_view(name) : std::string_view();
+}
+
+/** What a refusal means, in a sentence, or an empty text if there is none of this number. */
+[[nodiscard]] inline std::string_view refusal_text(std::uint8_t number) noexcept {
+    const char *text = polorowan_text_of(number);
+    return text ? std::string_view(text) : std::string_view();
 }
 
 } // namespace polorowan

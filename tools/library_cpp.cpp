@@ -42,7 +42,7 @@ int main() {
 
     answer = moved.arrive(2, 0, first);
     must(answer && answer->outcome == polorowan::outcome::refused && !answer->cid, "a link that isn't there");
-    must(polorowan::refusal_name(answer->refusal) == "NoLink", "another refusal");
+    must(polorowan::refusal_name(answer->refusal) == "NoLink" && !polorowan::refusal_text(29).empty(), "another refusal");
     const std::vector<std::uint8_t> relay{0xf2, 0x01, 0x02};
     answer = moved.arrive(1, 0, relay);
     std::size_t count = 0;
@@ -66,9 +66,9 @@ int main() {
                 must(shared.has_context(1, 0) && shared.link_at(0) == 1 && shared.context_at(1, 0)->profile == 0, "a reader");
         });
     for (auto &reader : readers) reader.join();
-    must(other->add_link(link(7)) == POLOROWAN_LINKED && other->link_at(1) == 7, "a link isn't added");
-    must(other->remove_link(7) == 0u && !other->remove_link(7), "a link isn't removed");
-    must(other->forget_expired(1, 100) == 0u, "a context without idle_ms has expired");
+    must(other->add_link(link(2)) == POLOROWAN_LINKED && other->change_link(link(3)) == POLOROWAN_LINKED_NO_LINK, "links");
+    must(other->remove_link(2) == 0u && !other->remove_link(2) && other->has_context(1, 0), "a link that is removed");
+    must(other->forget(1, 1) == 0u && other->forget_expired(1, 5) == 0u && !other->has_expired(1, 0, 5), "forgetting");
     must(other->reset(1) && !other->has_context(1, 0) && !other->reset(2), "reset");
     std::puts("library_cpp: as wanted");
     return 0;
