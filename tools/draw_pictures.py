@@ -12,6 +12,7 @@ from pathlib import Path
 
 from draw_canvas import BadPicture, Canvas
 from draw_results import lossy_link
+from draw_windows import windows
 
 # What each picture shows, in words, for readers who can't see it.
 SHOWS = {
@@ -20,6 +21,7 @@ SHOWS = {
     "tries": "The three tries to explain a packet; the first header with the packet's check is delivered",
     "isolation": "The lines of one call among hostile calls are the lines of a machine that serves this call alone",
     "call": "A call's life: what the compressor sends, the feedback it gets, the state after it, and the answer line",
+    "windows": "After how long a good call falls, for the windows 2/3, 2/5, 3/5 and 4/8, by the share of damaged headers",
     "lossy-link": "What comes out of a lossy link, for shares of lost packets and of damaged bits, in U and in O mode",
 }
 FOLDER = Path(__file__).resolve().parent.parent / "docs" / "pictures"
@@ -212,7 +214,7 @@ def main():
         sys.exit(__doc__)
     stale = []
     try:
-        pictures = [picture() for picture in (packet, states, tries, isolation, call, lossy_link)]
+        pictures = [picture() for picture in (packet, states, tries, isolation, call, lossy_link, windows)]
         drawn = {f"{picture.name}.svg": picture.svg(SHOWS) for picture in pictures}
     except BadPicture as fault:
         sys.exit(f"tools/draw_pictures.py: {fault}")
