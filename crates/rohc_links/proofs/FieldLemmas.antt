@@ -1,12 +1,9 @@
 -- Whole numbers, members that may be missing, and names among those of two lists of keys.
-use Rattle.std.proofs.Common.{◌≡◌, ◌++◌, ◌∷◌, [], ℕ, Option, Some, None, List, Bool, true, false, ◌||◌, map, refl, ap, ◌∙◌, arith, pos, negsuc}
+use Rattle.std.proofs.Common.{◌≡◌, ℕ, Option, Some, None, List, refl, arith, pos, negsuc}
 use Rattle.std.proofs.lemmas.Grind.{common_steps}
 use Rattle.std.specs.Option.{option_and_then}
 use Rattle.toml.specs.Data.{Data, integer, string, float, boolean, datetime, array, table, get_member, Members}
-use Rattle.std.specs.Str.{bytes_eq}
-use Rattle.rohc_links.specs.declared.fault.Key.{Key}
-use Rattle.rohc_links.specs.Fields.{whole_number, field_at, is_among}
-use Rattle.rohc_links.specs.Keys.{name_of}
+use Rattle.rohc_links.specs.Fields.{whole_number, field_at}
 
 -- what is no whole number from 0 is none from 1
 whole_number_above : (d : Data) (greatest : ℕ) → whole_number 0 greatest d ≡ None → whole_number 1 greatest d ≡ None

@@ -1,6 +1,6 @@
 -- All that is wrong with an entry, against its first fault.
-use Rattle.std.proofs.Common.{◌≡◌, ◌++◌, ◌∷◌, [], ℕ, Option, Some, None, List, Bool, true, false, cond, map, not, refl, ap, sym, ◌∙◌, Result, Ok, Err}
-use Rattle.std.specs.Prelude.{ℕ, filter, is_ok, ok_or, option_map, ◌&&◌}
+use Rattle.std.proofs.Common.{◌≡◌, ◌∷◌, [], ℕ, Option, Some, None, List, Bool, true, false, cond, map, not, refl, sym, ◌∙◌, Result, Ok, Err}
+use Rattle.std.specs.Prelude.{ℕ, is_ok, ok_or, option_map, ◌&&◌}
 use Rattle.std.specs.Option.{option_map_or}
 use Rattle.std.specs.Result.{result_err, result_map_both}
 use Rattle.rohc_concentrator.specs.declared.setting.LinkSetting.{LinkSetting}
@@ -12,11 +12,11 @@ use Rattle.rohc_links.specs.declared.fault.Key.{Key}
 use Rattle.rohc_links.specs.declared.fault.Key.TheVariants as key
 use Rattle.rohc_links.specs.declared.fault.LinksFault.{LinksFault}
 use Rattle.rohc_links.specs.declared.fault.LinksFault.TheVariants.{UnknownKey, BadKey}
-use Rattle.rohc_links.specs.Entry.{◌>>=◌, keys, entry_in, ports_in, has_known_keys, numbered_entry}
+use Rattle.rohc_links.specs.Entry.{◌>>=◌, keys, entry_in, ports_in, has_known_keys}
 use Rattle.rohc_links.specs.Keys.{name_of}
 use Rattle.rohc_links.specs.Fields.{whole_number, size, mode, field_at, is_among, has_only}
 use Rattle.rohc_links.specs.Ranges.{ranges}
-use Rattle.rohc_links.specs.Unfit.{is_fit, unfit_keys, names_beside, first_fault, TellsFirst}
+use Rattle.rohc_links.specs.Unfit.{unfit_keys, names_beside, first_fault, TellsFirst}
 
 -- the result has as its fault the first of these keys, if there is one
 abbrev Tells : ℕ → Result (LinkSetting × Ports) Key → List Key → Type 0
