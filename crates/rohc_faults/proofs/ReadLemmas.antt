@@ -18,10 +18,9 @@ use Rattle.rohc_links.specs.Links.{Lists, with_first, entries, read_from, read_t
 use Rattle.rohc_links.specs.Unfit.{unfit_keys, names_beside, first_fault}
 use Rattle.rohc_links.proofs.UnfitLemmas.{tells_first}
 use Rattle.rohc_faults.specs.Entry.{number_of, AreFaultsOf}
-use Rattle.rohc_faults.specs.File.{version_of, AreEntriesOf, AreFileFaults}
-use Rattle.rohc_faults.specs.Read.{is_nil, are_read, is_read, TellsUnread}
+use Rattle.rohc_faults.specs.File.{version_of, AreEntriesOf}
+use Rattle.rohc_faults.specs.Read.{is_nil, are_read, TellsUnread}
 use Rattle.rohc_faults.specs.declared.entry.EntryFaults.{EntryFaults}
-use Rattle.rohc_faults.specs.declared.file.FileFaults.{FileFaults}
 
 nil_map : {A B : Type 0} (g : A → B) (xs : List A) → is_nil (map g xs) ≡ is_nil xs
 nil_map g [] = refl
