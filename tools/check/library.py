@@ -205,6 +205,7 @@ def check_installed(library: Library) -> None:
         holds = str(prefix / name) in ended.text.splitlines() and (prefix / name).is_file()
         trial.demand(holds, f"bin/install --library: no {name}")
     shipping.others_stay(trial, prefix)
+    shipping.check_first(trial, prefix)
     example = library.call_of_example
     shipping.check_cmake(trial, prefix, library.links(example.links), example.script, example.answers.read_bytes())
     if not shutil.which("pkg-config"):

@@ -189,6 +189,22 @@ def check_ways(trial: Trial, folder: Path, links: Path, script: Path, answers: b
         trial.same(name, answers * (2 if name == "two copies" else 1), ended.output, ended.call)
 
 
+def check_first(trial: Trial, prefix: Path) -> None:
+    """The first program of docs/LIBRARY.md works from the installed files alone."""
+    page = (prefix / "share/doc/polorowan/LIBRARY.md").read_text()
+    source = page.partition("```c\n")[2].partition("```\n")[0]
+    wanted = re.search(r"^prints `([^`]*)`", page, re.MULTILINE)
+    file = trial.write("first/first.c", source)
+    program = file.with_suffix("")
+    words = ("cc", "-Wall", "-Wextra", "-Werror", "-I", prefix / "include", "-o", program, file)
+    if trial.demand(bool(source and wanted), "docs/LIBRARY.md doesn't begin with a program") and wanted:
+        trial.must_run(*words, prefix / "lib/libpolorowan.a")
+        trial.same("the first program of docs/LIBRARY.md", wanted[1] + "\n", trial.ran(program).output)
+    for name in set(re.findall(r"`([\w./]+\.(?:c|h|hpp))`", page)) - {"first.c", "library/gateway.c"}:
+        found = any((prefix / folder / Path(name).name).exists() for folder in ("include", "share/doc/polorowan"))
+        trial.demand(found, f"docs/LIBRARY.md names {name}, which isn't installed")
+
+
 def check_cmake(trial: Trial, prefix: Path, links: Path, script: Path, answers: bytes) -> None:
     """CMake finds the installed library, and both its targets answer an example."""
     if not shutil.which("cmake"):
