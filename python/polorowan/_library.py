@@ -172,7 +172,7 @@ def save(gateway: Gateway, moment: int, link: int | None = None) -> tuple[int, b
 
 
 def add_link(gateway: Gateway, link: Link) -> int:
-    return _functions().polorowan_add_link(byref(gateway), byref(link))
+    return int(_functions().polorowan_add_link(byref(gateway), byref(link)))
 
 
 def change_link(gateway: Gateway, link: Link) -> tuple[int, int]:
@@ -200,7 +200,7 @@ def forget_expired(gateway: Gateway, link: int, moment: int) -> tuple[int, int]:
 
 
 def has_expired(gateway: Gateway, link: int, cid: int, moment: int) -> bool:
-    return _functions().polorowan_has_expired(byref(gateway), link, cid, moment)
+    return bool(_functions().polorowan_has_expired(byref(gateway), link, cid, moment))
 
 
 @cache
@@ -227,8 +227,8 @@ class Room:
         self._feedback = ctypes.create_string_buffer(FEEDBACK_ROOM)
         self._relayed = ctypes.create_string_buffer(count)
         buffers = (self._packet, self._feedback, self._relayed)
-        self._told = [word for buffer in buffers for word in (ctypes.addressof(buffer), len(buffer))]
-        self._told.append(byref(self.arrival))
+        told: list[object] = [word for buffer in buffers for word in (ctypes.addressof(buffer), len(buffer))]
+        self._told = [*told, byref(self.arrival)]
 
     def __enter__(self) -> Room:
         """Waits for a call of another thread. The error is `Closed`."""
@@ -259,7 +259,8 @@ class Room:
         """Takes up to `MANY` packets, each with its link and moment, and gives what is told of each."""
         count = len(packets)
         octets = b"".join([packet[2] for packet in packets])
-        words, at = [], 0
+        words: list[int] = []
+        at = 0
         for link, moment, packet in packets:
             words += (link, moment, at, len(packet))
             at += len(packet)
@@ -329,11 +330,11 @@ def _elements(octets: bytes) -> tuple[bytes, ...]:
 
 
 def reset(gateway: Gateway, link: int) -> int:
-    return _functions().polorowan_reset(byref(gateway), link)
+    return int(_functions().polorowan_reset(byref(gateway), link))
 
 
 def has_context(gateway: Gateway, link: int, cid: int) -> bool:
-    return _functions().polorowan_has_context(byref(gateway), link, cid)
+    return bool(_functions().polorowan_has_context(byref(gateway), link, cid))
 
 
 def link_at(gateway: Gateway, place: int) -> int | None:
