@@ -10,7 +10,7 @@ from trial import Trial
 PROGRAM = "crates/rohctl/out/rohctl"
 FILES = ("examples/links.toml", "examples/two-links.toml", "examples/worked/links-2.toml")
 NAME = "rohcd: links file: "
-DAMAGED = 1_500
+DAMAGED = 2_000
 SEED = 43
 
 # What is put in place of a value.
