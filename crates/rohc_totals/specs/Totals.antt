@@ -100,7 +100,7 @@ IsLinkOf lines l None = count_by (is_link l) lines ≡ 0
 IsLinkOf lines l (Some t) =
     (0 < count_by (is_link l) lines)
     × ((k : ℕ) →
-      count_in t.counts k ≡ tally (λ (line : AnswerLine). is_link l line && is_of_kind k line) lines)
+    count_in t.counts k ≡ tally (λ (line : AnswerLine). is_link l line && is_of_kind k line) lines)
 
 -- the line is no answer line
 abbrev pub is_strange : Numbered → Bool
