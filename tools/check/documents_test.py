@@ -15,9 +15,9 @@ BESIDE = "README.md: isn't what examples/worked/two-calls-and-noise.script is an
 # What must be said, the file, and the text that is replaced there by another. These faults need the program.
 ON_PROGRAM: tuple[Plant, ...] = (
     ("README.md:", "README.md", "29000300004011", "29000300004012"),
-    ("docs/OPERATING.md:", "docs/OPERATING.md", "head -n 3", "head -n 2"),
-    ("docs/OPERATING.md:", "docs/OPERATING.md", "$3 == \"ip\" || $3 == \"refused\"", "$3 == \"ip\""),
-    ("status 4", "docs/OPERATING.md", "< examples/scripts/middle-09.script", "< ."),
+    ("docs/ROHCTL.md:", "docs/ROHCTL.md", "head -n 2", "head -n 3"),
+    ("docs/ROHCTL.md:", "docs/ROHCTL.md", "s/NoContext/Check/", "s/NoContext/Empty/"),
+    ("status 4", "docs/OPERATING.md", "< examples/worked/two-calls-and-noise.script > all", "< . > all"),
     ("a mark without a command", "docs/FORMATS.md", "Octets are hexadecimal.", "<!-- run -->\nOctets are hexadecimal."),
     (BESIDE, "README.md", "2 300 ip 450102 ", "2 300 ip 450103 "),
     (BESIDE, "README.md", "arrive 1 20 10ac ", "arrive 1 20 10ad "),
@@ -128,6 +128,7 @@ class Copy:
         self.top = trial.scratch / "tree"
         self.count = 0
         shutil.copytree(trial.top, self.top, ignore=shutil.ignore_patterns("out", ".git", "__pycache__"))
+        (self.top / "crates/rohctl/out").symlink_to(trial.top / "crates/rohctl/out")
 
     def judged(self, check: Callable[[Trial], None]) -> Trial:
         """What a check says of the copy."""
