@@ -212,6 +212,25 @@ struct polorowan_packet {
     size_t count;    /**< How many octets it has. */
 };
 
+/** How many outcomes are counted: a packet, the thirty refusals, and a context without a packet. */
+#define POLOROWAN_OUTCOMES 32
+
+/** A kind of feedback for the compressor. */
+enum polorowan_word {
+    POLOROWAN_ACK = 0,         /**< ACK. */
+    POLOROWAN_NACK = 1,        /**< NACK. */
+    POLOROWAN_STATIC_NACK = 2, /**< STATIC-NACK. */
+    POLOROWAN_PLAIN_ACK = 3    /**< FEEDBACK-1 of profile 0x0000. */
+};
+
+/** How many answers of each kind there were. All zeros is none. A number that would pass UINT64_MAX stays there. */
+struct polorowan_counts {
+    uint64_t outcomes[POLOROWAN_OUTCOMES]; /**< By enum polorowan_outcome and enum polorowan_refusal. */
+    uint64_t feedback_alone;               /**< Packets of padding and feedback alone. */
+    uint64_t words[4];                     /**< Feedback for the compressor, by enum polorowan_word. */
+    uint64_t relayed;                      /**< Feedback elements for this side's compressor. */
+};
+
 /** What is shown of a context. */
 struct polorowan_context_info {
     uint16_t cid;      /**< Its CID. */
@@ -312,6 +331,18 @@ uint8_t polorowan_arrive(polorowan_gateway *gateway, uint16_t link, uint64_t mom
 uint8_t polorowan_arrive_many(polorowan_gateway *gateway, const struct polorowan_packet *packets, size_t count,
                               const uint8_t *octets, size_t octets_count, uint8_t *room, size_t room_count,
                               struct polorowan_arrival *arrivals, size_t arrivals_count);
+
+/**
+ * Counts an answer of polorowan_arrive() or polorowan_arrive_many(). Whose counts they are is the caller's choice: of a
+ * link, of a CID, or of all; and so is when they are set to zero.
+ *
+ * @param counts the counts
+ * @param arrival the answer
+ * @param feedback where its feedback stands
+ * @param room the buffer's length
+ */
+void polorowan_count(struct polorowan_counts *counts, const struct polorowan_arrival *arrival, const uint8_t *feedback,
+                     size_t room);
 
 /** Adds a link behind the others, without a context. @return one of enum polorowan_linked; at all but 0 nothing changes */
 uint8_t polorowan_add_link(polorowan_gateway *gateway, const struct polorowan_link *link);
@@ -462,6 +493,8 @@ POLOROWAN_LAYOUT(offsetof(struct polorowan_arrival, cid) == 2 && offsetof(struct
 POLOROWAN_LAYOUT(offsetof(struct polorowan_arrival, has_feedback) == 5 && offsetof(struct polorowan_arrival, packet_length) == 8);
 POLOROWAN_LAYOUT(offsetof(struct polorowan_arrival, feedback_length) == 16 && offsetof(struct polorowan_arrival, relayed_length) == 24);
 POLOROWAN_LAYOUT(offsetof(struct polorowan_arrival, relayed_count) == 32);
+POLOROWAN_LAYOUT(sizeof(struct polorowan_counts) == 304 && offsetof(struct polorowan_counts, feedback_alone) == 256);
+POLOROWAN_LAYOUT(offsetof(struct polorowan_counts, words) == 264 && offsetof(struct polorowan_counts, relayed) == 296);
 POLOROWAN_LAYOUT(sizeof(struct polorowan_restored) == 56 && offsetof(struct polorowan_restored, links) == 8);
 POLOROWAN_LAYOUT(offsetof(struct polorowan_restored, unknown_links) == 16 && offsetof(struct polorowan_restored, other_links) == 24);
 POLOROWAN_LAYOUT(offsetof(struct polorowan_restored, contexts) == 32 && offsetof(struct polorowan_restored, left_contexts) == 40);

@@ -105,14 +105,19 @@ public:
         return made;
     }
 
-    /** Takes one packet of a link. None without memory for the buffers: then the packet wasn't taken. */
-    [[nodiscard]] std::optional<answer> arrive(std::uint16_t link, std::uint64_t moment, octets packet) noexcept {
+    /**
+     * Takes one packet of a link, and counts its answer if there are counts. None without memory for the buffers: then the
+     * packet wasn't taken.
+     */
+    [[nodiscard]] std::optional<answer> arrive(std::uint16_t link, std::uint64_t moment, octets packet,
+                                               polorowan_counts *counts = nullptr) noexcept {
         polorowan_arrival told{};
         if (!state_ || !state_->has_room(packet.size())) return std::nullopt;
         if (polorowan_arrive(state_->raw, link, moment, packet.data(), packet.size(), state_->packet.get(), state_->room,
                              state_->feedback, sizeof state_->feedback, state_->relayed.get(), state_->room,
                              &told) != POLOROWAN_ARRIVED)
             return std::nullopt;
+        if (counts) polorowan_count(counts, &told, state_->feedback, sizeof state_->feedback);
         return read(told);
     }
 

@@ -25,7 +25,9 @@ from polorowan import (  # noqa: E402
     Closed,
     Concentrator,
     Context,
+    Counts,
     Error,
+    Feedback,
     Kind,
     Link,
     NoLink,
@@ -207,6 +209,19 @@ class Calls(unittest.TestCase):
             self.assertEqual((it.remove_link(1), it.links()), (0, [2]))
             with self.assertRaises(NoLink):
                 it.remove_link(1)
+
+    def test_answers_are_counted(self) -> None:
+        packets = [bytes.fromhex(text) for text in ("fc00b745aa", "e1fc003045aa", "", "f22005f120", "f120fc00b745aa")]
+        one, many = Counts(), Counts()
+        with Concentrator([Link(1)]) as it:
+            for packet in packets:
+                it.arrive(1, 0, packet, one)
+            it.arrive_many([(1, 0, packet) for packet in packets], many)
+        for counts in (one, many):
+            self.assertEqual((counts.delivered, counts.stored, counts.refused), (3, 0, {"Empty": 1}))
+            self.assertEqual((counts.feedback_alone, counts.relayed), (1, 3))
+            self.assertEqual(counts.feedback[Feedback.PLAIN_ACK], 3)
+            self.assertEqual(sum(counts.feedback.values()), 3)
 
     def test_saved_and_restored(self) -> None:
         with Concentrator([Link(1), Link(2)]) as concentrator:

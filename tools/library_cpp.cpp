@@ -44,7 +44,9 @@ int main() {
     must(answer && answer->outcome == polorowan::outcome::refused && !answer->cid, "a link that isn't there");
     must(polorowan::refusal_name(answer->refusal) == "NoLink" && !polorowan::refusal_text(29).empty(), "another refusal");
     const std::vector<std::uint8_t> relay{0xf2, 0x01, 0x02};
-    answer = moved.arrive(1, 0, relay);
+    polorowan_counts counts{};
+    answer = moved.arrive(1, 0, relay, &counts);
+    must(counts.feedback_alone == 1 && counts.relayed == 1 && counts.outcomes[POLOROWAN_DELIVERED] == 0, "counts");
     std::size_t count = 0;
     must(answer && answer->outcome == polorowan::outcome::only_feedback, "feedback alone");
     answer->each_relayed([&](polorowan::octets element) { count += element.size(); });

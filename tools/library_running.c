@@ -1,6 +1,6 @@
 /*
  * Calls the library for C while it runs: gateways on the heap, links that come, go and change, contexts that are forgotten,
- * many packets in one call beside so many single calls, and four threads that read at once. The octets are those of
+ * answers that are counted, many packets in one call beside so many single calls, and four threads that read at once. The octets are those of
  * docs/EXAMPLES.md. With the word `readers` only the threads run.
  */
 #include <pthread.h>
@@ -134,6 +134,55 @@ static void links_change(void) {
     link.large = true;
     CHECK(polorowan_change_link(g, &link, &count) == POLOROWAN_LINKED && count == 1 && are(g, false, false));
     polorowan_close(g);
+}
+
+/* Takes a packet of link 1 or 2, and counts its answer. */
+static void counted(polorowan_gateway *g, struct polorowan_counts *counts, uint16_t link, const char *octets, size_t count) {
+    uint8_t packet[128], feedback[POLOROWAN_FEEDBACK_ROOM], relayed[128];
+    struct polorowan_arrival arrival;
+    CHECK(polorowan_arrive(g, link, 60, (const uint8_t *)octets, count, packet, sizeof packet, feedback, sizeof feedback,
+                           relayed, sizeof relayed, &arrival) == POLOROWAN_ARRIVED);
+    polorowan_count(counts, &arrival, feedback, sizeof feedback);
+}
+
+/* An IR of profile 0x0000 is answered by FEEDBACK-1; F2 20 05 and F1 20 are feedback elements for this side. */
+static void answers_are_counted(void) {
+    struct polorowan_counts counts, wanted;
+    polorowan_gateway *g = with_two_contexts();
+    memset(&counts, 0, sizeof counts);
+    memset(&wanted, 0, sizeof wanted);
+    counted(g, &counts, 1, IR_0, 5);
+    counted(g, &counts, 1, IR_1, 6);
+    counted(g, &counts, 1, "", 0);
+    counted(g, &counts, 2, IR_0, 5);
+    counted(g, &counts, 1, "\xf2\x20\x05\xf1\x20", 5);
+    counted(g, &counts, 1, "\xf1\x20" IR_0, 7);
+    wanted.outcomes[POLOROWAN_DELIVERED] = 3;
+    wanted.outcomes[POLOROWAN_REFUSED_EMPTY] = wanted.outcomes[POLOROWAN_REFUSED_NO_LINK] = 1;
+    wanted.feedback_alone = 1;
+    wanted.words[POLOROWAN_PLAIN_ACK] = 3;
+    wanted.relayed = 3;
+    CHECK(memcmp(&counts, &wanted, sizeof counts) == 0);
+    counts.outcomes[POLOROWAN_DELIVERED] = wanted.outcomes[POLOROWAN_DELIVERED] = UINT64_MAX;
+    wanted.words[POLOROWAN_PLAIN_ACK] = 4;
+    counted(g, &counts, 1, IR_0, 5);
+    CHECK(memcmp(&counts, &wanted, sizeof counts) == 0);
+    polorowan_close(g);
+}
+
+/* What no answer has isn't counted: an outcome above the greatest, feedback that is longer than its buffer. */
+static void bad_answers_are_not_counted(void) {
+    struct polorowan_counts counts, none;
+    struct polorowan_arrival arrival;
+    memset(&counts, 0, sizeof counts);
+    memset(&none, 0, sizeof none);
+    memset(&arrival, 0, sizeof arrival);
+    arrival.outcome = POLOROWAN_OUTCOMES;
+    arrival.has_feedback = true;
+    arrival.feedback_length = 2;
+    polorowan_count(&counts, &arrival, (const uint8_t *)"\xf1", 1);
+    polorowan_count(&counts, &arrival, NULL, 0);
+    CHECK(memcmp(&counts, &none, sizeof counts) == 0);
 }
 
 static void contexts_are_forgotten(void) {
@@ -287,6 +336,8 @@ int main(int count, char **words) {
         links_come_and_go();
         links_change();
         contexts_are_forgotten();
+        answers_are_counted();
+        bad_answers_are_not_counted();
         one_link_is_saved();
         refusals_are_told();
         many_are_as_single_ones();

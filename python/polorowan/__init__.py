@@ -29,7 +29,9 @@ __all__ = [
     "Closed",
     "Concentrator",
     "Context",
+    "Counts",
     "Error",
+    "Feedback",
     "Kind",
     "Link",
     "NoLink",
@@ -120,6 +122,54 @@ class Answer(NamedTuple):
         return self.kind == Kind.CONTEXT and self.packet is None and self.refusal is None
 
 
+class Feedback(IntEnum):
+    """A kind of feedback for the compressor."""
+
+    ACK = 0
+    NACK = 1
+    STATIC_NACK = 2
+    PLAIN_ACK = 3
+    """FEEDBACK-1 of profile 0x0000."""
+
+
+class Counts:
+    """How many answers of each kind there were: of a link, of a CID or of all, as the caller hands them in."""
+
+    def __init__(self) -> None:
+        self._raw = _library.Counts()
+
+    @property
+    def delivered(self) -> int:
+        """Packets that were rebuilt."""
+        return int(self._raw.outcomes[0])
+
+    @property
+    def stored(self) -> int:
+        """Contexts that were made or renewed without a packet."""
+        return int(self._raw.outcomes[31])
+
+    @property
+    def refused(self) -> dict[str, int]:
+        """Packets that were refused, by the refusal's name; those that came."""
+        named = zip(_library.refusal_names(), self._raw.outcomes)
+        return {name: int(count) for name, count in named if name is not None and count}
+
+    @property
+    def feedback_alone(self) -> int:
+        """Packets of padding and feedback alone."""
+        return int(self._raw.feedback_alone)
+
+    @property
+    def feedback(self) -> dict[Feedback, int]:
+        """Feedback for the compressor, by kind."""
+        return {kind: int(self._raw.words[kind]) for kind in Feedback}
+
+    @property
+    def relayed(self) -> int:
+        """Feedback elements for this side's compressor."""
+        return int(self._raw.relayed)
+
+
 @dataclass(frozen=True)
 class Restored:
     """The moment of saving, and how much of what was saved was taken or left out."""
@@ -185,21 +235,27 @@ class Concentrator:
             raise MemoryError
         return octets
 
-    def arrive(self, link: int, moment: int, octets: bytes | bytearray | memoryview) -> Answer:
+    def arrive(
+        self, link: int, moment: int, octets: bytes | bytearray | memoryview, counts: Counts | None = None
+    ) -> Answer:
         """Takes one packet of a link, with its arrival time in milliseconds, and returns the answer.
 
-        The packet is all octets of a bytes-like object, whatever its items are.
+        The packet is all octets of a bytes-like object, whatever its items are. The answer is counted, if there are counts.
         """
         number, time, packet = _packet(link, moment, octets)
         with self._room as room:
             room.arrive(number, time, packet)
+            if counts is not None:
+                room.count(counts._raw)
             arrival = room.arrival
             cid = arrival.cid if arrival.kind == Kind.CONTEXT else None
             refusal = _library.refusal_names()[arrival.outcome]
             return Answer(_KINDS[arrival.kind], cid, room.packet, room.feedback, room.relayed, refusal)
 
     def arrive_many(
-        self, packets: Iterable[tuple[int, int, bytes | bytearray | memoryview]]
+        self,
+        packets: Iterable[tuple[int, int, bytes | bytearray | memoryview]],
+        counts: Counts | None = None,
     ) -> list[Answer]:
         """Takes packets one after the other, as so many calls of `arrive`, and returns their answers.
 
@@ -214,6 +270,8 @@ class Concentrator:
                     Answer(_KINDS[kind], cid if kind == 0 else None, packet, feedback, relayed, names[outcome])
                     for kind, outcome, cid, packet, feedback, relayed in room.arrive_many(batch)
                 ]
+                if counts is not None:
+                    room.count_many(counts._raw, [len(octets) for _, _, octets in batch])
         return answers
 
     def add_link(self, link: Link) -> None:

@@ -68,6 +68,15 @@ class Arrival(ctypes.Structure):
     ]
 
 
+class Counts(ctypes.Structure):
+    _fields_ = [
+        ("outcomes", c_uint64 * 32),
+        ("feedback_alone", c_uint64),
+        ("words", c_uint64 * 4),
+        ("relayed", c_uint64),
+    ]
+
+
 class ContextInfo(ctypes.Structure):
     _fields_ = [("cid", c_uint16), ("profile", c_uint16), ("state", c_uint8), ("accepted", c_uint64)]
 
@@ -113,6 +122,7 @@ def _functions() -> ctypes.PyDLL:
             [POINTER(Gateway), c_uint16, c_uint64, *[octets, c_size_t] * 4, POINTER(Arrival)],
         ),
         "polorowan_arrive_many": (c_uint8, [POINTER(Gateway), *[octets, c_size_t] * 4]),
+        "polorowan_count": (None, [POINTER(Counts), octets, octets, c_size_t]),
         "polorowan_add_link": (c_uint8, [POINTER(Gateway), POINTER(Link)]),
         "polorowan_remove_link": (c_uint8, [POINTER(Gateway), c_uint16, POINTER(c_size_t)]),
         "polorowan_change_link": (c_uint8, [POINTER(Gateway), POINTER(Link), POINTER(c_size_t)]),
@@ -283,6 +293,18 @@ class Room:
         room = ctypes.string_at(self._many, needed)
         told = ARRIVAL.iter_unpack(ctypes.string_at(self._arrivals, count * ARRIVAL.size))
         return _answers(room, [len(packet[2]) for packet in packets], told)
+
+    def count(self, counts: Counts) -> None:
+        """Counts the last answer."""
+        _functions().polorowan_count(byref(counts), byref(self.arrival), self._feedback, FEEDBACK_ROOM)
+
+    def count_many(self, counts: Counts, lengths: Sequence[int]) -> None:
+        """Counts the answers to so many packets of these lengths, which were taken last."""
+        answer, feedback = ctypes.addressof(self._arrivals), ctypes.addressof(self._many)
+        for length in lengths:
+            _functions().polorowan_count(byref(counts), answer, feedback + length + HEAD_ROOM, FEEDBACK_ROOM)
+            answer += ARRIVAL.size
+            feedback += 2 * length + HEAD_ROOM + FEEDBACK_ROOM
 
     @property
     def packet(self) -> bytes | None:

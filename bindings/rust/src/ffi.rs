@@ -56,6 +56,15 @@ pub(crate) struct Arrival {
 }
 
 #[repr(C)]
+#[derive(Clone, Copy, Default, Debug, PartialEq, Eq)]
+pub(crate) struct Counts {
+    pub(crate) outcomes: [u64; 32],
+    pub(crate) feedback_alone: u64,
+    pub(crate) words: [u64; 4],
+    pub(crate) relayed: u64,
+}
+
+#[repr(C)]
 #[derive(Clone, Copy, Default)]
 pub(crate) struct ContextInfo {
     pub(crate) cid: u16,
@@ -104,6 +113,7 @@ extern "C" {
         relayed_room: usize,
         arrival: *mut Arrival,
     ) -> u8;
+    pub(crate) fn polorowan_count(counts: *mut Counts, arrival: *const Arrival, feedback: *const u8, room: usize);
     pub(crate) fn polorowan_add_link(gateway: *mut Gateway, link: *const Link) -> u8;
     pub(crate) fn polorowan_remove_link(gateway: *mut Gateway, link: u16, count: *mut usize) -> u8;
     pub(crate) fn polorowan_change_link(gateway: *mut Gateway, link: *const Link, count: *mut usize) -> u8;

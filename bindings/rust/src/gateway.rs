@@ -4,6 +4,7 @@ use std::fmt;
 use std::ptr::{null_mut, NonNull};
 
 use crate::answer::{Answer, Context, Outcome, Refusal};
+use crate::counts::Counts;
 use crate::ffi;
 use crate::settings::{Link, SetupError, SetupFault};
 
@@ -204,6 +205,20 @@ impl Gateway {
     ///
     /// Never: the library refuses a call without a concentrator, or with too little room, and neither is possible here.
     pub fn arrive(&mut self, link: u16, moment: u64, octets: &[u8]) -> Answer<'_> {
+        let told = self.take(link, moment, octets);
+        self.answer(&told)
+    }
+
+    /// Takes one packet of a link, as [`Gateway::arrive`] does, and counts its answer.
+    pub fn arrive_counted(&mut self, link: u16, moment: u64, octets: &[u8], counts: &mut Counts) -> Answer<'_> {
+        let told = self.take(link, moment, octets);
+        // SAFETY: the buffer is as long as is said, and overlaps neither the counts nor the answer.
+        unsafe { ffi::polorowan_count(&mut counts.raw, &told, self.feedback.as_ptr(), self.feedback.len()) };
+        self.answer(&told)
+    }
+
+    /// Takes a packet. Its answer's octets stand in the buffers.
+    fn take(&mut self, link: u16, moment: u64, octets: &[u8]) -> ffi::Arrival {
         let room = octets.len() + ffi::HEAD_ROOM;
         if self.packet.len() < room {
             self.packet.resize(room.max(2048), 0);
@@ -228,8 +243,13 @@ impl Gateway {
             )
         };
         assert_eq!(status, 0, "there is a concentrator, and the buffers have room");
+        told
+    }
+
+    /// The answer that stands in the buffers.
+    fn answer(&self, told: &ffi::Arrival) -> Answer<'_> {
         Answer {
-            outcome: outcome(&told),
+            outcome: outcome(told),
             packet: told.has_packet.then(|| &self.packet[..told.packet_length]),
             feedback: told.has_feedback.then(|| &self.feedback[..told.feedback_length]),
             relayed: &self.relayed[..told.relayed_length],

@@ -16,11 +16,13 @@
 //! A gateway may go from thread to thread. Calls that only read take `&self`.
 
 mod answer;
+mod counts;
 mod ffi;
 mod gateway;
 mod settings;
 
 pub use answer::{Answer, Context, Outcome, Refusal, State};
+pub use counts::{Counts, Word};
 pub use gateway::{Gateway, LinkError, NoLink, Restored, SavedError};
 pub use settings::{Link, Mode, Range, SetupError, SetupFault};
 

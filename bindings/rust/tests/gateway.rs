@@ -1,6 +1,6 @@
 //! The worked examples of docs/EXAMPLES.md through this layer, and its own errors.
 
-use polorowan::{Gateway, Link, NoLink, Outcome, Range, SavedError, SetupError, SetupFault, State};
+use polorowan::{Counts, Gateway, Link, NoLink, Outcome, Range, SavedError, SetupError, SetupFault, State, Word};
 use std::fmt::Write as _;
 use std::path::{Path, PathBuf};
 
@@ -169,6 +169,22 @@ fn links_that_come_and_go() {
     assert_eq!((gateway.remove_link(7), gateway.remove_link(7)), (Ok(0), Err(NoLink)));
     let unknown = Link::new(7);
     assert_eq!(gateway.change_link(&unknown), Err(polorowan::LinkError::NoLink));
+}
+
+#[test]
+fn answers_that_are_counted() {
+    let mut gateway = Gateway::new(&links()).expect("good links");
+    let mut counts = Counts::new();
+    for packet in ["fc00b745aa", "e1fc003045aa", "", "f22005f120", "f120fc00b745aa"] {
+        let answer = gateway.arrive(1, 0, &octets(packet)).outcome;
+        assert_eq!(gateway.arrive_counted(1, 0, &octets(packet), &mut counts).outcome, answer);
+        if let Outcome::Refused { refusal, .. } = answer {
+            assert_eq!((refusal.name(), counts.refused(refusal)), ("Empty", 1));
+        }
+    }
+    assert_eq!((counts.delivered(), counts.stored(), counts.all_refused()), (3, 0, 1));
+    assert_eq!((counts.feedback_alone(), counts.relayed()), (1, 3));
+    assert_eq!((counts.feedback(Word::PlainAck), counts.feedback(Word::Nack)), (3, 0));
 }
 
 #[test]

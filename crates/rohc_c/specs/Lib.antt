@@ -5,6 +5,7 @@ pub mod Setup
 pub mod Standing
 pub mod Relay
 pub mod Written
+pub mod Counting
 pub mod Calls
 pub mod Changing
 pub mod Many

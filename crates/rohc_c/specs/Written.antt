@@ -3,10 +3,8 @@
 use Rattle.std.specs.Prelude.{◌≡◌, ℕ, ◌≤◌, List, [], ◌++◌, length, take, Bool, true, false, Option, Some, None, IfSome}
 use Rattle.rohc_context.specs.Response.{Packet}
 use Rattle.rohc_context.specs.Refusal.{number_of}
-use Rattle.rohc_context.specs.declared.reply.Outcome.{Outcome}
-use Rattle.rohc_context.specs.declared.reply.Outcome.TheVariants.{Delivered, Stored}
-use Rattle.rohc_context.specs.declared.reply.Outcome.TheVariants as outcomes
 use Rattle.rohc_concentrator.specs.Report.{Report, Arrived, OnlyFront, Refused}
+use Rattle.rohc_counts.specs.Counted.{outcome_number}
 use Rattle.rohc_c.specs.Relay.{told}
 use Rattle.rohc_c.specs.declared.arrival.RohcArrival.{RohcArrival}
 
@@ -19,13 +17,6 @@ pub record Buffers : Type 0 where
 -- all of these octets stand at the start of a buffer; `count` is their number
 abbrev pub StandsIn : List ℕ → ℕ → List ℕ → Type 0
 StandsIn octets count place = (count ≡ length octets) × (take count place ≡ octets)
-
--- the number of an outcome: 0 for a packet, 31 if the context was made or renewed without one, else the
--- refusal's
-abbrev pub outcome_number : Outcome → ℕ
-outcome_number Delivered = 0
-outcome_number Stored = 31
-outcome_number (outcomes.Refused refusal) = number_of refusal
 
 -- octets, or none: whether there are some, and if so, all of them at the start of a buffer
 abbrev pub IsPartTold : Option (List ℕ) → List ℕ → (some : Bool) → (count : ℕ) → Type 0

@@ -5,7 +5,7 @@ ghost use Rattle.rohc_frame.specs.Reading.{elements_of};
 ghost use Rattle.rohc_context.specs.Response.{response_of, delivered};
 ghost use Rattle.rohc_concentrator.specs.Report.{report_of, Arrived};
 ghost use Rattle.rohc_c.specs.Relay.{FitsInRoom};
-ghost use Rattle.rohc_c.specs.Written.{outcome_number, whole_packet, relayed_in, StandsIn, IsPartTold, IsAnswerWritten, IsPacketWithin, IsWithin};
+ghost use Rattle.rohc_c.specs.Written.{whole_packet, relayed_in, StandsIn, IsPartTold, IsAnswerWritten, IsPacketWithin, IsWithin};
 
 use crate::payload::put_payload;
 use crate::relay::put_elements;
@@ -13,6 +13,7 @@ use crate::room::HEAD;
 use rohc_bits::put_behind;
 use rohc_concentrator::Answer;
 use rohc_context::{Delivered, Outcome, Reply};
+use rohc_counts::outcome_number;
 use rohc_frame::Elements;
 
 /// The answer to an arrival: `struct polorowan_arrival` of include/polorowan.h. Its octets stand in the caller's buffers.
@@ -37,18 +38,6 @@ pub struct RohcArrival {
     pub relayed_length: usize,
     /// How many feedback elements these octets are. Each is one octet, which counts its data, and the data.
     pub relayed_count: usize,
-}
-
-/// The number of an outcome.
-#[inline(always)]
-fn number(outcome: Outcome) -> u8
-    ensures { result ≡ outcome_number outcome }
-{
-    match outcome {
-        Outcome::Delivered => 0,
-        Outcome::Stored => 31,
-        Outcome::Refused(refusal) => refusal.number(),
-    }
 }
 
 /// Writes a packet's head at the start of a buffer. The head of nearly every packet has 40 octets, or one if it's a Normal
@@ -151,7 +140,7 @@ fn tell_reply(
     let told = put_elements(elements, relayed);
     RohcArrival {
         kind: 0,
-        outcome: number(reply.outcome),
+        outcome: outcome_number(reply.outcome),
         cid,
         has_packet,
         has_feedback,

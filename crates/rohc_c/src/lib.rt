@@ -6,6 +6,7 @@
 
 pub mod arrival;
 pub mod changing;
+pub mod counting;
 pub mod exports;
 pub mod gateway;
 pub mod handle;
