@@ -2,10 +2,10 @@
 # shellcheck shell=bash
 
 _rohctl() {
-    local word=${COMP_WORDS[COMP_CWORD]} options=''
+    local word=${COMP_WORDS[COMP_CWORD]} options='' asking='status stop save reload drain reset contexts calls'
     COMPREPLY=()
     if [ "$COMP_CWORD" -eq 1 ]; then
-        mapfile -t COMPREPLY < <(compgen -W 'totals links trace diff plan' -- "$word")
+        mapfile -t COMPREPLY < <(compgen -W "totals links trace diff plan spread verify $asking" -- "$word")
         return
     fi
     case ${COMP_WORDS[1]} in
@@ -14,6 +14,11 @@ _rohctl() {
     trace) options='--links' ;;
     diff) options='--json' ;;
     plan) options='--damage --packet-ms --window --calls --split --links --json' ;;
+    status | stop | save | reload | drain) options='--control' ;;
+    spread) options='--hosts --nginx --out' ;;
+    verify) options='--root' ;;
+    reset) options='--control --link --cid' ;;
+    contexts | calls) options='--control --link' ;;
     esac
     if [[ $word == -* ]]; then
         mapfile -t COMPREPLY < <(compgen -W "$options" -- "$word")

@@ -30,7 +30,7 @@ SHARDS, LINKS, CALLS = 4, 20, 50
 ARRIVAL, ANSWER = struct.Struct("<BHQH"), struct.Struct("<HBBHBHBH")
 WAIT_SECONDS = 60.0
 ALIVE_MS = 600
-PARTS = ("deploy", "twins", "redis", "whole", "hosts", "controls")
+PARTS = ("twins", "redis", "whole", "hosts", "controls")
 
 
 @dataclass(frozen=True)
@@ -269,18 +269,6 @@ def disturbed(cluster: Cluster, blocks: Sequence[tuple[int, bytes]], kills: int,
         append(client, blocks[len(steps) * part :], counts)
     if sleeping:
         cluster.processes[sleeping].send_signal(signal.SIGCONT)
-
-
-def check_deploy(trial: Trial, made: "Made") -> None:
-    """nftables and nginx take the files of deploy/ as they are."""
-    for tool, words in (
-        ("nft", ("-c", "-f", "deploy/spread.nft")),
-        ("nginx", ("-t", "-p", trial.top / "deploy", "-c", "nginx.conf")),
-    ):
-        if shutil.which(tool) and os.geteuid() == 0:
-            trial.must_run(tool, *words)
-        else:
-            trial.leave_out(f"{tool} is not installed, or root isn't, its file in deploy/ was not tried")
 
 
 def check_twins(trial: Trial, made: "Made") -> None:
@@ -567,6 +555,6 @@ def check(trial: Trial) -> None:
         trial.leave_out("hiredis or libcrypto is not installed, cluster/ was not run")
         return
     made = make(trial)
-    parts = dict(zip(PARTS, (check_deploy, check_twins, check_redis, check_whole, check_hosts, check_controls), strict=True))
+    parts = dict(zip(PARTS, (check_twins, check_redis, check_whole, check_hosts, check_controls), strict=True))
     for name in trial.chosen(PARTS):
         parts[name](trial, made)

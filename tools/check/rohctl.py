@@ -11,6 +11,7 @@ from pathlib import Path
 import rohctl_diff
 import rohctl_links
 import rohctl_plan
+import rohctl_spread
 from installation import COMPLETE
 from program import Call, Ended, run
 from trial import Trial
@@ -54,7 +55,7 @@ HOSTILE = b"\x1b[31m\n1 0 ip \x00\n\xff\xfe refused Check\n1 0 refused \"}\n" + 
 
 # What bash completes, and behind which words.
 COMPLETIONS = (
-    ("diff links plan totals trace", ("",)),
+    ("calls contexts diff drain links plan reload reset save spread status stop totals trace verify", ("",)),
     ("totals", ("to",)),
     ("--json --new", ("links", "--")),
     ("--calls --damage --json --links --packet-ms --split --window", ("plan", "--")),
@@ -240,14 +241,17 @@ def check_completion(trial: Trial) -> None:
 
 def check_ends(trial: Trial) -> None:
     """The statuses of wrong words and files; help and version."""
-    for words in (("--help",), ("--version",), ("totals", "--help"), ("trace", "--help"), ("links", "--help"), ("diff", "--help"), ("plan", "--help")):
+    for words in (("--help",), ("--version",), ("totals", "--help"), ("trace", "--help"), ("links", "--help"), ("diff", "--help"), ("plan", "--help"), ("spread", "--help"),
+                  ("status", "--help"), ("reset", "--help")):
         ended = call(trial, *words)
         trial.demand(ended.status == 0 and ended.text != "", f"rohctl {words}: {ended.end()}", ended.call)
-    for words in ((), ("frob",), ("trace",), ("links",), ("diff", "a"), ("totals", "--json", "--prometheus"), ("totals", "a", "b")):
+    for words in ((), ("frob",), ("trace",), ("links",), ("diff", "a"), ("totals", "--json", "--prometheus"), ("totals", "a", "b"), ("stop",),
+                  ("reset", "--control", "x"), ("reset", "--control", "x", "--link", "70000"), ("spread", LINKS)):
         ended = call(trial, *words)
         trial.demand(ended.status == 2, f"rohctl {words}: {ended.end()}; wanted 2", ended.call)
     ends(trial, call(trial, "trace", "--links", "nothing.toml"), 3, "rohctl: links file: Unreadable")
     ends(trial, call(trial, "trace", "--links", f"{PLAIN}.answers"), 3, "rohctl: links file: NotToml")
+    ends(trial, call(trial, "status", "--control", "nothing"), 4, "rohctl: no gateway answers at the control socket")
     ends(trial, call(trial, "totals", "nothing"), 4, "rohctl: read")
     ends(trial, call(trial, "totals", "examples"), 4, "rohctl: read")
     ends(trial, call(trial, "trace", "--links", LINKS, "nothing"), 4, "rohctl: read")
@@ -256,5 +260,5 @@ def check_ends(trial: Trial) -> None:
 def check(trial: Trial) -> None:
     """All of it, on the program that the gate left."""
     for part in (check_totals, check_json, check_metrics, check_hostile, check_trace, check_whole, check_colour, check_completion, check_ends,
-                 rohctl_links.check, rohctl_diff.check, rohctl_plan.check):
+                 rohctl_links.check, rohctl_diff.check, rohctl_plan.check, rohctl_spread.check):
         part(trial)

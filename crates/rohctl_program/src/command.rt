@@ -1,6 +1,8 @@
 //! The command line.
 
+use crate::control::Wish;
 use crate::ending::Ending;
+use crate::spread::Spread;
 use clap::error::ErrorKind;
 use clap::{Arg, ArgAction, ArgMatches, Command};
 use std::alloc::{AllocError, Global};
@@ -61,6 +63,18 @@ pub(crate) enum Request<'a> {
     },
     /// Tell what windows mean, what memory calls take, or how links are spread.
     Plan(Plan<'a>),
+    /// Write the rules that bring each datagram to the process of its link.
+    Spread(Spread<'a>),
+    /// Compare files with a list of their digests.
+    Verify {
+        list: &'a str,
+        root: &'a str,
+    },
+    /// Ask the gateway at this control socket.
+    Control {
+        control: &'a str,
+        wish: Wish,
+    },
     /// Trace the script of this file, with the links of another; `-` is standard input.
     Trace {
         links: &'a str,
@@ -227,9 +241,98 @@ fn trace<'a>(alloc: Global) -> Result<Command<'a>, AllocError> {
         )
 }
 
+/// The subcommand `spread`.
+fn spread_words<'a>(alloc: Global) -> Result<Command<'a>, AllocError> {
+    Command::new(alloc, "spread")
+        .about("Write the rules that bring each datagram to the process of its link")
+        .arg(
+            Arg::new(alloc, "LINKS")
+                .help("The links file")
+                .required(true),
+        )?
+        .arg(valued(alloc, "hosts", "FILE", "The processes and their links").required(true))?
+        .arg(flag(
+            alloc,
+            "nginx",
+            "Write a configuration of nginx, not a table of nftables",
+        ))?
+        .arg(valued(
+            alloc,
+            "out",
+            "FOLDER",
+            "Write a links file for each process there",
+        ))
+}
+
+/// The subcommand `verify`.
+fn verify<'a>(alloc: Global) -> Result<Command<'a>, AllocError> {
+    Command::new(alloc, "verify")
+        .about("Tell whether installed files are as they were packed")
+        .arg(
+            Arg::new(alloc, "LIST")
+                .help("The digests, as sha256sum writes them")
+                .required(true),
+        )?
+        .arg(
+            valued(alloc, "root", "FOLDER", "Where the paths of the list begin")
+                .default_value("/"),
+        )
+}
+
+/// A subcommand that asks a running gateway.
+fn asking<'a>(
+    alloc: Global,
+    name: &'static str,
+    about: &'static str,
+) -> Result<Command<'a>, AllocError> {
+    Command::new(alloc, name).about(about).arg(valued(
+        alloc,
+        "control",
+        "SOCKET",
+        "The control socket of the rohc-gateway",
+    )
+    .required(true))
+}
+
+/// A subcommand that asks a running gateway of a link.
+fn asking_link<'a>(
+    alloc: Global,
+    name: &'static str,
+    about: &'static str,
+) -> Result<Command<'a>, AllocError> {
+    asking(alloc, name, about)?.arg(valued(
+        alloc,
+        "link",
+        "NUMBER",
+        "The number of the link",
+    ).required(true))
+}
+
+/// The subcommands that ask a running gateway.
+fn with_gateway<'a>(alloc: Global, command: Command<'a>) -> Result<Command<'a>, AllocError> {
+    command
+        .subcommand(asking(alloc, "status", "Tell what a rohc-gateway is doing")?)?
+        .subcommand(asking(alloc, "stop", "Have a rohc-gateway save its calls and end")?)?
+        .subcommand(asking(alloc, "save", "Have a rohc-gateway save its calls")?)?
+        .subcommand(asking(alloc, "reload", "Have a rohc-gateway read its links again")?)?
+        .subcommand(asking(alloc, "drain", "Have a rohc-gateway take no new call")?)?
+        .subcommand(asking_link(
+            alloc,
+            "reset",
+            "Have a rohc-gateway forget a link's contexts, or one",
+        )?
+        .arg(valued(alloc, "cid", "NUMBER", "The CID of the one"))?)?
+        .subcommand(asking_link(alloc, "contexts", "Tell the contexts of a link")?)?
+        .subcommand(asking_link(
+            alloc,
+            "calls",
+            "Tell the calls of a link, the longest silent first",
+        )?)
+}
+
 /// The parser of the command line.
 fn command<'a>(alloc: Global) -> Result<Command<'a>, AllocError> {
-    Command::new(alloc, "rohctl")
+    let command = Command::new(alloc, "rohctl")
         .bin_name("rohctl")?
         .version("1.0.0")
         .about("Tells what rohcd did with each call")
@@ -240,7 +343,10 @@ fn command<'a>(alloc: Global) -> Result<Command<'a>, AllocError> {
         .subcommand(trace(alloc)?)?
         .subcommand(links(alloc)?)?
         .subcommand(diff(alloc)?)?
-        .subcommand(plan_words(alloc)?)
+        .subcommand(plan_words(alloc)?)?
+        .subcommand(spread_words(alloc)?)?
+        .subcommand(verify(alloc)?)?;
+    with_gateway(alloc, command)
 }
 
 /// The form that is asked for.
@@ -251,6 +357,36 @@ fn form_of(options: &ArgMatches<'_>) -> Form {
         Form::Prometheus
     } else {
         Form::Table
+    }
+}
+
+/// The number of a link or a CID.
+fn number_in(options: &ArgMatches<'_>, name: &str) -> Option<u16> {
+    options.get_str(name)?.parse().ok()
+}
+
+/// What is asked of a gateway, if its numbers can be read.
+fn wish_of(name: &str, options: &ArgMatches<'_>) -> Option<Wish> {
+    match name {
+        "status" => Some(Wish::Status),
+        "stop" => Some(Wish::Stop),
+        "save" => Some(Wish::Save),
+        "reload" => Some(Wish::Reload),
+        "drain" => Some(Wish::Drain),
+        "reset" => Some(Wish::Reset {
+            link: number_in(options, "link")?,
+            cid: match options.get_str("cid") {
+                Some(text) => Some(text.parse().ok()?),
+                None => None,
+            },
+        }),
+        "contexts" => Some(Wish::Contexts {
+            link: number_in(options, "link")?,
+        }),
+        "calls" => Some(Wish::Calls {
+            link: number_in(options, "link")?,
+        }),
+        _ => None,
     }
 }
 
@@ -276,7 +412,20 @@ fn asked_for<'a>(matches: &ArgMatches<'a>) -> Option<Request<'a>> {
             links: options.get_str("links")?,
             script: options.get_str("SCRIPT")?,
         }),
-        _ => None,
+        ("spread", options) => Some(Request::Spread(Spread {
+            links: options.get_str("LINKS")?,
+            hosts: options.get_str("hosts")?,
+            nginx: options.get_flag("nginx"),
+            out: options.get_str("out"),
+        })),
+        ("verify", options) => Some(Request::Verify {
+            list: options.get_str("LIST")?,
+            root: options.get_str("root")?,
+        }),
+        (name, options) => Some(Request::Control {
+            control: options.get_str("control")?,
+            wish: wish_of(name, options)?,
+        }),
     }
 }
 

@@ -16,6 +16,8 @@ pub enum Ending {
     LinksFile(&'static str),
     /// What was found is not what rohcd finds. This is a fault of this program.
     Differs,
+    /// No gateway answers at the control socket.
+    NoGateway,
     /// A read failed.
     Read,
     /// A write failed.
@@ -37,7 +39,7 @@ impl Ending {
             Ending::Findings => 1,
             Ending::CommandLine => 2,
             Ending::LinksFile(_) => 3,
-            Ending::Differs | Ending::Read | Ending::Write => 4,
+            Ending::Differs | Ending::NoGateway | Ending::Read | Ending::Write => 4,
             Ending::Memory => 5,
         }
     }
@@ -53,6 +55,7 @@ impl fmt::Display for Ending {
                 f.write_str("\n")
             }
             Ending::Differs => f.write_str("rohctl: not as rohcd has it\n"),
+            Ending::NoGateway => f.write_str("rohctl: no gateway answers at the control socket\n"),
             Ending::Read => f.write_str("rohctl: read\n"),
             Ending::Write => f.write_str("rohctl: write\n"),
             Ending::Memory => f.write_str("rohctl: memory\n"),

@@ -4,11 +4,13 @@
 #![tactic(auto)]
 
 mod command;
+mod control;
 mod differences;
 mod ending;
 mod faults;
 mod file;
 mod finding;
+mod hosts;
 mod json;
 mod links;
 mod metrics;
@@ -18,7 +20,9 @@ mod plan;
 mod program;
 mod quoted;
 mod settings;
+mod spread;
 mod table;
+mod verify;
 
 pub use ending::Ending;
 pub use program::run;

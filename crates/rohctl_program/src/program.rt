@@ -1,6 +1,7 @@
 //! The program, from the words after its name to how it ends.
 
 use crate::command::{Form, Plan, Request, read_request};
+use crate::control::run_control;
 use crate::differences::run_diff;
 use crate::ending::Ending;
 use crate::faults::run_links;
@@ -10,17 +11,20 @@ use crate::links::{concentrator_of, good_links};
 use crate::metrics::write_metrics;
 use crate::new_file::NEW_FILE;
 use crate::plan::{write_memory, write_plan, write_split};
+use crate::spread::run_spread;
 use crate::table::write_table;
+use crate::verify::run_verify;
 use rohc_totals::{CallRow, LineKind, Totals, call_rows};
 use rohc_trace::{TraceFault, trace};
 use std::io::{BufWriter, Write};
+use std::net::Net;
 use std::rt::Files;
 use std::{fs, io};
 
 /// Runs the program with these words. `colour` is whether standard output takes colours.
 pub fn run<R>(rt: &R, words: &[String], colour: bool) -> Ending
 where
-    R: Files + Input + Print + Eprint + AllocGlobal,
+    R: Files + Input + Print + Eprint + Net + AllocGlobal,
 {
     match requested(rt, words, colour) {
         Ok(ending) => ending,
@@ -31,7 +35,7 @@ where
 /// Does what the words ask for.
 fn requested<R>(rt: &R, words: &[String], colour: bool) -> Result<Ending, Ending>
 where
-    R: Files + Input + Print + Eprint + AllocGlobal,
+    R: Files + Input + Print + Eprint + Net + AllocGlobal,
 {
     match read_request(rt, words)? {
         Request::Totals { answers, form } => run_totals(rt, answers, form, colour),
@@ -43,6 +47,9 @@ where
             json,
         } => run_diff(rt, first, second, json),
         Request::Plan(plan) => run_plan(rt, &plan),
+        Request::Spread(spread) => run_spread(rt, spread),
+        Request::Verify { list, root } => run_verify(rt, list, root),
+        Request::Control { control, wish } => run_control(rt, control, wish),
         Request::Trace { links, script } => run_trace(rt, links, script),
     }
 }

@@ -160,6 +160,43 @@ pub(crate) fn write_links<W: Write>(out: &mut W, links: &Links) -> io::Result<()
     write_unusual(out, links)
 }
 
+/// Writes the entry of a link, as a links file of version 2 has it.
+pub(crate) fn write_entry<W: Write>(
+    out: &mut W,
+    setting: &LinkSetting,
+    ports: &Ports,
+) -> io::Result<()> {
+    let settings = &setting.settings;
+    write!(
+        out,
+        "\n[[link]]\nnumber = {}\ncid = \"{}\"\nmax_cid = {}\nmode = \"{}\"\nk1 = {}\nn1 = {}\nk2 = {}\nn2 = {}\npacket_ms = {}\nstatic_nack_ms = {}\ndeliver_port = {}\nfeedback_port = {}\nrelay_port = {}\nidle_ms = {}\n",
+        setting.link,
+        size_name(settings.size),
+        settings.max_cid,
+        mode_name(settings.mode),
+        settings.k1,
+        settings.n1,
+        settings.k2,
+        settings.n2,
+        settings.packet_ms,
+        settings.static_nack_ms,
+        ports.deliver,
+        ports.feedback,
+        ports.relay,
+        settings.idle_ms
+    )?;
+    for range in setting.ranges.iter() {
+        writeln!(
+            out,
+            "[[link.range]]\nfirst = {}\nlast = {}\nmode = \"{}\"",
+            range.first,
+            range.last,
+            mode_name(range.mode)
+        )?;
+    }
+    Ok(())
+}
+
 /// Writes the object of a link.
 fn write_object<W: Write>(out: &mut W, setting: &LinkSetting, ports: &Ports) -> io::Result<()> {
     let settings = &setting.settings;

@@ -1,0 +1,250 @@
+//! A hosts file: the processes that take the links, each with its address, its port and its links.
+
+use std::alloc::Global;
+use toml::{Table, Value};
+
+/// The port of the datagrams of all links, if the file gives none.
+const PORT: u16 = 7000;
+
+/// Where a process is, if the file doesn't say it.
+const HERE: &str = "127.0.0.1";
+
+/// The longest name of a process, in octets.
+const LONGEST_NAME: usize = 32;
+
+/// What stands before a process.
+const ENTRY: &str = "[[process]]";
+
+/// A range of links that a process takes.
+#[derive(Clone, Copy, Debug, PartialEq, Eq)]
+pub(crate) struct Share {
+    first: u16,
+    last: u16,
+}
+
+impl Share {
+    /// Whether the link is one of them.
+    pub(crate) fn holds(self, link: u16) -> bool {
+        self.first <= link && link <= self.last
+    }
+}
+
+/// A process that takes links.
+#[derive(Debug, Drop)]
+pub(crate) struct Process<'a> {
+    pub(crate) name: &'a str,
+    /// An IPv4 address.
+    pub(crate) address: &'a str,
+    /// The port at which it takes datagrams.
+    pub(crate) port: u16,
+    /// The links that it takes.
+    pub(crate) shares: Vec<Share>,
+}
+
+/// The processes, and the port of the datagrams of all links.
+#[derive(Debug, Drop)]
+pub(crate) struct Hosts<'a> {
+    pub(crate) port: u16,
+    pub(crate) processes: Vec<Process<'a>>,
+}
+
+/// What is wrong with a hosts file.
+#[derive(Clone, Copy, Debug, PartialEq, Eq)]
+pub(crate) enum HostsFault {
+    /// A key of the top, or of the process at this place, counted from 1, is missing or wrong.
+    BadKey(usize, &'static str),
+    /// There is a key that isn't known, at the top or in the process at this place.
+    UnknownKey(usize),
+    /// Two processes have one name; the place of the later.
+    SameName(usize),
+    /// There is no memory.
+    NoMemory,
+}
+
+/// The line of a process, counted from 1, if the file has each of them behind a line `[[process]]`.
+pub(crate) fn line_of(text: &str, place: usize) -> Option<usize> {
+    let mut count = 0usize;
+    let mut number = 0usize;
+    for line in text.split("\n") {
+        number = number.saturating_add(1);
+        if line.trim() == ENTRY {
+            count = count.saturating_add(1);
+            if count == place {
+                return Some(number);
+            }
+        }
+    }
+    None
+}
+
+/// A port at the key; `None` if the key is wrong.
+fn port_at(table: &Table, key: &str, default: Option<u16>) -> Option<u16> {
+    match table.get(key) {
+        Some(value) => match u16::try_from(value.as_integer()?) {
+            Ok(port) if port > 0 => Some(port),
+            _ => None,
+        },
+        None => default,
+    }
+}
+
+/// Whether a name may stand in the name of a file.
+fn is_name(text: &str) -> bool {
+    let is_plain = text.bytes().all(|octet| octet.is_ascii_alphanumeric()
+        || octet == b'-'
+        || octet == b'_');
+    is_plain && !text.is_empty() && text.len() <= LONGEST_NAME
+}
+
+/// Whether the text is four numbers below 256 with points between.
+fn is_address(text: &str) -> bool {
+    let mut count = 0usize;
+    for part in text.split(".") {
+        let fits = match part.parse::<u8>() {
+            Ok(_) => part.len() == 1 || !part.starts_with("0"),
+            Err(_) => false,
+        };
+        if !fits || part.starts_with("+") {
+            return false;
+        }
+        count = count.saturating_add(1);
+    }
+    count == 4
+}
+
+/// The links that a value names: a number, or a text FIRST-LAST.
+fn share_in(value: &Value) -> Option<Share> {
+    if let Some(number) = value.as_integer() {
+        let link = u16::try_from(number).ok()?;
+        return Some(Share {
+            first: link,
+            last: link,
+        });
+    }
+    let (first, last) = value.as_str()?.split_once("-")?;
+    let share = Share {
+        first: first.parse().ok()?,
+        last: last.parse().ok()?,
+    };
+    if share.first <= share.last {
+        Some(share)
+    } else {
+        None
+    }
+}
+
+/// The links of a process.
+fn shares_in(alloc: Global, table: &Table, place: usize) -> Result<Vec<Share>, HostsFault> {
+    let wrong = HostsFault::BadKey(place, "links");
+    let Some(value) = table.get("links") else {
+        return Err(wrong);
+    };
+    let Some(values) = value.as_array() else {
+        return Err(wrong);
+    };
+    let mut shares = Vec::new(alloc);
+    for value in values {
+        match share_in(value) {
+            Some(share) => {
+                if shares.push(share).is_err() {
+                    return Err(HostsFault::NoMemory);
+                }
+            }
+            None => return Err(wrong),
+        }
+    }
+    Ok(shares)
+}
+
+/// Whether the table has only these keys.
+fn has_only(table: &Table, keys: &[&str]) -> bool {
+    for (name, _) in table {
+        let mut known = false;
+        for key in keys {
+            known = known || name.as_str() == *key;
+        }
+        if !known {
+            return false;
+        }
+    }
+    true
+}
+
+/// The process at a place, counted from 1.
+fn process_in<'a>(
+    alloc: Global,
+    table: &'a Table,
+    place: usize,
+) -> Result<Process<'a>, HostsFault> {
+    if !has_only(table, &["name", "address", "port", "links"]) {
+        return Err(HostsFault::UnknownKey(place));
+    }
+    let name = match table.get("name") {
+        Some(value) => value.as_str(),
+        None => None,
+    };
+    let address = match table.get("address") {
+        Some(value) => value.as_str(),
+        None => Some(HERE),
+    };
+    match (name, address, port_at(table, "port", None)) {
+        (Some(name), _, _) if !is_name(name) => Err(HostsFault::BadKey(place, "name")),
+        (_, Some(address), _) if !is_address(address) => {
+            Err(HostsFault::BadKey(place, "address"))
+        }
+        (Some(name), Some(address), Some(port)) => Ok(Process {
+            name,
+            address,
+            port,
+            shares: shares_in(alloc, table, place)?,
+        }),
+        (None, _, _) => Err(HostsFault::BadKey(place, "name")),
+        (_, None, _) => Err(HostsFault::BadKey(place, "address")),
+        (_, _, None) => Err(HostsFault::BadKey(place, "port")),
+    }
+}
+
+/// Whether one of the processes has this name.
+fn has_name(processes: &[Process<'_>], name: &str) -> bool {
+    for process in processes {
+        if process.name == name {
+            return true;
+        }
+    }
+    false
+}
+
+/// The processes of a hosts file.
+pub(crate) fn hosts_in<'a>(alloc: Global, table: &'a Table) -> Result<Hosts<'a>, HostsFault> {
+    if !has_only(table, &["port", "process"]) {
+        return Err(HostsFault::UnknownKey(0));
+    }
+    let Some(port) = port_at(table, "port", Some(PORT)) else {
+        return Err(HostsFault::BadKey(0, "port"));
+    };
+    let missing = HostsFault::BadKey(0, "process");
+    let Some(value) = table.get("process") else {
+        return Err(missing);
+    };
+    let Some(entries) = value.as_array() else {
+        return Err(missing);
+    };
+    let mut processes: Vec<Process<'a>> = Vec::new(alloc);
+    for entry in entries {
+        let place = processes.len().saturating_add(1);
+        let Some(table) = entry.as_table() else {
+            return Err(missing);
+        };
+        let process = process_in(alloc, table, place)?;
+        if has_name(&processes, process.name) {
+            return Err(HostsFault::SameName(place));
+        }
+        if processes.push(process).is_err() {
+            return Err(HostsFault::NoMemory);
+        }
+    }
+    if processes.is_empty() {
+        return Err(missing);
+    }
+    Ok(Hosts { port, processes })
+}

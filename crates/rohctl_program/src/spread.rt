@@ -1,0 +1,356 @@
+//! The subcommand `spread`: the rules that bring each datagram to the process of its link, and a links file for each.
+
+use crate::ending::Ending;
+use crate::hosts::{Hosts, HostsFault, Process, hosts_in, line_of};
+use crate::links::{good_links, links_text};
+use crate::settings::write_entry;
+use rohc_links::Links;
+use std::alloc::{AllocError, Global};
+use std::fs;
+use std::io::{self, BufWriter, Write};
+use std::rt::Files;
+
+/// The address of this host.
+const HERE: &str = "127.0.0.1";
+
+/// What is asked of `spread`.
+#[derive(Clone, Copy, Debug)]
+pub(crate) struct Spread<'a> {
+    /// The links file.
+    pub(crate) links: &'a str,
+    /// The hosts file.
+    pub(crate) hosts: &'a str,
+    /// Whether nginx is to do it.
+    pub(crate) nginx: bool,
+    /// The folder for the links files of the processes.
+    pub(crate) out: Option<&'a str>,
+}
+
+/// The process of a link: its place among them.
+#[derive(Clone, Copy, Debug, PartialEq, Eq)]
+enum Owner {
+    Nobody,
+    One(usize),
+    Two(usize, usize),
+}
+
+/// The process that takes the link.
+fn owner_of(processes: &[Process<'_>], link: u16) -> Owner {
+    let mut owner = Owner::Nobody;
+    for place in 0..processes.len() {
+        let mut takes = false;
+        for share in &processes[place].shares {
+            takes = takes || share.holds(link);
+        }
+        if takes {
+            match owner {
+                Owner::Nobody => owner = Owner::One(place),
+                Owner::One(first) => return Owner::Two(first, place),
+                Owner::Two(_, _) => return owner,
+            }
+        }
+    }
+    owner
+}
+
+/// Writes where something is wrong in the hosts file.
+fn write_place<W: Write>(out: &mut W, path: &str, text: &str, place: usize) -> io::Result<()> {
+    match line_of(text, place) {
+        Some(line) => write!(out, "{path}:{line}: process {place}: "),
+        None if place > 0 => write!(out, "{path}: process {place}: "),
+        None => write!(out, "{path}: "),
+    }
+}
+
+/// Writes what is wrong with the hosts file.
+fn write_fault<W: Write>(out: &mut W, path: &str, text: &str, fault: HostsFault) -> io::Result<()> {
+    match fault {
+        HostsFault::BadKey(place, key) => {
+            write_place(out, path, text, place)?;
+            writeln!(out, "{key} is missing or wrong")
+        }
+        HostsFault::UnknownKey(place) => {
+            write_place(out, path, text, place)?;
+            writeln!(out, "a key that isn't known")
+        }
+        HostsFault::SameName(place) => {
+            write_place(out, path, text, place)?;
+            writeln!(out, "the name of an earlier process")
+        }
+        HostsFault::NoMemory => Ok(()),
+    }
+}
+
+/// Writes that a link has no process, or two.
+fn write_owner<W: Write>(
+    out: &mut W,
+    path: &str,
+    text: &str,
+    link: u16,
+    owner: Owner,
+) -> io::Result<()> {
+    match owner {
+        Owner::One(_) => Ok(()),
+        Owner::Nobody => writeln!(out, "{path}: link {link}: no process takes it"),
+        Owner::Two(_, later) => {
+            write_place(out, path, text, later.saturating_add(1))?;
+            writeln!(out, "link {link}: an earlier process takes it too")
+        }
+    }
+}
+
+/// The place of the process of each link. Writes the links that have none, or two; then there is nothing.
+fn owners<W: Write>(
+    out: &mut W,
+    alloc: Global,
+    path: &str,
+    text: &str,
+    processes: &[Process<'_>],
+    links: &Links,
+) -> Result<Option<Vec<usize>>, Ending> {
+    let mut owners = Vec::new(alloc);
+    for setting in links.settings() {
+        let owner = owner_of(processes, setting.link);
+        if let Owner::One(place) = owner {
+            owners.push(place).map_err(|_| Ending::Memory)?;
+        }
+        write_owner(out, path, text, setting.link, owner).map_err(|_| Ending::Write)?;
+    }
+    if owners.len() == links.settings().len() {
+        Ok(Some(owners))
+    } else {
+        Ok(None)
+    }
+}
+
+/// Writes, for each link, its number and what a process has: `NUMBER : TEXT` with commas between.
+fn write_map<W: Write, F: Fn(&mut W, &Process<'_>) -> io::Result<()>>(
+    out: &mut W,
+    links: &Links,
+    owners: &[usize],
+    processes: &[Process<'_>],
+    what: F,
+) -> io::Result<()> {
+    for (place, setting) in links.settings().iter().enumerate() {
+        if place > 0 {
+            write!(out, ", ")?;
+        }
+        write!(out, "{}", setting.link)?;
+        if let Some(owner) = owners.get(place)
+            && let Some(process) = processes.get(*owner)
+        {
+            what(out, process)?;
+        }
+    }
+    Ok(())
+}
+
+/// Whether all processes are on this host.
+fn are_here(processes: &[Process<'_>]) -> bool {
+    for process in processes {
+        if process.address != HERE {
+            return false;
+        }
+    }
+    true
+}
+
+/// Writes the table of nftables. The 16 bits behind the UDP header are the link's number.
+fn write_table<W: Write>(
+    out: &mut W,
+    hosts: &Hosts<'_>,
+    links: &Links,
+    owners: &[usize],
+) -> io::Result<()> {
+    let (port, processes) = (hosts.port, hosts.processes.as_slice());
+    writeln!(
+        out,
+        "# Each datagram to the process of its link: `nft -f FILE`, as root."
+    )?;
+    writeln!(out, "table ip polorowan {{")?;
+    writeln!(out, "    counter unknown_links {{}}")?;
+    writeln!(out, "    chain to_process {{")?;
+    writeln!(out, "        type filter hook prerouting priority raw;")?;
+    writeln!(out, "        udp dport {port} notrack")?;
+    write!(out, "        udp dport {port} @th,64,16 != {{ ")?;
+    write_map(out, links, owners, processes, |_, _| Ok(()))?;
+    writeln!(out, " }} counter name unknown_links drop")?;
+    if !are_here(processes) {
+        write!(
+            out,
+            "        udp dport {port} ip daddr set @th,64,16 map {{ "
+        )?;
+        write_map(out, links, owners, processes, |out, process| {
+            write!(out, " : {}", process.address)
+        })?;
+        writeln!(out, " }}")?;
+    }
+    write!(
+        out,
+        "        udp dport {port} udp dport set @th,64,16 map {{ "
+    )?;
+    write_map(out, links, owners, processes, |out, process| {
+        write!(out, " : {}", process.port)
+    })?;
+    writeln!(out, " }}")?;
+    writeln!(out, "    }}")?;
+    writeln!(out, "}}")
+}
+
+/// What stands before the lines of the links in nginx's configuration.
+const NGINX_HEAD: &str = "\
+# Each datagram to the process of its link, by nginx with link.js of deploy/ beside this file.
+worker_processes 1; # more would let datagrams of one link overtake one another
+daemon off;
+pid /tmp/polorowan-nginx.pid;
+error_log stderr warn;
+load_module /usr/lib/nginx/modules/ngx_stream_module.so;
+load_module /usr/lib/nginx/modules/ngx_stream_js_module.so;
+events { worker_connections 16384; }
+stream {
+    js_path .;
+    js_import link from link.js;
+    js_set $link link.number;
+    map $link $process { # a number that isn't here goes to a port where nobody listens
+        default 127.0.0.1:9;
+";
+
+/// Writes the configuration of nginx.
+fn write_nginx<W: Write>(
+    out: &mut W,
+    hosts: &Hosts<'_>,
+    links: &Links,
+    owners: &[usize],
+) -> io::Result<()> {
+    out.write_all(NGINX_HEAD.as_bytes())?;
+    for (place, setting) in links.settings().iter().enumerate() {
+        if let Some(owner) = owners.get(place)
+            && let Some(process) = hosts.processes.get(*owner)
+        {
+            writeln!(
+                out,
+                "        {} {}:{};",
+                setting.link, process.address, process.port
+            )?;
+        }
+    }
+    writeln!(out, "    }}")?;
+    writeln!(out, "    server {{")?;
+    writeln!(out, "        listen 127.0.0.1:{} udp;", hosts.port)?;
+    writeln!(out, "        js_preread link.preread;")?;
+    writeln!(out, "        proxy_pass $process;")?;
+    writeln!(
+        out,
+        "        proxy_responses 0; # answers go to ports of their own"
+    )?;
+    writeln!(out, "    }}")?;
+    writeln!(out, "}}")
+}
+
+/// Writes the links file of the process at this place.
+fn write_own<W: Write>(out: &mut W, links: &Links, owners: &[usize], own: usize) -> io::Result<()> {
+    writeln!(out, "version = 2")?;
+    for (place, setting) in links.settings().iter().enumerate() {
+        if let Some(owner) = owners.get(place)
+            && *owner == own
+            && let Some(ports) = links.ports().get(place)
+        {
+            write_entry(out, setting, ports)?;
+        }
+    }
+    Ok(())
+}
+
+/// The path of the links file of a process.
+fn path_of(alloc: Global, folder: &str, name: &str) -> Result<String, AllocError> {
+    let mut path = String::new(alloc);
+    path.push_str(folder)?;
+    path.push_str("/")?;
+    path.push_str(name)?;
+    path.push_str(".toml")?;
+    Ok(path)
+}
+
+/// Writes a links file for each process into a folder.
+fn write_files<R: Files + AllocGlobal>(
+    rt: &R,
+    folder: &str,
+    processes: &[Process<'_>],
+    links: &Links,
+    owners: &[usize],
+) -> Result<(), Ending> {
+    for (place, process) in processes.iter().enumerate() {
+        let path = path_of(rt.alloc(), folder, process.name).map_err(|_| Ending::Memory)?;
+        let file = fs::create(rt, path.as_str()).map_err(|_| Ending::Write)?;
+        let Ok(mut out) = BufWriter::new(rt.alloc(), file) else {
+            return Err(Ending::Memory);
+        };
+        write_own(&mut out, links, owners, place).map_err(|_| Ending::Write)?;
+        out.flush().map_err(|_| Ending::Write)?;
+    }
+    Ok(())
+}
+
+/// Writes the rules, and the links files if a folder is named.
+pub(crate) fn run_spread<R>(rt: &R, asked: Spread<'_>) -> Result<Ending, Ending>
+where
+    R: Files + Input + Print + AllocGlobal,
+{
+    let alloc = rt.alloc();
+    let links = good_links(rt, asked.links)?;
+    let text = links_text(rt, asked.hosts)?;
+    let Ok(mut out) = BufWriter::new(alloc, io::writer(rt)) else {
+        return Err(Ending::Memory);
+    };
+    let written = match toml::table_from_str(alloc, text.as_str()) {
+        Ok(table) => match hosts_in(alloc, &table) {
+            Ok(hosts) => write_rules(rt, &mut out, asked, text.as_str(), &hosts, &links)?,
+            Err(HostsFault::NoMemory) => return Err(Ending::Memory),
+            Err(fault) => {
+                write_fault(&mut out, asked.hosts, text.as_str(), fault).map_err(
+                    |_| Ending::Write,
+                )?;
+                Ending::Findings
+            }
+        },
+        Err(_) => {
+            writeln!(out, "{}: the text is no TOML document", asked.hosts).map_err(
+                |_| Ending::Write,
+            )?;
+            Ending::Findings
+        }
+    };
+    match out.flush() {
+        Ok(()) => Ok(written),
+        Err(_) => Err(Ending::Write),
+    }
+}
+
+/// Writes the rules for these processes, if each link has one of them.
+fn write_rules<R, W>(
+    rt: &R,
+    out: &mut W,
+    asked: Spread<'_>,
+    text: &str,
+    hosts: &Hosts<'_>,
+    links: &Links,
+) -> Result<Ending, Ending>
+where
+    R: Files + AllocGlobal,
+    W: Write,
+{
+    let processes = hosts.processes.as_slice();
+    let Some(owners) = owners(out, rt.alloc(), asked.hosts, text, processes, links)? else {
+        return Ok(Ending::Findings);
+    };
+    let written = if asked.nginx {
+        write_nginx(out, hosts, links, &owners)
+    } else {
+        write_table(out, hosts, links, &owners)
+    };
+    written.map_err(|_| Ending::Write)?;
+    if let Some(folder) = asked.out {
+        write_files(rt, folder, processes, links, &owners)?;
+    }
+    Ok(Ending::Good)
+}

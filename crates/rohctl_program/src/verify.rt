@@ -1,0 +1,127 @@
+//! The subcommand `verify`: whether files are as they were packed.
+
+use crate::ending::Ending;
+use hex::encode_to_slice;
+use sha2::{Digest, Sha256};
+use std::alloc::{AllocError, Global};
+use std::fs;
+use std::io::{self, BufWriter, Read, Write};
+use std::rt::Files;
+
+/// The longest list of digests, in octets.
+const LONGEST_LIST: u64 = 1_048_576;
+
+/// How many octets are read at once.
+const PIECE: usize = 4096;
+
+/// The digits of a digest.
+const DIGITS: usize = 64;
+
+/// What is found of a file.
+#[derive(Clone, Copy, Debug, PartialEq, Eq)]
+enum Found {
+    AsPacked,
+    Other,
+    Missing,
+}
+
+/// The text of the list.
+fn list_text<R: Files + AllocGlobal>(rt: &R, path: &str) -> Result<String, Ending> {
+    let file = fs::open(rt, path).map_err(|_| Ending::Read)?;
+    let mut octets = Vec::new(rt.alloc());
+    let mut limited = file.take(LONGEST_LIST);
+    limited.read_to_end(&mut octets).map_err(|_| Ending::Read)?;
+    String::from_utf8(octets).map_err(|_| Ending::Read)
+}
+
+/// The digest of all that is read, in hexadecimal digits.
+fn digits_of<S: Read>(source: &mut S) -> io::Result<[u8; DIGITS]> {
+    let mut hasher = Sha256::new();
+    let mut piece = [0; PIECE];
+    for _ in 0..u64::MAX {
+        let count = source.read(&mut piece)?;
+        if count == 0 {
+            break;
+        }
+        hasher.update(piece.get(..count).unwrap_or(&[]));
+    }
+    let mut digits = [0; DIGITS];
+    let digest = hasher.finalize();
+    let _ = encode_to_slice(digest.as_slice(), &mut digits);
+    Ok(digits)
+}
+
+/// A path below a folder.
+fn path_below(alloc: Global, folder: &str, path: &str) -> Result<String, AllocError> {
+    let mut whole = String::new(alloc);
+    whole.push_str(folder)?;
+    whole.push_str("/")?;
+    whole.push_str(path)?;
+    Ok(whole)
+}
+
+/// What is found of a file with this digest.
+fn found_at<R: Files + AllocGlobal>(rt: &R, path: &str, digits: &str) -> Found {
+    let Ok(mut file) = fs::open(rt, path) else {
+        return Found::Missing;
+    };
+    match digits_of(&mut file) {
+        Ok(found) if found.as_slice() == digits.as_bytes() => Found::AsPacked,
+        Ok(_) => Found::Other,
+        Err(_) => Found::Missing,
+    }
+}
+
+/// Compares the file of a line of the list, and writes what differs. Returns whether it is as it was packed.
+fn verify_line<R: Files + AllocGlobal, W: Write>(
+    rt: &R,
+    out: &mut W,
+    root: &str,
+    line: &str,
+) -> Result<bool, Ending> {
+    let Some((digits, path)) = line.split_once("  ") else {
+        writeln!(out, "a line that is no digest and path").map_err(|_| Ending::Write)?;
+        return Ok(false);
+    };
+    let whole = path_below(rt.alloc(), root, path).map_err(|_| Ending::Memory)?;
+    let what = match found_at(rt, whole.as_str(), digits) {
+        Found::AsPacked => return Ok(true),
+        Found::Other => "is another",
+        Found::Missing => "can't be read",
+    };
+    writeln!(out, "{} {what}", path.escape_default()).map_err(|_| Ending::Write)?;
+    Ok(false)
+}
+
+/// Compares all files of a list below a folder, and writes which aren't as they were packed.
+pub(crate) fn run_verify<R>(rt: &R, list: &str, root: &str) -> Result<Ending, Ending>
+where
+    R: Files + Print + AllocGlobal,
+{
+    let text = list_text(rt, list)?;
+    let Ok(mut out) = BufWriter::new(rt.alloc(), io::writer(rt)) else {
+        return Err(Ending::Memory);
+    };
+    let mut count = 0u64;
+    let mut good = true;
+    for line in text.split("\n") {
+        if line.is_empty() || line.starts_with("#") {
+            continue;
+        }
+        count = count.saturating_add(1);
+        good = verify_line(rt, &mut out, root, line)? && good;
+    }
+    let end = if good && count > 0 {
+        writeln!(out, "{count} files are as they were packed")
+    } else {
+        Ok(())
+    };
+    if end.is_err() || out.flush().is_err() {
+        return Err(Ending::Write);
+    }
+    if good && count > 0 {
+        Ok(Ending::Good)
+    } else {
+        Ok(Ending::Findings)
+    }
+}
