@@ -14,6 +14,7 @@ import documents_test
 import ends
 import evidence
 import examples
+import gateway
 import installation
 import launcher
 import library
@@ -21,6 +22,7 @@ import limits
 import lines
 import lint
 import model
+import packages
 import poverty
 import random_scripts
 import rohctl
@@ -48,7 +50,7 @@ def gate(trial: Trial) -> None:
     digest = trial.ran("bin/sources", "digest").text.strip()
     status = trial.shown_live("rt", "ci")
     if trial.demand(status == 0, f"gate: status {status}"):
-        recorded = all(trial.ran("bin/sources", "record", digest, name).status == 0 for name in ("rohcd", "rohctl"))
+        recorded = all(trial.ran("bin/sources", "record", digest, name).status == 0 for name in ("rohcd", "rohctl", "rohc_gateway"))
         trial.demand(recorded, "gate: a source changed during the gate, or it left no program")
 
 
@@ -167,11 +169,25 @@ CHECKS = (
         knows=evidence.is_part,
     ),
     Check(
+        "gateway",
+        ON_PROGRAM,
+        gateway.check,
+        "rohc-gateway: whole calls, twenty kills, reloads under load, hostile requests, its metrics and units",
+        knows=gateway.is_part,
+    ),
+    Check(
         "cluster",
         ON_PROGRAM,
         cluster.check,
         "front, workers and outlet over Redis: killed, stopped, from a base; programs that break a promise",
         knows=cluster.is_part,
+    ),
+    Check(
+        "packages",
+        ON_PROGRAM,
+        packages.check,
+        "Debian's packages, the tarball and the wheel: made twice alike, unpacked, run, and verified",
+        knows=packages.is_part,
     ),
     Check("poverty", ON_PROGRAM, poverty.check, "each request for memory refused in turn"),
     Check("launcher", ON_PROGRAM, launcher.check, "bin/rohcd with a proved program and without one"),
@@ -232,10 +248,13 @@ TESTED = (
     Tested("Refusal", "NoMemory", "gate library poverty"),
     Tested("Command", "replay", "gate program examples lines random limits poverty"),
     Tested("Command", "serve", "gate program launcher"),
-    Tested("Command", "rohctl totals, links, trace, diff, plan", "gate rohctl"),
+    Tested("Command", "rohctl totals, links, trace, diff, plan, spread", "gate rohctl"),
+    Tested("Command", "rohctl status, stop, save, reload, drain, reset, contexts, calls", "gate gateway"),
+    Tested("Command", "rohc-gateway run, check", "gate gateway"),
     Tested("Command", "bin/rohcd", "launcher"),
     Tested("Command", "cluster/up, cluster/down", "cluster"),
     Tested("Command", "bin/install, completion", "library install"),
+    Tested("Command", "bin/package, rohctl verify", "packages"),
     Tested("Text", "documents", "words documents documents_test"),
     Tested("Text", "manual pages", "manual words"),
     Tested("Text", "scripts", "shell python words"),

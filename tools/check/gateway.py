@@ -1,0 +1,272 @@
+"""The gateway as a service: whole calls, restarts, reloads, its metrics, and requests that mean no good.
+
+What it sends must be what one replay of the same arrivals answers, octet for octet and in order. It is killed at random and
+goes on from its last save. Its links change under load. Requests that are no requests change nothing and hold up no call.
+"""
+
+import json
+import random
+import re
+import shutil
+import socket
+import time
+from collections import Counter
+from collections.abc import Iterator
+from pathlib import Path
+
+from cluster import Arrival, made_arrivals
+from gateway_run import LOOPBACK, PROGRAM, Gateway, Receivers, replayed, samples
+from trial import Trial
+
+PARTS = ("words", "calls", "killed", "reloaded", "hostile", "files")
+LINKS = range(1, 21)
+KILLS = 20
+SLOW = 40
+
+# Gateway files that are refused, and what `check` says of each.
+FAULTS = (
+    ("port = 4000\n", ["gateway: links: missing"]),
+    ('links = "links.toml"\n', ["gateway: port: missing"]),
+    ('links = "links.toml"\nport = 0\n', ["gateway: port: wrong value"]),
+    ('links = "links.toml"\nport = 4000\nprot = 4001\n', ["gateway: prot: unknown key"]),
+    ('links = "links.toml"\nport = 4000\ntimed_port = 4000\n', ["gateway: timed_port: the same port as port"]),
+    ('links = "links.toml"\nport = 4000\nsave_seconds = 5\n', ["gateway: save_seconds: wants state"]),
+    ("links =\n", ["gateway: not TOML"]),
+    ('links = "none.toml"\nport = 4000\n', ["links: Unreadable"]),
+    ('links = "bad.toml"\nport = 4000\n', ["links: BadKey entry 1 key max_cid"]),
+    ('links = 5\nport = "x"\nmetrics_port = 70000\n', [
+        "gateway: links: wrong value",
+        "gateway: port: wrong value",
+        "gateway: metrics_port: wrong value",
+    ]),
+)  # fmt: skip
+
+# What is no good request, and the status of its answer.
+REQUESTS = (
+    (b"", 400),
+    (b"\0" * 100, 400),
+    (b"\xff\xfe\r\n\r\n", 400),
+    (b"GET /ready HTTP/1.1", 400),
+    (b"GET / HTTP/1.1\r\n\r\n", 404),
+    (b"GET /../ready HTTP/1.1\r\n\r\n", 404),
+    (b"DELETE /ready HTTP/1.1\r\n\r\n", 405),
+    (b"GET /stop HTTP/1.1\r\n\r\n", 405),
+    (b"POST /ready HTTP/1.1\r\n\r\n", 405),
+    (b"POST /reset HTTP/1.1\r\n\r\n", 400),
+    (b"POST /reset?link=x HTTP/1.1\r\n\r\n", 400),
+    (b"POST /reset?link=70000 HTTP/1.1\r\n\r\n", 400),
+    (b"POST /reset?link=1&link=2 HTTP/1.1\r\n\r\n", 400),
+    (b"POST /reset?link=999 HTTP/1.1\r\n\r\n", 404),
+    (b"GET /contexts?link=999 HTTP/1.1\r\n\r\n", 404),
+    (b"GET /ready HTTP/1.1\r\nA: " + b"a" * 9_000 + b"\r\n\r\n", 413),
+)
+
+
+def check_words(trial: Trial) -> None:
+    """Words, statuses, and what is wrong with a gateway file."""
+    program = trial.top / PROGRAM
+    version = (trial.top / "VERSION").read_text().strip()
+    for words, status, text in (
+        (("--version",), 0, version),
+        (("--help",), 0, "run"),
+        (("run", "--help"), 0, "--timed-port"),
+        (("check", "--help"), 0, "FILE"),
+        ((), 2, ""),
+        (("run",), 2, ""),
+        (("stop",), 2, ""),
+    ):
+        ended = trial.ran(program, *words)
+        trial.demand(ended.status == status and text in ended.all, f"{words}: {ended.end()}", ended.call)
+    with Receivers() as receivers:
+        good = receivers.links([1])
+        trial.write("words/links.toml", good)
+        trial.write("words/bad.toml", good.replace("max_cid = 15", "max_cid = 16"))
+        for text, wanted in FAULTS:
+            file = trial.write("words/gateway.toml", text)
+            ended = trial.ran(program, "check", file)
+            fits = ended.status == 1 and ended.text.splitlines() == wanted
+            trial.demand(fits, f"check of {text!r}: {ended.status} {ended.all!r}, wanted {wanted}", ended.call)
+            ended = trial.ran(program, "run", file, seconds=20)
+            trial.demand(ended.status == 3, f"run of {text!r}: {ended.end()}", ended.call)
+        file = trial.write("words/gateway.toml", 'links = "links.toml"\nport = 4000\nstate = "calls"\n')
+        ended = trial.ran(program, "check", file)
+        trial.demand((ended.status, ended.text) == (0, "good\n"), f"check of a good file: {ended.end()}", ended.call)
+        trial.write("words/calls", b"no calls")
+        ended = trial.ran(program, "run", file, seconds=20)
+        trial.demand(ended.status == 3 and "state" in ended.said, f"a bad state: {ended.end()}", ended.call)
+        trial.demand((trial.scratch / "words/calls").read_bytes() == b"no calls", "a refused state was overwritten")
+
+
+def counted(lines: list[list[str]], arrivals: list[Arrival]) -> Counter[tuple[str, str]]:
+    """How many answers of each outcome a link has, by one replay."""
+    found: Counter[tuple[str, str]] = Counter()
+    for arrival, answers in zip(arrivals, lines, strict=True):
+        if arrival.octets is None:
+            continue
+        words = [line.split(" ") for line in answers]
+        outcomes = [word[3] if word[2] == "refused" else word[2] for word in words if word[2] in ("ip", "stored", "refused")]
+        outcome = {"ip": "delivered"}.get(outcomes[0], outcomes[0]) if outcomes else "front"
+        found[str(arrival.link), outcome] += 1
+    return found
+
+
+def check_counts(trial: Trial, gateway: Gateway, wanted: Counter[tuple[str, str]]) -> None:
+    """The metrics are the counts of the answers."""
+    text = gateway.metrics()
+    found: Counter[tuple[str, str]] = Counter()
+    for name, labels, count in samples(text):
+        if name == "polorowan_packets_total" and labels["outcome"] != "refused":
+            found[labels["link"], labels["outcome"]] += count
+        if name == "polorowan_refused_total":
+            found[labels["link"], labels["refusal"]] += count
+    trial.demand(+found == +wanted, f"metrics: {(found - wanted) + (wanted - found)} differ")
+    file = trial.write("metrics", text)
+    if shutil.which("promtool"):
+        ended = trial.ran("promtool", "check", "metrics", given=file)
+        trial.demand(ended.status == 0, f"promtool: {ended.all}", ended.call)
+    else:
+        trial.leave_out("promtool is not installed, the text of the metrics was not checked by it")
+
+
+def check_calls(trial: Trial) -> None:
+    """Whole calls at the timed port, their counts, and a stop after which all contexts are there again."""
+    arrivals = made_arrivals(20_000, 11)
+    with Receivers() as receivers, Gateway(trial, trial.scratch / "calls", receivers.links(LINKS)) as gateway:
+        wanted = replayed(trial, gateway.folder / "links.toml", arrivals)
+        trial.demand(gateway.takes(receivers, arrivals, wanted), "calls: what is sent isn't what a replay answers")
+        gateway.wait_taken()
+        check_counts(trial, gateway, counted(wanted, arrivals))
+        contexts = [gateway.ask("GET", f"/contexts?link={link}").body for link in LINKS]
+        trial.demand(any(contexts), "calls: no context is shown")
+        trial.demand(gateway.stop() == 0, f"calls: the stop: {gateway.said}")
+        gateway.start()
+        again = [gateway.ask("GET", f"/contexts?link={link}").body for link in LINKS]
+        trial.demand(again == contexts, "calls: other contexts after a restart")
+        trial.say(f"calls: {len(arrivals)} arrivals as one replay answers, {sum(map(len, contexts))} octets of contexts")
+
+
+def check_killed(trial: Trial) -> None:
+    """Killed at random: what came after the last save is forgotten, and all else goes on."""
+    dice = random.Random(5)
+    arrivals = [arrival for arrival in made_arrivals(12_000, 12) if arrival.octets is not None]
+    lost = [arrival for arrival in made_arrivals(6_000, 13) if arrival.octets is not None]
+    part, more = len(arrivals) // (KILLS + 1), len(lost) // KILLS
+    with Receivers() as receivers, Gateway(trial, trial.scratch / "killed", receivers.links(LINKS)) as gateway:
+        wanted = replayed(trial, gateway.folder / "links.toml", arrivals)
+        for turn in range(KILLS + 1):
+            own = slice(turn * part, (turn + 1) * part)
+            if not trial.demand(gateway.takes(receivers, arrivals[own], wanted[own]), f"killed {turn} times: other answers"):
+                return
+            if turn == KILLS:
+                break
+            gateway.wait_taken()
+            trial.demand(gateway.ask("POST", "/save").status == 200, f"killed {turn} times: no save")
+            for arrival in lost[turn * more : turn * more + dice.randrange(1, more)]:
+                gateway.send(arrival)
+            time.sleep(dice.random() * 0.02)
+            gateway.kill()
+            receivers.forget()
+            gateway.start()
+        trial.say(f"killed: {KILLS} times, and {len(arrivals)} arrivals as one replay of what was saved answers")
+
+
+def check_reloaded(trial: Trial) -> None:
+    """Links come, go and change under load, and those that stay answer as if nothing happened."""
+    steady = [arrival for arrival in made_arrivals(12_000, 14) if arrival.link <= 10]
+    part = len(steady) // 10
+    with Receivers() as receivers, Gateway(trial, trial.scratch / "reloaded", receivers.links(LINKS)) as gateway:
+        wanted = replayed(trial, gateway.folder / "links.toml", steady)
+        stays = receivers.links(range(1, 11))
+        steps = (
+            (stays, (0, 0, 10)),
+            (stays + receivers.links([30, 31]).split("\n", 1)[1], (2, 0, 0)),
+            (stays + receivers.links([30, 31], "idle_ms = 5\n").split("\n", 1)[1], (0, 2, 0)),
+            (receivers.links(range(1, 11)), (0, 0, 2)),
+        )
+        for turn in range(10):
+            own = slice(turn * part, (turn + 1) * part)
+            trial.demand(gateway.takes(receivers, steady[own], wanted[own]), f"reloaded, part {turn}: other answers")
+            if turn < len(steps):
+                text, (added, changed, removed) = steps[turn]
+                gateway.write_links(text)
+                told = gateway.ask("POST", "/reload")
+                fits = told.status == 200 and [told.json[key] for key in ("added", "changed", "removed")] == [added, changed, removed]
+                trial.demand(fits, f"reload {turn}: {told}")
+            else:
+                before = gateway.links
+                gateway.write_links(before.replace("max_cid = 15", "max_cid = 16", 1))
+                told = gateway.ask("POST", "/reload")
+                trial.demand(told.status == 409 and told.json == {"fault": "BadKey"}, f"a bad links file: {told}")
+                gateway.write_links(before)
+        trial.say(f"reloaded: {len(steps)} times, and six times refused, {len(steady)} arrivals as one replay answers")
+
+
+def slow_ones(gateway: Gateway) -> Iterator[socket.socket]:
+    """Connections to the metrics port that say nothing, or not all."""
+    for number in range(SLOW):
+        one = socket.create_connection((LOOPBACK, gateway.metrics_port), 10)
+        if number % 2:
+            one.sendall(b"G")
+        yield one
+
+
+def check_hostile(trial: Trial) -> None:
+    """Requests that mean no good change nothing, and hold up no datagram."""
+    arrivals = [arrival for arrival in made_arrivals(6_000, 15) if arrival.octets is not None]
+    with Receivers() as receivers, Gateway(trial, trial.scratch / "hostile", receivers.links(LINKS)) as gateway:
+        wanted = replayed(trial, gateway.folder / "links.toml", arrivals)
+        half = len(arrivals) // 2
+        trial.demand(gateway.takes(receivers, arrivals[:half], wanted[:half]), "hostile: other answers before")
+        for octets, status in REQUESTS:
+            told = gateway.sent(octets)
+            trial.demand(told.status == status, f"hostile: {octets[:60]!r}: {told}, wanted {status}")
+        slow = list(slow_ones(gateway))
+        start = time.monotonic()
+        trial.demand(gateway.takes(receivers, arrivals[half:], wanted[half:]), "hostile: other answers among slow ones")
+        trial.say(f"hostile: {len(arrivals) - half} arrivals in {time.monotonic() - start:.2f} s, beside {SLOW} slow connections")
+        trial.demand(gateway.ask("GET", "/ready").status in (0, 200), "hostile: no answer beside slow connections")
+        for one in slow:
+            one.close()
+        for octets in (b"", b"\0", b"\xff\xff" + b"\0" * 9):
+            gateway.sender.sendto(octets, (LOOPBACK, gateway.timed_port))
+            gateway.sender.sendto(octets, (LOOPBACK, gateway.port))
+        end = time.monotonic() + 15
+        while (told := gateway.ask("GET", "/status")).status != 200 and time.monotonic() < end:
+            time.sleep(0.1)
+        trial.demand(told.status == 200, f"hostile: status afterwards: {told}")
+        trial.demand(gateway.stop() == 0, "hostile: it doesn't stop")
+
+
+def check_files(trial: Trial) -> None:
+    """The units, the alerts and the dashboard name what there is."""
+    deploy = trial.top / "deploy"
+    with Receivers() as receivers, Gateway(trial, trial.scratch / "files", receivers.links([1])) as gateway:
+        names = set(re.findall(r"^# TYPE (\w+)", gateway.metrics(), re.M))
+    for file in (deploy / "rohc-gateway.rules.yml", deploy / "rohc-gateway.dashboard.json"):
+        unknown = set(re.findall(r"polorowan_\w+", file.read_text())) - names
+        trial.demand(not unknown, f"{file.name}: no such metrics: {sorted(unknown)}")
+    json.loads((deploy / "rohc-gateway.dashboard.json").read_text())
+    if shutil.which("promtool"):
+        trial.must_run("promtool", "check", "rules", deploy / "rohc-gateway.rules.yml")
+    else:
+        trial.leave_out("promtool is not installed, deploy/rohc-gateway.rules.yml was not checked by it")
+    if shutil.which("systemd-analyze"):
+        unit = trial.write("rohc-gateway@.service", (deploy / "rohc-gateway@.service").read_text())
+        unit.write_text(re.sub(r"/usr/local/bin/rohc\S+", "/bin/true", unit.read_text()))
+        trial.must_run("systemd-analyze", "verify", unit)
+    else:
+        trial.leave_out("systemd-analyze is not installed, deploy/rohc-gateway@.service was not verified")
+
+
+def is_part(top: Path, word: str) -> bool:
+    """Whether this is the name of a part."""
+    return word in PARTS
+
+
+def check(trial: Trial) -> None:
+    """Runs the parts that are asked for, or all."""
+    if not (trial.top / PROGRAM).exists():
+        trial.wrong(f"gateway: no {PROGRAM}: the gate leaves it")
+        return
+    for part in trial.chosen(PARTS):
+        globals()[f"check_{part}"](trial)
