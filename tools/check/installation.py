@@ -10,6 +10,7 @@ from trial import Trial
 
 USAGE = "usage: bin/install PREFIX"
 ROHCTL = "crates/rohctl/out/rohctl"
+GATEWAY = "crates/rohc_gateway/out/rohc_gateway"
 NOT_PROVED = "bin/install: no program stands that was proved"
 # Prints the completion of its words; the last is being typed.
 COMPLETE = (
@@ -56,14 +57,15 @@ class Tree:
     def make(self) -> None:
         """Makes the tree."""
         top = self.trial.top
-        for name in ("bin", "man", "completion", "examples"):
+        for name in ("bin", "man", "completion", "examples", "deploy"):
             shutil.copytree(top / name, self.folder / name)
         shutil.copy(top / "crates.txt", self.folder)
         self.program.parent.mkdir(parents=True)
-        (self.folder / ROHCTL).parent.mkdir(parents=True)
         self.source("a source\n")
         shutil.copy(self.trial.file, self.program)
-        shutil.copy(top / ROHCTL, self.folder / ROHCTL)
+        for program in (ROHCTL, GATEWAY):
+            (self.folder / program).parent.mkdir(parents=True)
+            shutil.copy(top / program, self.folder / program)
 
     def source(self, text: str) -> None:
         """Gives its source this text."""
@@ -107,15 +109,21 @@ def check_installed(tree: Tree) -> None:
     trial.demand(ended.status == 0, f"bin/install: refused a proved program: {ended.end()}", ended.call)
     trial.demand(not (tree.prefix / "bin/rohctl").exists(), "bin/install: a rohctl was put that was never recorded")
     digest = trial.ran(tree.folder / "bin/sources", "digest").text.strip()
-    trial.must_run(tree.folder / "bin/sources", "record", digest, "rohctl")
+    for program in ("rohctl", "rohc_gateway"):
+        trial.must_run(tree.folder / "bin/sources", "record", digest, program)
     again = tree.install(tree.prefix)
-    trial.demand(again.status == 0, f"bin/install: refused two proved programs: {again.end()}", again.call)
+    trial.demand(again.status == 0, f"bin/install: refused three proved programs: {again.end()}", again.call)
+    unit = (tree.prefix / "lib/systemd/system/rohc-gateway@.service").read_text()
+    trial.demand(f"ExecStart={tree.prefix}/bin/rohc-gateway run" in unit, "bin/install: the unit names another program")
     pairs = (
         (trial.top / ROHCTL, tree.prefix / "bin/rohctl"),
         (trial.top / "completion/rohctl.bash", share / "bash-completion/completions/rohctl"),
         (trial.top / "completion/_rohctl", share / "zsh/site-functions/_rohctl"),
         (trial.top / "completion/rohctl.fish", share / "fish/vendor_completions.d/rohctl.fish"),
         (trial.top / "man/rohctl.1", share / "man/man1/rohctl.1"),
+        (trial.top / GATEWAY, tree.prefix / "bin/rohc-gateway"),
+        (trial.top / "completion/rohc-gateway.bash", share / "bash-completion/completions/rohc-gateway"),
+        (trial.top / "man/rohc-gateway.1", share / "man/man1/rohc-gateway.1"),
         (trial.file, tree.prefix / "bin/rohcd"),
         (trial.top / "man/rohcd.1", share / "man/man1/rohcd.1"),
         (trial.top / "man/rohc-links.5", share / "man/man5/rohc-links.5"),
