@@ -1,0 +1,11 @@
+pub mod Names
+pub mod Octets
+pub mod Frame
+pub mod Udp
+pub mod Carried
+pub mod Choice
+pub mod Number
+pub mod Pcap
+pub mod Block
+pub mod Window
+pub mod Written

@@ -1,0 +1,452 @@
+//! Reading a capture, record by record.
+
+use crate::block::{
+    ENHANCED, INTERFACE, Interface, OBSOLETE, PacketHead, SECTION, SIMPLE, enhanced_in,
+    interface_in, obsolete_in, order_of, simple_in,
+};
+use crate::fault::{CaptureFault, FaultKind};
+use crate::number::{ByteOrder, long};
+use crate::pcap::{PcapHead, file_in, record_in};
+use crate::ticks::nanos_of;
+use crate::window::{LONGEST, Window};
+use std::alloc::Global;
+use std::io::Read;
+
+/// The most interfaces of a section.
+const MOST_INTERFACES: usize = 65_536;
+
+/// The octets of a record's head in a capture of pcap.
+const RECORD_HEAD: usize = 16;
+
+/// The octets of a file's head in a capture of pcap.
+const FILE_HEAD: usize = 24;
+
+/// The octets of a block without its body: its type and twice its length.
+const BLOCK: usize = 12;
+
+/// The octets before a packet's, in its block: the type, the length and the head.
+const PACKET_HEAD: usize = 28;
+
+/// The same in the block of a packet without a time.
+const SIMPLE_HEAD: usize = 12;
+
+/// What the first octets say of the capture.
+#[derive(Clone, Copy, Debug)]
+enum Kind {
+    /// Nothing was read so far.
+    Unknown,
+    /// A capture of pcap.
+    Pcap(PcapHead),
+    /// A capture of pcapng, whose section has numbers in this order.
+    Pcapng(ByteOrder),
+}
+
+/// Where a record's octets lie ahead.
+#[derive(Clone, Copy, Debug)]
+struct Span {
+    /// The octets before the frame.
+    skip: usize,
+    /// The octets of the frame that were captured.
+    captured: usize,
+    /// All octets of the record.
+    all: usize,
+}
+
+/// The span of no record.
+const NOTHING: Span = Span {
+    skip: 0,
+    captured: 0,
+    all: 0,
+};
+
+/// What a block was.
+#[derive(Clone, Copy, Debug)]
+enum Block {
+    /// The capture ended before it.
+    End,
+    /// It has no packet.
+    Other,
+    /// It has a packet.
+    Packet(Record),
+}
+
+/// A frame of a capture.
+#[derive(Clone, Copy, Debug, PartialEq, Eq)]
+pub struct Record {
+    /// The link type, as captures number them.
+    pub link_type: u16,
+    /// When the frame was captured, in nanoseconds since 1970. A packet without a time has that of the record before.
+    pub nanos: u64,
+    /// How many octets the frame had.
+    pub original: u32,
+    /// The interface by its place in its section; 0 in a capture of pcap.
+    pub interface: u32,
+    /// Where the record begins: the octets of the capture before it.
+    pub place: u64,
+}
+
+/// A capture that is read from `R`.
+#[derive(Drop)]
+pub struct Capture<R> {
+    window: Window<R>,
+    kind: Kind,
+    interfaces: Vec<Interface>,
+    span: Span,
+    /// Where the record or the block begins that is being read.
+    place: u64,
+    /// The moment of the last record.
+    nanos: u64,
+}
+
+/// The last four octets of a block as a number.
+fn second_length(order: ByteOrder, block: &[u8]) -> Option<u32> {
+    let (_, last) = block.split_last_chunk::<4>()?;
+    let (length, _) = long(order, last.as_slice())?;
+    Some(length)
+}
+
+/// A block's body: what stands between its first two numbers and its last.
+fn body_of(block: &[u8]) -> &[u8] {
+    match block.get(8..) {
+        Some(rest) if rest.len() >= 4 => {
+            let (body, _) = rest.split_at(rest.len() - 4);
+            body
+        }
+        _ => &[],
+    }
+}
+
+impl<R: Read> Capture<R> {
+    /// A capture before its first octet. Buffers are made here, and later only the list of interfaces grows.
+    pub fn new(alloc: Global, reader: R) -> Result<Capture<R>, CaptureFault>
+    where
+        R: Drop,
+    {
+        let Ok(window) = Window::new(alloc, reader) else {
+            return Err(CaptureFault {
+                kind: FaultKind::NoMemory,
+                place: 0,
+            });
+        };
+        Ok(Capture {
+            window,
+            kind: Kind::Unknown,
+            interfaces: Vec::new(alloc),
+            span: NOTHING,
+            place: 0,
+            nanos: 0,
+        })
+    }
+
+    /// Reads the next record; `None` at the end. After a fault nothing is known of what follows.
+    pub fn next(&mut self) -> Result<Option<Record>, CaptureFault> {
+        let _ = self.window.pass(self.span.all);
+        self.span = NOTHING;
+        self.place = self.window.place();
+        match self.next_of_kind() {
+            Ok(record) => Ok(record),
+            Err(kind) => Err(CaptureFault {
+                kind,
+                place: self.place,
+            }),
+        }
+    }
+
+    /// The captured octets of the record that `next` read last.
+    pub fn frame(&self) -> &[u8] {
+        match self.window.ahead().get(self.span.skip..) {
+            Some(rest) => match rest.get(..self.span.captured) {
+                Some(frame) => frame,
+                None => &[],
+            },
+            None => &[],
+        }
+    }
+
+    /// Whether the next record, or the next block, was read to its end already, so that `next` doesn't wait for it.
+    pub fn is_ahead(&self) -> bool {
+        let Some(rest) = self.window.ahead().get(self.span.all..) else {
+            return false;
+        };
+        match self.kind {
+            Kind::Unknown => false,
+            Kind::Pcap(head) => match record_in(head, rest) {
+                Some(record) => rest.len() >= RECORD_HEAD + record.captured as usize,
+                None => false,
+            },
+            Kind::Pcapng(order) => match rest.get(4..) {
+                Some(behind) => match long(order, behind) {
+                    Some((length, _)) => rest.len() >= length as usize,
+                    None => false,
+                },
+                None => false,
+            },
+        }
+    }
+
+    /// Reads the next record by the capture's kind, which the first octets say.
+    fn next_of_kind(&mut self) -> Result<Option<Record>, FaultKind> {
+        if let Kind::Unknown = self.kind {
+            if !self.window.need(4)? {
+                return Err(FaultKind::NotACapture);
+            }
+            self.begin()?;
+        }
+        match self.kind {
+            Kind::Pcap(head) => self.next_in_pcap(head),
+            Kind::Pcapng(order) => self.next_in_blocks(order),
+            Kind::Unknown => Err(FaultKind::NotACapture),
+        }
+    }
+
+    /// Finds out the kind of the capture.
+    fn begin(&mut self) -> Result<(), FaultKind> {
+        if let Some((SECTION, _)) = long(ByteOrder::Big, self.window.ahead()) {
+            self.kind = Kind::Pcapng(ByteOrder::Big);
+            return Ok(());
+        }
+        let _ = self.window.need(FILE_HEAD)?;
+        let Some(head) = file_in(self.window.ahead()) else {
+            return Err(FaultKind::NotACapture);
+        };
+        self.kind = Kind::Pcap(head);
+        let _ = self.window.pass(FILE_HEAD);
+        self.place = self.window.place();
+        Ok(())
+    }
+
+    /// Whether so many octets are ahead; `false` if the capture ends before the first of them.
+    fn has(&mut self, count: usize) -> Result<bool, FaultKind> {
+        if self.window.need(count)? {
+            Ok(true)
+        } else if self.window.ahead().is_empty() {
+            Ok(false)
+        } else {
+            Err(FaultKind::CutOff)
+        }
+    }
+
+    /// Reads the next record of a capture of pcap.
+    fn next_in_pcap(&mut self, head: PcapHead) -> Result<Option<Record>, FaultKind> {
+        if !self.has(RECORD_HEAD)? {
+            return Ok(None);
+        }
+        let Some(record) = record_in(head, self.window.ahead()) else {
+            return Err(FaultKind::CutOff);
+        };
+        let captured = record.captured as usize;
+        if captured > LONGEST - RECORD_HEAD {
+            return Err(FaultKind::TooLong);
+        }
+        let all = RECORD_HEAD + captured;
+        if !self.window.need(all)? {
+            return Err(FaultKind::CutOff);
+        }
+        self.span = Span {
+            skip: RECORD_HEAD,
+            captured,
+            all,
+        };
+        Ok(Some(Record {
+            link_type: head.link_type,
+            nanos: record.nanos,
+            original: record.original,
+            interface: 0,
+            place: self.place,
+        }))
+    }
+
+    /// Reads blocks up to the next with a packet.
+    fn next_in_blocks(&mut self, order: ByteOrder) -> Result<Option<Record>, FaultKind> {
+        let mut order = order;
+        for _ in 0..u64::MAX {
+            let block = self.next_block(order)?;
+            match block {
+                Block::End => return Ok(None),
+                Block::Packet(record) => return Ok(Some(record)),
+                Block::Other => {}
+            }
+            let _ = self.window.pass(self.span.all);
+            self.span = NOTHING;
+            self.place = self.window.place();
+            if let Kind::Pcapng(next) = self.kind {
+                order = next;
+            }
+        }
+        Err(FaultKind::Read)
+    }
+
+    /// Reads the next block.
+    fn next_block(&mut self, order: ByteOrder) -> Result<Block, FaultKind> {
+        if !self.has(BLOCK)? {
+            return Ok(Block::End);
+        }
+        let Some((kind, rest)) = long(order, self.window.ahead()) else {
+            return Err(FaultKind::CutOff);
+        };
+        if kind == SECTION {
+            return self.next_section();
+        }
+        let Some((length, _)) = long(order, rest) else {
+            return Err(FaultKind::CutOff);
+        };
+        match kind {
+            INTERFACE => self.next_interface(order, length),
+            ENHANCED | OBSOLETE | SIMPLE => self.next_packet(order, kind, length),
+            _ => self.skip_block(order, length),
+        }
+    }
+
+    /// Reads a whole block of this length into the window.
+    fn whole_block(&mut self, order: ByteOrder, length: u32) -> Result<(), FaultKind> {
+        let all = length as usize;
+        if length % 4 != 0 || all < BLOCK {
+            return Err(FaultKind::BlockLength);
+        }
+        if all > LONGEST {
+            return Err(FaultKind::TooLong);
+        }
+        if !self.window.need(all)? {
+            return Err(FaultKind::CutOff);
+        }
+        let Some(block) = self.window.ahead().get(..all) else {
+            return Err(FaultKind::CutOff);
+        };
+        if second_length(order, block) != Some(length) {
+            return Err(FaultKind::BlockLength);
+        }
+        self.span = Span {
+            skip: 0,
+            captured: 0,
+            all,
+        };
+        Ok(())
+    }
+
+    /// The body of the block that was read.
+    fn body(&self) -> &[u8] {
+        match self.window.ahead().get(..self.span.all) {
+            Some(block) => body_of(block),
+            None => &[],
+        }
+    }
+
+    /// Reads the block that begins a section, by its own octet order.
+    fn next_section(&mut self) -> Result<Block, FaultKind> {
+        let Some((length_octets, magic)) = self
+            .window
+            .ahead()
+            .get(4..8)
+            .zip(self.window.ahead().get(8..12))
+        else {
+            return Err(FaultKind::CutOff);
+        };
+        let order = match long(ByteOrder::Big, magic) {
+            Some((number, _)) => order_of(number).ok_or(FaultKind::ByteOrder)?,
+            None => return Err(FaultKind::CutOff),
+        };
+        let Some((length, _)) = long(order, length_octets) else {
+            return Err(FaultKind::CutOff);
+        };
+        self.whole_block(order, length)?;
+        if self.body().len() < 16 {
+            return Err(FaultKind::BlockLength);
+        }
+        self.interfaces.clear();
+        self.kind = Kind::Pcapng(order);
+        Ok(Block::Other)
+    }
+
+    /// Reads the block that describes an interface.
+    fn next_interface(&mut self, order: ByteOrder, length: u32) -> Result<Block, FaultKind> {
+        self.whole_block(order, length)?;
+        let Some(interface) = interface_in(order, self.body()) else {
+            return Err(FaultKind::BlockLength);
+        };
+        if self.interfaces.len() >= MOST_INTERFACES {
+            return Err(FaultKind::TooManyInterfaces);
+        }
+        match self.interfaces.push(interface) {
+            Ok(()) => Ok(Block::Other),
+            Err(_) => Err(FaultKind::NoMemory),
+        }
+    }
+
+    /// Passes a block of any length whose body says nothing of packets.
+    fn skip_block(&mut self, order: ByteOrder, length: u32) -> Result<Block, FaultKind> {
+        if length % 4 != 0 || length < 12 {
+            return Err(FaultKind::BlockLength);
+        }
+        let mut left = length as usize - 4;
+        for _ in 0..length {
+            if left == 0 {
+                break;
+            }
+            if !self.window.need(1)? {
+                return Err(FaultKind::CutOff);
+            }
+            left -= self.window.pass(left);
+        }
+        if !self.window.need(4)? {
+            return Err(FaultKind::CutOff);
+        }
+        match long(order, self.window.ahead()) {
+            Some((second, _)) if second == length => {
+                let _ = self.window.pass(4);
+                Ok(Block::Other)
+            }
+            _ => Err(FaultKind::BlockLength),
+        }
+    }
+
+    /// The interface of a packet, by its place in the section.
+    fn interface(&self, place: u32) -> Result<Interface, FaultKind> {
+        match self.interfaces.get(place as usize) {
+            Some(interface) => Ok(*interface),
+            None => Err(FaultKind::NoInterface),
+        }
+    }
+
+    /// The head of a packet's block.
+    fn packet_head(&self, order: ByteOrder, kind: u32) -> Result<PacketHead, FaultKind> {
+        let head = match kind {
+            ENHANCED => enhanced_in(order, self.body()),
+            OBSOLETE => obsolete_in(order, self.body()),
+            _ => simple_in(order, self.interface(0)?.longest, self.body()),
+        };
+        head.ok_or(FaultKind::BlockLength)
+    }
+
+    /// Reads the block of a packet.
+    fn next_packet(
+        &mut self,
+        order: ByteOrder,
+        kind: u32,
+        length: u32,
+    ) -> Result<Block, FaultKind> {
+        self.whole_block(order, length)?;
+        let head = self.packet_head(order, kind)?;
+        let interface = self.interface(head.interface)?;
+        let skip = if kind == SIMPLE {
+            SIMPLE_HEAD
+        } else {
+            PACKET_HEAD
+        };
+        let captured = head.captured as usize;
+        if captured > self.body().len().saturating_sub(skip - 8) {
+            return Err(FaultKind::BlockLength);
+        }
+        self.span.skip = skip;
+        self.span.captured = captured;
+        if let Some(ticks) = head.ticks {
+            self.nanos = nanos_of(ticks, interface.resolution);
+        }
+        Ok(Block::Packet(Record {
+            link_type: interface.link_type,
+            nanos: self.nanos,
+            original: head.original,
+            interface: head.interface,
+            place: self.place,
+        }))
+    }
+}
