@@ -36,11 +36,7 @@ pub(crate) fn behind_first(kind: FormKind) -> &'static [(FieldName, u8)]
             (FieldName::Sn, 4),
             (FieldName::Crc, 3),
         ],
-        FormKind::Uo1Id => &[
-            (FieldName::X, 1),
-            (FieldName::Sn, 4),
-            (FieldName::Crc, 3),
-        ],
+        FormKind::Uo1Id => &[(FieldName::X, 1), (FieldName::Sn, 4), (FieldName::Crc, 3)],
         FormKind::Uor2 => &[
             (FieldName::Ts, 1),
             (FieldName::M, 1),

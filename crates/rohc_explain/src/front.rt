@@ -44,7 +44,10 @@ impl Telling<'_> {
     pub(crate) fn add_cid(&mut self, size: CidKind) -> Result<(), Stop>
         ensures kept { self.new.octets.now ≡ self.old.octets.now }
     {
-        if matches!((size, self.next_octet()), (CidKind::Small, Some(0xe1..=0xef))) {
+        if matches!(
+            (size, self.next_octet()),
+            (CidKind::Small, Some(0xe1..=0xef))
+        ) {
             self.tell(FieldName::AddCid, 4)?;
             self.tell(FieldName::Cid, 4)?;
         }

@@ -132,6 +132,26 @@ impl Telling<'_> {
             }
         }
     }
+
+    /// Tells what stands in front of a header.
+    fn before_header(&mut self, size: CidKind) -> Result<(), Stop>
+        ensures kept { self.new.octets.now ≡ self.old.octets.now }
+    {
+        self.front()?;
+        self.add_cid(size)
+    }
+
+    /// Tells a packet, and returns what it is, and why no more is told, if not all is.
+    fn packet(&mut self, size: CidKind, terms: Option<Terms>) -> (PacketKind, Result<(), Stop>)
+        ensures kept { self.new.octets.now ≡ self.old.octets.now }
+    {
+        if let Err(stop) = self.before_header(size) {
+            return (PacketKind::OnlyFront, Err(stop));
+        }
+        let kind = kind_of(self.next_octet(), terms);
+        let told = self.header(size, kind, terms);
+        (kind, told)
+    }
 }
 
 /// What begins with this octet, if one is there. The terms are those of the CID's context, if it has some.
@@ -161,15 +181,7 @@ pub fn packet_fields(
     ensures in_turn { IfOk result (λ told. are_in_turn 0 told.fields.items told.end ≡ true) }
 {
     let mut telling = Telling::over(alloc, octets);
-    let mut kind = PacketKind::OnlyFront;
-    let told = telling.front().and_then(|()| telling.add_cid(size));
-    let told = match told {
-        Ok(()) => {
-            kind = kind_of(telling.next_octet(), terms);
-            telling.header(size, kind, terms)
-        }
-        Err(stop) => Err(stop),
-    };
+    let (kind, told) = telling.packet(size, terms);
     let is_whole = match told {
         Ok(()) => true,
         Err(Stop::Short) => false,

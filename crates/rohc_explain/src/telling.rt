@@ -80,12 +80,7 @@ impl Telling<'_> {
     }
 
     /// Tells a field if it is there.
-    pub(crate) fn tell_if(
-        &mut self,
-        present: bool,
-        name: FieldName,
-        count: u8,
-    ) -> Result<(), Stop>
+    pub(crate) fn tell_if(&mut self, present: bool, name: FieldName, count: u8) -> Result<(), Stop>
         requires { count ≤ 32 }
         ensures kept { self.new.octets.now ≡ self.old.octets.now }
     {
