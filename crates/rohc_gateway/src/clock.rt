@@ -1,0 +1,38 @@
+//! The clock of a gateway.
+
+use std::time::{Clock, SystemTime, UNIX_EPOCH};
+
+/// Moments in milliseconds of the system's clock since 1970, which never go back: where the clock does, no
+/// time has passed.
+#[derive(Clone, Copy)]
+pub(crate) struct Moments {
+    last: u64,
+}
+
+impl Moments {
+    /// Moments that don't go behind this one.
+    pub(crate) fn from(moment: u64) -> Moments {
+        Moments { last: moment }
+    }
+
+    /// The moment that it is now.
+    pub(crate) fn now<R: Clock>(&mut self, rt: &R) -> u64
+        ensures { self.old.last ≤ result }
+    {
+        self.last = self.last.max(milliseconds(rt));
+        self.last
+    }
+}
+
+ghost use Rattle.std.specs.Prelude.{◌≤◌};
+
+/// The system's clock; 0 if it can't be read.
+fn milliseconds<R: Clock>(rt: &R) -> u64 {
+    let Ok(now) = SystemTime::now(rt) else {
+        return 0;
+    };
+    match now.duration_since(UNIX_EPOCH) {
+        Ok(passed) => u64::try_from(passed.as_millis()).unwrap_or(u64::MAX),
+        Err(_) => 0,
+    }
+}

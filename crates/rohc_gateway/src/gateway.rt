@@ -1,0 +1,357 @@
+//! A gateway: a station behind its sockets.
+
+use crate::answers::{Kind, Reply};
+use crate::clock::Moments;
+use crate::connection::{Connection, Progress};
+use crate::files::{UnreadLinks, read_links_file, replace_file};
+use crate::sending::send_all;
+use crate::sockets::MOST_CONNECTIONS;
+use mio::net::UdpSocket;
+use rohc_concentrator::NoLink;
+use rohc_gateway_file::{Config, VERSION};
+use rohc_station::{
+    Asked, GatewayFigures, ReloadFault, Request, RequestFault, Station, write_calls,
+    write_contexts, write_metrics,
+};
+use std::io;
+use std::io::{ErrorKind, Write};
+use std::rt::Files;
+use std::time::Clock;
+
+/// The most datagrams that are taken from a socket before connections are looked at.
+const BATCH: u32 = 256;
+
+/// A gateway.
+#[derive(Drop)]
+pub(crate) struct Gateway<'a> {
+    pub(crate) config: &'a Config,
+    pub(crate) station: Station,
+    pub(crate) figures: GatewayFigures,
+    pub(crate) moments: Moments,
+    /// When it was started.
+    pub(crate) started: u64,
+    /// When the contexts are to be saved next.
+    pub(crate) next_save: u64,
+    /// Whether it was told to stop.
+    pub(crate) is_stopped: bool,
+    /// A buffer for a datagram.
+    pub(crate) datagram: Vec<u8>,
+    /// A buffer for a packet to be sent.
+    pub(crate) packet: Vec<u8>,
+    /// The connections, by their tokens.
+    pub(crate) connections: Vec<Option<Connection>>,
+}
+
+/// Tells why a links file isn't taken.
+fn refuse_links<R: Eprint + AllocGlobal>(rt: &R, status: u16, name: &str) -> io::Result<Reply> {
+    let _ = eprintln!(rt; "<4>rohc-gateway: reload refused: {name}");
+    Reply::fault(rt.alloc(), status, name)
+}
+
+impl Gateway<'_> {
+    /// Takes datagrams from a socket until none waits, but at most so many. Returns whether more may wait.
+    pub(crate) fn take_datagrams<R: Clock>(
+        &mut self,
+        rt: &R,
+        socket: &UdpSocket,
+        is_timed: bool,
+    ) -> bool {
+        for _ in 0..BATCH {
+            match socket.recv_from(self.datagram.as_mut_slice()) {
+                Ok((size, _)) => {
+                    let octets = self.datagram.get(..size).unwrap_or(&[]);
+                    let sends = match (is_timed, self.figures.draining) {
+                        (true, false) => self.station.take_timed(octets),
+                        (true, true) => self.station.take_timed_known(octets),
+                        (false, false) => self.station.take(self.moments.now(rt), octets),
+                        (false, true) => self.station.take_known(self.moments.now(rt), octets),
+                    };
+                    let failed = send_all(socket, self.packet.as_mut_slice(), &sends);
+                    if failed > 0 {
+                        self.station.add_failed_sends(octets, failed);
+                    }
+                }
+                Err(e) if e.kind() == ErrorKind::WouldBlock => return false,
+                Err(_) => {
+                    self.figures.failed_receives = self.figures.failed_receives.saturating_add(1);
+                }
+            }
+        }
+        true
+    }
+
+    /// Saves the contexts; `None` if there is no state file. Returns how many octets were saved.
+    pub(crate) fn save<R: Files + Clock + AllocGlobal>(
+        &mut self,
+        rt: &R,
+    ) -> io::Result<Option<usize>> {
+        let Some(path) = &self.config.state else {
+            return Ok(None);
+        };
+        let moment = self.moments.now(rt);
+        let mut octets = Vec::new(rt.alloc());
+        let saved = match self.station.save(moment, &mut octets) {
+            Ok(_) => replace_file(rt, path.as_str(), octets.as_slice()),
+            Err(_) => Err(io::Error::from(ErrorKind::OutOfMemory)),
+        };
+        match saved {
+            Ok(()) => {
+                self.figures.saves = self.figures.saves.saturating_add(1);
+                self.figures.last_save = moment;
+                Ok(Some(octets.len()))
+            }
+            Err(e) => {
+                self.figures.failed_saves = self.figures.failed_saves.saturating_add(1);
+                Err(e)
+            }
+        }
+    }
+
+    /// Saves the contexts if it is time.
+    pub(crate) fn save_in_time<R: Files + Clock + Eprint + AllocGlobal>(
+        &mut self,
+        rt: &R,
+        moment: u64,
+    ) {
+        let Some(seconds) = self.config.save_seconds else {
+            return;
+        };
+        if moment < self.next_save {
+            return;
+        }
+        self.next_save = moment.saturating_add(u64::from(seconds) * 1000);
+        if self.save(rt).is_err() {
+            let _ = eprintln!(rt; "<3>rohc-gateway: save failed");
+        }
+    }
+
+    /// Takes the links file anew.
+    fn reload<R: Files + Eprint + AllocGlobal>(&mut self, rt: &R) -> io::Result<Reply> {
+        let alloc = rt.alloc();
+        let path = match &self.config.links {
+            Some(path) => path.as_str(),
+            None => "",
+        };
+        let links = match read_links_file(rt, path) {
+            Ok(links) => links,
+            Err(UnreadLinks::Unreadable) => return refuse_links(rt, 409, "Unreadable"),
+            Err(UnreadLinks::Memory) => return refuse_links(rt, 500, "NoMemory"),
+            Err(UnreadLinks::Fault(fault)) => return refuse_links(rt, 409, fault.name()),
+        };
+        match self.station.reload(alloc, links) {
+            Ok(report) => {
+                let _ = eprintln!(rt;
+                    "<6>rohc-gateway: reloaded: {} added, {} changed, {} removed, {} contexts gone",
+                    report.added, report.changed, report.removed, report.contexts_gone
+                );
+                Reply::reloaded(alloc, &report)
+            }
+            Err(ReloadFault::Settings(fault)) => refuse_links(rt, 409, fault.name()),
+            Err(ReloadFault::NoMemory) => refuse_links(rt, 500, "NoMemory"),
+        }
+    }
+
+    /// Saves as asked, and stops if that is asked too.
+    fn save_as_asked<R: Files + Clock + Eprint + AllocGlobal>(
+        &mut self,
+        rt: &R,
+        stops: bool,
+    ) -> io::Result<Reply> {
+        let alloc = rt.alloc();
+        let saved = match self.save(rt) {
+            Ok(saved) => saved,
+            Err(_) => {
+                let _ = eprintln!(rt; "<3>rohc-gateway: save failed");
+                return Reply::fault(alloc, 500, "Save");
+            }
+        };
+        self.is_stopped = stops;
+        match (saved, stops) {
+            (Some(octets), true) => Ok(Reply::object(
+                200,
+                format!(in alloc; "{{\"stopped\":true,\"saved\":{octets}}}\n")?,
+            )),
+            (Some(octets), false) => Ok(Reply::object(
+                200,
+                format!(in alloc; "{{\"saved\":{octets}}}\n")?,
+            )),
+            (None, true) => Ok(Reply::object(
+                200,
+                format!(in alloc; "{{\"stopped\":true,\"saved\":null}}\n")?,
+            )),
+            (None, false) => Reply::fault(alloc, 409, "NoState"),
+        }
+    }
+
+    /// Forgets the records of a link, or that of one CID.
+    fn reset<R: AllocGlobal>(&mut self, rt: &R, link: u16, cid: Option<u16>) -> io::Result<Reply> {
+        let alloc = rt.alloc();
+        match self.station.reset(link, cid) {
+            Ok(gone) => Ok(Reply::object(200, format!(in alloc; "{{\"gone\":{gone}}}\n")?)),
+            Err(NoLink) => Reply::fault(alloc, 404, "NoLink"),
+        }
+    }
+
+    /// Takes no new call from now on.
+    fn drain<R: Eprint + AllocGlobal>(&mut self, rt: &R) -> io::Result<Reply> {
+        self.figures.draining = true;
+        let _ = eprintln!(rt; "<6>rohc-gateway: draining");
+        Ok(Reply::object(200, format!(in rt.alloc(); "{{\"draining\":true}}\n")?))
+    }
+
+    /// What stands, in a few numbers.
+    fn status<R: AllocGlobal>(&self, rt: &R) -> io::Result<Reply> {
+        let mut contexts = 0u64;
+        for (_, records) in self.station.concentrator().tables() {
+            contexts = contexts.saturating_add(records.contexts.len() as u64);
+        }
+        let links = self.station.concentrator().tables().len();
+        let GatewayFigures {
+            draining,
+            last_save,
+            ..
+        } = self.figures;
+        let started = self.started;
+        let mut body = Vec::new(rt.alloc());
+        write!(
+            &mut body,
+            "{{\"version\":\"{VERSION}\",\"links\":{links},\"contexts\":{contexts},"
+        )?;
+        writeln!(
+            &mut body,
+            "\"draining\":{draining},\"started\":{started},\"saved\":{last_save}}}"
+        )?;
+        Ok(Reply {
+            status: 200,
+            kind: Kind::Object,
+            body,
+        })
+    }
+
+    /// The contexts of a link, in the order of their first IRs or of their last accepted arrivals.
+    fn contexts<R: AllocGlobal>(&self, rt: &R, link: u16, by_age: bool) -> io::Result<Reply> {
+        let alloc = rt.alloc();
+        if !self.station.concentrator().tables().contains_key(&link) {
+            return Reply::fault(alloc, 404, "NoLink");
+        }
+        let mut body = Vec::new(alloc);
+        if by_age {
+            write_calls(alloc, &mut body, &self.station, link)?;
+        } else {
+            write_contexts(&mut body, &self.station, link)?;
+        }
+        Ok(Reply {
+            status: 200,
+            kind: Kind::Lines,
+            body,
+        })
+    }
+
+    /// The metrics.
+    fn metrics<R: AllocGlobal>(&self, rt: &R) -> io::Result<Reply> {
+        let mut body = Vec::new(rt.alloc());
+        write_metrics(&mut body, &self.station, &self.figures, VERSION)?;
+        Ok(Reply {
+            status: 200,
+            kind: Kind::Metrics,
+            body,
+        })
+    }
+
+    /// Does what is asked, and answers.
+    fn answer<R>(&mut self, rt: &R, request: Request) -> io::Result<Reply>
+    where
+        R: Files + Clock + Eprint + AllocGlobal,
+    {
+        match request {
+            Request::Stop => self.save_as_asked(rt, true),
+            Request::Save => self.save_as_asked(rt, false),
+            Request::Reload => self.reload(rt),
+            Request::Reset { link, cid } => self.reset(rt, link, cid),
+            Request::Drain => self.drain(rt),
+            Request::Ready => Ok(Reply::object(
+                200,
+                format!(in rt.alloc(); "{{\"ready\":true}}\n")?,
+            )),
+            Request::Status => self.status(rt),
+            Request::Metrics => self.metrics(rt),
+            Request::Contexts { link } => self.contexts(rt, link, false),
+            Request::Calls { link } => self.contexts(rt, link, true),
+        }
+    }
+
+    /// The octets of the answer to what a connection asks for. The metrics port answers `GET /metrics`
+    /// alone.
+    fn reply_to<R>(&mut self, rt: &R, asked: Asked, is_control: bool) -> io::Result<Vec<u8>>
+    where
+        R: Files + Clock + Eprint + AllocGlobal,
+    {
+        let alloc = rt.alloc();
+        let reply = match asked {
+            Asked::Whole(Request::Metrics) => self.metrics(rt)?,
+            Asked::Whole(request) if is_control => self.answer(rt, request)?,
+            Asked::Whole(_) => Reply::refused(alloc, RequestFault::NotFound)?,
+            Asked::Faulty(fault) => Reply::refused(alloc, fault)?,
+            Asked::Unfinished => Reply::refused(alloc, RequestFault::BadRequest)?,
+        };
+        reply.octets(alloc)
+    }
+
+    /// Goes on with the connection at a place, and lets it go if it has ended.
+    pub(crate) fn go_on<R>(&mut self, rt: &R, place: usize)
+    where
+        R: Files + Clock + Eprint + AllocGlobal,
+    {
+        let Some(Some(connection)) = self.connections.get_mut(place) else {
+            return;
+        };
+        let is_control = connection.is_control();
+        let progress = match connection.go_on() {
+            Progress::Asks(asked) => match self.reply_to(rt, asked, is_control) {
+                Ok(octets) => self.send_answer(place, octets),
+                Err(_) => Progress::Ended,
+            },
+            progress => progress,
+        };
+        if let Progress::Ended = progress {
+            if let Some(slot) = self.connections.get_mut(place) {
+                *slot = None;
+            }
+        }
+    }
+
+    /// Sends the answer of the connection at a place.
+    fn send_answer(&mut self, place: usize, octets: Vec<u8>) -> Progress {
+        match self.connections.get_mut(place) {
+            Some(Some(connection)) => connection.answer(octets),
+            _ => Progress::Ended,
+        }
+    }
+
+    /// Lets connections go that have taken too long.
+    pub(crate) fn drop_late(&mut self, moment: u64) {
+        for slot in self.connections.iter_mut() {
+            if let Some(connection) = slot {
+                if connection.is_late(moment) {
+                    *slot = None;
+                }
+            }
+        }
+    }
+
+    /// The first place without a connection. Those of the control socket and those of the metrics port are
+    /// apart, so that neither takes the other's.
+    pub(crate) fn free_place(&self, is_control: bool) -> Option<usize> {
+        let places = if is_control {
+            0..MOST_CONNECTIONS / 2
+        } else {
+            MOST_CONNECTIONS / 2..MOST_CONNECTIONS
+        };
+        for place in places {
+            if let Some(None) = self.connections.get(place) {
+                return Some(place);
+            }
+        }
+        None
+    }
+}

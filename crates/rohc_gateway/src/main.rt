@@ -1,0 +1,57 @@
+//! rohc-gateway: a decompressor for many links that runs until it is told to stop.
+#![tactic(auto)]
+
+mod answers;
+mod check;
+mod clock;
+mod connection;
+mod files;
+mod gateway;
+mod run;
+mod sending;
+mod setup;
+mod sockets;
+
+use rohc_gateway_file::{Ending, Request, read_request};
+use std::net::Net;
+use std::process::ExitCode;
+use std::rt::{Env, Files};
+use std::time::Clock;
+use std::{env, io};
+
+/// The words of the command line after the program's name.
+fn words<R: Env + AllocGlobal>(rt: &R) -> io::Result<Vec<String>> {
+    let mut words = Vec::new(rt.alloc());
+    for word in env::args(rt)?.skip(1) {
+        words.push(word)?;
+    }
+    Ok(words)
+}
+
+/// Does what the words ask for.
+fn requested<R>(rt: &R, words: &[String]) -> Result<Ending, Ending>
+where
+    R: Files + Net + Clock + Print + Eprint + AllocGlobal,
+{
+    match read_request(rt, words)? {
+        Request::Check { file, options } => check::check(rt, file, &options),
+        Request::Run {
+            file,
+            options,
+            fresh,
+        } => run::run(rt, file, &options, fresh),
+    }
+}
+
+fn main(rt: HostRuntime) -> ExitCode {
+    let ending = match words(&rt) {
+        Ok(words) => match requested(&rt, words.as_slice()) {
+            Ok(ending) => ending,
+            Err(ending) => ending,
+        },
+        Err(e) if e.kind() == io::ErrorKind::InvalidData => Ending::CommandLine,
+        Err(_) => Ending::Memory,
+    };
+    let _ = eprint!(rt; "{ending}");
+    ExitCode::from(ending.status())
+}

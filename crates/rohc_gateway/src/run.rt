@@ -1,0 +1,271 @@
+//! `run`: from the gateway file to a stop.
+
+use crate::clock::Moments;
+use crate::connection::{Connection, Stream};
+use crate::gateway::Gateway;
+use crate::setup::{Start, read_start};
+use crate::sockets::{CONTROL, METRICS, MOST_CONNECTIONS, PLAIN, Sockets, TIMED, remove_control};
+use mio::net::{TcpListener, UnixListener};
+use mio::{Events, Poll, Token};
+use rohc_gateway_file::{Config, Ending, Options};
+use rohc_saved::Restored;
+use rohc_station::{GatewayFigures, Station};
+use std::alloc::AllocError;
+use std::io;
+use std::net::Net;
+use std::rt::Files;
+use std::time::{Clock, Duration};
+
+/// The longest datagram, in octets: a link's number, a moment and a packet.
+const LONGEST_DATAGRAM: usize = 65_545;
+
+/// The longest packet that is sent, in octets.
+const LONGEST_PACKET: usize = 65_535;
+
+/// How many connections are accepted at a wake and socket.
+const MOST_ACCEPTED: u32 = 64;
+
+/// Where more may wait. A socket tells that something came only once.
+#[derive(Clone, Copy, Default)]
+struct Waiting {
+    plain: bool,
+    timed: bool,
+    control: bool,
+    metrics: bool,
+}
+
+impl Waiting {
+    /// Whether something may wait anywhere.
+    fn is_any(self) -> bool {
+        self.plain || self.timed || self.control || self.metrics
+    }
+}
+
+/// A gateway over what it starts from.
+fn gateway_of<'a, R: Clock + AllocGlobal>(
+    rt: &R,
+    config: &'a Config,
+    restored: &Restored,
+    station: Station,
+) -> Result<Gateway<'a>, AllocError> {
+    let alloc = rt.alloc();
+    let mut moments = Moments::from(restored.moment);
+    let started = moments.now(rt);
+    let mut connections = Vec::new(alloc);
+    for _ in 0..MOST_CONNECTIONS {
+        connections.push(None)?;
+    }
+    Ok(Gateway {
+        config,
+        station,
+        figures: GatewayFigures::default(),
+        moments,
+        started,
+        next_save: started.saturating_add(u64::from(config.save_seconds.unwrap_or(0)) * 1000),
+        is_stopped: false,
+        datagram: vec![in alloc; 0u8; LONGEST_DATAGRAM]?,
+        packet: vec![in alloc; 0u8; LONGEST_PACKET]?,
+        connections,
+    })
+}
+
+/// Takes a connection, if there is room for it. Otherwise it is closed.
+fn take_connection<R: Clock + AllocGlobal>(
+    rt: &R,
+    gateway: &mut Gateway<'_>,
+    poll: &Poll,
+    stream: Stream,
+) {
+    let Some(place) = gateway.free_place(stream.is_control()) else {
+        return;
+    };
+    let mut stream = stream;
+    if stream.watch(poll, Token(place)).is_err() {
+        return;
+    }
+    let moment = gateway.moments.now(rt);
+    if let Some(slot) = gateway.connections.get_mut(place) {
+        *slot = Some(Connection::new(rt.alloc(), stream, moment));
+    }
+}
+
+/// Takes the connections that wait on the control socket, but at most so many. Returns whether more may
+/// wait.
+fn accept_control<R: Clock + AllocGlobal>(
+    rt: &R,
+    gateway: &mut Gateway<'_>,
+    poll: &Poll,
+    listener: &UnixListener,
+) -> bool {
+    for _ in 0..MOST_ACCEPTED {
+        match listener.accept() {
+            Ok((stream, _)) => take_connection(rt, gateway, poll, Stream::Control(stream)),
+            Err(_) => return false,
+        }
+    }
+    true
+}
+
+/// Takes the connections that wait on the metrics port, but at most so many. Returns whether more may wait.
+fn accept_metrics<R: Clock + AllocGlobal>(
+    rt: &R,
+    gateway: &mut Gateway<'_>,
+    poll: &Poll,
+    listener: &TcpListener,
+) -> bool {
+    for _ in 0..MOST_ACCEPTED {
+        match listener.accept() {
+            Ok((stream, _)) => take_connection(rt, gateway, poll, Stream::Metrics(stream)),
+            Err(_) => return false,
+        }
+    }
+    true
+}
+
+/// Does what an event calls for.
+fn handle<R>(rt: &R, gateway: &mut Gateway<'_>, waiting: &mut Waiting, token: Token)
+where
+    R: Files + Clock + Eprint + AllocGlobal,
+{
+    if token == PLAIN {
+        waiting.plain = true;
+    } else if token == TIMED {
+        waiting.timed = true;
+    } else if token == CONTROL {
+        waiting.control = true;
+    } else if token == METRICS {
+        waiting.metrics = true;
+    } else {
+        gateway.go_on(rt, token.0);
+    }
+}
+
+/// Takes the datagrams and the connections that wait, but only so many at a time.
+fn take_waiting<R: Clock + AllocGlobal>(
+    rt: &R,
+    gateway: &mut Gateway<'_>,
+    sockets: &Sockets,
+    waiting: Waiting,
+) -> Waiting {
+    let mut left = Waiting::default();
+    if let Some(socket) = &sockets.plain {
+        left.plain = waiting.plain && gateway.take_datagrams(rt, socket, false);
+    }
+    if let Some(socket) = &sockets.timed {
+        left.timed = waiting.timed && gateway.take_datagrams(rt, socket, true);
+    }
+    if let Some(listener) = &sockets.control {
+        left.control = waiting.control && accept_control(rt, gateway, &sockets.poll, listener);
+    }
+    if let Some(listener) = &sockets.metrics {
+        left.metrics = waiting.metrics && accept_metrics(rt, gateway, &sockets.poll, listener);
+    }
+    left
+}
+
+/// One wake: what came is done, and the contexts are saved when it is time.
+fn wake<R>(
+    rt: &R,
+    gateway: &mut Gateway<'_>,
+    sockets: &mut Sockets,
+    events: &mut Events,
+    waiting: &mut Waiting,
+) -> io::Result<()>
+where
+    R: Files + Clock + Eprint + AllocGlobal,
+{
+    let timeout = if waiting.is_any() {
+        Duration::ZERO
+    } else {
+        Duration::from_secs(1)
+    };
+    sockets.poll.poll(events, Some(timeout))?;
+    gateway.figures.wakes = gateway.figures.wakes.saturating_add(1);
+    for event in events.iter() {
+        handle(rt, gateway, waiting, event.token());
+    }
+    *waiting = take_waiting(rt, gateway, sockets, *waiting);
+    let moment = gateway.moments.now(rt);
+    gateway.drop_late(moment);
+    gateway.save_in_time(rt, moment);
+    Ok(())
+}
+
+/// Serves until it is told to stop.
+fn serve<R>(rt: &R, gateway: &mut Gateway<'_>, sockets: &mut Sockets) -> io::Result<()>
+where
+    R: Files + Clock + Eprint + AllocGlobal,
+{
+    let mut events = Events::with_capacity(rt.alloc(), 64)?;
+    let mut waiting = Waiting::default();
+    for _ in 0..u64::MAX {
+        if gateway.is_stopped {
+            return Ok(());
+        }
+        match wake(rt, gateway, sockets, &mut events, &mut waiting) {
+            Err(e) if e.kind() != io::ErrorKind::Interrupted => return Err(e),
+            _ => {}
+        }
+    }
+    Ok(())
+}
+
+/// Runs a gateway from what it starts from.
+fn run_from<R>(
+    rt: &R,
+    config: &Config,
+    restored: &Restored,
+    station: Station,
+) -> Result<Ending, Ending>
+where
+    R: Files + Net + Clock + Eprint + AllocGlobal,
+{
+    let contexts = restored.contexts;
+    let links = station.concentrator().tables().len();
+    let mut gateway = gateway_of(rt, config, restored, station).map_err(|_| Ending::Memory)?;
+    let mut sockets = Sockets::open(rt, config).map_err(|_| Ending::Socket)?;
+    let _ = eprintln!(rt; "<6>rohc-gateway: started: {links} links, {contexts} contexts restored");
+    let served = serve(rt, &mut gateway, &mut sockets);
+    if let Some(path) = &config.control {
+        let _ = remove_control(rt, path.as_str());
+    }
+    match served {
+        Ok(()) => {
+            let _ = eprintln!(rt; "<6>rohc-gateway: stopped");
+            Ok(Ending::Good)
+        }
+        Err(_) => Err(Ending::Socket),
+    }
+}
+
+/// Runs a gateway until it is told to stop.
+pub(crate) fn run<R>(
+    rt: &R,
+    file: &str,
+    options: &Options<'_>,
+    fresh: bool,
+) -> Result<Ending, Ending>
+where
+    R: Files + Net + Clock + Eprint + AllocGlobal,
+{
+    match read_start(rt, file, options, fresh)? {
+        Ok(start) => {
+            let Start {
+                config,
+                links,
+                concentrator,
+                restored,
+            } = start;
+            let station = Station::new(rt.alloc(), concentrator, links).map_err(
+                |_| Ending::Memory,
+            )?;
+            run_from(rt, &config, &restored, station)
+        }
+        Err(lines) => {
+            for line in &lines.all {
+                let _ = eprintln!(rt; "<3>rohc-gateway: {line}");
+            }
+            Ok(Ending::Refused)
+        }
+    }
+}

@@ -1,0 +1,55 @@
+//! How a run of `rohc-gateway` ends: its exit status, and the line that it prints on standard error.
+
+use std::fmt;
+
+/// How a run of the program ends.
+#[derive(Clone, Copy)]
+pub enum Ending {
+    /// It was stopped as told, or nothing was found.
+    Good,
+    /// A check found something.
+    Findings,
+    /// The words are not a command. What is wrong was printed.
+    CommandLine,
+    /// The gateway file, the links file or the state file is refused. What is wrong was printed.
+    Refused,
+    /// A socket can't be opened, or polled.
+    Socket,
+    /// The clock can't be read.
+    Clock,
+    /// A write failed.
+    Write,
+    /// There is no memory.
+    Memory,
+}
+
+impl Ending {
+    ghost use Rattle.std.specs.Prelude.{◌≡◌};
+    ghost use Rattle.rohc_gateway_file.specs.Ending.{status_of};
+
+    /// The exit status of the program.
+    pub fn status(&self) -> u8
+        ensures { result ≡ status_of self.now }
+    {
+        match self {
+            Ending::Good => 0,
+            Ending::Findings => 1,
+            Ending::CommandLine => 2,
+            Ending::Refused => 3,
+            Ending::Socket | Ending::Clock | Ending::Write => 4,
+            Ending::Memory => 5,
+        }
+    }
+}
+
+impl fmt::Display for Ending {
+    fn fmt<W: fmt::Write>(&self, f: &mut fmt::Formatter<W>) -> fmt::Result {
+        match self {
+            Ending::Good | Ending::Findings | Ending::CommandLine | Ending::Refused => Ok(()),
+            Ending::Socket => f.write_str("<3>rohc-gateway: socket\n"),
+            Ending::Clock => f.write_str("<3>rohc-gateway: clock\n"),
+            Ending::Write => f.write_str("<3>rohc-gateway: write\n"),
+            Ending::Memory => f.write_str("<3>rohc-gateway: memory\n"),
+        }
+    }
+}

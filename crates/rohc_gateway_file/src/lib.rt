@@ -1,0 +1,10 @@
+//! The command line of a gateway, its file, and how it ends.
+#![tactic(auto)]
+
+pub mod command;
+pub mod config;
+pub mod ending;
+
+pub use command::{Options, Request, VERSION, read_request};
+pub use config::{Config, ConfigFault, Reading, Wrong, read_config};
+pub use ending::Ending;

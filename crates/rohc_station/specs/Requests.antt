@@ -1,0 +1,55 @@
+-- Requests. Words: digit_of, number_in; changes a request; IsAskedByPost, ChangesNothing; status_of a fault.
+use Rattle.std.specs.Prelude.{◌≡◌, ℕ, ◌+◌, ◌*◌, ◌-◌, List, [], ◌∷◌, Bool, true, false, nat_lt, nat_le, ◌&&◌, if◌then◌else◌, codes, Option, Some, None, Result, Ok, Err, ⊤}
+use Rattle.std.specs.Option.{option_and_then}
+use Rattle.rohc_station.specs.declared.request.Request.{Request}
+use Rattle.rohc_station.specs.declared.request.Request.TheVariants.{Stop, Save, Reload, Reset, Drain, Ready, Status, Metrics, Contexts, Calls}
+use Rattle.rohc_station.specs.declared.request.RequestFault.{RequestFault}
+use Rattle.rohc_station.specs.declared.request.RequestFault.TheVariants.{BadRequest, NotFound, MethodNotAllowed, TooLarge}
+
+-- the value of a decimal digit, 0x30 to 0x39
+abbrev pub digit_of : ℕ → Option ℕ
+digit_of octet = if nat_le 0x30 octet && nat_le octet 0x39 then Some (octet - 0x30) else None
+
+-- a number below 65,536
+abbrev pub below : ℕ → Option ℕ
+below number = if nat_lt number 65536 then Some number else None
+
+-- the number that these digits spell behind a number, as long as it is below 65,536
+abbrev pub number_behind : ℕ → List ℕ → Option ℕ
+number_behind before [] = Some before
+number_behind before (octet ∷ octets) =
+    option_and_then (λ digit. option_and_then (λ number. number_behind number octets) (below (before * 10 + digit))) (digit_of octet)
+
+-- the number that one or more digits spell
+abbrev pub number_in : List ℕ → Option ℕ
+number_in [] = None
+number_in (octet ∷ octets) = number_behind 0 (octet ∷ octets)
+
+-- the four that change how datagrams are answered from then on
+abbrev pub changes : Request → Bool
+changes Stop = true
+changes Save = false
+changes Reload = true
+changes (Reset link cid) = true
+changes Drain = true
+changes Ready = false
+changes Status = false
+changes Metrics = false
+changes (Contexts link) = false
+changes (Calls link) = false
+
+-- a request that changes something came by POST
+abbrev pub IsAskedByPost : List ℕ → Request → Type 0
+IsAskedByPost method request = changes request ≡ true → method ≡ codes "POST"
+
+-- what was asked, if it is a request, changes nothing
+abbrev pub ChangesNothing : Result Request RequestFault → Type 0
+ChangesNothing (Ok request) = changes request ≡ false
+ChangesNothing (Err fault) = ⊤
+
+-- the status codes (RFC 9110 15.5)
+abbrev pub status_of : RequestFault → ℕ
+status_of BadRequest = 400
+status_of NotFound = 404
+status_of MethodNotAllowed = 405
+status_of TooLarge = 413

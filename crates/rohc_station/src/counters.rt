@@ -1,0 +1,75 @@
+//! What a station counts. Each count stays at the greatest `u64`.
+
+ghost use Rattle.std.specs.Prelude.{◌≡◌, ◌≢◌, ℕ, nat_eq};
+ghost use Rattle.indexmap.specs.IndexMap.{get};
+ghost use Rattle.rohc_concentrator.specs.Report.{report_of};
+ghost use Rattle.rohc_links.specs.Limits.{counted};
+ghost use Rattle.rohc_station.specs.Counting.{CountsAnswer, one_if};
+
+use indexmap::IndexMap;
+use rohc_concentrator::Answer;
+use rohc_counts::Counts;
+
+/// The counts of a link.
+#[derive(Clone, Copy)]
+pub struct LinkCounters {
+    /// The answers to its packets.
+    pub answers: Counts,
+    /// Sends that failed.
+    pub failed_sends: u64,
+}
+
+impl LinkCounters {
+    /// Nothing is counted yet.
+    pub fn new() -> LinkCounters {
+        LinkCounters {
+            answers: Counts::new(),
+            failed_sends: 0,
+        }
+    }
+}
+
+/// The counts of a station, over all links.
+#[derive(Clone, Copy, Default)]
+pub struct StationCounters {
+    /// Datagrams that were taken.
+    pub datagrams: u64,
+    /// Datagrams that are too short, of a link that isn't there, or turned away.
+    pub bad_datagrams: u64,
+}
+
+impl StationCounters {
+    ghost use Rattle.std.specs.Prelude.{◌≡◌};
+    ghost use Rattle.rohc_station.specs.Counting.{with_datagram};
+
+    /// Counts a datagram.
+    pub(crate) fn add(&mut self, is_bad: bool)
+        ensures { self.new ≡ with_datagram self.old is_bad }
+    {
+        *self = StationCounters {
+            datagrams: self.datagrams.saturating_add(1),
+            bad_datagrams: counted_if(self.bad_datagrams, is_bad),
+        };
+    }
+}
+
+/// The count plus one if `holds`.
+fn counted_if(count: u64, holds: bool) -> u64
+    ensures { result ≡ counted count (one_if holds) }
+{
+    count.saturating_add(u64::from(holds))
+}
+
+/// Counts an answer to a packet of a link, if the link has counts.
+pub(crate) fn count_answer(
+    counters: &mut IndexMap<u16, LinkCounters>,
+    link: u16,
+    answer: &Answer<'_>,
+)
+    ensures own { CountsAnswer (report_of answer.now) (get nat_eq counters.old link) (get nat_eq counters.new link) }
+    ensures others { (l : ℕ) → l ≢ link → get nat_eq counters.new l ≡ get nat_eq counters.old l }
+{
+    if let Some(of_link) = counters.get_mut(&link) {
+        of_link.answers.count(answer);
+    }
+}

@@ -1,0 +1,23 @@
+//! What a gateway does, apart from its sockets: it takes datagrams, counts the answers, reads its links file
+//! anew, and answers requests.
+#![tactic(auto)]
+
+pub mod counters;
+pub mod lists;
+pub mod metrics;
+pub mod reload;
+pub mod request;
+mod sending;
+pub mod station;
+pub mod timed;
+
+pub use counters::{LinkCounters, StationCounters};
+pub use lists::{write_calls, write_contexts};
+pub use metrics::{GatewayFigures, write_metrics};
+pub use reload::{ReloadFault, ReloadReport};
+pub use request::{Asked, Request, RequestFault, read_request, request_of};
+pub use station::Station;
+pub use timed::{Timed, timed_datagram};
+
+#[cfg(test)]
+mod tests;

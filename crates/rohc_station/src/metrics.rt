@@ -1,0 +1,307 @@
+//! The metrics of a gateway in the text format of Prometheus.
+
+use crate::station::Station;
+use rohc_concentrator::LinkRecords;
+use rohc_context::{ContextState, Refusal};
+use rohc_counts::Counts;
+use std::io;
+use std::io::Write;
+
+/// The number of a packet among the outcomes.
+const DELIVERED: u8 = 0;
+
+/// The number of a context that was made or renewed without a packet, among the outcomes.
+const STORED: u8 = 31;
+
+/// What a gateway counts beside its station.
+#[derive(Clone, Copy, Default)]
+pub struct GatewayFigures {
+    /// Receives that failed.
+    pub failed_receives: u64,
+    /// How often the gateway woke.
+    pub wakes: u64,
+    /// Saves that were done.
+    pub saves: u64,
+    /// Saves that failed.
+    pub failed_saves: u64,
+    /// When the last save was done, in milliseconds since 1970; 0 before the first.
+    pub last_save: u64,
+    /// Whether no new call is taken.
+    pub draining: bool,
+}
+
+/// How many contexts of a link are in each state.
+#[derive(Clone, Copy, Default)]
+struct States {
+    no: u64,
+    fixed: u64,
+    full: u64,
+}
+
+/// Counts the contexts of a link by state.
+fn states_of(records: &LinkRecords) -> States {
+    let mut states = States::default();
+    for (_, context) in &records.contexts {
+        match context.state() {
+            ContextState::NoContext => states.no = states.no.saturating_add(1),
+            ContextState::StaticContext => states.fixed = states.fixed.saturating_add(1),
+            ContextState::FullContext => states.full = states.full.saturating_add(1),
+        }
+    }
+    states
+}
+
+/// Writes the two lines before a metric.
+fn write_head<W: Write>(out: &mut W, name: &str, kind: &str, help: &str) -> io::Result<()> {
+    writeln!(out, "# HELP {name} {help}")?;
+    writeln!(out, "# TYPE {name} {kind}")
+}
+
+/// Writes a metric of one sample.
+fn write_one<W: Write>(
+    out: &mut W,
+    name: &str,
+    kind: &str,
+    help: &str,
+    value: u64,
+) -> io::Result<()> {
+    write_head(out, name, kind, help)?;
+    writeln!(out, "{name} {value}")
+}
+
+/// The refusals, in the order of their numbers.
+const REFUSALS: [Refusal; 30] = [
+    Refusal::Empty,
+    Refusal::FeedbackShort,
+    Refusal::AfterAddCid,
+    Refusal::Segment,
+    Refusal::ReservedType,
+    Refusal::AddCidOnLarge,
+    Refusal::LargeCid,
+    Refusal::CidRange,
+    Refusal::NoHeader,
+    Refusal::NoContext,
+    Refusal::Profile,
+    Refusal::ProfileChange,
+    Refusal::Truncated,
+    Refusal::IpVersion,
+    Refusal::Protocol,
+    Refusal::ExtensionList,
+    Refusal::RtpVersion,
+    Refusal::Csrc,
+    Refusal::ZeroStride,
+    Refusal::ReliableMode,
+    Refusal::OuterHeader,
+    Refusal::NoStride,
+    Refusal::RndInUo1,
+    Refusal::IpIdTwice,
+    Refusal::Trailing,
+    Refusal::TooLong,
+    Refusal::StateTooLow,
+    Refusal::Check,
+    Refusal::NoLink,
+    Refusal::NoMemory,
+];
+
+/// The number of refusals in the counts of a link.
+fn refused(counts: &Counts) -> u64 {
+    let mut refused = 0u64;
+    for refusal in &REFUSALS {
+        refused = refused.saturating_add(outcome_count(counts, refusal.number()));
+    }
+    refused
+}
+
+/// The count of the outcome of this number.
+fn outcome_count(counts: &Counts, number: u8) -> u64 {
+    match counts.outcomes.get(usize::from(number)) {
+        Some(count) => *count,
+        None => 0,
+    }
+}
+
+/// Writes the packets of each link by outcome.
+fn write_packets<W: Write>(out: &mut W, station: &Station) -> io::Result<()> {
+    let name = "polorowan_packets_total";
+    write_head(out, name, "counter", "Packets, by link and outcome.")?;
+    for (link, of_link) in station.counters() {
+        let counts = &of_link.answers;
+        for (outcome, count) in [
+            ("delivered", outcome_count(counts, DELIVERED)),
+            ("stored", outcome_count(counts, STORED)),
+            ("front", counts.fronts),
+            ("refused", refused(counts)),
+        ] {
+            writeln!(
+                out,
+                "{name}{{link=\"{link}\",outcome=\"{outcome}\"}} {count}"
+            )?;
+        }
+    }
+    Ok(())
+}
+
+/// Writes the refusals of each link: those that came, by name.
+fn write_refusals<W: Write>(out: &mut W, station: &Station) -> io::Result<()> {
+    let name = "polorowan_refused_total";
+    write_head(
+        out,
+        name,
+        "counter",
+        "Refused packets, by link and refusal.",
+    )?;
+    for (link, of_link) in station.counters() {
+        for refusal in &REFUSALS {
+            let count = outcome_count(&of_link.answers, refusal.number());
+            if count > 0 {
+                writeln!(
+                    out,
+                    "{name}{{link=\"{link}\",refusal=\"{refusal}\"}} {count}"
+                )?;
+            }
+        }
+    }
+    Ok(())
+}
+
+/// Writes the feedback of each link for its peer, by kind.
+fn write_feedback<W: Write>(out: &mut W, station: &Station) -> io::Result<()> {
+    let name = "polorowan_feedback_total";
+    write_head(
+        out,
+        name,
+        "counter",
+        "Feedback elements for the peer, by link and kind.",
+    )?;
+    for (link, of_link) in station.counters() {
+        let [acks, nacks, static_nacks, plain] = of_link.answers.words;
+        for (kind, count) in [
+            ("ack", acks),
+            ("nack", nacks),
+            ("static_nack", static_nacks),
+            ("plain", plain),
+        ] {
+            writeln!(out, "{name}{{link=\"{link}\",kind=\"{kind}\"}} {count}")?;
+        }
+    }
+    Ok(())
+}
+
+/// Writes what each link relayed, and its failed sends.
+fn write_sends<W: Write>(out: &mut W, station: &Station) -> io::Result<()> {
+    let relayed = "polorowan_relayed_total";
+    write_head(
+        out,
+        relayed,
+        "counter",
+        "Feedback elements for this side's compressor.",
+    )?;
+    for (link, of_link) in station.counters() {
+        writeln!(
+            out,
+            "{relayed}{{link=\"{link}\"}} {}",
+            of_link.answers.relayed
+        )?;
+    }
+    let failed = "polorowan_failed_sends_total";
+    write_head(out, failed, "counter", "Sends that failed.")?;
+    for (link, of_link) in station.counters() {
+        writeln!(out, "{failed}{{link=\"{link}\"}} {}", of_link.failed_sends)?;
+    }
+    Ok(())
+}
+
+/// Writes the contexts of each link by state.
+fn write_contexts<W: Write>(out: &mut W, station: &Station) -> io::Result<()> {
+    let name = "polorowan_contexts";
+    write_head(out, name, "gauge", "Contexts, by link and state.")?;
+    for (link, records) in station.concentrator().tables() {
+        let states = states_of(records);
+        for (state, count) in [
+            ("no", states.no),
+            ("static", states.fixed),
+            ("full", states.full),
+        ] {
+            writeln!(out, "{name}{{link=\"{link}\",state=\"{state}\"}} {count}")?;
+        }
+    }
+    Ok(())
+}
+
+/// Writes the counts over all links.
+fn write_totals<W: Write>(
+    out: &mut W,
+    station: &Station,
+    figures: &GatewayFigures,
+) -> io::Result<()> {
+    let totals = station.totals();
+    for (name, help, count) in [
+        (
+            "polorowan_datagrams_total",
+            "Datagrams that were taken.",
+            totals.datagrams,
+        ),
+        (
+            "polorowan_bad_datagrams_total",
+            "Datagrams that are too short or of no link.",
+            totals.bad_datagrams,
+        ),
+        (
+            "polorowan_failed_receives_total",
+            "Receives that failed.",
+            figures.failed_receives,
+        ),
+        (
+            "polorowan_wakes_total",
+            "How often the gateway woke.",
+            figures.wakes,
+        ),
+        (
+            "polorowan_saves_total",
+            "Saves that were done.",
+            figures.saves,
+        ),
+        (
+            "polorowan_failed_saves_total",
+            "Saves that failed.",
+            figures.failed_saves,
+        ),
+    ] {
+        write_one(out, name, "counter", help, count)?;
+    }
+    Ok(())
+}
+
+/// Writes all metrics.
+pub fn write_metrics<W: Write>(
+    out: &mut W,
+    station: &Station,
+    figures: &GatewayFigures,
+    version: &str,
+) -> io::Result<()> {
+    write_packets(out, station)?;
+    write_refusals(out, station)?;
+    write_feedback(out, station)?;
+    write_sends(out, station)?;
+    write_contexts(out, station)?;
+    write_totals(out, station, figures)?;
+    let saved = "polorowan_last_save_timestamp_seconds";
+    write_one(
+        out,
+        saved,
+        "gauge",
+        "When the last save was done.",
+        figures.last_save / 1000,
+    )?;
+    let draining = "polorowan_draining";
+    write_one(
+        out,
+        draining,
+        "gauge",
+        "Whether no new call is taken.",
+        u64::from(figures.draining),
+    )?;
+    let build = "polorowan_build_info";
+    write_head(out, build, "gauge", "The version.")?;
+    writeln!(out, "{build}{{version=\"{version}\"}} 1")
+}

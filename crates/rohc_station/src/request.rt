@@ -1,0 +1,327 @@
+//! What is asked of a gateway over HTTP/1.1 (RFC 9112): a method, a path and a query.
+
+ghost use Rattle.std.specs.Prelude.{◌≡◌, Ok, IfOk, true, codes};
+ghost use Rattle.rohc_station.specs.Requests.{changes, number_in, IsAskedByPost};
+
+use httparse::Status;
+use httparse::spans::{EMPTY_HEADER_SPAN, HeaderSpan, RequestSpans, parse_request};
+
+/// The most header fields of a request.
+const MOST_FIELDS: usize = 64;
+
+/// What is asked of a gateway.
+#[derive(Clone, Copy, PartialEq, Eq)]
+pub enum Request {
+    /// `POST /stop`: save, and end.
+    Stop,
+    /// `POST /save`: save.
+    Save,
+    /// `POST /reload`: read the links file anew.
+    Reload,
+    /// `POST /reset?link=L`, and `&cid=C`: forget the records of a link, or that of one CID.
+    Reset {
+        /// The link.
+        link: u16,
+        /// The CID, if one alone is meant.
+        cid: Option<u16>,
+    },
+    /// `POST /drain`: take no new call.
+    Drain,
+    /// `GET /ready`
+    Ready,
+    /// `GET /status`
+    Status,
+    /// `GET /metrics`
+    Metrics,
+    /// `GET /contexts?link=L`
+    Contexts {
+        /// The link.
+        link: u16,
+    },
+    /// `GET /calls?link=L`
+    Calls {
+        /// The link.
+        link: u16,
+    },
+}
+
+impl Request {
+    ghost use Rattle.std.specs.Prelude.{◌≡◌};
+    ghost use Rattle.rohc_station.specs.Requests.{changes};
+
+    /// Whether the request changes how datagrams are answered from then on. Saving changes nothing of that.
+    pub fn changes(&self) -> bool
+        ensures { result ≡ changes self.now }
+    {
+        match self {
+            Request::Stop | Request::Reload | Request::Reset { .. } | Request::Drain => true,
+            Request::Save
+            | Request::Ready
+            | Request::Status
+            | Request::Metrics
+            | Request::Contexts { .. }
+            | Request::Calls { .. } => false,
+        }
+    }
+}
+
+/// Why a request is refused.
+#[derive(Clone, Copy, PartialEq, Eq)]
+pub enum RequestFault {
+    /// It is no HTTP/1 request, has a body, or a query that its path doesn't take.
+    BadRequest,
+    /// There is nothing at this path.
+    NotFound,
+    /// The path doesn't take this method.
+    MethodNotAllowed,
+    /// Its head is longer than the gateway takes.
+    TooLarge,
+}
+
+impl RequestFault {
+    ghost use Rattle.std.specs.Prelude.{◌≡◌};
+    ghost use Rattle.rohc_station.specs.Requests.{status_of};
+
+    /// The status code (RFC 9110 15.5).
+    pub fn status(&self) -> u16
+        ensures { result ≡ status_of self.now }
+    {
+        match self {
+            RequestFault::BadRequest => 400,
+            RequestFault::NotFound => 404,
+            RequestFault::MethodNotAllowed => 405,
+            RequestFault::TooLarge => 413,
+        }
+    }
+
+    /// The name.
+    pub fn name(&self) -> &'static str {
+        match self {
+            RequestFault::BadRequest => "BadRequest",
+            RequestFault::NotFound => "NotFound",
+            RequestFault::MethodNotAllowed => "MethodNotAllowed",
+            RequestFault::TooLarge => "TooLarge",
+        }
+    }
+}
+
+/// What has come of a request.
+#[derive(Clone, Copy, PartialEq, Eq)]
+pub enum Asked {
+    /// The head isn't whole yet.
+    Unfinished,
+    /// A request.
+    Whole(Request),
+    /// A fault.
+    Faulty(RequestFault),
+}
+
+/// The method of a request, as far as a gateway knows it.
+#[derive(Clone, Copy)]
+enum Method {
+    Get,
+    Post,
+    Other,
+}
+
+/// The method of this name.
+fn method_of(name: &[u8]) -> Method
+    ensures { result ≡ Method.Post → name.now ≡ codes "POST" }
+{
+    if name == b"GET".as_slice() {
+        Method::Get
+    } else if name == b"POST".as_slice() {
+        Method::Post
+    } else {
+        Method::Other
+    }
+}
+
+/// What a query asks for.
+#[derive(Clone, Copy)]
+struct Query {
+    link: u16,
+    cid: Option<u16>,
+}
+
+/// The value of a decimal digit.
+fn digit_of(octet: u8) -> Option<u16>
+    ensures { result ≡ digit_of octet }
+{
+    match octet {
+        b'0'..=b'9' => Some(u16::from(octet - b'0')),
+        _ => None,
+    }
+}
+
+ghost use Rattle.rohc_station.specs.Requests.{digit_of};
+
+/// The number below 65,536 that these decimal digits spell.
+fn number_in(digits: &[u8]) -> Option<u16>
+    ensures { result ≡ number_in digits.now }
+{
+    if digits.is_empty() {
+        return None;
+    }
+    let mut number = 0u16;
+    for octet in digits {
+        let digit = digit_of(*octet)?;
+        number = number.checked_mul(10)?.checked_add(digit)?;
+    }
+    Some(number)
+}
+
+/// The two parts of a text around the first octet of this value; the second is `None` if there is none.
+fn split_at_first(octets: &[u8], mark: u8) -> (&[u8], Option<&[u8]>) {
+    match octets.iter().position(|octet| *octet == mark) {
+        Some(place) => match octets.get(place + 1..) {
+            Some(behind) => (&octets[..place], Some(behind)),
+            None => (octets, None),
+        },
+        None => (octets, None),
+    }
+}
+
+/// The link and the CID in a query: `link=L` or `link=L&cid=C`.
+fn query_in(query: &[u8]) -> Option<Query> {
+    let (first, second) = split_at_first(query, b'&');
+    let link = number_in(first.strip_prefix(b"link=".as_slice())?)?;
+    let cid = match second {
+        Some(part) => Some(number_in(part.strip_prefix(b"cid=".as_slice())?)?),
+        None => None,
+    };
+    Some(Query { link, cid })
+}
+
+/// The link in a query `link=L`.
+fn link_in(query: Option<&[u8]>) -> Result<u16, RequestFault> {
+    match query_in(query.ok_or(RequestFault::BadRequest)?) {
+        Some(Query { link, cid: None }) => Ok(link),
+        _ => Err(RequestFault::BadRequest),
+    }
+}
+
+/// What a query of `/reset` means.
+fn reset_in(query: Option<&[u8]>) -> Result<Request, RequestFault> {
+    match query_in(query.ok_or(RequestFault::BadRequest)?) {
+        Some(Query { link, cid }) => Ok(Request::Reset { link, cid }),
+        None => Err(RequestFault::BadRequest),
+    }
+}
+
+/// The request, if there is no query.
+fn alone(request: Request, query: Option<&[u8]>) -> Result<Request, RequestFault>
+    ensures { IfOk result (λ r. r ≡ request) }
+{
+    match query {
+        Some(_) => Err(RequestFault::BadRequest),
+        None => Ok(request),
+    }
+}
+
+/// What `POST` asks for at a path; `None` if no path of that kind is there.
+fn posted(path: &[u8], query: Option<&[u8]>) -> Option<Result<Request, RequestFault>> {
+    if path == b"/stop".as_slice() {
+        Some(alone(Request::Stop, query))
+    } else if path == b"/save".as_slice() {
+        Some(alone(Request::Save, query))
+    } else if path == b"/reload".as_slice() {
+        Some(alone(Request::Reload, query))
+    } else if path == b"/drain".as_slice() {
+        Some(alone(Request::Drain, query))
+    } else if path == b"/reset".as_slice() {
+        Some(reset_in(query))
+    } else {
+        None
+    }
+}
+
+/// What `GET` asks for at a path; `None` if no path of that kind is there.
+fn got(path: &[u8], query: Option<&[u8]>) -> Option<Result<Request, RequestFault>>
+    ensures { IfSome result ChangesNothing }
+{
+    if path == b"/ready".as_slice() {
+        Some(alone(Request::Ready, query))
+    } else if path == b"/status".as_slice() {
+        Some(alone(Request::Status, query))
+    } else if path == b"/metrics".as_slice() {
+        Some(alone(Request::Metrics, query))
+    } else if path == b"/contexts".as_slice() {
+        Some(link_in(query).map(|link| Request::Contexts { link }))
+    } else if path == b"/calls".as_slice() {
+        Some(link_in(query).map(|link| Request::Calls { link }))
+    } else {
+        None
+    }
+}
+
+ghost use Rattle.std.specs.Prelude.{IfSome};
+ghost use Rattle.rohc_station.specs.Requests.{ChangesNothing};
+ghost use Rattle.rohc_station.specs.declared.request.Method.TheVariants as Method;
+
+/// The request of this method at this target: a path, and behind `?` a query.
+pub fn request_of(name: &[u8], target: &[u8]) -> Result<Request, RequestFault>
+    ensures { IfOk result (IsAskedByPost name.now) }
+{
+    let (path, query) = split_at_first(target, b'?');
+    let is_known = posted(path, query).is_some() || got(path, query).is_some();
+    let asked = match method_of(name) {
+        Method::Post => posted(path, query),
+        Method::Get => got(path, query),
+        Method::Other => None,
+    };
+    match asked {
+        Some(asked) => asked,
+        None if is_known => Err(RequestFault::MethodNotAllowed),
+        None => Err(RequestFault::NotFound),
+    }
+}
+
+/// Whether a field says that a body follows.
+fn says_body(head: &[u8], field: &HeaderSpan) -> bool {
+    let Some(name) = head.get(field.name.start..field.name.end) else {
+        return true;
+    };
+    let Some(value) = head.get(field.value.start..field.value.end) else {
+        return true;
+    };
+    if name.eq_ignore_ascii_case(b"content-length") {
+        value != b"0".as_slice()
+    } else {
+        name.eq_ignore_ascii_case(b"transfer-encoding")
+    }
+}
+
+/// The request of a whole head.
+fn request_in(
+    head: &[u8],
+    spans: &RequestSpans,
+    fields: &[HeaderSpan],
+) -> Result<Request, RequestFault> {
+    let Some(fields) = fields.get(..spans.headers) else {
+        return Err(RequestFault::BadRequest);
+    };
+    if fields.iter().any(|field| says_body(head, field)) {
+        return Err(RequestFault::BadRequest);
+    }
+    let method = head.get(spans.method.start..spans.method.end);
+    let target = head.get(spans.path.start..spans.path.end);
+    match (method, target) {
+        (Some(method), Some(target)) => request_of(method, target),
+        _ => Err(RequestFault::BadRequest),
+    }
+}
+
+/// What has come of a request: it isn't whole yet, or it is a request, or a fault. Whatever the octets are,
+/// there is an answer; which request stands for which octets is shown by tests.
+pub fn read_request(octets: &[u8]) -> Asked {
+    let mut fields = [EMPTY_HEADER_SPAN; MOST_FIELDS];
+    match parse_request(octets, &mut fields) {
+        Ok(Status::Complete(spans)) => match request_in(octets, &spans, &fields) {
+            Ok(request) => Asked::Whole(request),
+            Err(fault) => Asked::Faulty(fault),
+        },
+        Ok(Status::Partial) => Asked::Unfinished,
+        Err(_) => Asked::Faulty(RequestFault::BadRequest),
+    }
+}

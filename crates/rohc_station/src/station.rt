@@ -1,0 +1,240 @@
+//! A station: a concentrator with its links and its counts.
+
+ghost use Rattle.std.specs.Prelude.{◌≡◌, Some, None, IfSome, IfNone};
+ghost use Rattle.rohc_serve.specs.Datagram.{named_link, datagram_packet};
+
+use crate::counters::{LinkCounters, StationCounters, count_answer};
+use crate::sending::{ports_of, refused, sends_of};
+use crate::timed::timed_datagram;
+use indexmap::IndexMap;
+use rohc_concentrator::{Concentrator, NoLink};
+use rohc_frame::cut;
+use rohc_links::Links;
+use rohc_saved::{SaveFault, save};
+use rohc_serve::Sends;
+use std::alloc::{AllocError, Global};
+use std::io::Write;
+
+/// A concentrator with its links and its counts.
+#[derive(Drop)]
+pub struct Station {
+    /// The contexts of all links.
+    pub(crate) concentrator: Concentrator,
+    /// The links as their file has them.
+    pub(crate) links: Links,
+    /// The counts of each link that is there.
+    pub(crate) counters: IndexMap<u16, LinkCounters>,
+    /// The counts over all links.
+    pub(crate) totals: StationCounters,
+}
+
+/// The link that a datagram names, and the packet after its number; `None` if the datagram has fewer than
+/// two octets.
+fn named_link(octets: &[u8]) -> Option<(u16, &[u8])>
+    ensures named { IfSome result (λ named. (named_link octets.now ≡ Some named.0) × (datagram_packet octets.now ≡ named.1.now)) }
+    ensures short { IfNone result (named_link octets.now ≡ None) }
+{
+    let (link, packet) = octets.split_first_chunk::<2>()?;
+    Some((u16::from_be_bytes(*link), packet))
+}
+
+/// The CID that a packet bears on a link, if the link is there and the packet bears one.
+fn borne(concentrator: &Concentrator, link: u16, packet: &[u8]) -> Option<u16>
+    ensures { result ≡ borne (setting_at concentrator.now link) packet.now }
+{
+    let records = concentrator.tables().get(&link)?;
+    let settings = &records.setting.settings;
+    let framed = cut(settings.size, settings.max_cid, packet).ok()?;
+    let forward = framed.forward?;
+    Some(forward.cid)
+}
+
+/// Whether a packet would begin a call: it bears a CID that has no record.
+fn begins_call(concentrator: &Concentrator, link: u16, packet: &[u8]) -> bool
+    ensures { result ≡ begins_call concentrator.now link packet.now }
+{
+    match borne(concentrator, link, packet) {
+        Some(cid) => !concentrator.has_context(link, cid),
+        None => false,
+    }
+}
+
+ghost use Rattle.rohc_concentrator.specs.Tables.{setting_at};
+ghost use Rattle.rohc_concentrator.specs.Bears.{borne};
+ghost use Rattle.rohc_station.specs.Taking.{begins_call};
+
+impl Station {
+    ghost use Rattle.std.specs.Prelude.{◌≡◌, ◌≢◌, ◌↔◌, ℕ, None, IsErr, OnOk, IfOk, IfErr};
+    ghost use Rattle.rohc_concentrator.specs.Tables.{setting_at};
+    ghost use Rattle.rohc_saved.specs.Form.{saved_form};
+    ghost use Rattle.rohc_saved.specs.Output.{IsWhole, SaveFails};
+    ghost use Rattle.rohc_station.specs.Reload.{IsUntouched, IsReset};
+    ghost use Rattle.rohc_serve.specs.Outgoing.{outgoing_of};
+    ghost use Rattle.rohc_serve.specs.Datagram.{named_link, datagram_packet, Answers};
+    ghost use Rattle.rohc_station.specs.Timed.{timed_in};
+    ghost use Rattle.rohc_station.specs.Taking.{TakesPacket, TakesKnownPacket, TakesDatagram, TakesKnown, TakesTimed, TakesTimedKnown, IsRefusedUnread};
+
+    /// A station of this concentrator and these links, with nothing counted. The error is lack of memory.
+    pub fn new(
+        alloc: Global,
+        concentrator: Concentrator,
+        links: Links,
+    ) -> Result<Station, AllocError>
+        ensures concentrator { IfOk result (λ station. station.concentrator ≡ concentrator) }
+        ensures links { IfOk result (λ station. station.links ≡ links) }
+    {
+        let mut counters = IndexMap::new(alloc);
+        for setting in links.settings() {
+            counters.insert(setting.link, LinkCounters::new())?;
+        }
+        Ok(Station {
+            concentrator,
+            links,
+            counters,
+            totals: StationCounters::default(),
+        })
+    }
+
+    /// The contexts of all links.
+    pub fn concentrator(&self) -> &Concentrator
+        ensures { result.now ≡ self.now.concentrator }
+    {
+        &self.concentrator
+    }
+
+    /// The counts of each link.
+    pub fn counters(&self) -> &IndexMap<u16, LinkCounters>
+        ensures { result.now ≡ self.now.counters }
+    {
+        &self.counters
+    }
+
+    /// The counts over all links.
+    pub fn totals(&self) -> StationCounters
+        ensures { result ≡ self.now.totals }
+    {
+        self.totals
+    }
+
+    /// Writes the concentrator that stands, as `rohc_saved::save` does: what `rohc_saved::restore` reads.
+    /// Returns how many octets were written.
+    pub fn save<W: Write>(&self, moment: u64, writer: &mut W) -> Result<u64, SaveFault>
+        ensures whole { IfOk result (IsWhole (W.contents writer.old) (W.contents writer.new)
+            (saved_form moment self.now.concentrator)) }
+        ensures fault { IfErr result (SaveFails (W.contents writer.old) (W.contents writer.new)
+            (saved_form moment self.now.concentrator)) }
+    {
+        save(&self.concentrator, moment, writer)
+    }
+
+    /// Forgets the records of a link, or that of one CID of it, and no other. Returns how many went. The
+    /// error is `NoLink`; then nothing changes.
+    pub fn reset(&mut self, link: u16, cid: Option<u16>) -> Result<usize, NoLink>
+        ensures others { (l : ℕ) → l ≢ link → IsUntouched self.old.concentrator self.new.concentrator l }
+        ensures own { OnOk result (IsReset self.old.concentrator self.new.concentrator link cid) }
+        ensures absent { IsErr result ↔ (setting_at self.old.concentrator link ≡ None) }
+        ensures stays { IfErr result (λ e. IsUntouched self.old.concentrator self.new.concentrator link) }
+        ensures counters { self.new.counters ≡ self.old.counters }
+    {
+        match cid {
+            Some(cid) => self.concentrator.forget(link, cid),
+            None => {
+                let count = match self.concentrator.tables().get(&link) {
+                    Some(records) => records.contexts.len(),
+                    None => 0,
+                };
+                self.concentrator.reset(link)?;
+                Ok(count)
+            }
+        }
+    }
+
+    /// Counts sends that failed, for the link whose number begins a datagram of either form.
+    pub fn add_failed_sends(&mut self, datagram: &[u8], failed: u64)
+        ensures { self.new.concentrator ≡ self.old.concentrator }
+    {
+        if let Some((link, _)) = named_link(datagram) {
+            if let Some(counts) = self.counters.get_mut(&link) {
+                counts.failed_sends = counts.failed_sends.saturating_add(failed);
+            }
+        }
+    }
+
+    /// Takes a packet of a link that arrived at this moment.
+    fn take_packet<'a>(&mut self, link: u16, moment: u64, packet: &'a [u8]) -> Sends<'a>
+        ensures { TakesPacket self.old self.new link moment packet.entry.now (outgoing_of result) }
+    {
+        let answer = self.concentrator.arrive(link, moment, packet);
+        count_answer(&mut self.counters, link, &answer);
+        let ports = ports_of(&self.links, link);
+        self.totals.add(ports.is_none());
+        sends_of(ports, answer)
+    }
+
+    /// Refuses a datagram that is too short.
+    fn refuse<'a>(&mut self) -> Sends<'a>
+        ensures { IsRefusedUnread self.old self.new (outgoing_of result) }
+    {
+        self.totals.add(true);
+        refused(None)
+    }
+
+    /// Takes a datagram that arrived at this moment, in milliseconds: a link's number in two octets, most
+    /// significant octet first, and a packet. Returns what is to be sent for it.
+    ///
+    /// The payload and the relayed feedback in the result are borrowed from `datagram`. A datagram of fewer
+    /// than two octets, or of a link that isn't there, is refused. Its answer is that of
+    /// `rohc_serve::answer_datagram`.
+    pub fn take<'a>(&mut self, moment: u64, datagram: &'a [u8]) -> Sends<'a>
+        ensures answer { Answers self.old.links self.old.concentrator moment datagram.entry.now (outgoing_of result) self.new.concentrator }
+        ensures taken { TakesDatagram self.old self.new moment (named_link datagram.entry.now) (datagram_packet datagram.entry.now) (outgoing_of result) }
+    {
+        match named_link(datagram) {
+            Some((link, packet)) => self.take_packet(link, moment, packet),
+            None => self.refuse(),
+        }
+    }
+
+    /// Takes a timed datagram (`timed_datagram`), as `take` does at the moment that stands in it. One of
+    /// fewer than ten octets is refused.
+    pub fn take_timed<'a>(&mut self, datagram: &'a [u8]) -> Sends<'a>
+        ensures { TakesTimed self.old self.new (timed_in datagram.entry.now) (outgoing_of result) }
+    {
+        match timed_datagram(datagram) {
+            Some(timed) => self.take_packet(timed.link, timed.moment, timed.packet),
+            None => self.refuse(),
+        }
+    }
+
+    /// Takes a packet of a link, unless it would begin a call.
+    fn take_known_packet<'a>(&mut self, link: u16, moment: u64, packet: &'a [u8]) -> Sends<'a>
+        ensures { TakesKnownPacket self.old self.new link moment packet.entry.now (outgoing_of result) }
+    {
+        if begins_call(&self.concentrator, link, packet) {
+            self.refuse()
+        } else {
+            self.take_packet(link, moment, packet)
+        }
+    }
+
+    /// Takes a datagram as `take` does, but refuses one that would begin a call: whose packet bears a CID
+    /// that has no record. Calls that stand go on.
+    pub fn take_known<'a>(&mut self, moment: u64, datagram: &'a [u8]) -> Sends<'a>
+        ensures { TakesKnown self.old self.new moment (named_link datagram.entry.now) (datagram_packet datagram.entry.now) (outgoing_of result) }
+    {
+        match named_link(datagram) {
+            Some((link, packet)) => self.take_known_packet(link, moment, packet),
+            None => self.refuse(),
+        }
+    }
+
+    /// Takes a timed datagram as `take_timed` does, but refuses one that would begin a call.
+    pub fn take_timed_known<'a>(&mut self, datagram: &'a [u8]) -> Sends<'a>
+        ensures { TakesTimedKnown self.old self.new (timed_in datagram.entry.now) (outgoing_of result) }
+    {
+        match timed_datagram(datagram) {
+            Some(timed) => self.take_known_packet(timed.link, timed.moment, timed.packet),
+            None => self.refuse(),
+        }
+    }
+}

@@ -1,0 +1,138 @@
+//! A station on its happy path.
+
+use crate::lists::{write_calls, write_contexts};
+use crate::metrics::{GatewayFigures, write_metrics};
+use crate::reload::ReloadReport;
+use crate::request::{Asked, Request, RequestFault, read_request};
+use crate::station::Station;
+use crate::timed::timed_datagram;
+use rohc_concentrator::Concentrator;
+use rohc_links::{Links, read_links};
+use rohc_saved::restore;
+use std::alloc::Global;
+use std::process::Abort;
+
+// A datagram of link 4 with the IR of example *whole IR* of docs/EXAMPLES.md.
+const WHOLE_IR: &[u8] =
+    b"\x00\x04\xfd\x01\x2b\x40\x11\x0a\x00\x00\x01\x0a\x00\x00\x02\x13\x88\x13\x8a\x00\x00\x00\x01\x00\x40\x00\x01\x20\x00\x00\x00\x90\x00\x00\x01\x00\x00\x00\xa0\x00\x09\x80\xa0\xab";
+
+// An entry of a links file behind its number.
+const REST: &str =
+    "\ncid = \"small\"\nmax_cid = 15\nmode = \"O\"\nk1 = 2\nn1 = 3\nk2 = 2\nn2 = 3\npacket_ms = 20\nstatic_nack_ms = 1000\ndeliver_port = 6001\nfeedback_port = 6002\nrelay_port = 6003\n";
+
+// The links of a file with these two numbers.
+fn links(rt: &(impl AllocGlobal + Abort), first: u16, second: u16) -> Links {
+    let text = format!(in rt.alloc();
+        "version = 1\n[[link]]\nnumber = {first}{REST}[[link]]\nnumber = {second}{REST}"
+    ).expect(rt, "no memory");
+    read_links(rt.alloc(), text.as_str()).expect(rt, "no memory")
+}
+
+// A station with these two links.
+fn station(rt: &(impl AllocGlobal + Abort), first: u16, second: u16) -> Station {
+    let links = links(rt, first, second);
+    let concentrator = Concentrator::new(rt.alloc(), links.settings()).expect(rt, "no memory");
+    Station::new(rt.alloc(), concentrator, links).expect(rt, "no memory")
+}
+
+#[test]
+fn reads_a_timed_datagram(rt: HostRuntime) {
+    let octets = [1, 2, 0, 0, 0, 0, 0, 0, 3, 4, 0xfd, 0x00];
+    let timed = timed_datagram(&octets).unwrap();
+    assert_eq!(rt; timed.link, 258);
+    assert_eq!(rt; timed.moment, 772);
+    assert_eq!(rt; timed.packet, [0xfd, 0x00].as_slice());
+    assert!(rt; timed_datagram(&octets[..9]).is_none());
+}
+
+// What a request of this head asks for.
+fn asked(head: &str) -> Asked {
+    read_request(head.as_bytes())
+}
+
+#[test]
+fn reads_requests(rt: HostRuntime) {
+    let reset = Request::Reset {
+        link: 4,
+        cid: Some(16383),
+    };
+    assert!(rt;
+        asked("POST /stop HTTP/1.1\r\nHost: x\r\nContent-Length: 0\r\n\r\n")
+            == Asked::Whole(Request::Stop)
+    );
+    assert!(rt; asked("POST /reset?link=4&cid=16383 HTTP/1.1\r\n\r\n") == Asked::Whole(reset));
+    assert!(rt;
+        asked("GET /contexts?link=65535 HTTP/1.1\r\n\r\n")
+            == Asked::Whole(Request::Contexts { link: 65_535 })
+    );
+    assert!(rt;
+        asked("GET /contexts?link=65536 HTTP/1.1\r\n\r\n")
+            == Asked::Faulty(RequestFault::BadRequest)
+    );
+    assert!(rt;
+        asked("GET /stop HTTP/1.1\r\n\r\n") == Asked::Faulty(RequestFault::MethodNotAllowed)
+    );
+    assert!(rt; asked("GET /nothing HTTP/1.1\r\n\r\n") == Asked::Faulty(RequestFault::NotFound));
+    assert!(rt;
+        asked("POST /save HTTP/1.1\r\nContent-Length: 3\r\n\r\nabc")
+            == Asked::Faulty(RequestFault::BadRequest)
+    );
+    assert!(rt; asked("GET /ready HTTP/1.1\r\nHost: x\r\n") == Asked::Unfinished);
+}
+
+#[test]
+fn takes_and_reloads(rt: HostRuntime) {
+    let mut station = station(&rt, 4, 5);
+    let sends = station.take(1000, WHOLE_IR);
+    assert!(rt; sends.ports.is_some() && sends.packet.is_some() && sends.feedback.is_some());
+    let report = station
+        .reload(rt.alloc(), links(&rt, 4, 6))
+        .expect(&rt, "it works");
+    let wanted = ReloadReport {
+        added: 1,
+        changed: 0,
+        removed: 1,
+        contexts_gone: 0,
+    };
+    assert!(rt; report == wanted);
+    assert!(rt; station.concentrator().has_context(4, 0));
+    assert!(rt; station.take(1000, &[0, 5, 1]).ports.is_none());
+    assert!(rt; station.totals().datagrams == 2 && station.totals().bad_datagrams == 1);
+    assert!(rt; station.take_known(1000, &[0, 6, 0xfd, 0x01]).refused);
+    assert!(rt; station.reset(4, Some(0)).expect(&rt, "it works") == 1);
+}
+
+#[test]
+fn saves_and_writes(rt: HostRuntime) {
+    let mut station = station(&rt, 4, 5);
+    let _ = station.take(1000, WHOLE_IR);
+    let mut saved = Vec::new(rt.alloc());
+    station.save(2000, &mut saved).expect(&rt, "it works");
+    let (concentrator, told) = restore(
+        rt.alloc(),
+        links(&rt, 4, 5).settings(),
+        saved.as_slice(),
+    ).expect(&rt, "it works");
+    assert!(rt; told.moment == 2000 && concentrator.has_context(4, 0));
+    let mut text = Vec::new(rt.alloc());
+    write_contexts(&mut text, &station, 4).expect(&rt, "it works");
+    let line =
+        "{\"link\":4,\"cid\":0,\"profile\":\"Rtp\",\"state\":\"FullContext\",\"accepted\":1000}\n";
+    assert!(rt; text.as_slice() == line.as_bytes());
+    let mut calls = Vec::new(rt.alloc());
+    write_calls(rt.alloc(), &mut calls, &station, 4).expect(&rt, "it works");
+    assert!(rt; calls.as_slice() == line.as_bytes());
+    let mut metrics = Vec::new(rt.alloc());
+    write_metrics(&mut metrics, &station, &GatewayFigures::default(), "1.0.0").expect(
+        &rt, "it works",
+    );
+    let metrics = String::from_utf8(metrics).expect(&rt, "it works");
+    assert!(rt;
+        metrics.as_str().contains("polorowan_packets_total{link=\"4\",outcome=\"delivered\"} 1\n")
+    );
+    assert!(rt;
+        metrics
+            .as_str()
+            .contains("polorowan_contexts{link=\"4\",state=\"full\"} 1\n")
+    );
+}
