@@ -33,7 +33,7 @@ FAULTS = (
     ('links = "links.toml"\nport = 4000\nsave_seconds = 5\n', ["gateway: save_seconds: wants state"]),
     ("links =\n", ["gateway: not TOML"]),
     ('links = "none.toml"\nport = 4000\n', ["links: Unreadable"]),
-    ('links = "bad.toml"\nport = 4000\n', ["links: BadKey entry 1 key max_cid"]),
+    ('links = "bad.toml"\nport = 4000\n', ["links: BadSetting entry 1"]),
     ('links = 5\nport = "x"\nmetrics_port = 70000\n', [
         "gateway: links: wrong value",
         "gateway: port: wrong value",
@@ -41,12 +41,12 @@ FAULTS = (
     ]),
 )  # fmt: skip
 
-# What is no good request, and the status of its answer.
+# What is no good request, and the status of its answer; 0 if the connection ends without one.
 REQUESTS = (
-    (b"", 400),
+    (b"", 0),
     (b"\0" * 100, 400),
     (b"\xff\xfe\r\n\r\n", 400),
-    (b"GET /ready HTTP/1.1", 400),
+    (b"GET /ready HTTP/1.1", 0),
     (b"GET / HTTP/1.1\r\n\r\n", 404),
     (b"GET /../ready HTTP/1.1\r\n\r\n", 404),
     (b"DELETE /ready HTTP/1.1\r\n\r\n", 405),
@@ -196,7 +196,7 @@ def check_reloaded(trial: Trial) -> None:
                 before = gateway.links
                 gateway.write_links(before.replace("max_cid = 15", "max_cid = 16", 1))
                 told = gateway.ask("POST", "/reload")
-                trial.demand(told.status == 409 and told.json == {"fault": "BadKey"}, f"a bad links file: {told}")
+                trial.demand(told.status == 409 and told.json == {"fault": "BadSetting"}, f"a bad links file: {told}")
                 gateway.write_links(before)
         trial.say(f"reloaded: {len(steps)} times, and six times refused, {len(steady)} arrivals as one replay answers")
 

@@ -90,7 +90,7 @@ impl Telling<'_> {
         Ok(())
     }
 
-    /// Tells fields in their order, and returns the number of the last.
+    /// Tells fields in their order.
     pub(crate) fn row(&mut self, row: &[(FieldName, u8)]) -> Result<(), Stop>
         ensures kept { self.new.octets.now ≡ self.old.octets.now }
     {

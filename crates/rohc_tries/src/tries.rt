@@ -1,6 +1,10 @@
 //! The tries of a packet in the order of the definition, each with what it gives or why it wasn't made.
 
-ghost use Rattle.std.specs.Prelude.{◌≤◌};
+ghost use Rattle.std.specs.Prelude.{◌≡◌, ◌≤◌, ◌==◌, length, not, IfSome};
+ghost use Rattle.rohc_header.specs.Original.{IsOriginal};
+ghost use Rattle.rohc_bits.specs.LowBits.{low_bits};
+ghost use Rattle.rohc_forms.specs.Kinds.{is_uor2};
+ghost use Rattle.rohc_tries.specs.Meant.{HasSn, check_in};
 
 use crate::standing::{GREATEST_STRIDE, Reference};
 use rohc_context::Settings;
@@ -70,7 +74,9 @@ pub struct Situation<'a> {
 }
 
 /// Whether packets of this format carry a 3-bit check.
-fn is_short(kind: FormKind) -> bool {
+fn is_short(kind: FormKind) -> bool
+    ensures { result ≡ not (is_uor2 kind) }
+{
     matches!(
         kind,
         FormKind::Uo0 | FormKind::Uo1 | FormKind::Uo1Id | FormKind::Uo1Ts
@@ -121,6 +127,10 @@ fn identification(kept: &Dynamic, nbo: bool, form: &Form<'_>, sn: u16) -> u16 {
 /// What the packet means against the reference, whose sequence number is moved on. `None` if its payload is too long.
 fn header_meant(fixed: &Static, reference: &Reference, shift: u32, form: &Form<'_>) -> Option<Meant>
     requires { shift ≤ 65536 }
+    ensures header { IfSome result (λ m. IsOriginal fixed.now m.moving (length form.now.payload.now) m.header.octets) }
+    ensures has { IfSome result (λ m. m.has ≡ check_in form.now.kind m.header.octets) }
+    ensures needs { IfSome result (λ m. m.needs ≡ form.now.check) }
+    ensures sn { IfSome result (λ m. HasSn reference.now.moving.sn shift (low_bits form.now.sn) m.moving.sn) }
 {
     let kept = &reference.moving;
     let values = in_force(kept, form);
@@ -150,7 +160,9 @@ fn header_meant(fixed: &Static, reference: &Reference, shift: u32, form: &Form<'
 
 impl Meant {
     /// Whether the header's check is the packet's.
-    pub fn fits(&self) -> bool {
+    pub fn fits(&self) -> bool
+        ensures { result ≡ (self.now.has == self.now.needs) }
+    {
         self.has == self.needs
     }
 }
