@@ -5,13 +5,14 @@ _rohctl() {
     local word=${COMP_WORDS[COMP_CWORD]} options='' asking='status stop save reload drain reset contexts calls'
     COMPREPLY=()
     if [ "$COMP_CWORD" -eq 1 ]; then
-        mapfile -t COMPREPLY < <(compgen -W "totals links trace diff plan spread verify $asking" -- "$word")
+        mapfile -t COMPREPLY < <(compgen -W "totals links trace explain diff plan spread verify $asking" -- "$word")
         return
     fi
     case ${COMP_WORDS[1]} in
     totals) options='--json --prometheus' ;;
     links) options='--json --new' ;;
     trace) options='--links' ;;
+    explain) options='--links --line --call --link --brief --json' ;;
     diff) options='--json' ;;
     plan) options='--damage --packet-ms --window --calls --split --links --json' ;;
     status | stop | save | reload | drain) options='--control' ;;

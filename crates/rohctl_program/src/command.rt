@@ -2,6 +2,7 @@
 
 use crate::control::Wish;
 use crate::ending::Ending;
+use crate::explain_words::{Asked, explain_of, explain_words};
 use crate::spread::Spread;
 use clap::error::ErrorKind;
 use clap::{Arg, ArgAction, ArgMatches, Command};
@@ -63,6 +64,8 @@ pub(crate) enum Request<'a> {
     },
     /// Tell what windows mean, what memory calls take, or how links are spread.
     Plan(Plan<'a>),
+    /// Explain packets.
+    Explain(Asked<'a>),
     /// Write the rules that bring each datagram to the process of its link.
     Spread(Spread<'a>),
     /// Compare files with a list of their digests.
@@ -343,6 +346,7 @@ fn command<'a>(alloc: Global) -> Result<Command<'a>, AllocError> {
         .subcommand(trace(alloc)?)?
         .subcommand(links(alloc)?)?
         .subcommand(diff(alloc)?)?
+        .subcommand(explain_words(alloc)?)?
         .subcommand(plan_words(alloc)?)?
         .subcommand(spread_words(alloc)?)?
         .subcommand(verify(alloc)?)?;
@@ -407,6 +411,7 @@ fn asked_for<'a>(matches: &ArgMatches<'a>) -> Option<Request<'a>> {
             second: options.get_str("B")?,
             json: options.get_flag("json"),
         }),
+        ("explain", options) => Some(Request::Explain(explain_of(options)?)),
         ("plan", options) => Some(Request::Plan(plan_of(options)?)),
         ("trace", options) => Some(Request::Trace {
             links: options.get_str("links")?,

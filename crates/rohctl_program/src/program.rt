@@ -4,6 +4,7 @@ use crate::command::{Form, Plan, Request, read_request};
 use crate::control::run_control;
 use crate::differences::run_diff;
 use crate::ending::Ending;
+use crate::explain::run_explain;
 use crate::faults::run_links;
 use crate::file::totals_of;
 use crate::json::write_json;
@@ -47,6 +48,7 @@ where
             json,
         } => run_diff(rt, first, second, json),
         Request::Plan(plan) => run_plan(rt, &plan),
+        Request::Explain(asked) => run_explain(rt, &asked),
         Request::Spread(spread) => run_spread(rt, spread),
         Request::Verify { list, root } => run_verify(rt, list, root),
         Request::Control { control, wish } => run_control(rt, control, wish),

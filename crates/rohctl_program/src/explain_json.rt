@@ -1,0 +1,129 @@
+//! A packet, explained as a JSON object. Every text in it is a name of ours.
+
+use crate::explain_packet::{Explained, Got, View};
+use crate::explain_text::{answer_name, failures, format_name, profile_name, state_name};
+use rohc_explain::PacketFields;
+use rohc_tries::{Told, cause_of};
+use std::io;
+use std::io::Write;
+
+/// Writes the fields.
+fn write_fields<W: Write>(out: &mut W, told: &PacketFields) -> io::Result<()> {
+    write!(out, ",\"fields\":[")?;
+    for (place, field) in told.fields.iter().enumerate() {
+        if place > 0 {
+            write!(out, ",")?;
+        }
+        write!(
+            out,
+            "{{\"name\":\"{}\",\"first\":{},\"bits\":{},\"value\":{}}}",
+            field.name.name(),
+            field.first,
+            field.count,
+            field.value
+        )?;
+    }
+    write!(
+        out,
+        "],\"header_bits\":{},\"whole\":{}",
+        told.end, told.is_whole
+    )
+}
+
+/// Writes what is told of a context.
+fn write_view<W: Write>(
+    out: &mut W,
+    name: &str,
+    explained: &Explained,
+    view: Option<&View>,
+) -> io::Result<()> {
+    let Some(view) = view else {
+        return write!(out, ",\"{name}\":null");
+    };
+    write!(
+        out,
+        ",\"{name}\":{{\"state\":\"{}\",\"profile\":\"{}\",\"accepted\":{}",
+        state_name(view.state),
+        profile_name(view.profile),
+        view.accepted
+    )?;
+    if let Some(sn) = view.sn {
+        write!(out, ",\"sn\":{sn}")?;
+    }
+    if let (Some((first, second)), Some(settings)) = (&view.windows, &explained.settings) {
+        write!(
+            out,
+            ",\"failures\":[{},{}]",
+            failures(first, settings.n1),
+            failures(second, settings.n2)
+        )?;
+    }
+    write!(out, "}}")
+}
+
+/// Writes the tries.
+fn write_tries<W: Write>(out: &mut W, tries: &[Told; 3]) -> io::Result<()> {
+    write!(out, ",\"tries\":[")?;
+    for (place, told) in tries.iter().enumerate() {
+        if place > 0 {
+            write!(out, ",")?;
+        }
+        match &told.result {
+            Ok(meant) => write!(
+                out,
+                "{{\"shift\":{},\"sn\":{},\"ts\":{},\"has\":{},\"needs\":{},\"fits\":{}}}",
+                told.shift,
+                meant.moving.sn,
+                meant.moving.ts,
+                meant.has,
+                meant.needs,
+                meant.fits()
+            )?,
+            Err(_) => write!(out, "{{\"shift\":{},\"made\":false}}", told.shift)?,
+        }
+    }
+    write!(out, "]")
+}
+
+/// Writes the answer.
+fn write_answer<W: Write>(out: &mut W, explained: &Explained) -> io::Result<()> {
+    write!(out, ",\"answer\":\"{}\"", answer_name(explained.got))?;
+    match explained.got {
+        Got::Delivered(octets) => write!(out, ",\"octets\":{octets}")?,
+        Got::Refused(refusal) => write!(
+            out,
+            ",\"refusal\":\"{refusal}\",\"section\":\"{}\"",
+            cause_of(refusal).section
+        )?,
+        Got::Stored | Got::OnlyFront => {}
+    }
+    write!(out, ",\"feedback\":{}", explained.feedback)
+}
+
+/// Writes a packet as an object.
+pub(crate) fn write_object<W: Write>(
+    out: &mut W,
+    line: u64,
+    explained: &Explained,
+) -> io::Result<()> {
+    write!(
+        out,
+        "{{\"line\":{line},\"link\":{},\"moment\":{},\"cid\":",
+        explained.link, explained.moment
+    )?;
+    match explained.cid {
+        Some(cid) => write!(out, "{cid}")?,
+        None => write!(out, "null")?,
+    }
+    write!(out, ",\"format\":\"{}\"", format_name(explained))?;
+    if let Some(told) = &explained.told {
+        write_fields(out, told)?;
+    }
+    write_view(out, "before", explained, explained.before.as_ref())?;
+    if let Some(tries) = &explained.tries {
+        write_tries(out, tries)?;
+    }
+    write_answer(out, explained)?;
+    write_view(out, "after", explained, explained.after.as_ref())?;
+    writeln!(out, "}}")
+}

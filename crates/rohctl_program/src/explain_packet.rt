@@ -1,0 +1,337 @@
+//! One packet, explained: what is derived beside the step, compared with the step's answer.
+
+use crate::ending::Ending;
+use rohc_concentrator::{Answer, Concentrator};
+use rohc_context::{Context, ContextState, Outcome, Profile, Refusal, Settings, Window};
+use rohc_explain::{FieldName, PacketFields, Terms, packet_fields};
+use rohc_forms::{Form, FormKind, read_form};
+use rohc_frame::{CidKind, Forward, HeadKind, cut};
+use rohc_header::LONGEST_PAYLOAD;
+use rohc_tries::{Reference, Situation, Standing, Told, standing_of, tries_of};
+use std::alloc::Global;
+
+/// What is told of a context before a packet or after it.
+#[derive(Clone, Copy, Debug)]
+pub(crate) struct View {
+    pub(crate) profile: Profile,
+    pub(crate) state: ContextState,
+    /// The time of the last accepted arrival.
+    pub(crate) accepted: u64,
+    pub(crate) windows: Option<(Window, Window)>,
+    /// The SN of the last accepted header, if the context keeps it.
+    pub(crate) sn: Option<u16>,
+}
+
+/// The answer to a packet, in a word.
+#[derive(Clone, Copy, Debug, PartialEq, Eq)]
+pub(crate) enum Got {
+    /// A packet of so many octets was delivered.
+    Delivered(usize),
+    Stored,
+    /// The packet has only padding and feedback.
+    OnlyFront,
+    Refused(Refusal),
+}
+
+/// A packet, explained.
+#[derive(Debug, Drop)]
+pub(crate) struct Explained {
+    pub(crate) link: u16,
+    pub(crate) cid: Option<u16>,
+    pub(crate) moment: u64,
+    pub(crate) octets: usize,
+    /// The fields, if there is such a link.
+    pub(crate) told: Option<PacketFields>,
+    /// The settings of the CID.
+    pub(crate) settings: Option<Settings>,
+    pub(crate) before: Option<View>,
+    pub(crate) tries: Option<[Told; 3]>,
+    pub(crate) got: Got,
+    /// How many octets of feedback the compressor gets.
+    pub(crate) feedback: usize,
+    pub(crate) after: Option<View>,
+}
+
+/// What is known before the step.
+#[derive(Clone, Copy)]
+struct Known<'a> {
+    size: CidKind,
+    forward: Option<Forward<'a>>,
+    settings: Option<Settings>,
+    context: Option<Context>,
+    standing: Option<Standing>,
+}
+
+/// The reference of a context, if it keeps one.
+fn reference_in(standing: Option<Standing>) -> Option<Reference> {
+    match standing {
+        Some(Standing::Static { reference, .. }) => reference,
+        Some(Standing::Full { reference, .. }) => Some(reference),
+        Some(Standing::Plain | Standing::NoContext { .. }) | None => None,
+    }
+}
+
+/// What is told of a context.
+fn view_of(context: &Context) -> View {
+    View {
+        profile: context.profile(),
+        state: context.state(),
+        accepted: context.accepted(),
+        windows: context.windows().copied(),
+        sn: reference_in(standing_of(context)).map(|reference| reference.moving.sn),
+    }
+}
+
+/// What is known of a link and a packet before the step, if there is such a link.
+fn known_of<'a>(concentrator: &Concentrator, link: u16, octets: &'a [u8]) -> Option<Known<'a>> {
+    let records = concentrator.tables().get(&link)?;
+    let size = records.setting.settings.size;
+    let forward = match cut(size, records.setting.settings.max_cid, octets) {
+        Ok(framed) => framed.forward,
+        Err(_) => None,
+    };
+    let mut known = Known {
+        size,
+        forward,
+        settings: None,
+        context: None,
+        standing: None,
+    };
+    if let Some(forward) = forward {
+        known.settings = Some(records.setting.settings_of(forward.cid));
+        known.context = records.contexts.get(&forward.cid).copied();
+        if let Some(context) = &known.context {
+            known.standing = standing_of(context);
+        }
+    }
+    Some(known)
+}
+
+/// The format of a packet under this RND, by its first octets (RFC 3095 5.7.1 to 5.7.4).
+fn kind_under(rnd: bool, forward: &Forward<'_>) -> FormKind {
+    let second = forward.rest.first().copied().unwrap_or(0);
+    match (forward.first, rnd) {
+        (0x00..=0x7f, _) => FormKind::Uo0,
+        (0x80..=0xbf, true) => FormKind::Uo1,
+        (0x80..=0xbf, false) if forward.first / 32 % 2 == 1 => FormKind::Uo1Ts,
+        (0x80..=0xbf, false) => FormKind::Uo1Id,
+        (0xc0..=0xff, true) => FormKind::Uor2,
+        (0xc0..=0xff, false) if second >= 0x80 => FormKind::Uor2Ts,
+        (0xc0..=0xff, false) => FormKind::Uor2Id,
+    }
+}
+
+/// What the packet says under the reference, if it is a UO-0, UO-1 or UOR-2 that can be read.
+fn form_of<'a>(forward: &Forward<'a>, reference: &Reference) -> Option<Form<'a>> {
+    let moving = &reference.moving;
+    match forward.kind {
+        HeadKind::Other => {
+            read_form(
+                forward,
+                moving.rnd,
+                reference.carries_sum,
+                moving.stride.is_some(),
+            )
+            .ok()
+        }
+        HeadKind::Ir { .. } | HeadKind::IrDyn => None,
+    }
+}
+
+/// How many bits the fields of this name have, and the number of them all, one behind the other.
+fn joined(told: &PacketFields, name: FieldName) -> (u32, u64) {
+    let mut count = 0u32;
+    let mut number = 0u64;
+    for field in &told.fields {
+        if field.name == name {
+            count = count.saturating_add(u32::from(field.count));
+            number = number
+                .wrapping_mul(1u64 << (field.count % 64))
+                .wrapping_add(u64::from(field.value));
+        }
+    }
+    (count, number)
+}
+
+/// Whether the fields that are told are those that the reader of the formats read: SN, TS, the check, and where the
+/// payload begins.
+fn agrees(told: &PacketFields, form: &Form<'_>, octets: &[u8]) -> bool {
+    let sn = joined(told, FieldName::Sn);
+    let ts = joined(told, FieldName::Ts);
+    let crc = joined(told, FieldName::Crc);
+    let ts_agrees = match form.ts {
+        Some(bits) => ts.0.min(32) == u32::from(bits.count)
+            && ts.1 % (1 << 32) == u64::from(bits.value),
+        None => ts.0 == 0,
+    };
+    told.is_whole
+        && sn == (u32::from(form.sn.count), u64::from(form.sn.value))
+        && ts_agrees
+        && crc.1 == u64::from(form.check)
+        && (told.end / 8) as usize == octets.len().saturating_sub(form.payload.len())
+}
+
+/// The tries of a packet, if its context makes some.
+fn tries_in(known: &Known<'_>, form: &Form<'_>, moment: u64) -> Option<[Told; 3]> {
+    let (Some(settings), Some(context), Some(forward)) = (
+        &known.settings,
+        &known.context,
+        &known.forward,
+    ) else {
+        return None;
+    };
+    let passed = moment.saturating_sub(context.accepted());
+    let counts = settings.idle_ms == 0 || passed < u64::from(settings.idle_ms);
+    if !counts || form.payload.len() > LONGEST_PAYLOAD {
+        return None;
+    }
+    let (fixed, reference, previous, is_full) = match &known.standing {
+        Some(
+            Standing::Full {
+                fixed,
+                reference,
+                previous,
+            },
+        ) => (fixed, reference, previous.as_ref(), true),
+        Some(
+            Standing::Static {
+                fixed,
+                reference: Some(reference),
+            },
+        ) if forward.first >= 0xc0 => (fixed, reference, None, false),
+        _ => return None,
+    };
+    let situation = Situation {
+        settings,
+        passed,
+        fixed,
+        reference,
+        previous,
+        is_full,
+    };
+    tries_of(&situation, form)
+}
+
+/// The header of the first try that fits.
+fn accepted(tries: &[Told; 3]) -> Option<[u8; 40]> {
+    for told in tries {
+        if let Ok(meant) = &told.result {
+            if meant.fits() {
+                return Some(meant.header.octets);
+            }
+        }
+    }
+    None
+}
+
+/// Whether the tries lead to this answer.
+fn lead_to(tries: &[Told; 3], answer: &Answer<'_>) -> bool {
+    let Answer::Arrived { reply, .. } = answer else {
+        return false;
+    };
+    match (accepted(tries), &reply.packet) {
+        (Some(header), Some(packet)) => packet.head.as_slice() == header.as_slice(),
+        (None, None) => reply.outcome == Outcome::Refused(Refusal::Check),
+        _ => false,
+    }
+}
+
+/// The answer in a word, and how many octets of feedback the compressor gets.
+fn got_of(answer: &Answer<'_>) -> (Got, usize) {
+    match answer {
+        Answer::Refused(refusal) => (Got::Refused(*refusal), 0),
+        Answer::OnlyFront { .. } => (Got::OnlyFront, 0),
+        Answer::Arrived { reply, .. } => {
+            let got = match (reply.outcome, &reply.packet) {
+                (Outcome::Refused(refusal), _) => Got::Refused(refusal),
+                (_, Some(packet)) => {
+                    Got::Delivered(packet.head.len().saturating_add(packet.payload.len()))
+                }
+                (_, None) => Got::Stored,
+            };
+            let feedback = match &reply.feedback {
+                Some(element) => element.len(),
+                None => 0,
+            };
+            (got, feedback)
+        }
+    }
+}
+
+/// Runs a packet, and tells what there is of it. An ending `Differs` means that what is derived beside the step isn't
+/// what the step answered.
+pub(crate) fn explain_packet(
+    alloc: Global,
+    concentrator: &mut Concentrator,
+    link: u16,
+    moment: u64,
+    octets: &[u8],
+) -> Result<Explained, Ending> {
+    let mut explained = Explained {
+        link,
+        cid: None,
+        moment,
+        octets: octets.len(),
+        told: None,
+        settings: None,
+        before: None,
+        tries: None,
+        got: Got::OnlyFront,
+        feedback: 0,
+        after: None,
+    };
+    if let Some(known) = known_of(concentrator, link, octets) {
+        derive(alloc, &mut explained, &known, octets)?;
+    }
+    let answer = concentrator.arrive(link, moment, octets);
+    if let Some(tries) = &explained.tries {
+        if !lead_to(tries, &answer) {
+            return Err(Ending::Differs);
+        }
+    }
+    let (got, feedback) = got_of(&answer);
+    explained.got = got;
+    explained.feedback = feedback;
+    if let Some(cid) = explained.cid {
+        if let Some(records) = concentrator.tables().get(&link) {
+            explained.after = records.contexts.get(&cid).map(|context| view_of(context));
+        }
+    }
+    Ok(explained)
+}
+
+/// Adds what is known before the step: the fields, the context and the tries.
+fn derive(
+    alloc: Global,
+    explained: &mut Explained,
+    known: &Known<'_>,
+    octets: &[u8],
+) -> Result<(), Ending> {
+    let mut form = None;
+    let mut terms = None;
+    if let Some(forward) = &known.forward {
+        explained.cid = Some(forward.cid);
+        if let Some(reference) = reference_in(known.standing) {
+            form = form_of(forward, &reference);
+            terms = Some(Terms {
+                rnd: reference.moving.rnd,
+                udp_sum: reference.carries_sum,
+                kind: match &form {
+                    Some(form) => form.kind,
+                    None => kind_under(reference.moving.rnd, forward),
+                },
+            });
+        }
+    }
+    explained.settings = known.settings;
+    explained.before = known.context.as_ref().map(|context| view_of(context));
+    let told = packet_fields(alloc, known.size, octets, terms).map_err(|_| Ending::Memory)?;
+    if let Some(form) = &form {
+        if !agrees(&told, form, octets) {
+            return Err(Ending::Differs);
+        }
+        explained.tries = tries_in(known, form, explained.moment);
+    }
+    explained.told = Some(told);
+    Ok(())
+}

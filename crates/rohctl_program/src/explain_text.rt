@@ -1,0 +1,261 @@
+//! A packet, explained for a reader.
+
+use crate::explain_packet::{Explained, Got, View};
+use rohc_context::{ContextState, Profile, Window};
+use rohc_explain::{Field, PacketKind};
+use rohc_forms::FormKind;
+use rohc_tries::{Against, NotMade, Told, cause_of};
+use std::io;
+use std::io::Write;
+
+/// The name of a packet's format.
+pub(crate) fn format_name(explained: &Explained) -> &'static str {
+    let Some(told) = &explained.told else {
+        return "-";
+    };
+    match (told.kind, &explained.before) {
+        (PacketKind::Unknown, Some(view)) if view.profile == Profile::Uncompressed => "Normal",
+        (kind, _) => kind_name(kind),
+    }
+}
+
+/// The name of what a packet is by its first octet.
+fn kind_name(kind: PacketKind) -> &'static str {
+    match kind {
+        PacketKind::OnlyFront => "no header",
+        PacketKind::Ir => "IR",
+        PacketKind::IrDyn => "IR-DYN",
+        PacketKind::Form(FormKind::Uo0) => "UO-0",
+        PacketKind::Form(FormKind::Uo1) => "UO-1",
+        PacketKind::Form(FormKind::Uo1Id) => "UO-1-ID",
+        PacketKind::Form(FormKind::Uo1Ts) => "UO-1-TS",
+        PacketKind::Form(FormKind::Uor2) => "UOR-2",
+        PacketKind::Form(FormKind::Uor2Id) => "UOR-2-ID",
+        PacketKind::Form(FormKind::Uor2Ts) => "UOR-2-TS",
+        PacketKind::Unknown => "unknown",
+        PacketKind::NoPacket => "no packet",
+    }
+}
+
+/// The name of a state.
+pub(crate) fn state_name(state: ContextState) -> &'static str {
+    match state {
+        ContextState::NoContext => "No Context",
+        ContextState::StaticContext => "Static Context",
+        ContextState::FullContext => "Full Context",
+    }
+}
+
+/// The name of a profile.
+pub(crate) fn profile_name(profile: Profile) -> &'static str {
+    match profile {
+        Profile::Uncompressed => "0x0000",
+        Profile::Rtp => "0x0001",
+    }
+}
+
+/// How many of the last `n` outcomes are failures.
+pub(crate) fn failures(window: &Window, n: u8) -> u32 {
+    let newest = if n >= 64 {
+        window.word
+    } else {
+        window.word % (1u64 << n)
+    };
+    newest.count_ones()
+}
+
+/// Writes the bits of a field.
+fn write_bits<W: Write>(out: &mut W, field: &Field) -> io::Result<()> {
+    for place in 0..field.count {
+        let behind = field.count.saturating_sub(place).saturating_sub(1) % 32;
+        write!(out, "{}", (field.value >> behind) % 2)?;
+    }
+    Ok(())
+}
+
+/// Writes the row of a field.
+fn write_field<W: Write>(out: &mut W, field: &Field) -> io::Result<()> {
+    write!(
+        out,
+        "  bit {:>4} {:>2} bits  {:<20} {:>10}  ",
+        field.first,
+        field.count,
+        field.name.name(),
+        field.value
+    )?;
+    write_bits(out, field)?;
+    writeln!(out, "")
+}
+
+/// Writes what is told of a context.
+fn write_view<W: Write>(
+    out: &mut W,
+    title: &str,
+    explained: &Explained,
+    view: Option<&View>,
+) -> io::Result<()> {
+    let Some(view) = view else {
+        return writeln!(out, "{title}: no context");
+    };
+    write!(
+        out,
+        "{title}: {}, profile {}, last accepted at {}",
+        state_name(view.state),
+        profile_name(view.profile),
+        view.accepted
+    )?;
+    if let Some(sn) = view.sn {
+        write!(out, ", SN {sn}")?;
+    }
+    if let (Some((first, second)), Some(settings)) = (&view.windows, &explained.settings) {
+        write!(
+            out,
+            ", failures {} of the last {} (falls at {})",
+            failures(first, settings.n1),
+            settings.n1,
+            settings.k1
+        )?;
+        if view.state == ContextState::StaticContext {
+            write!(
+                out,
+                " and {} of {} (falls at {})",
+                failures(second, settings.n2),
+                settings.n2,
+                settings.k2
+            )?;
+        }
+    }
+    writeln!(out, "")
+}
+
+/// Writes why a try wasn't made.
+fn write_not_made<W: Write>(out: &mut W, reason: NotMade) -> io::Result<()> {
+    match reason {
+        NotMade::Settled => write!(out, "not made: a try before it fits"),
+        NotMade::LongCheck => write!(out, "not made: a check of 7 bits gets one try"),
+        NotMade::OneTry => write!(out, "not made: Static Context has one try"),
+        NotMade::TooSoon { needed, passed } => {
+            write!(out, "not made: needs {needed} ms, {passed} passed")
+        }
+        NotMade::NoPrevious => write!(out, "not made: there is no previous reference"),
+    }
+}
+
+/// Writes a try.
+fn write_try<W: Write>(out: &mut W, number: usize, told: &Told) -> io::Result<()> {
+    let reference = match told.against {
+        Against::Reference => "the last header",
+        Against::Previous => "the one before it",
+    };
+    write!(
+        out,
+        "try {number}: against {reference}, shift {}: ",
+        told.shift
+    )?;
+    match &told.result {
+        Err(reason) => write_not_made(out, *reason)?,
+        Ok(meant) => write!(
+            out,
+            "SN {} TS {} IP-ID {}: has check {}, needs {}: {}",
+            meant.moving.sn,
+            meant.moving.ts,
+            meant.moving.id,
+            meant.has,
+            meant.needs,
+            if meant.fits() { "fits" } else { "doesn't fit" }
+        )?,
+    }
+    writeln!(out, "")
+}
+
+/// Writes the answer, and what usually causes it.
+fn write_answer<W: Write>(out: &mut W, explained: &Explained) -> io::Result<()> {
+    match explained.got {
+        Got::Delivered(octets) => writeln!(out, "answer: delivered, {octets} octets")?,
+        Got::Stored => writeln!(out, "answer: stored, no packet")?,
+        Got::OnlyFront => writeln!(out, "answer: only padding and feedback")?,
+        Got::Refused(refusal) => {
+            let cause = cause_of(refusal);
+            writeln!(out, "answer: refused {refusal}: {}", cause.meaning)?;
+            writeln!(out, "usual cause: {} ({})", cause.usual, cause.section)?;
+        }
+    }
+    if explained.feedback > 0 {
+        writeln!(out, "feedback: {} octets", explained.feedback)?;
+    }
+    Ok(())
+}
+
+/// Writes where a packet stands.
+fn write_head<W: Write>(out: &mut W, line: u64, explained: &Explained) -> io::Result<()> {
+    write!(
+        out,
+        "line {line}: link {} at {}, {} octets",
+        explained.link, explained.moment, explained.octets
+    )?;
+    if let Some(cid) = explained.cid {
+        write!(out, ", CID {cid}")?;
+    }
+    writeln!(out, ", {}", format_name(explained))
+}
+
+/// Writes all that is known of a packet.
+pub(crate) fn write_whole<W: Write>(
+    out: &mut W,
+    line: u64,
+    explained: &Explained,
+) -> io::Result<()> {
+    write_head(out, line, explained)?;
+    if let Some(told) = &explained.told {
+        for field in &told.fields {
+            write_field(out, field)?;
+        }
+        if told.is_whole {
+            writeln!(out, "  bit {:>4} payload", told.end)?;
+        } else {
+            writeln!(out, "  bit {:>4} no more fields are told", told.end)?;
+        }
+    }
+    write_view(out, "before", explained, explained.before.as_ref())?;
+    if let Some(tries) = &explained.tries {
+        for (place, told) in tries.iter().enumerate() {
+            write_try(out, place.saturating_add(1), told)?;
+        }
+    }
+    write_answer(out, explained)?;
+    write_view(out, "after", explained, explained.after.as_ref())?;
+    writeln!(out, "")
+}
+
+/// The answer in a word.
+pub(crate) fn answer_name(got: Got) -> &'static str {
+    match got {
+        Got::Delivered(_) => "delivered",
+        Got::Stored => "stored",
+        Got::OnlyFront => "front",
+        Got::Refused(_) => "refused",
+    }
+}
+
+/// Writes a line of a packet: the line of the script, the link, the CID, the format, and the answer.
+pub(crate) fn write_brief<W: Write>(
+    out: &mut W,
+    line: u64,
+    explained: &Explained,
+) -> io::Result<()> {
+    write!(out, "{line} {} ", explained.link)?;
+    match explained.cid {
+        Some(cid) => write!(out, "{cid} ")?,
+        None => write!(out, "- ")?,
+    }
+    write!(
+        out,
+        "{} {}",
+        format_name(explained),
+        answer_name(explained.got)
+    )?;
+    if let Got::Refused(refusal) = explained.got {
+        write!(out, " {refusal}")?;
+    }
+    writeln!(out, "")
+}

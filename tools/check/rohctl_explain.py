@@ -1,0 +1,103 @@
+"""Explains every script of the examples by `rohctl explain`: its answers must be those of `rohcd replay`."""
+
+import json
+from collections.abc import Iterator
+from pathlib import Path
+
+import examples
+from program import Call, Ended, run
+from trial import Trial
+
+PROGRAM = "crates/rohctl/out/rohctl"
+LINKS = "examples/links.toml"
+PLAIN = "examples/plain-call.script"
+# The words of an answer line, and what `--brief` has in their place.
+ANSWERS = {"ip": "delivered", "stored": "stored", "refused": "refused"}
+# What examples/plain-call.script gets: an IR, a Normal packet, a damaged IR, and behind the reset a packet without a context.
+BRIEF = """1 1 0 IR delivered
+2 1 0 Normal delivered
+3 1 0 IR refused Check
+6 1 0 unknown refused NoContext
+7 9 - - refused NoLink
+"""
+HOSTILE = b"\x1b[2J\narrive 1 0 \x1b[31m\narrive 1 0 fc00b745aa\x07\narrive 1 0 fc00b745aa\n\xff\n"
+
+
+def explain(trial: Trial, *words: str | Path, given: bytes = b"") -> Ended:
+    """How `rohctl explain` ends with these words."""
+    return run(Call((trial.top / PROGRAM, "explain", *words), given, folder=trial.top))
+
+
+def told(rows: list[dict]) -> list[str]:
+    """What the objects say of each packet that has a link and isn't only padding and feedback."""
+    return [
+        " ".join([str(row["link"]), "-" if row["cid"] is None else str(row["cid"]), row["answer"], row.get("refusal", "")]).rstrip()
+        for row in rows if row["answer"] != "front"
+    ]
+
+
+def answered(answers: str) -> list[str]:
+    """The same from answer lines: those that tell what became of a packet."""
+    found = []
+    for line in answers.splitlines():
+        link, cid, word, *rest = line.split()
+        if word in ANSWERS and link != "-":
+            found.append(" ".join([link, cid, ANSWERS[word], rest[0] if word == "refused" else ""]).rstrip())
+    return found
+
+
+def scripts(trial: Trial) -> Iterator[tuple[Path, Path]]:
+    """Each script of the examples, and a links file."""
+    worked = trial.top / examples.WORKED
+    for name in examples.names_in(trial.top, examples.WORKED):
+        for example in examples.with_links(name, worked, worked):
+            yield example.script, example.links
+    for script in sorted((trial.top / "examples/scripts").glob("*.script")):
+        yield script, script.with_suffix(".toml")
+    yield trial.top / PLAIN, trial.top / LINKS
+    yield trial.top / "examples/two-links.script", trial.top / "examples/two-links.toml"
+
+
+def numbers_stand(row: dict, octets: bytes) -> bool:
+    """Each field's number is the one of the bits in its place, and the fields stand one behind the other."""
+    bits = "".join(f"{octet:08b}" for octet in octets)
+    place = 0
+    for field in row.get("fields", []):
+        number = int(bits[field["first"] : field["first"] + field["bits"]] or "0", 2)
+        if (field["first"], field["value"]) != (place, number):
+            return False
+        place += field["bits"]
+    return place == row.get("header_bits", place)
+
+
+def check_scripts(trial: Trial) -> None:
+    """The answers and the places of all packets of all scripts."""
+    for script, links in scripts(trial):
+        ended = explain(trial, "--json", "--links", links, script)
+        rows = [json.loads(line) for line in ended.text.splitlines()]
+        trial.same(f"{script.name}: the answers", "\n".join(answered(script.with_suffix(".answers").read_text(encoding="ascii"))), "\n".join(told(rows)), ended.call)
+        lines = script.read_bytes().split(b"\n")
+        for row in rows:
+            digits = lines[row["line"] - 1].split()[-1].decode()
+            octets = b"" if digits == "-" else bytes.fromhex(digits)
+            trial.demand(numbers_stand(row, octets), f"{script.name}: line {row['line']}: a field in another place", ended.call)
+
+
+def check(trial: Trial) -> None:
+    """All scripts, a brief telling, one line, one call, given packets, and hostile lines."""
+    check_scripts(trial)
+    brief = explain(trial, "--brief", "--links", LINKS, PLAIN)
+    trial.same("the brief telling", BRIEF, brief.text, brief.call)
+    trial.demand(brief.status == 1, f"rohctl explain: {brief.end()}; wanted 1", brief.call)
+    line = explain(trial, "--links", LINKS, "--line", "3", PLAIN)
+    trial.demand("refused Check" in line.text and line.text.count("answer:") == 1, "not line 3 alone", line.call)
+    call = explain(trial, "--brief", "--links", LINKS, "--call", "1/0", PLAIN)
+    trial.demand(call.text.count("\n") == 4, "not the four packets of the call", call.call)
+    given = explain(trial, "--brief", "--links", LINKS, "--link", "1", "fc00b745aa,45ab")
+    trial.same("given packets", "1 1 0 IR delivered\n2 1 0 Normal delivered\n", given.text, given.call)
+    for form in ((), ("--json",), ("--brief",)):
+        hostile = explain(trial, *form, "--links", LINKS, given=HOSTILE)
+        trial.demand(hostile.output.isascii() and b"\x1b" not in hostile.output and b"\x07" not in hostile.output, "an octet of the script is shown", hostile.call)
+    for words in (("--links", LINKS, "--line", "x"), ("--links", LINKS, "--call", "1"), ("--links", LINKS, "a", "b"), ("a",)):
+        ended = explain(trial, *words)
+        trial.demand(ended.status == 2, f"rohctl explain {words}: {ended.end()}; wanted 2", ended.call)
