@@ -7,5 +7,4 @@ pub mod Choice
 pub mod Number
 pub mod Pcap
 pub mod Block
-pub mod Window
 pub mod Written

@@ -1,5 +1,5 @@
 -- A capture that is written: with numbers with their most significant octet first.
--- Words: pair, quad; missing; pcap_head, pcapng_head; pcap_record, pcapng_record; head_of, record_of.
+-- Words: pair, quad; missing; pcap_head, pcapng_head; pcap_record, pcapng_record; head_of, frame_record.
 use Rattle.std.specs.Prelude.{ℕ, ◌+◌, ◌*◌, ◌-◌, ◌/◌, ◌%◌, List, [], ◌∷◌, ◌++◌, length, take}
 use Rattle.rohc_capture.specs.declared.writer.Format.{Format}
 use Rattle.rohc_capture.specs.declared.writer.Format.TheVariants.{Pcap, Pcapng}
@@ -59,6 +59,6 @@ abbrev pub head_of : Format → ℕ → List ℕ
 head_of Pcap link = pcap_head link
 head_of Pcapng link = pcapng_head link
 
-abbrev pub record_of : Format → ℕ → List ℕ → List ℕ
-record_of Pcap nanos frame = pcap_record nanos frame
-record_of Pcapng nanos frame = pcapng_record nanos frame
+abbrev pub frame_record : Format → ℕ → List ℕ → List ℕ
+frame_record Pcap nanos frame = pcap_record nanos frame
+frame_record Pcapng nanos frame = pcapng_record nanos frame

@@ -1,8 +1,6 @@
 //! A window onto a reader: octets that were read and not yet passed.
 
-ghost use Rattle.std.specs.Prelude.{◌≡◌, ◌≤◌, ◌<◌, ◌+◌, length, drop, Ok, OnOk, vec_len};
-ghost use Rattle.std.specs.Io.KnownBytes.{Keeps, Consumes, IsAtEnd};
-ghost use Rattle.rohc_capture.specs.Window.{unread};
+ghost use Rattle.std.specs.Prelude.{◌≡◌, ◌≤◌, ◌<◌, length, drop, vec_len};
 
 use crate::fault::FaultKind;
 use std::alloc::{AllocError, Global};

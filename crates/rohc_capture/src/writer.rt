@@ -2,7 +2,7 @@
 
 ghost use Rattle.std.specs.Prelude.{◌≡◌, ◌≤◌, ◌<◌, ◌+◌, ◌/◌, ◌%◌, ◌++◌, length, take, [], ◌∷◌, OnOk, IfOk};
 ghost use Rattle.std.specs.Io.KnownBytes.{Appends};
-ghost use Rattle.rohc_capture.specs.Written.{quad, missing, pcap_head, section_head, interface_head, pcap_record, pcapng_front, pcapng_back, pcapng_record, head_of, record_of};
+ghost use Rattle.rohc_capture.specs.Written.{quad, missing, pcap_head, section_head, interface_head, pcap_record, pcapng_front, pcapng_back, pcapng_record, head_of, frame_record};
 
 use arrayvec::ArrayVec;
 use std::io;
@@ -241,7 +241,7 @@ pub fn write_record<W: Write>(
     front: &[u8],
     rest: &[u8],
 ) -> io::Result<()>
-    ensures { OnOk result (Appends (W.contents writer.old) (W.contents writer.new) (record_of format nanos (front.now ++ rest.now))) }
+    ensures { OnOk result (Appends (W.contents writer.old) (W.contents writer.new) (frame_record format nanos (front.now ++ rest.now))) }
 {
     match format {
         Format::Pcap => write_pcap(writer, nanos, front, rest),

@@ -1,0 +1,252 @@
+//! A run over a capture.
+
+ghost use Rattle.std.specs.Prelude.{Some, OnOk};
+ghost use Rattle.rohc_context.specs.Response.{response_of};
+ghost use Rattle.rohc_concentrator.specs.Report.{report_of};
+ghost use Rattle.rohc_decompress.specs.Written.{Writes, IsShown, packet_of, delivered_packet, TakesPacket};
+
+use crate::cut::without_padding;
+use crate::fault::BulkFault;
+use crate::tally::{Tally, more};
+use rohc_capture::{Capture, Format, Record, Rule, packet_in, write_head, write_record};
+use rohc_concentrator::{Answer, Concentrator};
+use rohc_context::{Delivered, Reply};
+use rohc_frame::Elements;
+use std::io::{Read, Write};
+
+/// The link type of raw IP packets.
+const RAW_IP: u16 = 101;
+
+/// The link type of Ethernet frames.
+const ETHERNET: u16 = 1;
+
+/// How a capture is run.
+#[derive(Clone, Copy, Debug)]
+pub struct Bulk<'a> {
+    /// Which link a frame belongs to: the first rule that speaks of it says so.
+    pub rules: &'a [Rule],
+    /// Whether a rebuilt packet ends at its IPv4 total length.
+    pub padded: bool,
+    /// The form of the captures that are written.
+    pub format: Format,
+}
+
+/// Writes the heads of both captures: of raw IP packets, and of feedback in Ethernet frames.
+pub fn begin<W: Write, V: Write>(
+    format: Format,
+    packets: &mut W,
+    feedback: &mut V,
+) -> Result<(), BulkFault> {
+    let first = write_head(packets, format, RAW_IP);
+    let second = write_head(feedback, format, ETHERNET);
+    if first.is_err() || second.is_err() {
+        return Err(BulkFault::Write);
+    }
+    flush(packets)?;
+    flush(feedback)
+}
+
+/// Runs a capture to its end: each packet arrives on its link, at its time in milliseconds since 1970.
+///
+/// A packet that is delivered goes to `packets`, and feedback that is due to `feedback`, each with the time of its frame.
+/// The addresses of a feedback's Ethernet frame are 02:00:00:00:00:00 and 02:00:00:00 with the link's number behind.
+/// Counts are added to `tally`. Both writers are flushed before a read that may wait. After a fault all before it was written.
+pub fn decompress<R: Read, W: Write, V: Write>(
+    concentrator: &mut Concentrator,
+    bulk: &Bulk<'_>,
+    capture: &mut Capture<R>,
+    packets: &mut W,
+    feedback: &mut V,
+    tally: &mut Tally,
+) -> Result<(), BulkFault> {
+    for _ in 0..u64::MAX {
+        let Some(record) = capture.next()? else {
+            return Ok(());
+        };
+        more(&mut tally.frames);
+        take_frame(
+            concentrator,
+            bulk,
+            &record,
+            capture.frame(),
+            packets,
+            feedback,
+            tally,
+        )?;
+        if !capture.is_ahead() {
+            flush(packets)?;
+            flush(feedback)?;
+        }
+    }
+    Ok(())
+}
+
+/// Flushes a writer.
+fn flush<W: Write>(writer: &mut W) -> Result<(), BulkFault> {
+    match writer.flush() {
+        Ok(()) => Ok(()),
+        Err(_) => Err(BulkFault::Write),
+    }
+}
+
+/// Takes one frame. Nothing is written of a frame that carries nothing, or of which no rule speaks.
+fn take_frame<W: Write, V: Write>(
+    concentrator: &mut Concentrator,
+    bulk: &Bulk<'_>,
+    record: &Record,
+    frame: &[u8],
+    packets: &mut W,
+    feedback: &mut V,
+    tally: &mut Tally,
+) -> Result<(), BulkFault> {
+    match packet_in(bulk.rules, record.link_type, record.original, frame) {
+        Ok(Some((link, packet))) => {
+            more(&mut tally.arrivals);
+            let nanos = record.nanos;
+            take_packet(
+                concentrator,
+                bulk,
+                link,
+                nanos,
+                packet,
+                packets,
+                feedback,
+                tally,
+            )
+        }
+        Ok(None) => {
+            more(&mut tally.no_rule);
+            Ok(())
+        }
+        Err(fault) => {
+            tally.add_fault(fault);
+            Ok(())
+        }
+    }
+}
+
+/// Takes a packet of a link that was captured at this time: it arrives, and what is delivered is written.
+///
+/// The error is a failed write. Then the packet has arrived, and a part of what it delivers may have been written.
+pub fn take_packet<W: Write, V: Write>(
+    concentrator: &mut Concentrator,
+    bulk: &Bulk<'_>,
+    link: u16,
+    nanos: u64,
+    packet: &[u8],
+    packets: &mut W,
+    feedback: &mut V,
+    tally: &mut Tally,
+) -> Result<(), BulkFault>
+    ensures { OnOk result (TakesPacket bulk.now.format bulk.now.padded concentrator.old link nanos packet.now
+        (W.contents packets.old) (W.contents packets.new) concentrator.new) }
+{
+    let answer = concentrator.arrive(link, nanos / 1_000_000, packet);
+    take_answer(bulk, link, nanos, &answer, packets, feedback, tally)
+}
+
+/// Counts the feedback in a packet.
+fn count_relayed(relayed: Elements<'_>, tally: &mut Tally) {
+    for _ in relayed {
+        more(&mut tally.relayed);
+    }
+}
+
+/// Writes what an answer delivers, and counts it.
+fn take_answer<W: Write, V: Write>(
+    bulk: &Bulk<'_>,
+    link: u16,
+    nanos: u64,
+    answer: &Answer<'_>,
+    packets: &mut W,
+    feedback: &mut V,
+    tally: &mut Tally,
+) -> Result<(), BulkFault>
+    ensures { OnOk result (Writes bulk.now.format bulk.now.padded nanos (packet_of (report_of answer.now))
+        (W.contents packets.old) (W.contents packets.new)) }
+{
+    match answer {
+        Answer::Arrived { reply, relayed, .. } => {
+            count_relayed(*relayed, tally);
+            take_reply(bulk, link, nanos, reply, packets, feedback, tally)
+        }
+        Answer::OnlyFront { relayed } => {
+            count_relayed(*relayed, tally);
+            Ok(())
+        }
+        Answer::Refused(_) => {
+            more(&mut tally.refused);
+            Ok(())
+        }
+    }
+}
+
+/// Writes a context's packet and its feedback.
+fn take_reply<W: Write, V: Write>(
+    bulk: &Bulk<'_>,
+    link: u16,
+    nanos: u64,
+    reply: &Reply<'_>,
+    packets: &mut W,
+    feedback: &mut V,
+    tally: &mut Tally,
+) -> Result<(), BulkFault>
+    ensures { OnOk result (Writes bulk.now.format bulk.now.padded nanos (response_of reply.now).packet
+        (W.contents packets.old) (W.contents packets.new)) }
+{
+    tally.add_outcome(reply.outcome);
+    if let Some(element) = &reply.feedback {
+        put_feedback(bulk.format, link, nanos, element.as_slice(), feedback)?;
+        more(&mut tally.feedback);
+    }
+    match &reply.packet {
+        Some(packet) => put_packet(bulk.format, bulk.padded, nanos, packet, packets),
+        None => Ok(()),
+    }
+}
+
+/// The part of a payload that is written: all of it, unless padding is cut.
+fn shown<'a>(padded: bool, head: &[u8], payload: &'a [u8]) -> &'a [u8]
+    ensures { IsShown padded payload.entry.now result.now }
+{
+    if padded {
+        without_padding(head, payload)
+    } else {
+        payload
+    }
+}
+
+/// Writes a delivered packet.
+fn put_packet<W: Write>(
+    format: Format,
+    padded: bool,
+    nanos: u64,
+    packet: &Delivered<'_>,
+    packets: &mut W,
+) -> Result<(), BulkFault>
+    ensures { OnOk result (Writes format padded nanos (Some (delivered_packet packet.now))
+        (W.contents packets.old) (W.contents packets.new)) }
+{
+    let head = packet.head.as_slice();
+    let payload = shown(padded, head, packet.payload);
+    match write_record(packets, format, nanos, head, payload) {
+        Ok(()) => Ok(()),
+        Err(_) => Err(BulkFault::Write),
+    }
+}
+
+/// Writes a feedback element in an Ethernet frame.
+fn put_feedback<V: Write>(
+    format: Format,
+    link: u16,
+    nanos: u64,
+    element: &[u8],
+    feedback: &mut V,
+) -> Result<(), BulkFault> {
+    let [high, low] = link.to_be_bytes();
+    let head = [2, 0, 0, 0, 0, 0, 2, 0, 0, 0, high, low, 0x22, 0xf1];
+    match write_record(feedback, format, nanos, &head, element) {
+        Ok(()) => Ok(()),
+        Err(_) => Err(BulkFault::Write),
+    }
+}
