@@ -5,7 +5,7 @@ _rohctl() {
     local word=${COMP_WORDS[COMP_CWORD]} options='' asking='status stop save reload drain reset contexts calls'
     COMPREPLY=()
     if [ "$COMP_CWORD" -eq 1 ]; then
-        mapfile -t COMPREPLY < <(compgen -W "totals links trace explain diff plan spread verify $asking" -- "$word")
+        mapfile -t COMPREPLY < <(compgen -W "totals links trace explain diff plan decompress spread verify $asking" -- "$word")
         return
     fi
     case ${COMP_WORDS[1]} in
@@ -14,6 +14,7 @@ _rohctl() {
     trace) options='--links' ;;
     explain) options='--links --line --call --link --brief --json' ;;
     diff) options='--json' ;;
+    decompress) options='--links --link --vlan --port --padded --pcapng --stats --feedback' ;;
     plan) options='--damage --packet-ms --window --calls --split --links --json' ;;
     status | stop | save | reload | drain) options='--control' ;;
     spread) options='--hosts --nginx --out' ;;

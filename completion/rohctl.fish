@@ -1,12 +1,12 @@
 # Completion of rohctl's words in fish.
 set -l asking status stop save reload drain reset contexts calls
-set -l commands totals links trace explain diff plan spread verify $asking
+set -l commands totals links trace explain diff plan decompress spread verify $asking
 complete -c rohctl -f -n "not __fish_seen_subcommand_from $commands" -a "$commands"
-complete -c rohctl -F -n "__fish_seen_subcommand_from totals links trace explain diff spread verify"
+complete -c rohctl -F -n "__fish_seen_subcommand_from totals links trace explain diff decompress spread verify"
 complete -c rohctl -l json -n "__fish_seen_subcommand_from totals links explain diff plan" -d 'Write JSON, one object a line'
 complete -c rohctl -l prometheus -n "__fish_seen_subcommand_from totals" -d 'Write the text format of Prometheus'
 complete -c rohctl -l new -n "__fish_seen_subcommand_from links" -d 'Write a links file to start from'
-complete -c rohctl -l links -r -F -n "__fish_seen_subcommand_from trace explain plan" -d 'The links file'
+complete -c rohctl -l links -r -F -n "__fish_seen_subcommand_from trace explain plan decompress" -d 'The links file'
 complete -c rohctl -l damage -x -n "__fish_seen_subcommand_from plan" -d 'How many of 100 headers are damaged'
 complete -c rohctl -l packet-ms -x -n "__fish_seen_subcommand_from plan" -d 'The packet time'
 complete -c rohctl -l window -x -n "__fish_seen_subcommand_from plan" -d 'A window, K/N'
@@ -17,8 +17,14 @@ complete -c rohctl -l nginx -n "__fish_seen_subcommand_from spread" -d 'Write a 
 complete -c rohctl -l out -r -F -n "__fish_seen_subcommand_from spread" -d 'The folder for the links files'
 complete -c rohctl -l root -r -F -n "__fish_seen_subcommand_from verify" -d 'Where the paths of the list begin'
 complete -c rohctl -l control -r -F -n "__fish_seen_subcommand_from $asking" -d 'The control socket of the gateway'
-complete -c rohctl -l link -x -n "__fish_seen_subcommand_from explain reset contexts calls" -d 'The number of a link'
+complete -c rohctl -l link -x -n "__fish_seen_subcommand_from explain decompress reset contexts calls" -d 'The number of a link'
 complete -c rohctl -l cid -x -n "__fish_seen_subcommand_from reset" -d 'The CID of a context'
 complete -c rohctl -l brief -n "__fish_seen_subcommand_from explain" -d 'Write a line a packet'
 complete -c rohctl -l line -x -n "__fish_seen_subcommand_from explain" -d 'The packet in this line'
 complete -c rohctl -l call -x -n "__fish_seen_subcommand_from explain" -d 'The packets of a call, LINK/CID'
+complete -c rohctl -l vlan -x -n "__fish_seen_subcommand_from decompress" -d 'The links of VLANs, N=L'
+complete -c rohctl -l port -x -n "__fish_seen_subcommand_from decompress" -d 'The links of UDP ports, N or N=L'
+complete -c rohctl -l padded -n "__fish_seen_subcommand_from decompress" -d 'End a packet at its IPv4 total length'
+complete -c rohctl -l pcapng -n "__fish_seen_subcommand_from decompress" -d 'Write pcapng'
+complete -c rohctl -l stats -n "__fish_seen_subcommand_from decompress" -d 'Tell counts'
+complete -c rohctl -l feedback -r -F -n "__fish_seen_subcommand_from decompress" -d 'Write the feedback too'

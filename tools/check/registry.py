@@ -248,7 +248,7 @@ TESTED = (
     Tested("Refusal", "NoMemory", "gate library poverty"),
     Tested("Command", "replay", "gate program examples lines random limits poverty"),
     Tested("Command", "serve", "gate program launcher"),
-    Tested("Command", "rohctl totals, links, trace, explain, diff, plan, spread", "gate rohctl"),
+    Tested("Command", "rohctl totals, links, trace, explain, diff, plan, decompress, spread", "gate rohctl"),
     Tested("Command", "rohctl status, stop, save, reload, drain, reset, contexts, calls", "gate gateway"),
     Tested("Command", "rohc-gateway run, check", "gate gateway"),
     Tested("Command", "bin/rohcd", "launcher"),

@@ -8,6 +8,7 @@ from collections import Counter
 from collections.abc import Sequence
 from pathlib import Path
 
+import rohctl_capture
 import rohctl_diff
 import rohctl_explain
 import rohctl_links
@@ -56,11 +57,12 @@ HOSTILE = b"\x1b[31m\n1 0 ip \x00\n\xff\xfe refused Check\n1 0 refused \"}\n" + 
 
 # What bash completes, and behind which words.
 COMPLETIONS = (
-    ("calls contexts diff drain explain links plan reload reset save spread status stop totals trace verify", ("",)),
+    ("calls contexts decompress diff drain explain links plan reload reset save spread status stop totals trace verify", ("",)),
     ("totals", ("to",)),
     ("--json --new", ("links", "--")),
     ("--calls --damage --json --links --packet-ms --split --window", ("plan", "--")),
     ("--json --prometheus", ("totals", "--")),
+    ("--feedback --link --links --padded --pcapng --port --stats --vlan", ("decompress", "--")),
     ("--links", ("trace", "--l")),
     ("--line --link --links", ("explain", "--li")),
     ("links.toml", ("trace", "--links", "li")),
@@ -243,7 +245,7 @@ def check_completion(trial: Trial) -> None:
 
 def check_ends(trial: Trial) -> None:
     """The statuses of wrong words and files; help and version."""
-    for words in (("--help",), ("--version",), ("totals", "--help"), ("trace", "--help"), ("links", "--help"), ("diff", "--help"), ("plan", "--help"), ("spread", "--help"), ("explain", "--help"),
+    for words in (("--help",), ("--version",), ("totals", "--help"), ("trace", "--help"), ("links", "--help"), ("diff", "--help"), ("plan", "--help"), ("spread", "--help"), ("explain", "--help"), ("decompress", "--help"),
                   ("status", "--help"), ("reset", "--help")):
         ended = call(trial, *words)
         trial.demand(ended.status == 0 and ended.text != "", f"rohctl {words}: {ended.end()}", ended.call)
@@ -262,5 +264,6 @@ def check_ends(trial: Trial) -> None:
 def check(trial: Trial) -> None:
     """All of it, on the program that the gate left."""
     for part in (check_totals, check_json, check_metrics, check_hostile, check_trace, check_whole, check_colour, check_completion, check_ends,
-                 rohctl_explain.check, rohctl_links.check, rohctl_diff.check, rohctl_plan.check, rohctl_spread.check):
+                 rohctl_explain.check, rohctl_links.check, rohctl_diff.check, rohctl_plan.check, rohctl_spread.check,
+                 rohctl_capture.check):
         part(trial)

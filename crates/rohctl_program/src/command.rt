@@ -1,5 +1,6 @@
 //! The command line.
 
+use crate::bulk_words::{Decompress, decompress_of, decompress_words};
 use crate::control::Wish;
 use crate::ending::Ending;
 use crate::explain_words::{Asked, explain_of, explain_words};
@@ -64,6 +65,8 @@ pub(crate) enum Request<'a> {
     },
     /// Tell what windows mean, what memory calls take, or how links are spread.
     Plan(Plan<'a>),
+    /// Turn a capture of ROHC packets into a capture of IP packets.
+    Decompress(Decompress<'a>),
     /// Explain packets.
     Explain(Asked<'a>),
     /// Write the rules that bring each datagram to the process of its link.
@@ -348,6 +351,7 @@ fn command<'a>(alloc: Global) -> Result<Command<'a>, AllocError> {
         .subcommand(diff(alloc)?)?
         .subcommand(explain_words(alloc)?)?
         .subcommand(plan_words(alloc)?)?
+        .subcommand(decompress_words(alloc)?)?
         .subcommand(spread_words(alloc)?)?
         .subcommand(verify(alloc)?)?;
     with_gateway(alloc, command)
@@ -413,6 +417,7 @@ fn asked_for<'a>(matches: &ArgMatches<'a>) -> Option<Request<'a>> {
         }),
         ("explain", options) => Some(Request::Explain(explain_of(options)?)),
         ("plan", options) => Some(Request::Plan(plan_of(options)?)),
+        ("decompress", options) => Some(Request::Decompress(decompress_of(options)?)),
         ("trace", options) => Some(Request::Trace {
             links: options.get_str("links")?,
             script: options.get_str("SCRIPT")?,

@@ -1,5 +1,6 @@
 //! How a run of `rohctl` ends: its exit status, and the line that it prints on standard error.
 
+use rohc_capture::CaptureFault;
 use std::fmt;
 
 /// How a run of the program ends.
@@ -16,6 +17,8 @@ pub enum Ending {
     LinksFile(&'static str),
     /// What was found is not what rohcd finds. This is a fault of this program.
     Differs,
+    /// The capture can't be read on.
+    Capture(CaptureFault),
     /// No gateway answers at the control socket.
     NoGateway,
     /// A read failed.
@@ -39,7 +42,11 @@ impl Ending {
             Ending::Findings => 1,
             Ending::CommandLine => 2,
             Ending::LinksFile(_) => 3,
-            Ending::Differs | Ending::NoGateway | Ending::Read | Ending::Write => 4,
+            Ending::Differs
+            | Ending::Capture(_)
+            | Ending::NoGateway
+            | Ending::Read
+            | Ending::Write => 4,
             Ending::Memory => 5,
         }
     }
@@ -55,6 +62,7 @@ impl fmt::Display for Ending {
                 f.write_str("\n")
             }
             Ending::Differs => f.write_str("rohctl: not as rohcd has it\n"),
+            Ending::Capture(fault) => write!(f, "rohctl: capture: {fault}\n"),
             Ending::NoGateway => f.write_str("rohctl: no gateway answers at the control socket\n"),
             Ending::Read => f.write_str("rohctl: read\n"),
             Ending::Write => f.write_str("rohctl: write\n"),

@@ -3,6 +3,8 @@
 //! It stands apart from `main`, so that tests can call it.
 #![tactic(auto)]
 
+mod bulk;
+mod bulk_words;
 mod command;
 mod control;
 mod differences;
@@ -27,6 +29,7 @@ mod program;
 mod quoted;
 mod settings;
 mod spread;
+mod streams;
 mod table;
 mod verify;
 

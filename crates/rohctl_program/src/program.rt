@@ -1,5 +1,6 @@
 //! The program, from the words after its name to how it ends.
 
+use crate::bulk::run_decompress;
 use crate::command::{Form, Plan, Request, read_request};
 use crate::control::run_control;
 use crate::differences::run_diff;
@@ -48,6 +49,7 @@ where
             json,
         } => run_diff(rt, first, second, json),
         Request::Plan(plan) => run_plan(rt, &plan),
+        Request::Decompress(asked) => run_decompress(rt, &asked),
         Request::Explain(asked) => run_explain(rt, &asked),
         Request::Spread(spread) => run_spread(rt, spread),
         Request::Verify { list, root } => run_verify(rt, list, root),

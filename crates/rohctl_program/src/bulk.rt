@@ -1,0 +1,74 @@
+//! `decompress`: from a capture of ROHC packets to a capture of IP packets.
+
+use crate::bulk_words::{Decompress, RulesFault, rules_of};
+use crate::ending::Ending;
+use crate::links::concentrator_of;
+use crate::streams::{Target, make_target, open_source};
+use rohc_capture::{Capture, CaptureFault, FaultKind};
+use rohc_decompress::{Bulk, BulkFault, Tally, begin, decompress};
+use std::io::Write;
+use std::rt::Files;
+
+/// The ending for a capture that can't be read on.
+fn capture_end(fault: CaptureFault) -> Ending {
+    match fault.kind {
+        FaultKind::NoMemory => Ending::Memory,
+        FaultKind::Read => Ending::Read,
+        _ => Ending::Capture(fault),
+    }
+}
+
+/// The ending for words without good rules, or for lack of memory.
+fn rules_end(fault: RulesFault) -> Ending {
+    match fault {
+        RulesFault::Words => Ending::CommandLine,
+        RulesFault::Memory => Ending::Memory,
+    }
+}
+
+/// The ending of a run. `flushed` is whether all that was written has gone out.
+fn ran_end(ran: Result<(), BulkFault>, flushed: bool) -> Result<Ending, Ending> {
+    match ran {
+        Ok(()) if flushed => Ok(Ending::Good),
+        Err(BulkFault::Capture(fault)) if flushed => Err(capture_end(fault)),
+        _ => Err(Ending::Write),
+    }
+}
+
+/// Runs a capture, and writes what is delivered.
+pub(crate) fn run_decompress<R>(rt: &R, asked: &Decompress<'_>) -> Result<Ending, Ending>
+where
+    R: Files + Input + Print + Eprint + AllocGlobal,
+{
+    let rules = rules_of(rt.alloc(), asked).map_err(|fault| rules_end(fault))?;
+    let bulk = Bulk {
+        rules: rules.as_slice(),
+        padded: asked.padded,
+        format: asked.format,
+    };
+    let mut links = concentrator_of(rt, asked.links)?;
+    let input = open_source(rt, asked.input)?;
+    let mut capture = Capture::new(rt.alloc(), input).map_err(|fault| capture_end(fault))?;
+    let mut packets = make_target(rt, asked.output)?;
+    let mut feedback = match asked.feedback {
+        Some(path) => make_target(rt, path)?,
+        None => Target::Nothing,
+    };
+    let mut tally = Tally::default();
+    let mut ran = begin(asked.format, &mut packets, &mut feedback);
+    if ran.is_ok() {
+        ran = decompress(
+            &mut links,
+            &bulk,
+            &mut capture,
+            &mut packets,
+            &mut feedback,
+            &mut tally,
+        );
+    }
+    let flushed = packets.flush().is_ok() && feedback.flush().is_ok();
+    if asked.stats && eprintln!(rt; "{tally}").is_err() {
+        return Err(Ending::Write);
+    }
+    ran_end(ran, flushed)
+}

@@ -1,0 +1,87 @@
+//! What is read and written by name: files, and standard input and output for `-`.
+
+use crate::ending::Ending;
+use std::io::{BufWriter, Printer, Read, Write};
+use std::rt::Files;
+use std::{fs, io};
+
+/// A file or standard input.
+#[derive(Drop)]
+pub(crate) enum Source<F, I> {
+    /// A file.
+    File(F),
+    /// Standard input.
+    Input(I),
+}
+
+impl<F: Read, I: Read> Read for Source<F, I> {
+    fn read(&mut self, buf: &mut [u8]) -> io::Result<usize> {
+        match self {
+            Source::File(file) => file.read(buf),
+            Source::Input(input) => input.read(buf),
+        }
+    }
+}
+
+/// A file, standard output, or nothing.
+#[derive(Drop)]
+pub(crate) enum Target<F: Write + Drop, P: Write + Drop> {
+    /// A file.
+    File(BufWriter<F>),
+    /// Standard output.
+    Output(BufWriter<P>),
+    /// What is written is dropped.
+    Nothing,
+}
+
+impl<F: Write + Drop, P: Write + Drop> Write for Target<F, P> {
+    fn write(&mut self, buf: &[u8]) -> io::Result<usize> {
+        match self {
+            Target::File(file) => file.write(buf),
+            Target::Output(output) => output.write(buf),
+            Target::Nothing => Ok(buf.len()),
+        }
+    }
+
+    fn flush(&mut self) -> io::Result<()> {
+        match self {
+            Target::File(file) => file.flush(),
+            Target::Output(output) => output.flush(),
+            Target::Nothing => Ok(()),
+        }
+    }
+}
+
+/// Opens a file to be read; `-` is standard input.
+pub(crate) fn open_source<R: Files + Input>(
+    rt: &R,
+    path: &str,
+) -> Result<Source<R::File, R::Reader>, Ending> {
+    if path == "-" {
+        return Ok(Source::Input(rt.reader()));
+    }
+    match fs::open(rt, path) {
+        Ok(file) => Ok(Source::File(file)),
+        Err(_) => Err(Ending::Read),
+    }
+}
+
+/// Makes a file to be written, empty if it is there; `-` is standard output.
+pub(crate) fn make_target<'a, R: Files + Print + AllocGlobal>(
+    rt: &'a R,
+    path: &str,
+) -> Result<Target<R::File, Printer<'a, R>>, Ending> {
+    if path == "-" {
+        return match BufWriter::new(rt.alloc(), io::writer(rt)) {
+            Ok(output) => Ok(Target::Output(output)),
+            Err(_) => Err(Ending::Memory),
+        };
+    }
+    let Ok(file) = fs::create(rt, path) else {
+        return Err(Ending::Write);
+    };
+    match BufWriter::new(rt.alloc(), file) {
+        Ok(file) => Ok(Target::File(file)),
+        Err(_) => Err(Ending::Memory),
+    }
+}

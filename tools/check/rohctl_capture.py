@@ -1,0 +1,314 @@
+"""Runs `rohctl decompress` on captures made here by the words of the formats, whole, cut and changed, and on Wireshark's."""
+
+import re
+import shutil
+import struct
+from collections.abc import Callable, Iterator, Sequence
+from pathlib import Path
+
+from program import Call, Ended, run
+from trial import Trial
+
+PROGRAM = "crates/rohctl/out/rohctl"
+LINKS = "examples/links.toml"
+SECOND = 1_700_000_000
+STEP = 20_000_000
+ETHERNET, PPP, RAW, COOKED, SECOND_COOKED = 1, 9, 101, 113, 276
+SECTION, INTERFACE, OBSOLETE, SIMPLE, ENHANCED = 0x0A0D0D0A, 1, 2, 3, 6
+
+# An arrival of a script, with at least one octet.
+ARRIVAL = re.compile(r"arrive (0|[1-9]\d*) (0|[1-9]\d*) ((?:[0-9a-f]{2})+)")
+
+Frame = tuple[int, bytes]
+
+
+def ethernet(kind: int, octets: bytes, vlans: Sequence[int] = (), tag: int = 0x8100) -> bytes:
+    """An Ethernet frame with VLAN tags."""
+    tags = b"".join(struct.pack(">HH", tag, vlan) for vlan in vlans)
+    return bytes(range(12)) + tags + struct.pack(">H", kind) + octets
+
+
+def datagram(port: int, payload: bytes, fragment: int = 0, total: int = 0, size: int = 0) -> bytes:
+    """A UDP datagram over IPv4 (RFC 768, RFC 791), whose lengths may be false. No checksum is set."""
+    udp = struct.pack(">HHHH", 40000, port, size or 8 + len(payload), 0) + payload
+    addresses = bytes((127, 0, 0, 1)) * 2
+    return struct.pack(">BBHHHBBH", 0x45, 0, total or 20 + len(udp), 1, fragment, 64, 17, 0) + addresses + udp
+
+
+def pcap(frames: Sequence[Frame], link: int = ETHERNET, order: str = ">", nano: bool = True) -> bytes:
+    """A file of pcap."""
+    head = struct.pack(order + "IHHiIII", 0xA1B23C4D if nano else 0xA1B2C3D4, 2, 4, 0, 0, 262_144, link)
+    unit = 1 if nano else 1000
+    return head + b"".join(
+        struct.pack(order + "IIII", at // 10**9, at % 10**9 // unit, len(octets), len(octets)) + octets for at, octets in frames
+    )
+
+
+def block(order: str, kind: int, body: bytes) -> bytes:
+    """A block of pcapng."""
+    padded = body + bytes(-len(body) % 4)
+    size = struct.pack(order + "I", 12 + len(padded))
+    return struct.pack(order + "I", kind) + size + padded + size
+
+
+def option(order: str, code: int, octets: bytes) -> bytes:
+    """An option of a block."""
+    return struct.pack(order + "HH", code, len(octets)) + octets + bytes(-len(octets) % 4)
+
+
+def section(order: str, link: int, unit: int | None = None) -> bytes:
+    """The head of a section, an unknown block, and an interface whose times are in 10^-unit seconds."""
+    head = block(order, SECTION, struct.pack(order + "IHHq", 0x1A2B3C4D, 1, 0, -1) + option(order, 4, b"here") + option(order, 0, b""))
+    options = b"" if unit is None else option(order, 2, b"eth0") + option(order, 9, bytes((unit,))) + option(order, 0, b"")
+    return head + block(order, 0x0BAD, b"skipped") + block(order, INTERFACE, struct.pack(order + "HHI", link, 0, 0) + options)
+
+
+def pcapng(frames: Sequence[Frame], link: int = ETHERNET, order: str = ">", unit: int | None = 9) -> bytes:
+    """A file of pcapng."""
+    ticks = 10 ** (9 - (6 if unit is None else unit))
+    return section(order, link, unit) + b"".join(
+        block(order, ENHANCED, struct.pack(order + "IIIII", 0, at // ticks >> 32, at // ticks % 2**32, len(octets), len(octets)) + octets)
+        for at, octets in frames
+    )
+
+
+def records(text: bytes) -> Iterator[Frame]:
+    """The records of a pcap that rohctl wrote."""
+    place = 24
+    while place < len(text):
+        second, nano, size, original = struct.unpack(">IIII", text[place : place + 16])
+        assert size == original, "a record that isn't whole"
+        yield second * 10**9 + nano, text[place + 16 : place + 16 + size]
+        place += 16 + size
+
+
+def moments(count: int) -> list[int]:
+    """The times of so many frames, a packet time apart."""
+    return [SECOND * 10**9 + 123_456_000 + STEP * place for place in range(count)]
+
+
+def frames_of(octets: Sequence[bytes]) -> list[Frame]:
+    """Frames with their times."""
+    return list(zip(moments(len(octets)), octets, strict=True))
+
+
+def decompress(trial: Trial, given: bytes, *words: str | Path, links: str | Path = LINKS) -> Ended:
+    """How `rohctl decompress` ends on this capture."""
+    return run(Call((trial.top / PROGRAM, "decompress", "--links", links, *words), given, {}, trial.top))
+
+
+def good(trial: Trial, ended: Ended, wanted: Sequence[Frame], name: str) -> None:
+    """A run must end well and write these packets with these times."""
+    trial.demand((ended.status, ended.said) == (0, ""), f"{name}: {ended.end()} {ended.said}", ended.call)
+    trial.same(name, repr(list(wanted)), repr(list(records(ended.output))), ended.call)
+
+
+ROHC = [bytes.fromhex("fc00b745aa"), bytes.fromhex("45ab"), bytes.fromhex("45ac")]
+REBUILT = [bytes.fromhex("45aa"), bytes.fromhex("45ab"), bytes.fromhex("45ac")]
+
+
+def carriers() -> Iterator[tuple[str, int, Callable[[bytes], bytes], tuple[str, ...]]]:
+    """Ways to carry a packet of link 1: a name, the link type, the frame, and the words that choose it."""
+    yield "ethernet", ETHERNET, lambda p: ethernet(0x22F1, p), ("--link", "1")
+    yield "one tag", ETHERNET, lambda p: ethernet(0x22F1, p, (0x2007,)), ("--vlan", "9=2,7=1")
+    yield "two tags", ETHERNET, lambda p: ethernet(0x22F1, p, (5, 7), 0x88A8), ("--vlan", "7=1")
+    yield "eight tags", ETHERNET, lambda p: ethernet(0x22F1, p, range(8)), ("--vlan", "7=1")
+    yield "a length", ETHERNET, lambda p: ethernet(8 + len(p), b"\xaa\xaa\x03\0\0\0\x22\xf1" + p + bytes(40)), ("--link", "1")
+    yield "cooked", COOKED, lambda p: bytes(14) + b"\x22\xf1" + p, ("--link", "1")
+    yield "a tag, cooked", COOKED, lambda p: bytes(14) + b"\x81\0\0\x07\x22\xf1" + p, ("--vlan", "7=1")
+    yield "cooked 2", SECOND_COOKED, lambda p: b"\x22\xf1" + bytes(18) + p, ("--link", "1")
+    yield "PPP", PPP, lambda p: b"\xff\x03\0\x03" + p, ("--link", "1")
+    yield "PPP, short", PPP, lambda p: b"\x05" + p, ("--link", "1")
+    yield "PPP, UDP", PPP, lambda p: b"\0\x21" + datagram(5000, p), ("--port", "5000=1")
+    yield "a port", RAW, lambda p: datagram(5000, p), ("--port", "5000=1")
+    yield "a number", RAW, lambda p: datagram(5000, b"\0\x01" + p), ("--port", "4000=3,5000")
+    yield "padded UDP", ETHERNET, lambda p: ethernet(0x0800, datagram(5000, p) + bytes(9)), ("--port", "5000=1")
+
+
+def check_carriers(trial: Trial) -> None:
+    """Each way to carry a packet, in each form of capture."""
+    wanted = frames_of(REBUILT)
+    for name, link, carry, words in carriers():
+        frames = frames_of([carry(packet) for packet in ROHC])
+        for order in "<>":
+            good(trial, decompress(trial, pcap(frames, link, order), *words), wanted, f"{name}, pcap {order}")
+            good(trial, decompress(trial, pcapng(frames, link, order), *words), wanted, f"{name}, pcapng {order}")
+        good(trial, decompress(trial, pcap(frames, link, "<", nano=False), *words), wanted, f"{name}, microseconds")
+        good(trial, decompress(trial, pcapng(frames, link, "<", None), *words), wanted, f"{name}, no unit")
+
+
+# Frames that carry nothing, and the counts that are told of them.
+LOST = (
+    ("NotUdp", RAW, datagram(5000, b"\0\x01\x45")[:9] + b"\x06" + datagram(5000, b"\0\x01\x45")[10:]),
+    ("Fragment", RAW, datagram(5000, b"\0\x01\x45", fragment=0x2000)),
+    ("Fragment", RAW, datagram(5000, b"\0\x01\x45", fragment=1)),
+    ("IpLength", RAW, datagram(5000, b"\0\x01\x45", total=32)),
+    ("IpLength", RAW, datagram(5000, b"\0\x01\x45", total=19)),
+    ("UdpLength", RAW, datagram(5000, b"\0\x01\x45", size=7)),
+    ("UdpLength", RAW, datagram(5000, b"\0\x01\x45", size=12)),
+    ("IpHeader", RAW, b"\x60" + bytes(60)),
+    ("IpHeader", RAW, b"\x44" + bytes(60)),
+    ("Short", RAW, b"\x45\0\0"),
+    ("Short", ETHERNET, bytes(13)),
+    ("Tags", ETHERNET, ethernet(0x22F1, b"\x45", range(9))),
+    ("Protocol", ETHERNET, ethernet(0x86DD, bytes(40))),
+    ("LinkType", 105, bytes(40)),
+)
+
+
+def check_lost(trial: Trial) -> None:
+    """Frames that carry nothing are counted by name, and nothing is written of them."""
+    for name, link, frame in LOST:
+        ended = decompress(trial, pcap(frames_of([frame]), link), "--port", "5000", "--stats")
+        counts = "frames 1 arrivals 0 delivered 0 feedback 0 relayed 0 refused 0 no rule 0"
+        trial.same(f"a frame with {name}", f"{counts} {name} 1", ended.said, ended.call)
+        trial.demand(ended.status == 0 and len(ended.output) == 24, f"{name}: {ended.end()}", ended.call)
+    cut = pcap(frames_of([ethernet(0x22F1, ROHC[0])]))
+    ended = decompress(trial, cut[:36] + struct.pack(">I", 99) + cut[40:], "--link", "1", "--stats")
+    trial.demand(ended.said.endswith("no rule 0 NotWhole 1"), f"a frame that was cut: {ended.said}", ended.call)
+    ended = decompress(trial, cut, "--vlan", "7=1", "--stats")
+    trial.demand(ended.said.endswith("no rule 1"), f"a frame without a rule: {ended.said}", ended.call)
+
+
+def check_cuts(trial: Trial) -> None:
+    """A capture that is cut at each octet: what was good before is written, and the fault's place is told."""
+    frames = frames_of([ethernet(0x22F1, packet) for packet in ROHC])
+    size = 16 + 14
+    ends = [24, 24 + size + 5, 24 + 2 * size + 7, 24 + 3 * size + 9]
+    whole = pcap(frames)
+    for place in range(len(whole)):
+        ended = decompress(trial, whole[:place], "--link", "1")
+        done = [end for end in ends if end <= place]
+        wanted = list(zip(moments(3), REBUILT, strict=True))[: max(len(done) - 1, 0)]
+        trial.same(f"pcap cut at {place}", repr(wanted), repr(list(records(ended.output))), ended.call)
+        said = "" if place in ends else f"rohctl: capture: octet {done[-1]}: CutOff" if done else "rohctl: capture: octet 0: NotACapture"
+        trial.demand((ended.status, ended.said) == (4 if said else 0, said), f"pcap cut at {place}: {ended.end()} {ended.said}", ended.call)
+    blocks = pcapng(frames)
+    for place in range(4, len(blocks)):
+        ended = decompress(trial, blocks[:place], "--link", "1")
+        trial.demand(ended.status in (0, 4), f"pcapng cut at {place}: {ended.end()}", ended.call)
+        trial.demand(ended.output == pcap(list(records(ended.output)), RAW), f"pcapng cut at {place}: half a record", ended.call)
+        trial.demand(set(records(ended.output)) <= set(zip(moments(3), REBUILT, strict=True)), f"pcapng cut at {place}: other packets", ended.call)
+
+
+def check_changes(trial: Trial) -> None:
+    """A small capture with each octet changed: it ends by itself, and what is written can be read."""
+    frames = frames_of([ethernet(0x22F1, packet) for packet in ROHC[:2]])
+    for name, whole in (("pcap", pcap(frames)), ("pcapng", pcapng(frames))):
+        for place in range(len(whole)):
+            for mask in (0x01, 0x80, 0xFF):
+                changed = whole[:place] + bytes([whole[place] ^ mask]) + whole[place + 1 :]
+                ended = decompress(trial, changed, "--link", "1")
+                trial.demand(ended.status in (0, 4), f"{name}, octet {place} by {mask:02x}: {ended.end()}", ended.call)
+                trial.demand(len(list(records(ended.output))) <= 2, f"{name}, octet {place} by {mask:02x}: too many packets", ended.call)
+
+
+def check_blocks(trial: Trial) -> None:
+    """Blocks of pcapng: two sections of either order, several interfaces, units, simple and obsolete blocks, and faults."""
+    first, second, third = [ethernet(0x22F1, packet) for packet in ROHC]
+    at = moments(3)
+    one = pcapng([(at[0], first)], order="<")
+    # 2^-20 seconds: 2^-20 of a second is 953.67 ns, so a moment comes back within one unit.
+    ticks = at[1] * 2**20 // 10**9
+    other = section(">", PPP, 6) + block(">", INTERFACE, struct.pack(">HHI", ETHERNET, 0, 0) + option(">", 9, bytes((128 + 20,))))
+    other += block(">", OBSOLETE, struct.pack(">HHIIII", 1, 0, ticks >> 32, ticks % 2**32, len(second), len(second)) + second)
+    simple = section("<", ETHERNET) + block("<", SIMPLE, struct.pack("<I", len(third)) + third)
+    moment = ticks * 10**9 // 2**20
+    wanted = [(at[0], REBUILT[0]), (moment, REBUILT[1]), (moment, REBUILT[2])]
+    good(trial, decompress(trial, one + other + simple, "--link", "1"), wanted, "three sections")
+    begin = section(">", ETHERNET)
+    packet = block(">", ENHANCED, struct.pack(">IIIII", 1, 0, 0, 0, 0))
+    faults = (
+        ("NoInterface", begin + packet, len(begin)),
+        ("BlockLength", begin + packet[:4] + struct.pack(">I", 13) + packet[8:], len(begin)),
+        ("BlockLength", begin + packet[:-1] + b"\0", len(begin)),
+        ("BlockLength", begin + block(">", ENHANCED, struct.pack(">IIIII", 0, 0, 0, 1, 1)), len(begin)),
+        ("TooLong", begin + packet[:4] + struct.pack(">I", 2_000_000) + packet[8:], len(begin)),
+        ("ByteOrder", begin + begin[:8] + bytes(4) + begin[12:], len(begin)),
+        ("NotACapture", b"GIF89a" + bytes(40), 0),
+        ("TooLong", pcap([]) + struct.pack(">IIII", 0, 0, 2_000_000, 0), 24),
+    )
+    for name, text, place in faults:
+        ended = decompress(trial, text, "--link", "1")
+        said = f"rohctl: capture: octet {place}: {name}"
+        trial.demand((ended.status, ended.said) == (4, said), f"{name}: {ended.end()} {ended.said}; wanted {said}", ended.call)
+
+
+def check_outputs(trial: Trial) -> None:
+    """Files in place of pipes, pcapng written, feedback, padding, and wrong words."""
+    frames = frames_of([ethernet(0x22F1, packet) for packet in ROHC])
+    given, packets, feedback = (trial.scratch / name for name in ("in.pcap", "out.pcap", "feedback.pcap"))
+    given.write_bytes(pcap(frames))
+    ended = decompress(trial, b"", "--link", "1", "--feedback", feedback, "--stats", given, packets)
+    counts = "frames 3 arrivals 3 delivered 3 feedback 1 relayed 0 refused 0 no rule 0"
+    trial.demand((ended.status, ended.said) == (0, counts), f"files: {ended.end()} {ended.said}", ended.call)
+    trial.same("the file", repr(frames_of(REBUILT)), repr(list(records(packets.read_bytes()))), ended.call)
+    element = bytes.fromhex("020000000000" "020000000001" "22f1" "f100")
+    trial.same("the feedback", pcap([(moments(1)[0], element)]).hex(), feedback.read_bytes().hex(), ended.call)
+    good(trial, decompress(trial, decompress(trial, pcap(frames), "--link", "1", "--pcapng").output, "--port", "1"), [], "pcapng read again")
+    # An IPv4 packet of 21 octets, as it is: profile 0x0000. Behind it are five octets of padding.
+    packet = struct.pack(">BBHHHBBH", 0x45, 0, 21, 1, 0, 64, 17, 0) + bytes((127, 0, 0, 1)) * 2 + b"x"
+    padded = frames_of([ethernet(0x22F1, ROHC[0]), ethernet(0x22F1, packet + bytes(5))])
+    for words, end in (((), bytes(5)), (("--padded",), b"")):
+        wanted = frames_of([REBUILT[0], packet + end])
+        good(trial, decompress(trial, pcap(padded), "--link", "1", *words), wanted, f"padding {words}")
+    for words in ((), ("--link", "x"), ("--vlan", "7"), ("--vlan", "4096=1"), ("--port", "1,70000"), ("--link", "1", "a", "b", "c")):
+        ended = decompress(trial, b"", *words)
+        trial.demand(ended.status == 2, f"decompress {words}: {ended.end()}; wanted 2", ended.call)
+    ended = decompress(trial, b"", "--link", "1", "nothing")
+    trial.demand((ended.status, ended.said) == (4, "rohctl: read"), f"no file: {ended.end()} {ended.said}", ended.call)
+
+
+def arrivals(script: Path) -> list[tuple[int, int, bytes]]:
+    """The link, the time in milliseconds and the octets of each good arrival of a script whose time a capture can have."""
+    found = (ARRIVAL.fullmatch(line) for line in script.read_text(errors="replace").splitlines())
+    words = [(int(match[1]), int(match[2]), bytes.fromhex(match[3])) for match in found if match]
+    return [(link, moment, octets) for link, moment, octets in words if link < 2**16 and moment < 2**32]
+
+
+def check_scripts(trial: Trial) -> None:
+    """The arrivals of the whole scripts as datagrams: what is written is what a trace of them delivers, in order."""
+    for script in sorted((trial.top / "examples/scripts").glob("*.script")):
+        found = arrivals(script)
+        frames = [(moment * 10**6, datagram(5000, struct.pack(">H", link) + octets)) for link, moment, octets in found]
+        lines = "".join(f"arrive {link} {moment} {octets.hex()}\n" for link, moment, octets in found)
+        links = script.with_suffix(".toml")
+        traced = run(Call((trial.top / PROGRAM, "trace", "--links", links), lines.encode(), {}, trial.top))
+        wanted: list[Frame] = []
+        moment = 0
+        for line in traced.text.splitlines():
+            words = line.split()
+            if words[1] == "arrive":
+                moment = int(words[3]) * 10**6
+            elif words[2] == "ip":
+                wanted.append((moment, bytes.fromhex(words[3])))
+        good(trial, decompress(trial, pcap(frames, RAW), "--port", "5000", links=links), wanted, script.name)
+
+
+def check_tools(trial: Trial) -> None:
+    """Captures that Wireshark's tools turned from one form into another, and what tshark reads of those written here."""
+    names = ("editcap", "mergecap", "tshark")
+    tools = [shutil.which(name) for name in names]
+    if None in tools:
+        return
+    editcap, mergecap, tshark = (Path(tool) for tool in tools if tool is not None)
+    given, other, both = (trial.scratch / name for name in ("given.pcap", "other.pcapng", "both.pcapng"))
+    given.write_bytes(pcap(frames_of([ethernet(0x22F1, packet) for packet in ROHC]), order="<"))
+    for form in ("pcap", "nsecpcap", "pcapng"):
+        run(Call((editcap, "-F", form, given, other), b"", {}, trial.top))
+        good(trial, decompress(trial, b"", "--link", "1", other), frames_of(REBUILT), f"editcap {form}")
+    run(Call((mergecap, "-a", "-w", both, other, given), b"", {}, trial.top))
+    ended = decompress(trial, b"", "--link", "1", "--stats", both)
+    trial.demand(ended.said.startswith("frames 6 arrivals 6 delivered 6"), f"mergecap: {ended.said}", ended.call)
+    for words in ((), ("--pcapng",)):
+        written = trial.scratch / "written"
+        decompress(trial, b"", "--link", "1", *words, given, written)
+        read = run(Call((tshark, "-r", written, "-T", "fields", "-e", "frame.time_epoch", "-e", "frame.len"), b"", {}, trial.top))
+        wanted = "".join(f"{at // 10**9}.{at % 10**9:09d}\t2\n" for at in moments(3))
+        trial.same(f"what tshark reads {words}", wanted, read.text, read.call)
+
+
+def check(trial: Trial) -> None:
+    """All of it."""
+    for part in (check_carriers, check_lost, check_cuts, check_changes, check_blocks, check_outputs, check_scripts, check_tools):
+        part(trial)
