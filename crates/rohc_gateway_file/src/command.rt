@@ -49,7 +49,12 @@ pub enum Request<'a> {
 }
 
 /// An option with a value.
-fn valued<'a>(alloc: Global, name: &'static str, value: &'static str, help: &'static str) -> Arg<'a> {
+fn valued<'a>(
+    alloc: Global,
+    name: &'static str,
+    value: &'static str,
+    help: &'static str,
+) -> Arg<'a> {
     Arg::new(alloc, name)
         .long(name)
         .value_name(value)
@@ -71,7 +76,11 @@ fn subcommand<'a>(
     let seconds = clap::value_parser!(u32).range(1..=86_400);
     Command::new(alloc, name)
         .about(about)
-        .arg(Arg::new(alloc, "FILE").help("The gateway file").required(true))?
+        .arg(
+            Arg::new(alloc, "FILE")
+                .help("The gateway file")
+                .required(true),
+        )?
         .arg(valued(alloc, "links", "PATH", "The links file"))?
         .arg(port(alloc, "port", "The port for datagrams"))?
         .arg(port(alloc, "timed-port", "The port for timed datagrams"))?

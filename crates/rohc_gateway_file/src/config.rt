@@ -186,8 +186,16 @@ impl Reading {
         if self.config.links.is_none() && !self.is_faulty("links") {
             self.add("links", Wrong::Missing)?;
         }
-        let ports = [self.config.port, self.config.timed_port, self.config.metrics_port];
-        if ports[0].is_none() && ports[1].is_none() && !self.is_faulty("port") && !self.is_faulty("timed_port") {
+        let ports = [
+            self.config.port,
+            self.config.timed_port,
+            self.config.metrics_port,
+        ];
+        if ports[0].is_none()
+            && ports[1].is_none()
+            && !self.is_faulty("port")
+            && !self.is_faulty("timed_port")
+        {
             self.add("port", Wrong::Missing)?;
         }
         if ports[1].is_some() && ports[1] == ports[0] {
@@ -199,7 +207,10 @@ impl Reading {
         if ports[2].is_some() && ports[2] == ports[1] {
             self.add("metrics_port", Wrong::SamePort("timed_port"))?;
         }
-        if self.config.save_seconds.is_some() && self.config.state.is_none() && !self.is_faulty("state") {
+        if self.config.save_seconds.is_some()
+            && self.config.state.is_none()
+            && !self.is_faulty("state")
+        {
             self.add("save_seconds", Wrong::WantsState)?;
         }
         Ok(())

@@ -279,10 +279,9 @@ fn verify<'a>(alloc: Global) -> Result<Command<'a>, AllocError> {
                 .help("The digests, as sha256sum writes them")
                 .required(true),
         )?
-        .arg(
-            valued(alloc, "root", "FOLDER", "Where the paths of the list begin")
-                .default_value("/"),
-        )
+        .arg(valued(alloc, "root", "FOLDER", "Where the paths of the list begin").default_value(
+            "/",
+        ))
 }
 
 /// A subcommand that asks a running gateway.
