@@ -16,9 +16,11 @@ from pathlib import Path
 
 from cluster import Arrival, made_arrivals
 from gateway_run import LOOPBACK, PROGRAM, Gateway, Receivers, replayed, samples
+from program import Ended
 from trial import Trial
 
-PARTS = ("words", "calls", "killed", "reloaded", "hostile", "files")
+ROHCTL = "crates/rohctl/out/rohctl"
+PARTS = ("words", "calls", "killed", "reloaded", "asked", "hostile", "files")
 LINKS = range(1, 21)
 KILLS = 20
 SLOW = 40
@@ -180,7 +182,7 @@ def check_reloaded(trial: Trial) -> None:
         steps = (
             (stays, (0, 0, 10)),
             (stays + receivers.links([30, 31]).split("\n", 1)[1], (2, 0, 0)),
-            (stays + receivers.links([30, 31], "idle_ms = 5\n").split("\n", 1)[1], (0, 2, 0)),
+            (stays + receivers.links([30, 31]).split("\n", 1)[1].replace("packet_ms = 20", "packet_ms = 40"), (0, 2, 0)),
             (receivers.links(range(1, 11)), (0, 0, 2)),
         )
         for turn in range(10):
@@ -199,6 +201,49 @@ def check_reloaded(trial: Trial) -> None:
                 trial.demand(told.status == 409 and told.json == {"fault": "BadSetting"}, f"a bad links file: {told}")
                 gateway.write_links(before)
         trial.say(f"reloaded: {len(steps)} times, and six times refused, {len(steady)} arrivals as one replay answers")
+
+
+def asked(trial: Trial, gateway: Gateway, *words: str) -> Ended:
+    """How `rohctl` ends with these words and the control socket."""
+    return trial.ran(trial.top / ROHCTL, *words, "--control", gateway.control)
+
+
+def check_asked(trial: Trial) -> None:
+    """What rohctl asks is done. The IRs of profile 0x0000 are those of docs/EXAMPLES.md, for the CIDs 0 and 1."""
+    first, second = bytes.fromhex("fc00b745aa"), bytes.fromhex("e1fc003045aa")
+    with Receivers() as receivers, Gateway(trial, trial.scratch / "asked", receivers.links(LINKS)) as gateway:
+        gateway.send(Arrival(1, 5, first))
+        trial.demand(receivers.wait({"deliver": 1, "feedback": 1}), "asked: the first packet isn't delivered")
+        row = {"link": 1, "cid": 0, "profile": "Uncompressed", "state": "FullContext", "accepted": 5}
+        for word in ("contexts", "calls"):
+            told = asked(trial, gateway, word, "--link", "1")
+            trial.demand(told.is_good and json.loads(told.text) == row, f"rohctl {word}: {told.all}", told.call)
+        for words, status, wanted in (
+            (("reload",), 0, {"added": 0, "changed": 0, "removed": 0, "contexts_gone": 0}),
+            (("drain",), 0, {"draining": True}),
+            (("reset", "--link", "999"), 1, {"fault": "NoLink"}),
+            (("reset", "--link", "1", "--cid", "1"), 0, {"gone": 0}),
+        ):
+            told = asked(trial, gateway, *words)
+            fits = told.status == status and json.loads(told.text) == wanted
+            trial.demand(fits, f"rohctl {words}: {told.status} {told.all}, wanted {wanted}", told.call)
+        # While it drains, a call that stands goes on, and no other begins.
+        gateway.send(Arrival(1, 6, second))
+        gateway.send(Arrival(1, 7, first))
+        gateway.wait_taken()
+        receivers.wait({"deliver": 2})
+        found = receivers.found["deliver"]
+        trial.demand(found == [b"\x45\xaa"] * 2, f"drained: {found}")
+        status = json.loads(asked(trial, gateway, "status").text)
+        trial.demand((status["links"], status["contexts"], status["draining"]) == (len(LINKS), 1, True), f"status: {status}")
+        told = asked(trial, gateway, "save")
+        trial.demand(told.is_good and json.loads(told.text)["saved"] == (gateway.folder / "calls").stat().st_size, f"save: {told.all}")
+        told = asked(trial, gateway, "reset", "--link", "1")
+        trial.demand(json.loads(told.text) == {"gone": 1}, f"reset: {told.all}", told.call)
+        told = asked(trial, gateway, "stop")
+        trial.demand(told.is_good and json.loads(told.text)["stopped"] is True, f"stop: {told.all}", told.call)
+        assert gateway.process
+        trial.demand(gateway.process.wait(30) == 0, f"stop: {gateway.said}")
 
 
 def slow_ones(gateway: Gateway) -> Iterator[socket.socket]:
@@ -253,7 +298,7 @@ def check_files(trial: Trial) -> None:
     if shutil.which("systemd-analyze"):
         unit = trial.write("rohc-gateway@.service", (deploy / "rohc-gateway@.service").read_text())
         unit.write_text(re.sub(r"/usr/local/bin/rohc\S+", "/bin/true", unit.read_text()))
-        trial.must_run("systemd-analyze", "verify", unit)
+        trial.must_run("systemd-analyze", "verify", "--man=no", unit)
     else:
         trial.leave_out("systemd-analyze is not installed, deploy/rohc-gateway@.service was not verified")
 

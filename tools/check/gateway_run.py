@@ -56,14 +56,14 @@ class Receivers:
         for one in self.sockets.values():
             one.close()
 
-    def links(self, numbers: Iterable[int], more: str = "") -> str:
+    def links(self, numbers: Iterable[int]) -> str:
         """A links file: odd links have small CIDs, the others large ones."""
         ports = "".join(f"{kind}_port = {one.getsockname()[1]}\n" for kind, one in self.sockets.items())
         text = "version = 1\n"
         for number in numbers:
             cid, greatest = ("small", 15) if number % 2 else ("large", 255)
             text += f'[[link]]\nnumber = {number}\ncid = "{cid}"\nmax_cid = {greatest}\nmode = "O"\nk1 = 2\nn1 = 3\n'
-            text += f"k2 = 2\nn2 = 3\npacket_ms = 20\nstatic_nack_ms = 1000\n{more}{ports}"
+            text += f"k2 = 2\nn2 = 3\npacket_ms = 20\nstatic_nack_ms = 1000\n{ports}"
         return text
 
     def take(self) -> None:
