@@ -123,13 +123,30 @@ fn owners<W: Write>(
     }
 }
 
-/// Writes, for each link, its number and what a process has: `NUMBER : TEXT` with commas between.
-fn write_map<W: Write, F: Fn(&mut W, &Process<'_>) -> io::Result<()>>(
+/// What is written behind the number of a link.
+#[derive(Clone, Copy, Debug)]
+enum Behind {
+    Nothing,
+    Address,
+    Port,
+}
+
+/// Writes what a process has, with a colon in front.
+fn write_behind<W: Write>(out: &mut W, behind: Behind, process: &Process<'_>) -> io::Result<()> {
+    match behind {
+        Behind::Nothing => Ok(()),
+        Behind::Address => write!(out, " : {}", process.address),
+        Behind::Port => write!(out, " : {}", process.port),
+    }
+}
+
+/// Writes, for each link, its number and what its process has: `NUMBER : TEXT` with commas between.
+fn write_map<W: Write>(
     out: &mut W,
     links: &Links,
     owners: &[usize],
     processes: &[Process<'_>],
-    what: F,
+    behind: Behind,
 ) -> io::Result<()> {
     for (place, setting) in links.settings().iter().enumerate() {
         if place > 0 {
@@ -139,7 +156,7 @@ fn write_map<W: Write, F: Fn(&mut W, &Process<'_>) -> io::Result<()>>(
         if let Some(owner) = owners.get(place)
             && let Some(process) = processes.get(*owner)
         {
-            what(out, process)?;
+            write_behind(out, behind, process)?;
         }
     }
     Ok(())
@@ -173,25 +190,21 @@ fn write_table<W: Write>(
     writeln!(out, "        type filter hook prerouting priority raw;")?;
     writeln!(out, "        udp dport {port} notrack")?;
     write!(out, "        udp dport {port} @th,64,16 != {{ ")?;
-    write_map(out, links, owners, processes, |_, _| Ok(()))?;
+    write_map(out, links, owners, processes, Behind::Nothing)?;
     writeln!(out, " }} counter name unknown_links drop")?;
     if !are_here(processes) {
         write!(
             out,
             "        udp dport {port} ip daddr set @th,64,16 map {{ "
         )?;
-        write_map(out, links, owners, processes, |out, process| {
-            write!(out, " : {}", process.address)
-        })?;
+        write_map(out, links, owners, processes, Behind::Address)?;
         writeln!(out, " }}")?;
     }
     write!(
         out,
         "        udp dport {port} udp dport set @th,64,16 map {{ "
     )?;
-    write_map(out, links, owners, processes, |out, process| {
-        write!(out, " : {}", process.port)
-    })?;
+    write_map(out, links, owners, processes, Behind::Port)?;
     writeln!(out, " }}")?;
     writeln!(out, "    }}")?;
     writeln!(out, "}}")
