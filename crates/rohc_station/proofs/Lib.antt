@@ -1,1 +1,2 @@
 mod ReloadLemmas
+pub mod PlaceLemmas

@@ -17,11 +17,9 @@ pub record IsSameSetting (before after : LinkSetting) : Type 0 where
   pub settings : before.settings ≡ after.settings
   pub ranges : before.ranges.items ≡ after.ranges.items
 
--- the link stands, and whether its setting is this one
-pub record StandsAs (k : Concentrator) (s : LinkSetting) (same : Bool) : Type 0 where
-  pub setting : LinkSetting
-  pub there : setting_at k s.link ≡ Some setting
-  pub told : IsSameSetting setting s → same ≡ true
+-- if the link stands with this setting, it is told
+abbrev pub StandsAs : Concentrator → LinkSetting → Bool → Type 0
+StandsAs k s same = (t : LinkSetting) → setting_at k s.link ≡ Some t → IsSameSetting t s → same ≡ true
 
 -- a link's setting and its records are exactly what they were, in their order
 pub record IsUntouched (old new : Concentrator) (link : ℕ) : Type 0 where

@@ -40,11 +40,26 @@ fn are_same(before: &Settings, after: &Settings) -> bool
     before == after
 }
 
+/// Whether two ranges are the same.
+fn is_same_range(before: CidRange, after: CidRange) -> bool
+    ensures { before ≡ after → result ≡ true }
+{
+    before == after
+}
+
 /// Whether the ranges are the same.
 fn are_same_ranges(before: &[CidRange], after: &[CidRange]) -> bool
     ensures { before.now ≡ after.now → result ≡ true }
 {
-    before == after
+    if before.len() != after.len() {
+        return false;
+    }
+    for place in 0..before.len() {
+        if !is_same_range(before[place], after[place]) {
+            return false;
+        }
+    }
+    true
 }
 
 /// Whether two settings of a link are the same.
@@ -104,13 +119,25 @@ fn remove(concentrator: &mut Concentrator, link: u16) -> Step
     }
 }
 
+/// The setting of a link, if it stands.
+pub(crate) fn setting_of(concentrator: &Concentrator, link: u16) -> Option<&LinkSetting>
+    ensures { option_map (λ s. s.now) result ≡ setting_at concentrator.now link }
+{
+    match concentrator.tables().get(&link) {
+        Some(records) => Some(&records.setting),
+        None => None,
+    }
+}
+
 /// Whether the link stands, and then whether its setting is this one.
 fn stands_as(concentrator: &Concentrator, setting: &LinkSetting) -> Option<bool>
     ensures same { IfSome result (λ same. StandsAs concentrator.now setting.now same) }
     ensures absent { IfNone result (setting_at concentrator.now setting.now.link ≡ None) }
 {
-    let records = concentrator.tables().get(&setting.link)?;
-    Some(is_same_setting(&records.setting, setting))
+    match setting_of(concentrator, setting.link) {
+        Some(standing) => Some(is_same_setting(standing, setting)),
+        None => None,
+    }
 }
 
 ghost use Rattle.std.specs.Prelude.{IfNone};

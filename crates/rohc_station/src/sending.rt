@@ -1,25 +1,32 @@
 //! What is to be sent for an answer.
 
-ghost use Rattle.std.specs.Prelude.{◌≡◌};
+ghost use Rattle.std.specs.Prelude.{◌≡◌, ◌<◌, length, IfSome};
 ghost use Rattle.rohc_concentrator.specs.Report.{report_of, is_refusal};
 ghost use Rattle.rohc_serve.specs.Outgoing.{outgoing_of, sends_of, refused_for};
-ghost use Rattle.rohc_serve.specs.Datagram.{ports_of};
+ghost use Rattle.rohc_serve.specs.Datagram.{place_of, ports_of};
 
-use rohc_concentrator::Answer;
+use rohc_concentrator::{Answer, LinkSetting};
 use rohc_context::Outcome;
 use rohc_frame::Elements;
 use rohc_links::{Links, Ports};
 use rohc_serve::Sends;
 
+/// The index of the link's first entry, if it has one.
+fn place_of(settings: &[LinkSetting], link: u16) -> Option<usize>
+    ensures place { result ≡ place_of link settings.now }
+    ensures within { IfSome result (λ place. place < length settings.now) }
+{
+    settings.iter().position(|setting| setting.link == link)
+}
+
 /// The ports of a link, if it is there.
 pub(crate) fn ports_of(links: &Links, link: u16) -> Option<Ports>
     ensures { result ≡ ports_of link links.now }
 {
-    let place = links
-        .settings()
-        .iter()
-        .position(|setting| setting.link == link)?;
-    links.ports().get(place).copied()
+    let Some(place) = place_of(links.settings(), link) else {
+        return None;
+    };
+    Some(links.ports()[place])
 }
 
 /// Whether an outcome is a refusal.

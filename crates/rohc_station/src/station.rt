@@ -4,10 +4,11 @@ ghost use Rattle.std.specs.Prelude.{◌≡◌, Some, None, IfSome, IfNone};
 ghost use Rattle.rohc_serve.specs.Datagram.{named_link, datagram_packet};
 
 use crate::counters::{LinkCounters, StationCounters, count_answer};
+use crate::reload::setting_of;
 use crate::sending::{ports_of, refused, sends_of};
 use crate::timed::timed_datagram;
 use indexmap::IndexMap;
-use rohc_concentrator::{Concentrator, NoLink};
+use rohc_concentrator::{Concentrator, LinkSetting, NoLink};
 use rohc_frame::cut;
 use rohc_links::Links;
 use rohc_saved::{SaveFault, save};
@@ -42,11 +43,23 @@ fn named_link(octets: &[u8]) -> Option<(u16, &[u8])>
 fn borne(concentrator: &Concentrator, link: u16, packet: &[u8]) -> Option<u16>
     ensures { result ≡ borne (setting_at concentrator.now link) packet.now }
 {
-    let records = concentrator.tables().get(&link)?;
-    let settings = &records.setting.settings;
-    let framed = cut(settings.size, settings.max_cid, packet).ok()?;
-    let forward = framed.forward?;
-    Some(forward.cid)
+    match setting_of(concentrator, link) {
+        Some(setting) => borne_on(setting, packet),
+        None => None,
+    }
+}
+
+/// The CID that a packet bears on a link with this setting, if it bears one.
+fn borne_on(setting: &LinkSetting, packet: &[u8]) -> Option<u16>
+    ensures { result ≡ cid_in (header_on setting.now packet.now) }
+{
+    match cut(setting.settings.size, setting.settings.max_cid, packet) {
+        Ok(framed) => match framed.forward {
+            Some(forward) => Some(forward.cid),
+            None => None,
+        },
+        Err(_) => None,
+    }
 }
 
 /// Whether a packet would begin a call: it bears a CID that has no record.
@@ -60,7 +73,7 @@ fn begins_call(concentrator: &Concentrator, link: u16, packet: &[u8]) -> bool
 }
 
 ghost use Rattle.rohc_concentrator.specs.Tables.{setting_at};
-ghost use Rattle.rohc_concentrator.specs.Bears.{borne};
+ghost use Rattle.rohc_concentrator.specs.Bears.{borne, cid_in, header_on};
 ghost use Rattle.rohc_station.specs.Taking.{begins_call};
 
 impl Station {
