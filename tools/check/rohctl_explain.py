@@ -20,6 +20,7 @@ BRIEF = """1 1 0 IR delivered
 6 1 0 unknown refused NoContext
 7 9 - - refused NoLink
 """
+NO_LINK = "NoLink"
 HOSTILE = b"\x1b[2J\narrive 1 0 \x1b[31m\narrive 1 0 fc00b745aa\x07\narrive 1 0 fc00b745aa\n\xff\n"
 
 
@@ -29,19 +30,20 @@ def explain(trial: Trial, *words: str | Path, given: bytes = b"") -> Ended:
 
 
 def told(rows: list[dict]) -> list[str]:
-    """What the objects say of each packet that has a link and isn't only padding and feedback."""
+    """What the objects say of each packet that has a link which is there, and isn't only padding and feedback."""
     return [
         " ".join([str(row["link"]), "-" if row["cid"] is None else str(row["cid"]), row["answer"], row.get("refusal", "")]).rstrip()
-        for row in rows if row["answer"] != "front"
+        for row in rows
+        if row["answer"] != "front" and row.get("refusal") != NO_LINK
     ]
 
 
 def answered(answers: str) -> list[str]:
-    """The same from answer lines: those that tell what became of a packet."""
+    """The same from answer lines: those that tell what became of a packet. A reset of an unknown link has NoLink too."""
     found = []
     for line in answers.splitlines():
         link, cid, word, *rest = line.split()
-        if word in ANSWERS and link != "-":
+        if word in ANSWERS and link != "-" and rest[:1] != [NO_LINK]:
             found.append(" ".join([link, cid, ANSWERS[word], rest[0] if word == "refused" else ""]).rstrip())
     return found
 
