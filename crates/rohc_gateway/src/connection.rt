@@ -116,7 +116,8 @@ impl Connection {
             match self.stream.read(&mut buffer) {
                 Ok(0) => return Progress::Ended,
                 Ok(size) => {
-                    if self.head.extend_from_slice(&buffer[..size]).is_err() {
+                    let octets = buffer.get(..size).unwrap_or(&[]);
+                    if self.head.extend_from_slice(octets).is_err() {
                         return Progress::Ended;
                     }
                     match read_request(self.head.as_slice()) {

@@ -119,7 +119,7 @@ impl Gateway<'_> {
         if moment < self.next_save {
             return;
         }
-        self.next_save = moment.saturating_add(u64::from(seconds) * 1000);
+        self.next_save = moment.saturating_add(u64::from(seconds).saturating_mul(1000));
         if self.save(rt).is_err() {
             let _ = eprintln!(rt; "<3>rohc-gateway: save failed");
         }
