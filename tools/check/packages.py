@@ -13,7 +13,8 @@ from program import Call, run
 from trial import Trial
 
 PARTS = ("equal", "unpacked", "clean")
-PROGRAMS = ("rohcd", "rohctl", "rohc-gateway")
+# rohcd tells no version.
+PROGRAMS = ("rohctl", "rohc-gateway")
 NAMES = ("polorowan", "libpolorowan1", "libpolorowan-dev")
 
 
@@ -56,6 +57,8 @@ def check_unpacked(trial: Trial, folder: Path) -> None:
     for name in PROGRAMS:
         ended = run(Call((root / "usr/bin" / name, "--version")))
         trial.demand(ended.is_good and version in ended.text, f"{name} --version: {ended.end()}", ended.call)
+    ended = run(Call((root / "usr/bin/rohcd",)))
+    trial.demand((ended.status, ended.said) == (2, "rohcd: command line"), f"rohcd: {ended.end()}", ended.call)
     unit = root / "usr/lib/systemd/system/rohc-gateway@.service"
     trial.demand("ExecStart=/usr/bin/rohc-gateway run" in unit.read_text(), "the unit doesn't name the installed program")
     page = root / "usr/share/man/man1/rohcd.1"
