@@ -26,6 +26,7 @@ import packages
 import poverty
 import random_scripts
 import rohctl
+import spreading
 from trial import Trial
 
 TOP = Path(__file__).resolve().parent.parent.parent
@@ -176,6 +177,12 @@ CHECKS = (
         knows=gateway.is_part,
     ),
     Check(
+        "spread",
+        ON_PROGRAM,
+        spreading.check,
+        "eight links over four gateways, by the rules of nftables and by nginx, as one replay answers",
+    ),
+    Check(
         "cluster",
         ON_PROGRAM,
         cluster.check,
@@ -248,7 +255,8 @@ TESTED = (
     Tested("Refusal", "NoMemory", "gate library poverty"),
     Tested("Command", "replay", "gate program examples lines random limits poverty"),
     Tested("Command", "serve", "gate program launcher"),
-    Tested("Command", "rohctl totals, links, trace, explain, diff, plan, decompress, spread", "gate rohctl"),
+    Tested("Command", "rohctl totals, links, trace, explain, diff, plan, decompress", "gate rohctl"),
+    Tested("Command", "rohctl spread", "gate rohctl spread"),
     Tested("Command", "rohctl status, stop, save, reload, drain, reset, contexts, calls", "gate gateway"),
     Tested("Command", "rohc-gateway run, check", "gate gateway"),
     Tested("Command", "bin/rohcd", "launcher"),
