@@ -1,9 +1,10 @@
-//! Datagrams per second through `rohcd serve` on loopback, compared with a plain echo with the same socket calls.
+//! Datagrams per second through `rohcd serve` and `rohc-gateway` on loopback, compared with a plain echo with the same
+//! socket calls.
 //!
-//!     serve PROGRAM COUNT ROUNDS
+//!     serve ROHCD GATEWAY COUNT ROUNDS
 //!
 //! Each datagram is a Normal packet of profile 0x0000 with 40 octets, so a turn is one receive, one reading of the
-//! clock and one send. At most `WINDOW` datagrams are on their way, so none is lost. Both are timed in turn, from
+//! clock and one send. At most `WINDOW` datagrams are on their way, so none is lost. All are timed in turn, from
 //! the first datagram to the last, and the best of each is printed, with the ratio.
 
 use std::env;
@@ -41,8 +42,9 @@ fn wait_until_bound(port: u16) -> Result<()> {
     Ok(())
 }
 
-/// Sends `count` datagrams to a server at this port, and returns how many per second come back.
-fn rate(port: u16, count: u32, deliver: &UdpSocket, server: &mut Child) -> Result<f64> {
+/// Sends `count` datagrams to a server at this port, and returns how many per second come back. The server ends after
+/// them by itself, or is killed if it is endless.
+fn rate(port: u16, count: u32, deliver: &UdpSocket, server: &mut Child, endless: bool) -> Result<f64> {
     wait_until_bound(port)?;
     let sender = UdpSocket::bind((Ipv4Addr::LOCALHOST, 0))?;
     let mut buffer = [0; 64];
@@ -63,6 +65,9 @@ fn rate(port: u16, count: u32, deliver: &UdpSocket, server: &mut Child) -> Resul
         deliver.recv_from(&mut buffer)?;
     }
     let taken = start.elapsed().as_secs_f64();
+    if endless {
+        server.kill()?;
+    }
     server.wait()?;
     Ok(f64::from(count) / taken)
 }
@@ -77,7 +82,7 @@ fn main() -> Result<()> {
     if words[1] == "echo" {
         return echo(number(&words[2]) as u16, number(&words[3]), number(&words[4]) as u16);
     }
-    let (program, count, rounds) = (&words[1], number(&words[2]), number(&words[3]));
+    let (program, gateway, count, rounds) = (&words[1], &words[2], number(&words[3]), number(&words[4]));
     let deliver = UdpSocket::bind((Ipv4Addr::LOCALHOST, 0))?;
     deliver.set_read_timeout(Some(Duration::from_secs(5)))?;
     let deliver_port = deliver.local_addr()?.port();
@@ -87,7 +92,8 @@ fn main() -> Result<()> {
     let ports = format!("deliver_port = {deliver_port}\nfeedback_port = {other_port}\nrelay_port = {other_port}\n");
     fs::write(&links, format!("{LINK}{ports}"))?;
     let all = (count + 1).to_string();
-    let (mut served, mut echoed) = (0.0f64, 0.0f64);
+    let file = links.with_extension("gateway");
+    let (mut served, mut passed, mut echoed) = (0.0f64, 0.0f64, 0.0f64);
     for _ in 0..rounds {
         let port = free_port()?;
         let mut server = Command::new(program)
@@ -96,14 +102,20 @@ fn main() -> Result<()> {
             .args(["--port", &port.to_string(), "--count", &all])
             .stdout(Stdio::null())
             .spawn()?;
-        served = served.max(rate(port, count, &deliver, &mut server)?);
+        served = served.max(rate(port, count, &deliver, &mut server, false)?);
+        let port = free_port()?;
+        fs::write(&file, format!("links = {links:?}\nport = {port}\n"))?;
+        let mut server = Command::new(gateway).arg("run").arg(&file).stderr(Stdio::null()).spawn()?;
+        passed = passed.max(rate(port, count, &deliver, &mut server, true)?);
         let port = free_port()?;
         let mut server = Command::new(env::current_exe()?)
             .args(["echo", &port.to_string(), &all, &deliver_port.to_string()])
             .spawn()?;
-        echoed = echoed.max(rate(port, count, &deliver, &mut server)?);
+        echoed = echoed.max(rate(port, count, &deliver, &mut server, false)?);
     }
     fs::remove_file(&links)?;
-    println!("datagrams a second:  rohcd serve {served:.0}  plain echo {echoed:.0}  ratio of times {:.2}", echoed / served);
+    fs::remove_file(&file)?;
+    println!("datagrams a second:  rohcd serve {served:.0}  rohc-gateway {passed:.0}  plain echo {echoed:.0}");
+    println!("ratios of times to the echo's:  rohcd serve {:.2}  rohc-gateway {:.2}", echoed / served, echoed / passed);
     Ok(())
 }
