@@ -7,23 +7,28 @@ goes on from its last save. Its links change under load. Requests that are no re
 import json
 import random
 import re
+import resource
 import shutil
 import socket
+import struct
 import time
 from collections import Counter
 from collections.abc import Iterator
+from concurrent.futures import ThreadPoolExecutor
 from pathlib import Path
 
 from cluster import Arrival, made_arrivals
-from gateway_run import LOOPBACK, PROGRAM, Gateway, Receivers, replayed, samples
+from gateway_run import BATCH, LOOPBACK, PROGRAM, Gateway, Receivers, replayed, samples
 from program import Ended
+from random_script import check8
 from trial import Trial
 
 ROHCTL = "crates/rohctl/out/rohctl"
-PARTS = ("words", "calls", "killed", "reloaded", "asked", "hostile", "files")
+PARTS = ("words", "calls", "killed", "reloaded", "asked", "hostile", "flood", "poor", "files")
 LINKS = range(1, 21)
 KILLS = 20
 SLOW = 40
+FLOOD = 200_000
 
 # Gateway files that are refused, and what `check` says of each.
 FAULTS = (
@@ -280,6 +285,78 @@ def check_hostile(trial: Trial) -> None:
             time.sleep(0.1)
         trial.demand(told.status == 200, f"hostile: status afterwards: {told}")
         trial.demand(gateway.stop() == 0, "hostile: it doesn't stop")
+
+
+def flood(port: int) -> None:
+    """Sends packets of link 20 that are refused, as fast as it can."""
+    with socket.socket(socket.AF_INET, socket.SOCK_DGRAM) as sender:
+        for number in range(FLOOD):
+            sender.sendto(struct.pack(">HQ", 20, number) + b"\xfd\x00", (LOOPBACK, port))
+
+
+def check_flood(trial: Trial) -> None:
+    """A call at the one port, while another link floods the other port: each packet of the call is answered."""
+    packets = [b"\x45" + number.to_bytes(4, "big") for number in range(6_000)]
+    with Receivers() as receivers, Gateway(trial, trial.scratch / "flood", receivers.links(LINKS)) as gateway:
+        with ThreadPoolExecutor(1) as pool:
+            done = pool.submit(flood, gateway.timed_port)
+            head = struct.pack(">H", 1)
+            gateway.sender.sendto(head + bytes.fromhex("fc00b745aa"), (LOOPBACK, gateway.port))
+            answered = receivers.wait({"deliver": 1})
+            for at in range(0, len(packets), BATCH):
+                for packet in packets[at : at + BATCH]:
+                    gateway.sender.sendto(head + packet, (LOOPBACK, gateway.port))
+                answered = answered and receivers.wait({"deliver": 1 + min(at + BATCH, len(packets))})
+            running = not done.done()
+            done.result()
+        trial.demand(answered, "flood: a packet of the call has no answer")
+        trial.demand(receivers.found["deliver"] == [b"\x45\xaa", *packets], "flood: the call is answered otherwise")
+        beside = "all the while" if running else "for a part of it"
+        trial.say(f"flood: {len(packets)} packets of a call answered, {FLOOD} of another link beside them {beside}")
+
+
+def first_ir(cid: int) -> bytes:
+    """An IR of profile 0x0000 for a small CID from 1 on."""
+    front = bytes((0xE0 | cid, 0xFC, 0))
+    return front + bytes([check8(front)]) + b"\x45\xaa"
+
+
+def check_full(trial: Trial) -> None:
+    """No room for a state file: the last good one stays, and nothing stops. 213 octets for 20 links, 11 for each context."""
+    limits = {resource.RLIMIT_FSIZE: 300}
+    with Receivers() as receivers, Gateway(trial, trial.scratch / "full", receivers.links(LINKS), limits=limits) as gateway:
+        gateway.send(Arrival(1, 0, first_ir(1)))
+        trial.demand(receivers.wait({"deliver": 1}), "full: no first packet")
+        trial.demand(gateway.ask("POST", "/save").status == 200, "full: a file that has room isn't saved")
+        saved = (gateway.folder / "calls").read_bytes()
+        for cid in range(2, 16):
+            gateway.send(Arrival(1, 0, first_ir(cid)))
+        trial.demand(receivers.wait({"deliver": 15}), "full: no packets")
+        for path in ("/save", "/stop"):
+            told = gateway.ask("POST", path)
+            trial.demand((told.status, told.json) == (500, {"fault": "Save"}), f"full: {path}: {told}")
+        trial.demand((gateway.folder / "calls").read_bytes() == saved, "full: the last good file is gone")
+        trial.demand(gateway.ask("GET", "/ready").status == 200, "full: it stopped")
+        failed = [count for name, _, count in samples(gateway.metrics()) if name == "polorowan_failed_saves_total"]
+        trial.demand(failed == [2], f"full: failed saves {failed}")
+
+
+def check_poor(trial: Trial) -> None:
+    """Descriptors and the disk run out: datagrams are answered all the same."""
+    check_full(trial)
+    limits = {resource.RLIMIT_NOFILE: 16}
+    with Receivers() as receivers, Gateway(trial, trial.scratch / "poor", receivers.links(LINKS), limits=limits) as gateway:
+        slow = list(slow_ones(gateway))
+        for cid in range(1, 16):
+            gateway.send(Arrival(1, 0, first_ir(cid)))
+        trial.demand(receivers.wait({"deliver": 15}), "poor: no answers without descriptors")
+        for one in slow:
+            one.close()
+        end = time.monotonic() + 15
+        while (told := gateway.ask("GET", "/ready")).status != 200 and time.monotonic() < end:
+            time.sleep(0.1)
+        trial.demand(told.status == 200, f"poor: not ready afterwards: {told}")
+        trial.demand(gateway.stop() == 0, "poor: it doesn't stop")
 
 
 def check_files(trial: Trial) -> None:

@@ -4,6 +4,7 @@ import contextlib
 import json
 import os
 import re
+import resource
 import select
 import signal
 import socket
@@ -156,6 +157,7 @@ class Gateway:
     timed_port: int = field(default_factory=free_port)
     metrics_port: int = field(default_factory=lambda: free_port(socket.SOCK_STREAM))
     save_seconds: int = 86_400
+    limits: dict[int, int] = field(default_factory=dict)
     process: subprocess.Popen[bytes] | None = None
     count: int = 0
 
@@ -199,7 +201,8 @@ class Gateway:
         """Starts it, and waits until it is ready."""
         self.count = 0
         with (self.folder / "log").open("ab") as log:
-            self.process = subprocess.Popen([self.trial.top / PROGRAM, "run", self.file, *words], stderr=log)
+            call = [self.trial.top / PROGRAM, "run", self.file, *words]
+            self.process = subprocess.Popen(call, stderr=log, preexec_fn=self.set_limits)
         end = time.monotonic() + WAIT_SECONDS
         while time.monotonic() < end:
             with contextlib.suppress(OSError):
@@ -209,6 +212,12 @@ class Gateway:
                 break
             time.sleep(0.01)
         raise RuntimeError(f"rohc-gateway isn't ready: {self.said}")
+
+    def set_limits(self) -> None:
+        """Sets the limits of the process that is to run. A write above the greatest size fails, and ends nothing."""
+        signal.signal(signal.SIGXFSZ, signal.SIG_IGN)
+        for kind, limit in self.limits.items():
+            resource.setrlimit(kind, (limit, limit))
 
     def kill(self) -> None:
         """Ends it by SIGKILL, if it runs."""
