@@ -243,6 +243,13 @@ def check_completion(trial: Trial) -> None:
         trial.demand(found == wanted, f"completion of '{' '.join(words)}': '{found}'; wanted '{wanted}'", ended.call)
 
 
+def check_site(trial: Trial) -> None:
+    """The page of docs/site is the one that tools/make_site.py makes."""
+    folder = trial.scratch / "site"
+    if trial.must_run(trial.top / "tools/make_site.py", trial.top / PROGRAM, folder):
+        trial.same("docs/site/index.html", (folder / "index.html").read_bytes(), (trial.top / "docs/site/index.html").read_bytes())
+
+
 def check_ends(trial: Trial) -> None:
     """The statuses of wrong words and files; help and version."""
     for words in (("--help",), ("--version",), ("totals", "--help"), ("trace", "--help"), ("links", "--help"), ("diff", "--help"), ("plan", "--help"), ("spread", "--help"), ("explain", "--help"), ("decompress", "--help"),
@@ -263,7 +270,7 @@ def check_ends(trial: Trial) -> None:
 
 def check(trial: Trial) -> None:
     """All of it, on the program that the gate left."""
-    for part in (check_totals, check_json, check_metrics, check_hostile, check_trace, check_whole, check_colour, check_completion, check_ends,
+    for part in (check_totals, check_json, check_metrics, check_hostile, check_trace, check_whole, check_colour, check_completion, check_site, check_ends,
                  rohctl_explain.check, rohctl_links.check, rohctl_diff.check, rohctl_plan.check, rohctl_spread.check,
                  rohctl_capture.check):
         part(trial)
