@@ -67,7 +67,7 @@ enum polorowan_saved {
 /** What polorowan_open_saved() returns, beside POLOROWAN_MADE to POLOROWAN_NO_MEMORY of enum polorowan_made. */
 enum polorowan_not_restored {
     POLOROWAN_NOT_SAVED = 7,    /**< The octets don't begin as those of a saved concentrator do. */
-    POLOROWAN_VERSION = 8,      /**< They are of another version. */
+    POLOROWAN_VERSION = 8,      /**< They are of another version. This is a fault, and not the header's version. */
     POLOROWAN_SHORT = 9,        /**< They end too soon. */
     POLOROWAN_BAD_LINK = 10,    /**< A bad value of a link. */
     POLOROWAN_BAD_CONTEXT = 11, /**< A bad value of a context. */
@@ -333,13 +333,14 @@ uint8_t polorowan_arrive_many(polorowan_gateway *gateway, const struct polorowan
                               struct polorowan_arrival *arrivals, size_t arrivals_count);
 
 /**
- * Counts an answer of polorowan_arrive() or polorowan_arrive_many(). Whose counts they are is the caller's choice: of a
- * link, of a CID, or of all; and so is when they are set to zero.
+ * Counts an answer of polorowan_arrive() or polorowan_arrive_many(): once for each, and only after POLOROWAN_ARRIVED. The
+ * caller chooses what one struct counts (a link, a CID, or all) and when to set it to zero. Feedback that is longer than its
+ * buffer and an outcome above 31 aren't counted.
  *
  * @param counts the counts
  * @param arrival the answer
- * @param feedback where its feedback stands
- * @param room the buffer's length
+ * @param feedback the feedback buffer of that call; of many packets, where the feedback stands in the packet's part of the room
+ * @param room its length; #POLOROWAN_FEEDBACK_ROOM is enough
  */
 void polorowan_count(struct polorowan_counts *counts, const struct polorowan_arrival *arrival, const uint8_t *feedback,
                      size_t room);
