@@ -1,7 +1,8 @@
 //! rohctl: tells what rohcd did with each call.
 #![tactic(auto)]
 
-use rohctl_program::{Ending, run};
+use rohctl_ground::Ending;
+use rohctl_program::run;
 use std::io::IsTerminal;
 use std::process::ExitCode;
 use std::rt::Env;

@@ -1,46 +1,20 @@
 //! The command line.
 
-use crate::bulk_words::{Decompress, decompress_of, decompress_words};
+use crate::bulk_words::{decompress_of, decompress_words};
 use crate::control::Wish;
-use crate::ending::Ending;
-use crate::explain_words::{Asked, explain_of, explain_words};
-use crate::spread::Spread;
+use crate::explain_words::{explain_of, explain_words};
+use crate::options::{flag, valued};
 use clap::error::ErrorKind;
-use clap::{Arg, ArgAction, ArgMatches, Command};
+use clap::{Arg, ArgMatches, Command};
+use rohctl_answers::Form;
+use rohctl_captures::Decompress;
+use rohctl_explain::Asked;
+use rohctl_ground::Ending;
+use rohctl_links::{Plan, Spread};
 use std::alloc::{AllocError, Global};
 
 /// The most processes over which links are spread.
 const MOST_PROCESSES: u64 = 256;
-
-/// How a result is written.
-#[derive(Clone, Copy, Debug, PartialEq, Eq)]
-pub(crate) enum Form {
-    /// A table.
-    Table,
-    /// JSON, one object a line.
-    Json,
-    /// The text format of Prometheus.
-    Prometheus,
-}
-
-/// What is asked of `plan`.
-#[derive(Clone, Copy, Debug)]
-pub(crate) struct Plan<'a> {
-    /// How many of a hundred headers are damaged.
-    pub(crate) damage: f64,
-    /// The time between two packets of a call, in milliseconds.
-    pub(crate) packet_ms: u32,
-    /// A window that is asked for, K/N.
-    pub(crate) window: Option<(u8, u8)>,
-    /// The calls whose memory is asked for.
-    pub(crate) calls: Option<u64>,
-    /// The processes over which links are spread.
-    pub(crate) split: Option<u16>,
-    /// The links file.
-    pub(crate) links: Option<&'a str>,
-    /// Whether JSON is wanted.
-    pub(crate) json: bool,
-}
 
 /// What the command line asks for.
 #[derive(Clone, Copy, Debug)]
@@ -88,14 +62,6 @@ pub(crate) enum Request<'a> {
     },
 }
 
-/// An option without a value.
-fn flag<'a>(alloc: Global, name: &'static str, help: &'static str) -> Arg<'a> {
-    Arg::new(alloc, name)
-        .long(name)
-        .help(help)
-        .action(ArgAction::SetTrue)
-}
-
 /// The subcommand `totals`.
 fn totals<'a>(alloc: Global) -> Result<Command<'a>, AllocError> {
     Command::new(alloc, "totals")
@@ -122,20 +88,6 @@ fn links<'a>(alloc: Global) -> Result<Command<'a>, AllocError> {
         )?
         .arg(flag(alloc, "json", "Write JSON, one object a line"))?
         .arg(flag(alloc, "new", "Write a links file to start from").conflicts_with("FILE")?)
-}
-
-/// An option with a value.
-fn valued<'a>(
-    alloc: Global,
-    name: &'static str,
-    value: &'static str,
-    help: &'static str,
-) -> Arg<'a> {
-    Arg::new(alloc, name)
-        .long(name)
-        .value_name(value)
-        .help(help)
-        .action(ArgAction::Set)
 }
 
 /// The subcommand `diff`.
@@ -232,14 +184,7 @@ fn plan_of<'a>(options: &ArgMatches<'a>) -> Option<Plan<'a>> {
 fn trace<'a>(alloc: Global) -> Result<Command<'a>, AllocError> {
     Command::new(alloc, "trace")
         .about("Write each line of a script with its number, and its answers behind it")
-        .arg(
-            Arg::new(alloc, "links")
-                .long("links")
-                .value_name("FILE")
-                .help("The links file")
-                .required(true)
-                .action(ArgAction::Set),
-        )?
+        .arg(valued(alloc, "links", "FILE", "The links file").required(true))?
         .arg(
             Arg::new(alloc, "SCRIPT")
                 .help("The script; - is standard input")

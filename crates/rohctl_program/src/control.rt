@@ -1,6 +1,6 @@
 //! What is asked of a running gateway, at its control socket.
 
-use crate::ending::Ending;
+use rohctl_ground::Ending;
 use std::alloc::Global;
 use std::fmt::Write as _;
 use std::io::{self, Read, Write};

@@ -1,70 +1,9 @@
 //! The words of the subcommand `explain`.
 
-use clap::{Arg, ArgAction, ArgMatches, Command};
+use crate::options::{flag, valued};
+use clap::{Arg, ArgMatches, Command};
+use rohctl_explain::{Asked, Source, Telling, Which};
 use std::alloc::{AllocError, Global};
-
-/// How packets are told.
-#[derive(Clone, Copy, Debug, PartialEq, Eq)]
-pub(crate) enum Telling {
-    /// All that is known, for a reader.
-    Whole,
-    /// A line a packet.
-    Brief,
-    /// JSON, one object a line.
-    Json,
-}
-
-/// Where the packets stand.
-#[derive(Clone, Copy, Debug)]
-pub(crate) enum Source<'a> {
-    /// In the script of this file; `-` is standard input.
-    Script(&'a str),
-    /// In this word, with commas between them; all are packets of the link.
-    Word { link: u16, packets: &'a str },
-}
-
-/// Which packets of a script are told.
-#[derive(Clone, Copy, Debug, PartialEq, Eq)]
-pub(crate) enum Which {
-    /// All.
-    All,
-    /// The one in this line.
-    Line(u64),
-    /// Those of this link and CID.
-    Call { link: u16, cid: u16 },
-}
-
-/// What is asked of `explain`.
-#[derive(Clone, Copy, Debug)]
-pub(crate) struct Asked<'a> {
-    /// The links file.
-    pub(crate) links: &'a str,
-    pub(crate) source: Source<'a>,
-    pub(crate) which: Which,
-    pub(crate) telling: Telling,
-}
-
-/// An option with a value.
-fn valued<'a>(
-    alloc: Global,
-    name: &'static str,
-    value: &'static str,
-    help: &'static str,
-) -> Arg<'a> {
-    Arg::new(alloc, name)
-        .long(name)
-        .value_name(value)
-        .help(help)
-        .action(ArgAction::Set)
-}
-
-/// An option without a value.
-fn flag<'a>(alloc: Global, name: &'static str, help: &'static str) -> Arg<'a> {
-    Arg::new(alloc, name)
-        .long(name)
-        .help(help)
-        .action(ArgAction::SetTrue)
-}
 
 /// The subcommand `explain`.
 pub(crate) fn explain_words<'a>(alloc: Global) -> Result<Command<'a>, AllocError> {

@@ -1,7 +1,7 @@
 //! The subcommand `verify`: whether files are as they were packed.
 
-use crate::ending::Ending;
 use hex::encode_to_slice;
+use rohctl_ground::Ending;
 use sha2::{Digest, Sha256};
 use std::alloc::{AllocError, Global};
 use std::fs;

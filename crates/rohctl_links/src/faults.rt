@@ -1,13 +1,11 @@
 //! The subcommand `links`: all faults of a links file, or what a good one sets.
 
-use crate::ending::Ending;
 use crate::finding::{Finding, Wrong, findings, no_toml};
-use crate::links::links_text;
-use crate::quoted::{write_quoted, write_value};
 use crate::settings::{write_links, write_links_json};
 use rohc_concentrator::{Concentrator, SetupFault};
 use rohc_faults::all_faults;
 use rohc_links::{Links, LinksFault, read_links};
+use rohctl_ground::{Ending, links_text, write_quoted, write_value};
 use std::alloc::Global;
 use std::io;
 use std::io::{BufWriter, Write};
@@ -198,7 +196,7 @@ fn write_taken<W: Write>(
 }
 
 /// Tells all faults of the links file, or what it sets.
-pub(crate) fn run_links<R>(rt: &R, path: &str, json: bool) -> Result<Ending, Ending>
+pub fn run_links<R>(rt: &R, path: &str, json: bool) -> Result<Ending, Ending>
 where
     R: Files + Input + Print + AllocGlobal,
 {

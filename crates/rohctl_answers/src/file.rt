@@ -1,7 +1,7 @@
 //! Files to be read; `-` is standard input.
 
-use crate::ending::Ending;
 use rohc_totals::{Totals, TotalsFault, read_totals};
+use rohctl_ground::Ending;
 use std::fs;
 use std::rt::Files;
 

@@ -1,7 +1,7 @@
 -- The exit statuses of the program.
 use Rattle.std.specs.Prelude.{ℕ}
-use Rattle.rohctl_program.specs.declared.ending.Ending.{Ending}
-use Rattle.rohctl_program.specs.declared.ending.Ending.TheVariants.{Good, Findings, CommandLine, LinksFile, Differs, Capture, NoGateway, Read, Write, Memory}
+use Rattle.rohctl_ground.specs.declared.ending.Ending.{Ending}
+use Rattle.rohctl_ground.specs.declared.ending.Ending.TheVariants.{Good, Findings, CommandLine, LinksFile, Differs, Capture, NoGateway, Read, Write, Memory}
 
 -- the statuses that the program ends with
 abbrev pub status_of : Ending → ℕ

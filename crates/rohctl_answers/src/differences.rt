@@ -1,8 +1,7 @@
 //! The subcommand `diff`: the first difference of each call.
 
-use crate::ending::Ending;
-use crate::quoted::write_octets;
 use rohc_diff::{CallDifference, DiffFault, Differences, Seen, diff};
+use rohctl_ground::{Ending, write_octets};
 use std::io::{BufWriter, Read, Write};
 use std::rt::Files;
 use std::{fs, io};
@@ -101,7 +100,7 @@ fn write_object<W: Write>(out: &mut W, call: &CallDifference) -> io::Result<()> 
 }
 
 /// Compares two texts, and writes the first difference of each call.
-pub(crate) fn run_diff<R>(rt: &R, first: &str, second: &str, json: bool) -> Result<Ending, Ending>
+pub fn run_diff<R>(rt: &R, first: &str, second: &str, json: bool) -> Result<Ending, Ending>
 where
     R: Files + Input + Print + AllocGlobal,
 {

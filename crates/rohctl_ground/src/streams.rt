@@ -7,7 +7,7 @@ use std::{fs, io};
 
 /// A file or standard input.
 #[derive(Drop)]
-pub(crate) enum Source<F, I> {
+pub enum Source<F, I> {
     /// A file.
     File(F),
     /// Standard input.
@@ -25,7 +25,7 @@ impl<F: Read, I: Read> Read for Source<F, I> {
 
 /// A file, standard output, or nothing.
 #[derive(Drop)]
-pub(crate) enum Target<F: Write + Drop, P: Write + Drop> {
+pub enum Target<F: Write + Drop, P: Write + Drop> {
     /// A file.
     File(BufWriter<F>),
     /// Standard output.
@@ -53,7 +53,7 @@ impl<F: Write + Drop, P: Write + Drop> Write for Target<F, P> {
 }
 
 /// Opens a file to be read; `-` is standard input.
-pub(crate) fn open_source<R: Files + Input>(
+pub fn open_source<R: Files + Input>(
     rt: &R,
     path: &str,
 ) -> Result<Source<R::File, R::Reader>, Ending> {
@@ -67,7 +67,7 @@ pub(crate) fn open_source<R: Files + Input>(
 }
 
 /// Makes a file to be written, empty if it is there; `-` is standard output.
-pub(crate) fn make_target<'a, R: Files + Print + AllocGlobal>(
+pub fn make_target<'a, R: Files + Print + AllocGlobal>(
     rt: &'a R,
     path: &str,
 ) -> Result<Target<R::File, Printer<'a, R>>, Ending> {

@@ -34,10 +34,7 @@ fn text_of<S: Read + Drop>(alloc: Global, source: S) -> Result<String, Ending> {
 }
 
 /// The text of the file; `-` is standard input.
-pub(crate) fn links_text<R: Files + Input + AllocGlobal>(
-    rt: &R,
-    path: &str,
-) -> Result<String, Ending> {
+pub fn links_text<R: Files + Input + AllocGlobal>(rt: &R, path: &str) -> Result<String, Ending> {
     if path == "-" {
         return text_of(rt.alloc(), rt.reader());
     }
@@ -52,10 +49,7 @@ fn read_file<R: Files + Input + AllocGlobal>(rt: &R, path: &str) -> Result<Links
 }
 
 /// The links of a file that rohcd takes.
-pub(crate) fn good_links<R: Files + Input + AllocGlobal>(
-    rt: &R,
-    path: &str,
-) -> Result<Links, Ending> {
+pub fn good_links<R: Files + Input + AllocGlobal>(rt: &R, path: &str) -> Result<Links, Ending> {
     let links = read_file(rt, path)?;
     match Concentrator::new(rt.alloc(), links.settings()) {
         Ok(_) => Ok(links),
@@ -64,7 +58,7 @@ pub(crate) fn good_links<R: Files + Input + AllocGlobal>(
 }
 
 /// A concentrator with the links of the file, without a record.
-pub(crate) fn concentrator_of<R: Files + Input + AllocGlobal>(
+pub fn concentrator_of<R: Files + Input + AllocGlobal>(
     rt: &R,
     path: &str,
 ) -> Result<Concentrator, Ending> {

@@ -31,7 +31,7 @@ pub enum Ending {
 
 impl Ending {
     ghost use Rattle.std.specs.Prelude.{◌≡◌};
-    ghost use Rattle.rohctl_program.specs.Ending.{status_of};
+    ghost use Rattle.rohctl_ground.specs.Ending.{status_of};
 
     /// The exit status of the program.
     pub fn status(&self) -> u8

@@ -1,10 +1,9 @@
 //! The subcommand `spread`: the rules that bring each datagram to the process of its link, and a links file for each.
 
-use crate::ending::Ending;
 use crate::hosts::{Hosts, HostsFault, Process, hosts_in, line_of};
-use crate::links::{good_links, links_text};
 use crate::settings::write_entry;
 use rohc_links::Links;
+use rohctl_ground::{Ending, good_links, links_text};
 use std::alloc::{AllocError, Global};
 use std::fs;
 use std::io::{self, BufWriter, Write};
@@ -15,15 +14,15 @@ const HERE: &str = "127.0.0.1";
 
 /// What is asked of `spread`.
 #[derive(Clone, Copy, Debug)]
-pub(crate) struct Spread<'a> {
+pub struct Spread<'a> {
     /// The links file.
-    pub(crate) links: &'a str,
+    pub links: &'a str,
     /// The hosts file.
-    pub(crate) hosts: &'a str,
+    pub hosts: &'a str,
     /// Whether nginx is to do it.
-    pub(crate) nginx: bool,
+    pub nginx: bool,
     /// The folder for the links files of the processes.
-    pub(crate) out: Option<&'a str>,
+    pub out: Option<&'a str>,
 }
 
 /// The process of a link: its place among them.
@@ -305,7 +304,7 @@ fn write_files<R: Files + AllocGlobal>(
 }
 
 /// Writes the rules, and the links files if a folder is named.
-pub(crate) fn run_spread<R>(rt: &R, asked: Spread<'_>) -> Result<Ending, Ending>
+pub fn run_spread<R>(rt: &R, asked: Spread<'_>) -> Result<Ending, Ending>
 where
     R: Files + Input + Print + AllocGlobal,
 {

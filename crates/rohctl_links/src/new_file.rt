@@ -1,7 +1,11 @@
 //! A links file to start from.
 
+use rohctl_ground::Ending;
+use std::io;
+use std::io::Write;
+
 /// A links file of one link, with what may stand at each key.
-pub(crate) const NEW_FILE: &str = "\
+const NEW_FILE: &str = "\
 # The links of rohcd. 1 to 256 tables [[link]]; each has every key but range.
 version = 2
 
@@ -22,3 +26,12 @@ relay_port = 6003      # 1 to 65535: where feedback for this side's compressor g
 idle_ms = 0            # 0 to 86400000: after this pause a context expires; 0 is never
 # range = [{ first = 4, last = 7, mode = \"U\" }]  # at most 8: CIDs with a mode of their own
 ";
+
+/// Writes a links file to start from.
+pub fn run_new<R: Print + AllocGlobal>(rt: &R) -> Result<Ending, Ending> {
+    let mut out = io::writer(rt);
+    match out.write_all(NEW_FILE.as_bytes()) {
+        Ok(()) => Ok(Ending::Good),
+        Err(_) => Err(Ending::Write),
+    }
+}

@@ -1,13 +1,32 @@
 //! The subcommand `plan`: what k and n of a window mean, what memory calls take, and links spread over processes.
 
-use crate::command::Plan;
-use crate::ending::Ending;
 use crate::settings::{CALL, calls_of};
 use rohc_concentrator::LinkSetting;
 use rohc_plan::{Chain, Window, least_share};
+use rohctl_ground::{Ending, good_links};
 use std::alloc::Global;
 use std::io;
-use std::io::Write;
+use std::io::{BufWriter, Write};
+use std::rt::Files;
+
+/// What is asked of `plan`.
+#[derive(Clone, Copy, Debug)]
+pub struct Plan<'a> {
+    /// How many of a hundred headers are damaged.
+    pub damage: f64,
+    /// The time between two packets of a call, in milliseconds.
+    pub packet_ms: u32,
+    /// A window that is asked for, K/N.
+    pub window: Option<(u8, u8)>,
+    /// The calls whose memory is asked for.
+    pub calls: Option<u64>,
+    /// The processes over which links are spread.
+    pub split: Option<u16>,
+    /// The links file.
+    pub links: Option<&'a str>,
+    /// Whether JSON is wanted.
+    pub json: bool,
+}
 
 /// The windows that are shown if none is asked for.
 const SHOWN: [(u8, u8); 4] = [(2, 3), (2, 5), (3, 5), (4, 8)];
@@ -122,11 +141,7 @@ fn write_row<W: Write>(out: &mut W, row: &Meaning, json: bool) -> io::Result<()>
 }
 
 /// Writes what windows mean.
-pub(crate) fn write_plan<W: Write>(
-    out: &mut W,
-    alloc: Global,
-    plan: &Plan<'_>,
-) -> Result<Ending, Ending> {
+fn write_plan<W: Write>(out: &mut W, alloc: Global, plan: &Plan<'_>) -> Result<Ending, Ending> {
     let mut rows = Vec::new(alloc);
     for (k, n) in plan.window.as_slice().iter().copied().chain(SHOWN) {
         let Some(row) = meaning_of(alloc, k, n, plan)? else {
@@ -177,7 +192,7 @@ fn write_rows<W: Write>(
 }
 
 /// Writes the memory that so many calls take.
-pub(crate) fn write_memory<W: Write>(out: &mut W, calls: u64) -> Result<Ending, Ending> {
+fn write_memory<W: Write>(out: &mut W, calls: u64) -> Result<Ending, Ending> {
     match writeln!(
         out,
         "calls {calls} memory at most {} octets",
@@ -189,7 +204,7 @@ pub(crate) fn write_memory<W: Write>(out: &mut W, calls: u64) -> Result<Ending, 
 }
 
 /// Spreads links over processes, each link to the process with the fewest calls so far, and writes a row for each.
-pub(crate) fn write_split<W: Write>(
+fn write_split<W: Write>(
     out: &mut W,
     alloc: Global,
     settings: &[LinkSetting],
@@ -231,4 +246,31 @@ fn write_shares<W: Write>(out: &mut W, shares: &[u64], homes: &[(usize, u16)]) -
         writeln!(out, "")?;
     }
     Ok(())
+}
+
+/// Tells what was asked of `plan`.
+pub fn run_plan<R: Files + Input + Print + AllocGlobal>(
+    rt: &R,
+    plan: &Plan<'_>,
+) -> Result<Ending, Ending> {
+    let Ok(mut out) = BufWriter::new(rt.alloc(), io::writer(rt)) else {
+        return Err(Ending::Memory);
+    };
+    let ending = if let Some(calls) = plan.calls {
+        write_memory(&mut out, calls)?
+    } else if let Some(processes) = plan.split {
+        let links = good_links(rt, plan.links.unwrap_or("-"))?;
+        write_split(
+            &mut out,
+            rt.alloc(),
+            links.settings(),
+            usize::from(processes),
+        )?
+    } else {
+        write_plan(&mut out, rt.alloc(), plan)?
+    };
+    match out.flush() {
+        Ok(()) => Ok(ending),
+        Err(_) => Err(Ending::Write),
+    }
 }

@@ -1,13 +1,12 @@
 //! The subcommand `explain`: packets of a script, or given ones, each with why it got its answer.
 
-use crate::ending::Ending;
+use crate::asked::{Asked, Source, Telling, Which};
 use crate::explain_json::write_object;
 use crate::explain_line::{Event, event_of, octets_of};
 use crate::explain_packet::{Explained, Got, explain_packet};
 use crate::explain_text::{write_brief, write_whole};
-use crate::explain_words::{Asked, Source, Telling, Which};
-use crate::links::concentrator_of;
 use rohc_concentrator::Concentrator;
+use rohctl_ground::{Ending, concentrator_of};
 use std::alloc::Global;
 use std::io::{BufWriter, Read, Write};
 use std::rt::Files;
@@ -141,7 +140,7 @@ impl Run<'_> {
 }
 
 /// Explains what was asked for.
-pub(crate) fn run_explain<R>(rt: &R, asked: &Asked<'_>) -> Result<Ending, Ending>
+pub fn run_explain<R>(rt: &R, asked: &Asked<'_>) -> Result<Ending, Ending>
 where
     R: Files + Input + Print + AllocGlobal,
 {

@@ -1,6 +1,5 @@
 //! One packet, explained: what is derived beside the step, compared with the step's answer.
 
-use crate::ending::Ending;
 use rohc_concentrator::{Answer, Concentrator};
 use rohc_context::{Context, ContextState, Outcome, Profile, Refusal, Settings, Window};
 use rohc_explain::{FieldName, PacketFields, Terms, packet_fields};
@@ -8,6 +7,7 @@ use rohc_forms::{Form, FormKind, read_form};
 use rohc_frame::{CidKind, Forward, HeadKind, cut};
 use rohc_header::LONGEST_PAYLOAD;
 use rohc_tries::{Reference, Situation, Standing, Told, standing_of, tries_of};
+use rohctl_ground::Ending;
 use std::alloc::Global;
 
 /// What is told of a context before a packet or after it.

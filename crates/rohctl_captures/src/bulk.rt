@@ -1,13 +1,36 @@
 //! `decompress`: from a capture of ROHC packets to a capture of IP packets.
 
-use crate::bulk_words::{Decompress, RulesFault, rules_of};
-use crate::ending::Ending;
-use crate::links::concentrator_of;
-use crate::streams::{Target, make_target, open_source};
-use rohc_capture::{Capture, CaptureFault, FaultKind};
+use crate::rules::{RulesFault, rules_of};
+use rohc_capture::{Capture, CaptureFault, FaultKind, Format};
 use rohc_decompress::{Bulk, BulkFault, Tally, begin, decompress};
+use rohctl_ground::{Ending, Target, concentrator_of, make_target, open_source};
 use std::io::Write;
 use std::rt::Files;
+
+/// What is asked of `decompress`.
+#[derive(Clone, Copy, Debug)]
+pub struct Decompress<'a> {
+    /// The links file.
+    pub links: &'a str,
+    /// The capture that is read.
+    pub input: &'a str,
+    /// The capture that is written.
+    pub output: &'a str,
+    /// The capture of feedback that is written, if one is asked for.
+    pub feedback: Option<&'a str>,
+    /// The link of ROHC packets that the capture's own link carries.
+    pub link: Option<&'a str>,
+    /// The links of VLANs, as N=L with commas between them.
+    pub vlan: Option<&'a str>,
+    /// UDP ports, as N or N=L with commas between them.
+    pub port: Option<&'a str>,
+    /// Whether a rebuilt packet ends at its IPv4 total length.
+    pub padded: bool,
+    /// Whether counts are told.
+    pub stats: bool,
+    /// The form of what is written.
+    pub format: Format,
+}
 
 /// The ending for a capture that can't be read on.
 fn capture_end(fault: CaptureFault) -> Ending {
@@ -36,7 +59,7 @@ fn ran_end(ran: Result<(), BulkFault>, flushed: bool) -> Result<Ending, Ending> 
 }
 
 /// Runs a capture, and writes what is delivered.
-pub(crate) fn run_decompress<R>(rt: &R, asked: &Decompress<'_>) -> Result<Ending, Ending>
+pub fn run_decompress<R>(rt: &R, asked: &Decompress<'_>) -> Result<Ending, Ending>
 where
     R: Files + Input + Print + Eprint + AllocGlobal,
 {

@@ -9,7 +9,7 @@ const SHOWN: usize = 60;
 
 /// Writes a text in quotes. A character that isn't printable ASCII, a quote and a backslash are written as JSON writes
 /// them.
-pub(crate) fn write_quoted<W: Write>(out: &mut W, text: &str) -> io::Result<()> {
+pub fn write_quoted<W: Write>(out: &mut W, text: &str) -> io::Result<()> {
     write!(out, "\"")?;
     for (place, character) in text.chars().enumerate() {
         if place == SHOWN {
@@ -37,7 +37,7 @@ pub(crate) fn write_quoted<W: Write>(out: &mut W, text: &str) -> io::Result<()> 
 }
 
 /// Writes what stands at a key.
-pub(crate) fn write_value<W: Write>(out: &mut W, value: Option<&Value>) -> io::Result<()> {
+pub fn write_value<W: Write>(out: &mut W, value: Option<&Value>) -> io::Result<()> {
     match value {
         None => write!(out, "nothing"),
         Some(Value::String(text)) => write_quoted(out, text.as_str()),
@@ -52,7 +52,7 @@ pub(crate) fn write_value<W: Write>(out: &mut W, value: Option<&Value>) -> io::R
 
 /// Writes the first octets of a line. An octet that isn't printable ASCII, a quote and a backslash are written as JSON
 /// writes characters.
-pub(crate) fn write_octets<W: Write>(out: &mut W, line: &[u8]) -> io::Result<()> {
+pub fn write_octets<W: Write>(out: &mut W, line: &[u8]) -> io::Result<()> {
     for (place, octet) in line.iter().enumerate() {
         if place == SHOWN {
             return write!(out, "..");
