@@ -147,20 +147,50 @@ impl Progress {
     }
 }
 
+/// Who is shown the totals while a text is read.
+pub trait Watcher {
+    /// Sees the totals of the lines so far. `all` is whether the reader had no more at hand.
+    fn see(&mut self, totals: &Totals, all: bool);
+}
+
+/// A watcher who looks at nothing.
+#[derive(Clone, Copy, Debug)]
+pub struct Nobody;
+
+impl Watcher for Nobody {
+    fn see(&mut self, _totals: &Totals, _all: bool) {}
+}
+
 /// The totals of all that a reader gives. After a fault nothing is known of the reader.
 ///
 /// A buffer of 65,536 octets and one for a line are kept; else memory grows with the calls alone.
 pub fn read_totals<R: Read>(alloc: Global, reader: &mut R) -> Result<Totals, TotalsFault>
     ensures whole { IfOk result (λ t. IfSome (R.remaining reader.old) (λ text. AreTotalsOf text t)) }
 {
+    watch_totals(alloc, reader, &mut Nobody)
+}
+
+/// The totals of all that a reader gives, as `read_totals` has them. The watcher sees them after each read.
+pub fn watch_totals<R: Read, S: Watcher>(
+    alloc: Global,
+    reader: &mut R,
+    watcher: &mut S,
+) -> Result<Totals, TotalsFault>
+    ensures whole { IfOk result (λ t. IfSome (R.remaining reader.old) (λ text. AreTotalsOf text t)) }
+{
     let Ok(mut buffer) = zeros(alloc, PIECE) else {
         return Err(TotalsFault::NoMemory);
     };
-    read_by(alloc, reader, buffer.as_mut_slice())
+    read_by(alloc, reader, watcher, buffer.as_mut_slice())
 }
 
 /// The totals of all that a reader gives, by way of this buffer.
-fn read_by<R: Read>(alloc: Global, reader: &mut R, buffer: &mut [u8]) -> Result<Totals, TotalsFault>
+fn read_by<R: Read, S: Watcher>(
+    alloc: Global,
+    reader: &mut R,
+    watcher: &mut S,
+    buffer: &mut [u8],
+) -> Result<Totals, TotalsFault>
     requires { 0 < length buffer.old }
     ensures { IfOk result (λ t. IfSome (R.remaining reader.old) (λ text. AreTotalsOf text t)) }
 {
@@ -178,6 +208,7 @@ fn read_by<R: Read>(alloc: Global, reader: &mut R, buffer: &mut [u8]) -> Result<
         let Ok(()) = progress.take_all(&buffer[..count]) else {
             return Err(TotalsFault::NoMemory);
         };
+        watcher.see(&progress.totals, count < buffer.len());
     }
     Err(TotalsFault::Read)
 }

@@ -1,7 +1,7 @@
 //! rohctl: tells what rohcd did with each call.
 #![tactic(auto)]
 
-use rohctl_ground::Ending;
+use rohctl_ground::{Ending, Screen};
 use rohctl_program::run;
 use std::io::IsTerminal;
 use std::process::ExitCode;
@@ -26,9 +26,14 @@ fn wants_colour<R: Env + AllocGlobal>(rt: &R, is_terminal: bool) -> bool {
 }
 
 fn main(rt: HostRuntime) -> ExitCode {
-    let colour = wants_colour(&rt, rt.stdout().is_terminal());
+    let output = rt.stdout().is_terminal();
+    let screen = Screen {
+        output,
+        colour: wants_colour(&rt, output),
+        error: rt.stderr().is_terminal(),
+    };
     let ending = match words(&rt) {
-        Ok(words) => run(&rt, words.as_slice(), colour),
+        Ok(words) => run(&rt, words.as_slice(), screen),
         Err(e) if e.kind() == io::ErrorKind::InvalidData => Ending::CommandLine,
         Err(_) => Ending::Memory,
     };

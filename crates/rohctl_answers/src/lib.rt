@@ -2,7 +2,7 @@
 #![tactic(auto)]
 
 mod differences;
-mod file;
+mod follow;
 mod json;
 mod metrics;
 mod table;
@@ -10,5 +10,5 @@ mod totals;
 mod tracing;
 
 pub use differences::run_diff;
-pub use totals::{Form, run_totals};
+pub use totals::{Asked, Form, run_totals};
 pub use tracing::run_trace;

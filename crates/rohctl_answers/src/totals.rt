@@ -1,14 +1,15 @@
 //! `totals`: the answer lines of a file, counted and written.
 
-use crate::file::totals_of;
+use crate::follow::{Follower, clear};
 use crate::json::write_json;
 use crate::metrics::write_metrics;
 use crate::table::write_table;
-use rohc_totals::{CallRow, LineKind, Totals, call_rows};
-use rohctl_ground::Ending;
+use rohc_totals::{CallRow, LineKind, Totals, TotalsFault, call_rows, read_totals, watch_totals};
+use rohctl_ground::{Ending, Screen, Told, open_source};
 use std::io;
 use std::io::{BufWriter, Write};
 use std::rt::Files;
+use std::time::Clock;
 
 /// How a result is written.
 #[derive(Clone, Copy, Debug, PartialEq, Eq)]
@@ -21,18 +22,53 @@ pub enum Form {
     Prometheus,
 }
 
-/// Counts the answer lines of a file, and writes what there is.
-pub fn run_totals<R>(rt: &R, answers: &str, form: Form, colour: bool) -> Result<Ending, Ending>
+/// What is asked of `totals`.
+#[derive(Clone, Copy, Debug)]
+pub struct Asked<'a> {
+    /// The answer lines; `-` is standard input.
+    pub answers: &'a str,
+    pub form: Form,
+    /// Whether the table is drawn while the lines come.
+    pub follow: bool,
+}
+
+/// The totals of the answer lines that are asked for.
+fn totals_of<R>(rt: &R, asked: &Asked<'_>, screen: Screen) -> Result<Totals, Ending>
 where
-    R: Files + Input + Print + Eprint + AllocGlobal,
+    R: Files + Input + Print + Eprint + Clock + AllocGlobal,
 {
-    let totals = totals_of(rt, answers)?;
+    let source = open_source(rt, asked.answers)?;
+    let mut lines = Told::new(rt, source, screen.error && !asked.follow);
+    let read = if asked.follow && screen.output {
+        watch_totals(
+            rt.alloc(),
+            &mut lines,
+            &mut Follower::new(rt, screen.colour),
+        )
+    } else {
+        read_totals(rt.alloc(), &mut lines)
+    };
+    read.map_err(|fault| match fault {
+        TotalsFault::NoMemory => Ending::Memory,
+        TotalsFault::Read => Ending::Read,
+    })
+}
+
+/// Counts the answer lines of a file, and writes what there is.
+pub fn run_totals<R>(rt: &R, asked: &Asked<'_>, screen: Screen) -> Result<Ending, Ending>
+where
+    R: Files + Input + Print + Eprint + Clock + AllocGlobal,
+{
+    let totals = totals_of(rt, asked, screen)?;
     let rows = call_rows(rt.alloc(), &totals).map_err(|_| Ending::Memory)?;
     let Ok(mut out) = BufWriter::new(rt.alloc(), io::writer(rt)) else {
         return Err(Ending::Memory);
     };
-    let written = match form {
-        Form::Table => write_table(&mut out, &totals, &rows, colour),
+    if asked.follow && screen.output && clear(&mut out).is_err() {
+        return Err(Ending::Write);
+    }
+    let written = match asked.form {
+        Form::Table => write_table(&mut out, &totals, &rows, screen.colour),
         Form::Json => write_json(&mut out, &totals, &rows),
         Form::Prometheus => write_metrics(&mut out, &totals, &rows),
     };

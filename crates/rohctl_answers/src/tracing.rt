@@ -1,29 +1,22 @@
 //! `trace`: each line of a script with its number, and its answers behind it.
 
 use rohc_trace::{TraceFault, trace};
-use rohctl_ground::{Ending, concentrator_of};
+use rohctl_ground::{Ending, Screen, Told, concentrator_of, open_source};
+use std::io;
 use std::io::{BufWriter, Write};
 use std::rt::Files;
-use std::{fs, io};
 
 /// Traces the script of a file, with the links of another.
-pub fn run_trace<R>(rt: &R, links: &str, script: &str) -> Result<Ending, Ending>
+pub fn run_trace<R>(rt: &R, links: &str, script: &str, screen: Screen) -> Result<Ending, Ending>
 where
-    R: Files + Input + Print + AllocGlobal,
+    R: Files + Input + Print + Eprint + AllocGlobal,
 {
     let mut concentrator = concentrator_of(rt, links)?;
     let Ok(mut out) = BufWriter::new(rt.alloc(), io::writer(rt)) else {
         return Err(Ending::Memory);
     };
-    let traced = if script == "-" {
-        let mut reader = rt.reader();
-        trace(rt.alloc(), &mut concentrator, &mut reader, &mut out)
-    } else {
-        let Ok(mut file) = fs::open(rt, script) else {
-            return Err(Ending::Read);
-        };
-        trace(rt.alloc(), &mut concentrator, &mut file, &mut out)
-    };
+    let mut lines = Told::new(rt, open_source(rt, script)?, screen.error && !screen.output);
+    let traced = trace(rt.alloc(), &mut concentrator, &mut lines, &mut out);
     let flushed = out.flush();
     match traced {
         Ok(()) if flushed.is_ok() => Ok(Ending::Good),

@@ -3,7 +3,7 @@
 use crate::rules::{RulesFault, rules_of};
 use rohc_capture::{Capture, CaptureFault, FaultKind, Format};
 use rohc_decompress::{Bulk, BulkFault, Tally, begin, decompress};
-use rohctl_ground::{Ending, Target, concentrator_of, make_target, open_source};
+use rohctl_ground::{Ending, Screen, Target, Told, concentrator_of, make_target, open_source};
 use std::io::Write;
 use std::rt::Files;
 
@@ -59,7 +59,7 @@ fn ran_end(ran: Result<(), BulkFault>, flushed: bool) -> Result<Ending, Ending> 
 }
 
 /// Runs a capture, and writes what is delivered.
-pub fn run_decompress<R>(rt: &R, asked: &Decompress<'_>) -> Result<Ending, Ending>
+pub fn run_decompress<R>(rt: &R, asked: &Decompress<'_>, screen: Screen) -> Result<Ending, Ending>
 where
     R: Files + Input + Print + Eprint + AllocGlobal,
 {
@@ -70,7 +70,7 @@ where
         format: asked.format,
     };
     let mut links = concentrator_of(rt, asked.links)?;
-    let input = open_source(rt, asked.input)?;
+    let input = Told::new(rt, open_source(rt, asked.input)?, screen.error);
     let mut capture = Capture::new(rt.alloc(), input).map_err(|fault| capture_end(fault))?;
     let mut packets = make_target(rt, asked.output)?;
     let mut feedback = match asked.feedback {

@@ -6,11 +6,11 @@ use crate::explain_line::{Event, event_of, octets_of};
 use crate::explain_packet::{Explained, Got, explain_packet};
 use crate::explain_text::{write_brief, write_whole};
 use rohc_concentrator::Concentrator;
-use rohctl_ground::{Ending, concentrator_of};
+use rohctl_ground::{Ending, Screen, Told, concentrator_of, open_source};
 use std::alloc::Global;
+use std::io;
 use std::io::{BufWriter, Read, Write};
 use std::rt::Files;
-use std::{fs, io};
 
 /// The longest line without its newline, in octets.
 const LONGEST_LINE: usize = 131_200;
@@ -140,9 +140,9 @@ impl Run<'_> {
 }
 
 /// Explains what was asked for.
-pub fn run_explain<R>(rt: &R, asked: &Asked<'_>) -> Result<Ending, Ending>
+pub fn run_explain<R>(rt: &R, asked: &Asked<'_>, screen: Screen) -> Result<Ending, Ending>
 where
-    R: Files + Input + Print + AllocGlobal,
+    R: Files + Input + Print + Eprint + AllocGlobal,
 {
     let mut run = Run {
         alloc: rt.alloc(),
@@ -157,12 +157,9 @@ where
     };
     match asked.source {
         Source::Word { link, packets } => run.word(&mut out, link, packets)?,
-        Source::Script("-") => run.script(&mut rt.reader(), &mut out)?,
         Source::Script(path) => {
-            let Ok(mut file) = fs::open(rt, path) else {
-                return Err(Ending::Read);
-            };
-            run.script(&mut file, &mut out)?;
+            let mut lines = Told::new(rt, open_source(rt, path)?, screen.error && !screen.output);
+            run.script(&mut lines, &mut out)?;
         }
     }
     match out.flush() {

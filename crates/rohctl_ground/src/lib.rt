@@ -9,4 +9,4 @@ mod streams;
 pub use ending::Ending;
 pub use links::{concentrator_of, good_links, links_text};
 pub use quoted::{write_octets, write_quoted, write_value};
-pub use streams::{Source, Target, make_target, open_source};
+pub use streams::{Screen, Source, Target, Told, make_target, open_source};

@@ -5,6 +5,17 @@ use std::io::{BufWriter, Printer, Read, Write};
 use std::rt::Files;
 use std::{fs, io};
 
+/// What standard output and standard error are.
+#[derive(Clone, Copy, Debug, PartialEq, Eq)]
+pub struct Screen {
+    /// Whether standard output is a terminal.
+    pub output: bool,
+    /// Whether it takes colours.
+    pub colour: bool,
+    /// Whether standard error is a terminal.
+    pub error: bool,
+}
+
 /// A file or standard input.
 #[derive(Drop)]
 pub enum Source<F, I> {
@@ -83,5 +94,49 @@ pub fn make_target<'a, R: Files + Print + AllocGlobal>(
     match BufWriter::new(rt.alloc(), file) {
         Ok(file) => Ok(Target::File(file)),
         Err(_) => Err(Ending::Memory),
+    }
+}
+
+/// After how many octets progress is told: 16 MiB.
+const STEP: u64 = 16_777_216;
+
+/// A source whose progress is told on standard error, in a line that is written over and goes at the end.
+#[derive(Drop)]
+pub struct Told<'a, R, S> {
+    rt: &'a R,
+    source: S,
+    /// Whether progress is told at all.
+    telling: bool,
+    octets: u64,
+    /// How many octets had been read when it was told last.
+    told: u64,
+}
+
+impl<'a, R: Eprint, S: Read> Told<'a, R, S> {
+    /// Reads from this source. `telling` is whether standard error is a terminal.
+    pub fn new(rt: &'a R, source: S, telling: bool) -> Self {
+        Told {
+            rt,
+            source,
+            telling,
+            octets: 0,
+            told: 0,
+        }
+    }
+}
+
+impl<R: Eprint, S: Read> Read for Told<'_, R, S> {
+    fn read(&mut self, buf: &mut [u8]) -> io::Result<usize> {
+        let count = self.source.read(buf)?;
+        self.octets = self.octets.saturating_add(count as u64);
+        if count == 0 && self.told > 0 {
+            let _ = eprint!(self.rt; "\r\x1b[K");
+        }
+        if self.telling && self.octets.saturating_sub(self.told) >= STEP {
+            self.told = self.octets;
+            let millions = self.octets / 1_000_000;
+            let _ = eprint!(self.rt; "\r{millions} MB read");
+        }
+        Ok(count)
     }
 }

@@ -6,7 +6,7 @@ use crate::explain_words::{explain_of, explain_words};
 use crate::options::{flag, valued};
 use clap::error::ErrorKind;
 use clap::{Arg, ArgMatches, Command};
-use rohctl_answers::Form;
+use rohctl_answers::{Asked as Totals, Form};
 use rohctl_captures::Decompress;
 use rohctl_explain::Asked;
 use rohctl_ground::Ending;
@@ -19,11 +19,8 @@ const MOST_PROCESSES: u64 = 256;
 /// What the command line asks for.
 #[derive(Clone, Copy, Debug)]
 pub(crate) enum Request<'a> {
-    /// Count the answer lines of this file; `-` is standard input.
-    Totals {
-        answers: &'a str,
-        form: Form,
-    },
+    /// Count answer lines.
+    Totals(Totals<'a>),
     /// Tell all faults of this links file, or what it sets.
     Links {
         links: &'a str,
@@ -74,7 +71,12 @@ fn totals<'a>(alloc: Global) -> Result<Command<'a>, AllocError> {
         .arg(flag(alloc, "json", "Write JSON, one object a line"))?
         .arg(flag(alloc, "prometheus", "Write the text format of Prometheus").conflicts_with(
             "json",
-        )?)
+        )?)?
+        .arg(flag(
+            alloc,
+            "follow",
+            "On a terminal, draw the table again while lines come",
+        ))
 }
 
 /// The subcommand `links`.
@@ -345,10 +347,11 @@ fn wish_of(name: &str, options: &ArgMatches<'_>) -> Option<Wish> {
 /// The request in the words that were matched.
 fn asked_for<'a>(matches: &ArgMatches<'a>) -> Option<Request<'a>> {
     match matches.subcommand()? {
-        ("totals", options) => Some(Request::Totals {
+        ("totals", options) => Some(Request::Totals(Totals {
             answers: options.get_str("ANSWERS")?,
             form: form_of(options),
-        }),
+            follow: options.get_flag("follow"),
+        })),
         ("links", options) if options.get_flag("new") => Some(Request::NewLinks),
         ("links", options) => Some(Request::Links {
             links: options.get_str("FILE")?,

@@ -6,29 +6,30 @@ use crate::verify::run_verify;
 use rohctl_answers::{run_diff, run_totals, run_trace};
 use rohctl_captures::run_decompress;
 use rohctl_explain::run_explain;
-use rohctl_ground::Ending;
+use rohctl_ground::{Ending, Screen};
 use rohctl_links::{run_links, run_new, run_plan, run_spread};
 use std::net::Net;
 use std::rt::Files;
+use std::time::Clock;
 
-/// Runs the program with these words. `colour` is whether standard output takes colours.
-pub fn run<R>(rt: &R, words: &[String], colour: bool) -> Ending
+/// Runs the program with these words. `screen` is what the standard streams are.
+pub fn run<R>(rt: &R, words: &[String], screen: Screen) -> Ending
 where
-    R: Files + Input + Print + Eprint + Net + AllocGlobal,
+    R: Files + Input + Print + Eprint + Net + Clock + AllocGlobal,
 {
-    match requested(rt, words, colour) {
+    match requested(rt, words, screen) {
         Ok(ending) => ending,
         Err(ending) => ending,
     }
 }
 
 /// Does what the words ask for.
-fn requested<R>(rt: &R, words: &[String], colour: bool) -> Result<Ending, Ending>
+fn requested<R>(rt: &R, words: &[String], screen: Screen) -> Result<Ending, Ending>
 where
-    R: Files + Input + Print + Eprint + Net + AllocGlobal,
+    R: Files + Input + Print + Eprint + Net + Clock + AllocGlobal,
 {
     match read_request(rt, words)? {
-        Request::Totals { answers, form } => run_totals(rt, answers, form, colour),
+        Request::Totals(asked) => run_totals(rt, &asked, screen),
         Request::Links { links, json } => run_links(rt, links, json),
         Request::NewLinks => run_new(rt),
         Request::Diff {
@@ -37,11 +38,11 @@ where
             json,
         } => run_diff(rt, first, second, json),
         Request::Plan(plan) => run_plan(rt, &plan),
-        Request::Decompress(asked) => run_decompress(rt, &asked),
-        Request::Explain(asked) => run_explain(rt, &asked),
+        Request::Decompress(asked) => run_decompress(rt, &asked, screen),
+        Request::Explain(asked) => run_explain(rt, &asked, screen),
         Request::Spread(spread) => run_spread(rt, spread),
         Request::Verify { list, root } => run_verify(rt, list, root),
         Request::Control { control, wish } => run_control(rt, control, wish),
-        Request::Trace { links, script } => run_trace(rt, links, script),
+        Request::Trace { links, script } => run_trace(rt, links, script, screen),
     }
 }
