@@ -18,3 +18,4 @@ pub use fault::RunFault;
 pub use rohc_links::{Key, LONGEST_PACKET, Links, LinksFault, Ports, read_links};
 pub use run::replay;
 pub use tally::Tally;
+pub use words::{Words, read_words};

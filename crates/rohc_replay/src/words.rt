@@ -16,7 +16,7 @@ use crate::numeral::read_number;
 
 /// The content of a good line. The octets of a packet are stored apart.
 #[derive(Clone, Copy, Debug, PartialEq, Eq)]
-pub(crate) enum Words {
+pub enum Words {
     /// A packet of `size` octets arrives on a link at this time.
     Arrive { link: u16, moment: u64, size: usize },
     /// A link is reset.
@@ -26,7 +26,7 @@ pub(crate) enum Words {
 /// Reads a line, and writes the octets of its packet to the start of `packet`.
 ///
 /// Returns `None` exactly if the line is the text of no event.
-pub(crate) fn read_words(line: &[u8], packet: &mut [u8]) -> Option<Words>
+pub fn read_words(line: &[u8], packet: &mut [u8]) -> Option<Words>
     requires { length packet.old ≡ longest_packet }
     ensures spelled { IfSome result (λ words. line.now ≡ spelling (event_in words packet.new)) }
     ensures good { IfSome result (λ words. IsEvent (event_in words packet.new)) }

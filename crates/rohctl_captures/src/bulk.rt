@@ -1,6 +1,6 @@
 //! `decompress`: from a capture of ROHC packets to a capture of IP packets.
 
-use crate::rules::{RulesFault, rules_of};
+use crate::rules::{RuleWords, rules_of};
 use rohc_capture::{Capture, CaptureFault, FaultKind, Format};
 use rohc_decompress::{Bulk, BulkFault, Tally, begin, decompress};
 use rohctl_ground::{Ending, Screen, Target, Told, concentrator_of, make_target, open_source};
@@ -18,12 +18,8 @@ pub struct Decompress<'a> {
     pub output: &'a str,
     /// The capture of feedback that is written, if one is asked for.
     pub feedback: Option<&'a str>,
-    /// The link of ROHC packets that the capture's own link carries.
-    pub link: Option<&'a str>,
-    /// The links of VLANs, as N=L with commas between them.
-    pub vlan: Option<&'a str>,
-    /// UDP ports, as N or N=L with commas between them.
-    pub port: Option<&'a str>,
+    /// Which link a frame belongs to.
+    pub rules: RuleWords<'a>,
     /// Whether a rebuilt packet ends at its IPv4 total length.
     pub padded: bool,
     /// Whether counts are told.
@@ -33,19 +29,11 @@ pub struct Decompress<'a> {
 }
 
 /// The ending for a capture that can't be read on.
-fn capture_end(fault: CaptureFault) -> Ending {
+pub(crate) fn capture_end(fault: CaptureFault) -> Ending {
     match fault.kind {
         FaultKind::NoMemory => Ending::Memory,
         FaultKind::Read => Ending::Read,
         _ => Ending::Capture(fault),
-    }
-}
-
-/// The ending for words without good rules, or for lack of memory.
-fn rules_end(fault: RulesFault) -> Ending {
-    match fault {
-        RulesFault::Words => Ending::CommandLine,
-        RulesFault::Memory => Ending::Memory,
     }
 }
 
@@ -63,7 +51,7 @@ pub fn run_decompress<R>(rt: &R, asked: &Decompress<'_>, screen: Screen) -> Resu
 where
     R: Files + Input + Print + Eprint + AllocGlobal,
 {
-    let rules = rules_of(rt.alloc(), asked).map_err(|fault| rules_end(fault))?;
+    let rules = rules_of(rt.alloc(), &asked.rules).map_err(|fault| fault.ending())?;
     let bulk = Bulk {
         rules: rules.as_slice(),
         padded: asked.padded,

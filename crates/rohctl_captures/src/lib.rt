@@ -1,7 +1,11 @@
-//! The subcommand of `rohctl` that reads captures: `decompress`.
+//! The subcommands of `rohctl` that read captures: `decompress` and `script`.
 #![tactic(auto)]
 
 mod bulk;
 mod rules;
+mod script;
+mod sender;
 
 pub use bulk::{Decompress, run_decompress};
+pub use rules::RuleWords;
+pub use script::{Script, run_script};

@@ -1,8 +1,19 @@
 //! Whose packets a capture has: the rules of the options.
 
-use crate::bulk::Decompress;
 use rohc_capture::Rule;
+use rohctl_ground::Ending;
 use std::alloc::Global;
+
+/// The options that say which link a frame belongs to.
+#[derive(Clone, Copy, Debug)]
+pub struct RuleWords<'a> {
+    /// The link of ROHC packets that the capture's own link carries.
+    pub link: Option<&'a str>,
+    /// The links of VLANs, as N=L with commas between them.
+    pub vlan: Option<&'a str>,
+    /// UDP ports, as N or N=L with commas between them.
+    pub port: Option<&'a str>,
+}
 
 /// The options that name links.
 #[derive(Clone, Copy, Debug, PartialEq, Eq)]
@@ -51,6 +62,16 @@ pub(crate) enum RulesFault {
     Memory,
 }
 
+impl RulesFault {
+    /// The ending for words without good rules, or for lack of memory.
+    pub(crate) fn ending(self) -> Ending {
+        match self {
+            RulesFault::Words => Ending::CommandLine,
+            RulesFault::Memory => Ending::Memory,
+        }
+    }
+}
+
 /// Appends the rules of an option, if it is given.
 fn add_rules(rules: &mut Vec<Rule>, naming: Naming, text: Option<&str>) -> Result<(), RulesFault> {
     let Some(text) = text else {
@@ -68,7 +89,7 @@ fn add_rules(rules: &mut Vec<Rule>, naming: Naming, text: Option<&str>) -> Resul
 }
 
 /// The rules that are asked for: those of VLANs, of ports, and of the link that has all others.
-pub(crate) fn rules_of(alloc: Global, asked: &Decompress<'_>) -> Result<Vec<Rule>, RulesFault> {
+pub(crate) fn rules_of(alloc: Global, asked: &RuleWords<'_>) -> Result<Vec<Rule>, RulesFault> {
     let mut rules = Vec::new(alloc);
     add_rules(&mut rules, Naming::Vlan, asked.vlan)?;
     add_rules(&mut rules, Naming::Port, asked.port)?;

@@ -4,7 +4,6 @@
 mod asked;
 mod explain;
 mod explain_json;
-mod explain_line;
 mod explain_packet;
 mod explain_text;
 

@@ -1,13 +1,13 @@
 //! The command line.
 
-use crate::bulk_words::{decompress_of, decompress_words};
+use crate::capture_words::{decompress_of, decompress_words, script_of, script_words};
 use crate::control::Wish;
 use crate::explain_words::{explain_of, explain_words};
 use crate::options::{flag, valued};
 use clap::error::ErrorKind;
 use clap::{Arg, ArgMatches, Command};
 use rohctl_answers::{Asked as Totals, Form};
-use rohctl_captures::Decompress;
+use rohctl_captures::{Decompress, Script};
 use rohctl_explain::Asked;
 use rohctl_ground::Ending;
 use rohctl_links::{Plan, Spread};
@@ -38,6 +38,8 @@ pub(crate) enum Request<'a> {
     Plan(Plan<'a>),
     /// Turn a capture of ROHC packets into a capture of IP packets.
     Decompress(Decompress<'a>),
+    /// Turn a capture into a script, or back.
+    Script(Script<'a>),
     /// Explain packets.
     Explain(Asked<'a>),
     /// Write the rules that bring each datagram to the process of its link.
@@ -298,6 +300,7 @@ fn command<'a>(alloc: Global) -> Result<Command<'a>, AllocError> {
         .subcommand(explain_words(alloc)?)?
         .subcommand(plan_words(alloc)?)?
         .subcommand(decompress_words(alloc)?)?
+        .subcommand(script_words(alloc)?)?
         .subcommand(spread_words(alloc)?)?
         .subcommand(verify(alloc)?)?;
     with_gateway(alloc, command)
@@ -364,6 +367,7 @@ fn asked_for<'a>(matches: &ArgMatches<'a>) -> Option<Request<'a>> {
         }),
         ("explain", options) => Some(Request::Explain(explain_of(options)?)),
         ("plan", options) => Some(Request::Plan(plan_of(options)?)),
+        ("script", options) => Some(Request::Script(script_of(options)?)),
         ("decompress", options) => Some(Request::Decompress(decompress_of(options)?)),
         ("trace", options) => Some(Request::Trace {
             links: options.get_str("links")?,

@@ -3,7 +3,7 @@
 //! It stands apart from `main`, so that tests can call it.
 #![tactic(auto)]
 
-mod bulk_words;
+mod capture_words;
 mod command;
 mod control;
 mod explain_words;

@@ -4,7 +4,7 @@ use crate::command::{Request, read_request};
 use crate::control::run_control;
 use crate::verify::run_verify;
 use rohctl_answers::{run_diff, run_totals, run_trace};
-use rohctl_captures::run_decompress;
+use rohctl_captures::{run_decompress, run_script};
 use rohctl_explain::run_explain;
 use rohctl_ground::{Ending, Screen};
 use rohctl_links::{run_links, run_new, run_plan, run_spread};
@@ -39,6 +39,7 @@ where
         } => run_diff(rt, first, second, json),
         Request::Plan(plan) => run_plan(rt, &plan),
         Request::Decompress(asked) => run_decompress(rt, &asked, screen),
+        Request::Script(asked) => run_script(rt, &asked, screen),
         Request::Explain(asked) => run_explain(rt, &asked, screen),
         Request::Spread(spread) => run_spread(rt, spread),
         Request::Verify { list, root } => run_verify(rt, list, root),

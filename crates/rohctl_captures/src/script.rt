@@ -1,0 +1,271 @@
+//! The subcommand `script`: a capture as a script, and back.
+
+use crate::bulk::capture_end;
+use crate::rules::{RuleWords, rules_of};
+use crate::sender::{Sender, sender_of};
+use hex::encode_to_slice;
+use rohc_capture::{Capture, Format, Record, Rule, packet_in, write_head, write_record};
+use rohctl_ground::{
+    Ending, Line, Screen, Taker, Target, Told, make_target, open_source, read_script,
+};
+use std::io;
+use std::io::{Printer, Read, Write};
+use std::rt::Files;
+
+/// The link type of raw IP packets.
+const RAW_IP: u16 = 101;
+
+/// The longest packet of a script, in octets.
+const LONGEST_PACKET: usize = 65_535;
+
+/// How many octets are written as digits at once.
+const PIECE: usize = 256;
+
+/// The octets of an IPv4 and a UDP header, and of a link's number.
+const BEFORE: u16 = 30;
+
+/// What is asked of `script`.
+#[derive(Clone, Copy, Debug)]
+pub struct Script<'a> {
+    /// What is read: a capture or, back, a script.
+    pub input: &'a str,
+    /// What is written: a script or, back, a capture.
+    pub output: &'a str,
+    /// Which link a frame belongs to.
+    pub rules: RuleWords<'a>,
+    /// Who sent the packets that arrive: an Ethernet or an IPv4 address. What others sent is told apart.
+    pub from: Option<&'a str>,
+    /// The script of what others sent, if it is asked for.
+    pub other: Option<&'a str>,
+    /// A list with the frame of each line of the script, if it is asked for.
+    pub lines: Option<&'a str>,
+    /// Whether a script is turned into a capture.
+    pub back: bool,
+    /// The form of a capture that is written.
+    pub format: Format,
+}
+
+/// Writes octets as digits; `-` stands for none.
+fn write_digits<W: Write>(out: &mut W, octets: &[u8]) -> io::Result<()> {
+    if octets.is_empty() {
+        return out.write_all(b"-");
+    }
+    let mut text = [0u8; 2 * PIECE];
+    for piece in octets.chunks(PIECE) {
+        let digits = &mut text[..2 * piece.len()];
+        if encode_to_slice(piece, digits).is_ok() {
+            out.write_all(digits)?;
+        }
+    }
+    Ok(())
+}
+
+/// Writes the line of an arrival.
+fn write_line<W: Write>(out: &mut W, link: u16, nanos: u64, packet: &[u8]) -> io::Result<()> {
+    let moment = nanos / 1_000_000;
+    write!(out, "arrive {link} {moment} ")?;
+    write_digits(out, packet)?;
+    writeln!(out, "")
+}
+
+/// Where the lines go.
+#[derive(Drop)]
+struct Outputs<S: Write + Drop, O: Write + Drop, L: Write + Drop> {
+    script: S,
+    other: O,
+    list: L,
+    /// The lines of the script so far.
+    lines: u64,
+}
+
+impl<S: Write + Drop, O: Write + Drop, L: Write + Drop> Outputs<S, O, L> {
+    /// Writes a packet that arrived, in the frame with this number.
+    fn arrived(&mut self, frame: u64, record: &Record, link: u16, packet: &[u8]) -> io::Result<()> {
+        write_line(&mut self.script, link, record.nanos, packet)?;
+        self.lines = self.lines.saturating_add(1);
+        let line = self.lines;
+        let place = record.place;
+        writeln!(self.list, "{line} {frame} {place}")
+    }
+
+    /// Flushes all.
+    fn flush(&mut self) -> io::Result<()> {
+        self.script.flush()?;
+        self.other.flush()?;
+        self.list.flush()
+    }
+}
+
+/// Turns a capture into lines. The error is that of the capture, or of a writer.
+fn run_frames<R, S, O, L>(
+    capture: &mut Capture<R>,
+    rules: &[Rule],
+    sender: Option<Sender>,
+    out: &mut Outputs<S, O, L>,
+) -> Result<(), Ending>
+where
+    R: Read,
+    S: Write + Drop,
+    O: Write + Drop,
+    L: Write + Drop,
+{
+    for frame in 1..u64::MAX {
+        let Some(record) = capture.next().map_err(|fault| capture_end(fault))? else {
+            return Ok(());
+        };
+        let octets = capture.frame();
+        let Ok(Some((link, packet))) = packet_in(rules, record.link_type, record.original, octets)
+        else {
+            continue;
+        };
+        if packet.len() > LONGEST_PACKET {
+            continue;
+        }
+        let written = match &sender {
+            Some(sender) if !sender.sent(record.link_type, octets) => {
+                write_line(&mut out.other, link, record.nanos, packet)
+            }
+            _ => out.arrived(frame, &record, link, packet),
+        };
+        written.map_err(|_| Ending::Write)?;
+        if !capture.is_ahead() {
+            out.flush().map_err(|_| Ending::Write)?;
+        }
+    }
+    Ok(())
+}
+
+/// Turns a capture into a script.
+fn run_forth<R>(rt: &R, asked: &Script<'_>, screen: Screen) -> Result<Ending, Ending>
+where
+    R: Files + Input + Print + Eprint + AllocGlobal,
+{
+    let rules = rules_of(rt.alloc(), &asked.rules).map_err(|fault| fault.ending())?;
+    let sender = match asked.from {
+        Some(text) => Some(sender_of(text).ok_or(Ending::CommandLine)?),
+        None => None,
+    };
+    let input = Told::new(rt, open_source(rt, asked.input)?, screen.error);
+    let mut capture = Capture::new(rt.alloc(), input).map_err(|fault| capture_end(fault))?;
+    let mut out = Outputs {
+        script: make_target(rt, asked.output)?,
+        other: target_of(rt, asked.other)?,
+        list: target_of(rt, asked.lines)?,
+        lines: 0,
+    };
+    let ran = run_frames(&mut capture, rules.as_slice(), sender, &mut out);
+    match out.flush() {
+        Ok(()) => ran.map(|_| Ending::Good),
+        Err(_) => Err(Ending::Write),
+    }
+}
+
+/// A file to be written, if one is asked for.
+fn target_of<'a, R: Files + Print + AllocGlobal>(
+    rt: &'a R,
+    path: Option<&str>,
+) -> Result<Target<R::File, Printer<'a, R>>, Ending> {
+    match path {
+        Some(path) => make_target(rt, path),
+        None => Ok(Target::Nothing),
+    }
+}
+
+/// Who writes arrivals as datagrams to a port.
+#[derive(Drop)]
+struct Datagrams<W: Write + Drop> {
+    out: W,
+    format: Format,
+    port: u16,
+}
+
+/// The header sum of an IPv4 header whose own sum is 0.
+fn sum_of(head: &[u8; 20]) -> u16 {
+    let mut sum = 0u32;
+    for pair in head.chunks(2) {
+        if let [high, low] = pair {
+            sum = sum.saturating_add(u32::from(*high) * 256 + u32::from(*low));
+        }
+    }
+    let folded = sum % 65_536 + sum / 65_536;
+    let folded = folded % 65_536 + folded / 65_536;
+    !((folded % 65_536) as u16)
+}
+
+/// The IPv4 and the UDP header of a datagram from 127.0.0.1 to a port there, and the link's number; `None` if it would be
+/// too long.
+fn front_of(port: u16, link: u16, size: usize) -> Option<[u8; 30]> {
+    let total = u16::try_from(size).ok()?.checked_add(BEFORE)?;
+    let [total_high, total_low] = total.to_be_bytes();
+    let [udp_high, udp_low] = (total - 20).to_be_bytes();
+    let [port_high, port_low] = port.to_be_bytes();
+    let [link_high, link_low] = link.to_be_bytes();
+    let mut head = [0u8; 20];
+    head.copy_from_slice(&[
+        0x45, 0, total_high, total_low, 0, 0, 0x40, 0, 64, 17, 0, 0, 127, 0, 0, 1, 127, 0, 0, 1,
+    ]);
+    let [sum_high, sum_low] = sum_of(&head).to_be_bytes();
+    head[10] = sum_high;
+    head[11] = sum_low;
+    let mut front = [0u8; 30];
+    front[..20].copy_from_slice(&head);
+    front[20..].copy_from_slice(&[
+        port_high, port_low, port_high, port_low, udp_high, udp_low, 0, 0, link_high, link_low,
+    ]);
+    Some(front)
+}
+
+impl<W: Write + Drop> Taker for Datagrams<W> {
+    /// Writes an arrival. Any other line has no datagram, nor has a packet that is too long for one.
+    fn take(&mut self, _number: u64, line: Line<'_>) -> Result<(), Ending> {
+        let Line::Arrive {
+            link,
+            moment,
+            packet,
+        } = line
+        else {
+            return Ok(());
+        };
+        let Some(front) = front_of(self.port, link, packet.len()) else {
+            return Ok(());
+        };
+        let nanos = moment.saturating_mul(1_000_000);
+        write_record(&mut self.out, self.format, nanos, &front, packet).map_err(|_| Ending::Write)
+    }
+}
+
+/// Turns a script into a capture of datagrams, each with the number of its link in front.
+fn run_back<R>(rt: &R, asked: &Script<'_>, screen: Screen) -> Result<Ending, Ending>
+where
+    R: Files + Input + Print + Eprint + AllocGlobal,
+{
+    let Some(Ok(port)) = asked.rules.port.map(|text| text.parse::<u16>()) else {
+        return Err(Ending::CommandLine);
+    };
+    let mut lines = Told::new(rt, open_source(rt, asked.input)?, screen.error);
+    let mut datagrams = Datagrams {
+        out: make_target(rt, asked.output)?,
+        format: asked.format,
+        port,
+    };
+    if write_head(&mut datagrams.out, asked.format, RAW_IP).is_err() {
+        return Err(Ending::Write);
+    }
+    let ran = read_script(rt.alloc(), &mut lines, &mut datagrams);
+    match datagrams.out.flush() {
+        Ok(()) => ran.map(|_| Ending::Good),
+        Err(_) => Err(Ending::Write),
+    }
+}
+
+/// Turns a capture into a script, or a script into a capture.
+pub fn run_script<R>(rt: &R, asked: &Script<'_>, screen: Screen) -> Result<Ending, Ending>
+where
+    R: Files + Input + Print + Eprint + AllocGlobal,
+{
+    if asked.back {
+        run_back(rt, asked, screen)
+    } else {
+        run_forth(rt, asked, screen)
+    }
+}
