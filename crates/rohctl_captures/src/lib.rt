@@ -2,6 +2,7 @@
 #![tactic(auto)]
 
 mod bulk;
+mod datagrams;
 mod rules;
 mod script;
 mod sender;

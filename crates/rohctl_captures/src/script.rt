@@ -1,13 +1,12 @@
 //! The subcommand `script`: a capture as a script, and back.
 
 use crate::bulk::capture_end;
+use crate::datagrams::Datagrams;
 use crate::rules::{RuleWords, rules_of};
 use crate::sender::{Sender, sender_of};
 use hex::encode_to_slice;
-use rohc_capture::{Capture, Format, Record, Rule, packet_in, write_head, write_record};
-use rohctl_ground::{
-    Ending, Line, Screen, Taker, Target, Told, make_target, open_source, read_script,
-};
+use rohc_capture::{Capture, Format, Record, Rule, packet_in, write_head};
+use rohctl_ground::{Ending, Screen, Target, Told, make_target, open_source, read_script};
 use std::io;
 use std::io::{Printer, Read, Write};
 use std::rt::Files;
@@ -20,9 +19,6 @@ const LONGEST_PACKET: usize = 65_535;
 
 /// How many octets are written as digits at once.
 const PIECE: usize = 256;
-
-/// The octets of an IPv4 and a UDP header, and of a link's number.
-const BEFORE: u16 = 30;
 
 /// What is asked of `script`.
 #[derive(Clone, Copy, Debug)]
@@ -171,69 +167,6 @@ fn target_of<'a, R: Files + Print + AllocGlobal>(
     }
 }
 
-/// Who writes arrivals as datagrams to a port.
-#[derive(Drop)]
-struct Datagrams<W: Write + Drop> {
-    out: W,
-    format: Format,
-    port: u16,
-}
-
-/// The header sum of an IPv4 header whose own sum is 0.
-fn sum_of(head: &[u8; 20]) -> u16 {
-    let mut sum = 0u32;
-    for pair in head.chunks(2) {
-        if let [high, low] = pair {
-            sum = sum.saturating_add(u32::from(*high) * 256 + u32::from(*low));
-        }
-    }
-    let folded = sum % 65_536 + sum / 65_536;
-    let folded = folded % 65_536 + folded / 65_536;
-    !((folded % 65_536) as u16)
-}
-
-/// The IPv4 and the UDP header of a datagram from 127.0.0.1 to a port there, and the link's number; `None` if it would be
-/// too long.
-fn front_of(port: u16, link: u16, size: usize) -> Option<[u8; 30]> {
-    let total = u16::try_from(size).ok()?.checked_add(BEFORE)?;
-    let [total_high, total_low] = total.to_be_bytes();
-    let [udp_high, udp_low] = (total - 20).to_be_bytes();
-    let [port_high, port_low] = port.to_be_bytes();
-    let [link_high, link_low] = link.to_be_bytes();
-    let mut head = [0u8; 20];
-    head.copy_from_slice(&[
-        0x45, 0, total_high, total_low, 0, 0, 0x40, 0, 64, 17, 0, 0, 127, 0, 0, 1, 127, 0, 0, 1,
-    ]);
-    let [sum_high, sum_low] = sum_of(&head).to_be_bytes();
-    head[10] = sum_high;
-    head[11] = sum_low;
-    let mut front = [0u8; 30];
-    front[..20].copy_from_slice(&head);
-    front[20..].copy_from_slice(&[
-        port_high, port_low, port_high, port_low, udp_high, udp_low, 0, 0, link_high, link_low,
-    ]);
-    Some(front)
-}
-
-impl<W: Write + Drop> Taker for Datagrams<W> {
-    /// Writes an arrival. Any other line has no datagram, nor has a packet that is too long for one.
-    fn take(&mut self, _number: u64, line: Line<'_>) -> Result<(), Ending> {
-        let Line::Arrive {
-            link,
-            moment,
-            packet,
-        } = line
-        else {
-            return Ok(());
-        };
-        let Some(front) = front_of(self.port, link, packet.len()) else {
-            return Ok(());
-        };
-        let nanos = moment.saturating_mul(1_000_000);
-        write_record(&mut self.out, self.format, nanos, &front, packet).map_err(|_| Ending::Write)
-    }
-}
-
 /// Turns a script into a capture of datagrams, each with the number of its link in front.
 fn run_back<R>(rt: &R, asked: &Script<'_>, screen: Screen) -> Result<Ending, Ending>
 where
@@ -247,14 +180,22 @@ where
         out: make_target(rt, asked.output)?,
         format: asked.format,
         port,
+        left_out: 0,
     };
     if write_head(&mut datagrams.out, asked.format, RAW_IP).is_err() {
         return Err(Ending::Write);
     }
     let ran = read_script(rt.alloc(), &mut lines, &mut datagrams);
-    match datagrams.out.flush() {
-        Ok(()) => ran.map(|_| Ending::Good),
-        Err(_) => Err(Ending::Write),
+    let flushed = datagrams.out.flush().is_ok();
+    let left_out = datagrams.left_out;
+    let told = left_out == 0
+        || eprintln!(rt;
+            "lines left out: {left_out} (no arrivals, or more than a capture holds)"
+        ).is_ok();
+    if flushed && told {
+        ran.map(|_| Ending::Good)
+    } else {
+        Err(Ending::Write)
     }
 }
 

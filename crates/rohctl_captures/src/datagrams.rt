@@ -1,0 +1,100 @@
+//! The arrivals of a script as datagrams of a capture.
+
+use rohc_capture::{Format, write_record};
+use rohctl_ground::{Ending, Line, Taker};
+use std::io::Write;
+
+/// The octets of an IPv4 and a UDP header, and of a link's number.
+const BEFORE: u16 = 30;
+
+/// The last second since 1970 that a capture of pcap can hold.
+const LAST_SECOND: u64 = 4_294_967_295;
+
+/// Who writes arrivals as datagrams to a port.
+#[derive(Drop)]
+pub(crate) struct Datagrams<W: Write + Drop> {
+    pub(crate) out: W,
+    pub(crate) format: Format,
+    pub(crate) port: u16,
+    /// The lines without a datagram: no arrivals, or what a capture can't hold.
+    pub(crate) left_out: u64,
+}
+
+/// The header sum of an IPv4 header whose own sum is 0.
+fn sum_of(head: &[u8; 20]) -> u16 {
+    let mut sum = 0u32;
+    for pair in head.chunks(2) {
+        if let [high, low] = pair {
+            sum = sum.saturating_add(u32::from(*high) * 256 + u32::from(*low));
+        }
+    }
+    let folded = sum % 65_536 + sum / 65_536;
+    let folded = folded % 65_536 + folded / 65_536;
+    !((folded % 65_536) as u16)
+}
+
+/// The IPv4 and the UDP header of a datagram from 127.0.0.1 to a port there, and the link's number; `None` if it would be
+/// too long.
+fn front_of(port: u16, link: u16, size: usize) -> Option<[u8; 30]> {
+    let total = u16::try_from(size).ok()?.checked_add(BEFORE)?;
+    let [total_high, total_low] = total.to_be_bytes();
+    let [udp_high, udp_low] = (total - 20).to_be_bytes();
+    let [port_high, port_low] = port.to_be_bytes();
+    let [link_high, link_low] = link.to_be_bytes();
+    let mut head = [0u8; 20];
+    head.copy_from_slice(&[
+        0x45, 0, total_high, total_low, 0, 0, 0x40, 0, 64, 17, 0, 0, 127, 0, 0, 1, 127, 0, 0, 1,
+    ]);
+    let [sum_high, sum_low] = sum_of(&head).to_be_bytes();
+    head[10] = sum_high;
+    head[11] = sum_low;
+    let mut front = [0u8; 30];
+    front[..20].copy_from_slice(&head);
+    front[20..].copy_from_slice(&[
+        port_high, port_low, port_high, port_low, udp_high, udp_low, 0, 0, link_high, link_low,
+    ]);
+    Some(front)
+}
+
+/// The nanosecond of a moment, if a capture of this form can hold it.
+fn nanos_of(format: Format, moment: u64) -> Option<u64> {
+    let nanos = moment.checked_mul(1_000_000)?;
+    match format {
+        Format::Pcap if nanos / 1_000_000_000 > LAST_SECOND => None,
+        _ => Some(nanos),
+    }
+}
+
+impl<W: Write + Drop> Datagrams<W> {
+    /// Writes an arrival. Returns whether there is a datagram for it.
+    fn arrived(&mut self, link: u16, moment: u64, packet: &[u8]) -> Result<bool, Ending> {
+        let (Some(front), Some(nanos)) = (
+            front_of(self.port, link, packet.len()),
+            nanos_of(self.format, moment),
+        ) else {
+            return Ok(false);
+        };
+        match write_record(&mut self.out, self.format, nanos, &front, packet) {
+            Ok(()) => Ok(true),
+            Err(_) => Err(Ending::Write),
+        }
+    }
+}
+
+impl<W: Write + Drop> Taker for Datagrams<W> {
+    /// Writes an arrival. Any other line has no datagram.
+    fn take(&mut self, _number: u64, line: Line<'_>) -> Result<(), Ending> {
+        let written = match line {
+            Line::Arrive {
+                link,
+                moment,
+                packet,
+            } => self.arrived(link, moment, packet)?,
+            Line::Reset { .. } | Line::Bad => false,
+        };
+        if !written {
+            self.left_out = self.left_out.saturating_add(1);
+        }
+        Ok(())
+    }
+}
