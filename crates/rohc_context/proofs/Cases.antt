@@ -7,10 +7,8 @@ use Rattle.rohc_frame.specs.Header.{Header, IsIr}
 use Rattle.rohc_header.specs.declared.fields.Static.{Static}
 use Rattle.rohc_header.specs.Original.{longest_payload}
 use Rattle.rohc_chain.specs.declared.refusal.ChainRefusal.{ChainRefusal}
-use Rattle.rohc_chain.specs.declared.refusal.ChainRefusal.TheVariants as chains
 use Rattle.rohc_chain.specs.Packets.{IrContent, DynContent, ir_at}
 use Rattle.rohc_forms.specs.declared.refusal.FormRefusal.{FormRefusal}
-use Rattle.rohc_forms.specs.declared.refusal.FormRefusal.TheVariants as forms
 use Rattle.rohc_forms.specs.Content.{Content}
 use Rattle.rohc_context.specs.declared.due.Due.{Due}
 use Rattle.rohc_context.specs.declared.due.Due.TheVariants as dues

@@ -1,5 +1,5 @@
 -- What finds a refusal.
-use Rattle.std.proofs.Common.{◌≡◌, ℕ, ◌⊎◌, inl, inr, List, [], ◌∷◌, Bool, true, false, ◌&&◌, ◌||◌, ◌==◌, not, Option, Some, None, refl, sym, ap, subst, ◌∙◌, rules, arith, eqb-true}
+use Rattle.std.proofs.Common.{◌≡◌, ℕ, inl, inr, List, [], ◌∷◌, Bool, true, false, ◌||◌, ◌==◌, not, Option, Some, None, refl, sym, subst, rules, eqb-true}
 use Rattle.std.proofs.Math.Bool.{xor}
 use Rattle.std.specs.List.{list_any, list_all}
 use Rattle.rohc_bits.specs.Reading.{next_octet}
@@ -11,7 +11,7 @@ use Rattle.rohc_forms.specs.declared.refusal.FormRefusal.{FormRefusal}
 use Rattle.rohc_forms.specs.declared.refusal.FormRefusal.TheVariants as forms
 use Rattle.rohc_frame.specs.declared.header.CidKind.TheVariants.{Small}
 use Rattle.rohc_frame.specs.declared.header.HeadKind.{HeadKind}
-use Rattle.rohc_frame.specs.declared.header.HeadKind.TheVariants.{Ir, IrDyn, Other}
+use Rattle.rohc_frame.specs.declared.header.HeadKind.TheVariants.{Ir, Other}
 use Rattle.rohc_frame.specs.declared.refusal.FrameRefusal.{FrameRefusal}
 use Rattle.rohc_frame.specs.declared.refusal.FrameRefusal.TheVariants as framing
 use Rattle.rohc_frame.specs.Header.{Header}
@@ -27,7 +27,7 @@ use Rattle.rohc_context.specs.Framing.{refusal_of_framing}
 use Rattle.rohc_context.specs.Faults.{fault_of_chain, fault_of_form}
 use Rattle.rohc_context.specs.Outcomes.{refusal_of}
 use Rattle.rohc_context.specs.Record.{NoContext, Record}
-use Rattle.rohc_context.specs.Response.{Response, failed, refused}
+use Rattle.rohc_context.specs.Response.{Response, refused}
 use Rattle.rohc_context.specs.Step.{LoneStep}
 use Rattle.rohc_context.proofs.RefusalTable.{each_refusal, numbers_differ}
 use Rattle.rohc_context.proofs.Cases.{is_of_octets}

@@ -19,7 +19,6 @@ use Rattle.rohc_chain.proofs.TextLemmas.{dyn_text}
 use Rattle.rohc_chain.specs.Packets.{IrContent, DynContent, kept_values, cover, ir_at}
 use Rattle.rohc_chain.specs.Packets as chain
 use Rattle.rohc_forms.specs.declared.refusal.FormRefusal.{FormRefusal}
-use Rattle.rohc_forms.specs.declared.refusal.FormRefusal.TheVariants as forms
 use Rattle.rohc_forms.specs.Content.{Content}
 use Rattle.rohc_forms.specs.Kinds.{is_uor2}
 use Rattle.rohc_forms.specs.Good.{IsGoodContent}
@@ -46,7 +45,6 @@ use Rattle.rohc_context.specs.NextReference.{first_reference}
 use Rattle.rohc_context.specs.Explains.{Explained, Explains}
 use Rattle.rohc_context.specs.Tries.{Try, Fits, Acceptance, Verdict, unshifted, static_tries, full_tries}
 use Rattle.rohc_context.specs.Update.{said_under, VerdictUnless, Judges, Accepts, promoted, updated, acknowledged, silent, UpdatesBy}
-use Rattle.rohc_context.specs.declared.at_once.AtOnce.{AtOnce}
 use Rattle.rohc_context.specs.declared.at_once.AtOnce.TheVariants.{Any, Rebuilt}
 use Rattle.rohc_context.specs.AtOnce.{MissesFirst, MissesAtOnce, NeedsStep}
 use Rattle.rohc_context.specs.Step.{counts_within, counting, TakenBy, Turn, LoneStep}

@@ -1,6 +1,6 @@
 -- The table of refusals. What a test says of each of the thirty it says of every refusal, so that a proof needs no
 -- line for each.
-use Rattle.std.proofs.Common.{◌≡◌, ℕ, zero, suc, ◌+◌, ◌-◌, ◌≤◌, List, [], ◌∷◌, Bool, true, false, ◌&&◌, ◌||◌, ◌==◌, not, Option, Some, None, refl, sym, ap, subst, ◌∙◌, rules, arith, eqb-true, eq-eqb}
+use Rattle.std.proofs.Common.{◌≡◌, ℕ, zero, suc, ◌+◌, ◌-◌, ◌≤◌, List, [], ◌∷◌, Bool, true, false, ◌&&◌, ◌||◌, ◌==◌, not, Option, Some, None, refl, sym, ap, subst, ◌∙◌, rules, arith, eqb-true}
 use Rattle.std.specs.Prelude.{slice_get, get_or, IfSome}
 use Rattle.std.proofs.lemmas.Option.{slice_get-get_or}
 use Rattle.std.proofs.lemmas.Slice.Eq.{bytes_eq-Decides}

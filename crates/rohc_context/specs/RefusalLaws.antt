@@ -1,5 +1,5 @@
 -- What the table of refusals says, and what it is held to.
-use Rattle.std.specs.Prelude.{◌≡◌, ℕ, ◌≤◌, ◌<◌, ◌↔◌, length, Bool, true, false, ◌||◌, Option}
+use Rattle.std.specs.Prelude.{◌≡◌, ℕ, ◌≤◌, ◌<◌, ◌↔◌, length, true, false, ◌||◌, Option}
 use Rattle.rohc_chain.specs.declared.refusal.ChainRefusal.{ChainRefusal}
 use Rattle.rohc_forms.specs.declared.refusal.FormRefusal.{FormRefusal}
 use Rattle.rohc_frame.specs.declared.refusal.FrameRefusal.{FrameRefusal}

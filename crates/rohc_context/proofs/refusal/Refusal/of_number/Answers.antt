@@ -1,4 +1,4 @@
-use Rattle.std.proofs.Common.{arith, ◌≡◌, Some, ◌∙◌, ap, ◌-◌, sym}
+use Rattle.std.proofs.Common.{arith, ◌≡◌, ◌∙◌, ap, ◌-◌, sym}
 use Rattle.std.specs.Prelude.{slice_get}
 use Rattle.rohc_context.specs.declared.refusal.TheConstants.{ALL}
 use Rattle.rohc_context.proofs.RefusalTable.{found_named, stand_at_numbers}
