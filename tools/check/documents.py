@@ -12,6 +12,7 @@
   documents.
 - The examples of docs/EXAMPLES.md are those of tools/worked_examples.txt and of examples/worked.
 - docs/OPERATING.md has each key, each fault of the links file, each status's text and each refusal with its number.
+- The causes of refusals stand in the order of the refusals' numbers.
 - What documents say of the number of scripts, of test data and of refusals is true.
 - The pictures are those that tools/draw_pictures.py draws.
 - docs/TESTED.md is what `bin/check --table` writes, and that table lacks nothing.
@@ -34,6 +35,7 @@ from documents_commands import check_beside, check_commands
 from documents_text import FENCE, block_at, documents
 from program import Call, run
 import proofs_table
+from refusals import refusal_names
 from trial import Trial
 
 README_WORDS = 1200
@@ -213,10 +215,7 @@ def check_examples(top: Path) -> Iterator[str]:
 def check_operating(top: Path) -> Iterator[str]:
     """Finds keys, faults, texts and refusals that docs/OPERATING.md lacks."""
     text = documents(top)["docs/OPERATING.md"]
-    refusals = (top / "crates/rohc_context/specs/Refusal.antt").read_text()
-    names = dict(re.findall(r"^name_of (\w+) = codes \"(\w+)\"", refusals, re.MULTILINE))
-    numbers = dict(re.findall(r"^number_of (\w+) = (\d+)", refusals, re.MULTILINE))
-    rows = {f"| {numbers.get(variant)} | {name} |" for variant, name in names.items()}
+    rows = {f"| {number} | {name} |" for number, name in refusal_names(top).items()}
     keys = re.findall(r"^(\w+) = ", (top / "examples/two-links.toml").read_text(), re.MULTILINE)
     ends = re.findall(r"f\.write_str\(\"(rohcd: [\w ]+?):? ?\"\)", (top / "crates/rohc_end/src/lib.rt").read_text())
     faults: list[str] = []
@@ -237,7 +236,7 @@ def check_operating(top: Path) -> Iterator[str]:
 
 def check_counts(top: Path) -> Iterator[str]:
     """Finds counts in documents that aren't true."""
-    names = (top / "crates/rohc_context/specs/Refusal.antt").read_text().count("\nname_of ")
+    names = len(refusal_names(top))
     questions = (top / "crates/vectors/stdin").read_text().splitlines()
     counts = {
         r"(\d+) whole\s+scripts": str(len([*top.glob("examples/scripts/*.script")])),
@@ -251,6 +250,14 @@ def check_counts(top: Path) -> Iterator[str]:
         for name, count in found:
             if count != true:
                 yield f"{name}: counts {count} where {true} is true"
+
+
+def check_causes(top: Path) -> Iterator[str]:
+    """Finds whether the causes of the refusals stand in the order of their numbers."""
+    text = (top / "crates/rohc_tries/src/cause.rt").read_text()
+    causes = re.findall(r"^        refusal: Refusal::(\w+),$", text, re.MULTILINE)
+    if causes != list(refusal_names(top).values()):
+        yield "crates/rohc_tries/src/cause.rt: the causes aren't in the order of the refusals' numbers"
 
 
 def check_pictures(top: Path) -> Iterator[str]:
@@ -276,6 +283,7 @@ CHECKS = (
     check_names,
     check_examples,
     check_operating,
+    check_causes,
     check_counts,
     check_pictures,
     check_tested,
