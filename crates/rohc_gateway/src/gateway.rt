@@ -6,6 +6,7 @@ use crate::connection::{Connection, Progress};
 use crate::files::{UnreadLinks, read_links_file, replace_file};
 use crate::sending::send_all;
 use crate::sockets::MOST_CONNECTIONS;
+use crate::watch::{LONGEST, MOST_PACKETS, Watch};
 use mio::net::UdpSocket;
 use rohc_concentrator::NoLink;
 use rohc_gateway_file::{Config, VERSION};
@@ -32,6 +33,8 @@ pub(crate) struct Gateway<'a> {
     pub(crate) started: u64,
     /// When the contexts are to be saved next.
     pub(crate) next_save: u64,
+    /// The call that is watched, if one is.
+    pub(crate) watch: Option<Watch>,
     /// Whether it was told to stop.
     pub(crate) is_stopped: bool,
     /// A buffer for a datagram.
@@ -50,7 +53,7 @@ fn refuse_links<R: Eprint + AllocGlobal>(rt: &R, status: u16, name: &str) -> io:
 
 impl Gateway<'_> {
     /// Takes datagrams from a socket until none waits, but at most so many. Returns whether more may wait.
-    pub(crate) fn take_datagrams<R: Clock>(
+    pub(crate) fn take_datagrams<R: Clock + Eprint>(
         &mut self,
         rt: &R,
         socket: &UdpSocket,
@@ -60,12 +63,20 @@ impl Gateway<'_> {
             match socket.recv_from(self.datagram.as_mut_slice()) {
                 Ok((size, _)) => {
                     let octets = self.datagram.get(..size).unwrap_or(&[]);
+                    let is_watched = match &self.watch {
+                        Some(watch) if is_timed => watch.sees(self.station.timed_call_of(octets)),
+                        Some(watch) => watch.sees(self.station.call_of(octets)),
+                        None => false,
+                    };
                     let sends = match (is_timed, self.figures.draining) {
                         (true, false) => self.station.take_timed(octets),
                         (true, true) => self.station.take_timed_known(octets),
                         (false, false) => self.station.take(self.moments.now(rt), octets),
                         (false, true) => self.station.take_known(self.moments.now(rt), octets),
                     };
+                    if is_watched && let Some(watch) = &mut self.watch {
+                        watch.log(rt, octets.len(), &sends);
+                    }
                     let failed = send_all(socket, self.packet.as_mut_slice(), &sends);
                     if failed > 0 {
                         self.station.add_failed_sends(octets, failed);
@@ -199,6 +210,35 @@ impl Gateway<'_> {
         Ok(Reply::object(200, format!(in rt.alloc(); "{{\"draining\":true}}\n")?))
     }
 
+    /// Logs the packets of a call from now on, for a while.
+    fn watch_call<R: Clock + Eprint + AllocGlobal>(
+        &mut self,
+        rt: &R,
+        link: u16,
+        cid: u16,
+    ) -> io::Result<Reply> {
+        let alloc = rt.alloc();
+        if !self.station.concentrator().tables().contains_key(&link) {
+            return Reply::fault(alloc, 404, "NoLink");
+        }
+        self.watch = Some(Watch::new(link, cid, self.moments.now(rt)));
+        let _ = eprintln!(rt; "<6>rohc-gateway: watch {link}/{cid} begins");
+        let text = format!(in alloc;
+            "{{\"packets\":{MOST_PACKETS},\"milliseconds\":{LONGEST}}}\n"
+        )?;
+        Ok(Reply::object(200, text))
+    }
+
+    /// Ends the watch if it is over.
+    pub(crate) fn end_watch<R: Eprint>(&mut self, rt: &R, moment: u64) {
+        if let Some(watch) = &self.watch
+            && watch.is_over(moment)
+        {
+            self.watch = None;
+            let _ = eprintln!(rt; "<6>rohc-gateway: watch ends");
+        }
+    }
+
     /// What stands, in a few numbers.
     fn status<R: AllocGlobal>(&self, rt: &R) -> io::Result<Reply> {
         let mut contexts = 0u64;
@@ -269,6 +309,7 @@ impl Gateway<'_> {
             Request::Reload => self.reload(rt),
             Request::Reset { link, cid } => self.reset(rt, link, cid),
             Request::Drain => self.drain(rt),
+            Request::Watch { link, cid } => self.watch_call(rt, link, cid),
             Request::Ready => Ok(Reply::object(
                 200,
                 format!(in rt.alloc(); "{{\"ready\":true}}\n")?,

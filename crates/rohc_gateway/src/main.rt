@@ -11,6 +11,7 @@ mod run;
 mod sending;
 mod setup;
 mod sockets;
+mod watch;
 
 use rohc_gateway_file::{Ending, Request, read_request};
 use std::net::Net;

@@ -62,6 +62,7 @@ fn gateway_of<'a, R: Clock + AllocGlobal>(
         moments,
         started,
         next_save: started.saturating_add(u64::from(config.save_seconds.unwrap_or(0)) * 1000),
+        watch: None,
         is_stopped: false,
         datagram: vec![in alloc; 0u8; LONGEST_DATAGRAM]?,
         packet: vec![in alloc; 0u8; LONGEST_PACKET]?,
@@ -141,7 +142,7 @@ where
 }
 
 /// Takes the datagrams and the connections that wait, but only so many at a time.
-fn take_waiting<R: Clock + AllocGlobal>(
+fn take_waiting<R: Clock + Eprint + AllocGlobal>(
     rt: &R,
     gateway: &mut Gateway<'_>,
     sockets: &Sockets,
@@ -186,6 +187,7 @@ where
     }
     *waiting = take_waiting(rt, gateway, sockets, *waiting);
     let moment = gateway.moments.now(rt);
+    gateway.end_watch(rt, moment);
     gateway.drop_late(moment);
     gateway.save_in_time(rt, moment);
     Ok(())

@@ -2,7 +2,7 @@
 
 use crate::files::{UnreadLinks, read_links_file, read_state, read_text};
 use rohc_concentrator::{Concentrator, SetupFault};
-use rohc_gateway_file::{Config, Ending, Options, read_config};
+use rohc_gateway_file::{Config, ConfigFault, Ending, Options, Unread, read_config};
 use rohc_links::{Links, LinksFault};
 use rohc_saved::{Restored, SavedFault, restore};
 use std::alloc::{AllocError, Global};
@@ -91,12 +91,21 @@ fn config_of<R: Files + AllocGlobal>(
             return Ok(None);
         }
     };
-    let Some(reading) = read_config(alloc, file, text.as_str(), options)? else {
-        lines.add(format!(in alloc; "gateway: not TOML")?)?;
-        return Ok(None);
+    let reading = match read_config(alloc, file, text.as_str(), options) {
+        Ok(reading) => reading,
+        Err(Unread::Memory) => return Err(AllocError),
+        Err(Unread::NotToml(line)) => {
+            lines.add(format!(in alloc; "gateway:{line}: not TOML")?)?;
+            return Ok(None);
+        }
     };
     for fault in &reading.faults {
-        lines.add(format!(in alloc; "gateway: {}: {}", fault.key, fault.wrong)?)?;
+        let ConfigFault { line, key, wrong } = fault;
+        let text = match line {
+            Some(line) => format!(in alloc; "gateway:{line}: {key}: {wrong}")?,
+            None => format!(in alloc; "gateway: {key}: {wrong}")?,
+        };
+        lines.add(text)?;
     }
     Ok(Some(reading.config))
 }

@@ -68,6 +68,8 @@ impl fmt::Display for Wrong {
 /// A fault of a gateway file.
 #[derive(Drop)]
 pub struct ConfigFault {
+    /// The number of the line at which the key stands, counted from 1, if it stands in the file and was found.
+    pub line: Option<usize>,
     /// The key.
     pub key: String,
     /// What is wrong there.
@@ -76,19 +78,55 @@ pub struct ConfigFault {
 
 /// What was read of a gateway file, and what is wrong with it.
 #[derive(Drop)]
-pub struct Reading {
+pub struct Reading<'a> {
     alloc: Global,
+    /// The text of the file.
+    text: &'a str,
     /// What the gateway is to do, as far as it can be read.
     pub config: Config,
     /// The faults.
     pub faults: Vec<ConfigFault>,
 }
 
-impl Reading {
+/// Why there is no table of a gateway file.
+#[derive(Clone, Copy, Debug, PartialEq, Eq)]
+pub enum Unread {
+    /// The text is no TOML document from this line on.
+    NotToml(usize),
+    /// There is no memory.
+    Memory,
+}
+
+impl From<AllocError> for Unread {
+    fn from(_e: AllocError) -> Unread {
+        Unread::Memory
+    }
+}
+
+/// The number of the line at which a key stands, counted from 1: the first that begins with it and an equals sign.
+fn line_of(text: &str, key: &str) -> Option<usize> {
+    for (place, line) in text.split("\n").enumerate() {
+        if let Some((front, _)) = line.split_once("=")
+            && front.trim() == key
+        {
+            return Some(place.saturating_add(1));
+        }
+    }
+    None
+}
+
+/// The number of the line that a place of the text lies in.
+fn line_at(text: &str, place: usize) -> usize {
+    let before = text.get(..place).unwrap_or(text);
+    before.split("\n").count()
+}
+
+impl Reading<'_> {
     /// Adds a fault at a key.
     fn add(&mut self, key: &str, wrong: Wrong) -> Result<(), AllocError> {
+        let line = line_of(self.text, key);
         let key = String::from_str(self.alloc, key)?;
-        self.faults.push(ConfigFault { key, wrong })?;
+        self.faults.push(ConfigFault { line, key, wrong })?;
         Ok(())
     }
 
@@ -240,17 +278,23 @@ fn folder_of(path: &str) -> &str {
     }
 }
 
-/// Reads a gateway file, which stands at this path. `None` if the text is no TOML document.
-pub fn read_config(
+/// Reads a gateway file, which stands at this path.
+pub fn read_config<'a>(
     alloc: Global,
     path: &str,
-    text: &str,
+    text: &'a str,
     options: &Options<'_>,
-) -> Result<Option<Reading>, AllocError> {
+) -> Result<Reading<'a>, Unread> {
     let table = match toml::table_from_str(alloc, text) {
         Ok(table) => table,
-        Err(e) if e.is_memory() => return Err(AllocError),
-        Err(_) => return Ok(None),
+        Err(e) if e.is_memory() => return Err(Unread::Memory),
+        Err(e) => {
+            let place = match e.span() {
+                Some(span) => span.start,
+                None => 0,
+            };
+            return Err(Unread::NotToml(line_at(text, place)));
+        }
     };
     let config = Config {
         links: None,
@@ -263,11 +307,12 @@ pub fn read_config(
     };
     let mut reading = Reading {
         alloc,
+        text,
         config,
         faults: Vec::new(alloc),
     };
     reading.read_table(&table, folder_of(path))?;
     reading.take_options(options)?;
     reading.judge()?;
-    Ok(Some(reading))
+    Ok(reading)
 }

@@ -1,6 +1,7 @@
 -- What a station does with a datagram. Words: counters_at a link; TakesPacket; IsRefusedUnread;
--- TakesDatagram, TakesTimed; begins_call; TakesKnownPacket, TakesKnown, TakesTimedKnown.
+-- TakesDatagram, TakesTimed; begins_call; call_in, timed_call_in; TakesKnownPacket, TakesKnown, TakesTimedKnown.
 use Rattle.std.specs.Prelude.{◌≡◌, ◌≢◌, ℕ, List, Option, Some, None, nat_eq, not, is_some, Bool, true, false}
+use Rattle.std.specs.Option.{option_map}
 use Rattle.indexmap.specs.IndexMap.{get}
 use Rattle.rohc_context.specs.Record.{Record}
 use Rattle.rohc_concentrator.specs.declared.concentrator.Concentrator.{Concentrator}
@@ -56,6 +57,16 @@ is_unknown (Some cid) records = not (is_some (records cid))
 -- a packet begins a call: it bears a CID that has no record
 abbrev pub begins_call : Concentrator → ℕ → List ℕ → Bool
 begins_call k link packet = is_unknown (borne (setting_at k link) packet) (record_at k link)
+
+-- the call of a packet on a link: the link, and the CID that the packet bears there
+abbrev pub call_in : Concentrator → Option ℕ → List ℕ → Option (ℕ × ℕ)
+call_in k None packet = None
+call_in k (Some link) packet = option_map (λ cid. (link, cid)) (borne (setting_at k link) packet)
+
+-- the call of a timed datagram, if it can be read
+abbrev pub timed_call_in : Concentrator → Option TimedPacket → Option (ℕ × ℕ)
+timed_call_in k None = None
+timed_call_in k (Some t) = call_in k (Some t.link) t.packet
 
 -- while no call is begun, a packet that would begin one is refused, and every other is taken
 abbrev pub TakesUnless : Bool → Station → Station → ℕ → ℕ → List ℕ → Outgoing → Type 0

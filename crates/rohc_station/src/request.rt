@@ -27,6 +27,13 @@ pub enum Request {
     },
     /// `POST /drain`: take no new call.
     Drain,
+    /// `POST /watch?link=L&cid=C`: log each packet of a call for a while.
+    Watch {
+        /// The link.
+        link: u16,
+        /// The CID.
+        cid: u16,
+    },
     /// `GET /ready`
     Ready,
     /// `GET /status`
@@ -56,6 +63,7 @@ impl Request {
         match self {
             Request::Stop | Request::Reload | Request::Reset { .. } | Request::Drain => true,
             Request::Save
+            | Request::Watch { .. }
             | Request::Ready
             | Request::Status
             | Request::Metrics
@@ -209,6 +217,19 @@ fn reset_in(query: Option<&[u8]>) -> Result<Request, RequestFault> {
     }
 }
 
+/// What a query of `/watch` means.
+fn watch_in(query: Option<&[u8]>) -> Result<Request, RequestFault> {
+    match query_in(query.ok_or(RequestFault::BadRequest)?) {
+        Some(
+            Query {
+                link,
+                cid: Some(cid),
+            },
+        ) => Ok(Request::Watch { link, cid }),
+        _ => Err(RequestFault::BadRequest),
+    }
+}
+
 /// The request, if there is no query.
 fn alone(request: Request, query: Option<&[u8]>) -> Result<Request, RequestFault>
     ensures { IfOk result (λ r. r ≡ request) }
@@ -231,6 +252,8 @@ fn posted(path: &[u8], query: Option<&[u8]>) -> Option<Result<Request, RequestFa
         Some(alone(Request::Drain, query))
     } else if path == b"/reset".as_slice() {
         Some(reset_in(query))
+    } else if path == b"/watch".as_slice() {
+        Some(watch_in(query))
     } else {
         None
     }

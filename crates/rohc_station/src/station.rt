@@ -74,7 +74,17 @@ fn begins_call(concentrator: &Concentrator, link: u16, packet: &[u8]) -> bool
 
 ghost use Rattle.rohc_concentrator.specs.Tables.{setting_at};
 ghost use Rattle.rohc_concentrator.specs.Bears.{borne, cid_in, header_on};
-ghost use Rattle.rohc_station.specs.Taking.{begins_call};
+ghost use Rattle.rohc_station.specs.Taking.{begins_call, call_in};
+
+/// The call of a packet: its link, and the CID that it bears there.
+fn call_on(concentrator: &Concentrator, link: u16, packet: &[u8]) -> Option<(u16, u16)>
+    ensures { result ≡ call_in concentrator.now (Some link) packet.now }
+{
+    match borne(concentrator, link, packet) {
+        Some(cid) => Some((link, cid)),
+        None => None,
+    }
+}
 
 impl Station {
     ghost use Rattle.std.specs.Prelude.{◌≡◌, ◌≢◌, ◌↔◌, ℕ, None, IsErr, OnOk, IfOk, IfErr};
@@ -85,7 +95,7 @@ impl Station {
     ghost use Rattle.rohc_serve.specs.Outgoing.{outgoing_of};
     ghost use Rattle.rohc_serve.specs.Datagram.{named_link, datagram_packet, Answers};
     ghost use Rattle.rohc_station.specs.Timed.{timed_in};
-    ghost use Rattle.rohc_station.specs.Taking.{TakesPacket, TakesKnownPacket, TakesDatagram, TakesKnown, TakesTimed, TakesTimedKnown, IsRefusedUnread};
+    ghost use Rattle.rohc_station.specs.Taking.{call_in, timed_call_in, TakesPacket, TakesKnownPacket, TakesDatagram, TakesKnown, TakesTimed, TakesTimedKnown, IsRefusedUnread};
 
     /// A station of this concentrator and these links, with nothing counted. The error is lack of memory.
     pub fn new(
@@ -216,6 +226,26 @@ impl Station {
         match timed_datagram(datagram) {
             Some(timed) => self.take_packet(timed.link, timed.moment, timed.packet),
             None => self.refuse(),
+        }
+    }
+
+    /// The call of a datagram: the link that it names, and the CID that its packet bears there; `None` if it bears none.
+    pub fn call_of(&self, datagram: &[u8]) -> Option<(u16, u16)>
+        ensures { result ≡ call_in self.now.concentrator (named_link datagram.now) (datagram_packet datagram.now) }
+    {
+        match named_link(datagram) {
+            Some((link, packet)) => call_on(&self.concentrator, link, packet),
+            None => None,
+        }
+    }
+
+    /// The call of a timed datagram, likewise.
+    pub fn timed_call_of(&self, datagram: &[u8]) -> Option<(u16, u16)>
+        ensures { result ≡ timed_call_in self.now.concentrator (timed_in datagram.now) }
+    {
+        match timed_datagram(datagram) {
+            Some(timed) => call_on(&self.concentrator, timed.link, timed.packet),
+            None => None,
         }
     }
 

@@ -276,6 +276,16 @@ fn with_gateway<'a>(alloc: Global, command: Command<'a>) -> Result<Command<'a>, 
             "Have a rohc-gateway forget a link's contexts, or one",
         )?
         .arg(valued(alloc, "cid", "NUMBER", "The CID of the one"))?)?
+        .subcommand(asking(
+            alloc,
+            "watch",
+            "Have a rohc-gateway log each packet of a call for a while",
+        )?
+        .arg(
+            Arg::new(alloc, "CALL")
+                .help("The link and the CID of the call, L/C")
+                .required(true),
+        )?)?
         .subcommand(asking_link(alloc, "contexts", "Tell the contexts of a link")?)?
         .subcommand(asking_link(
             alloc,
@@ -337,6 +347,13 @@ fn wish_of(name: &str, options: &ArgMatches<'_>) -> Option<Wish> {
                 None => None,
             },
         }),
+        "watch" => {
+            let (link, cid) = options.get_str("CALL")?.split_once("/")?;
+            Some(Wish::Watch {
+                link: link.parse().ok()?,
+                cid: cid.parse().ok()?,
+            })
+        }
         "contexts" => Some(Wish::Contexts {
             link: number_in(options, "link")?,
         }),

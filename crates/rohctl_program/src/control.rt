@@ -33,6 +33,8 @@ pub(crate) enum Wish {
     Drain,
     /// Forget the contexts of a link, or the one of a CID.
     Reset { link: u16, cid: Option<u16> },
+    /// Log each packet of a call for a while.
+    Watch { link: u16, cid: u16 },
     /// Tell the contexts of a link.
     Contexts { link: u16 },
     /// Tell the calls of a link, the longest silent first.
@@ -53,6 +55,7 @@ impl Wish {
                 link,
                 cid: Some(cid),
             } => write!(out, "POST /reset?link={link}&cid={cid}")?,
+            Wish::Watch { link, cid } => write!(out, "POST /watch?link={link}&cid={cid}")?,
             Wish::Contexts { link } => write!(out, "GET /contexts?link={link}")?,
             Wish::Calls { link } => write!(out, "GET /calls?link={link}")?,
         }

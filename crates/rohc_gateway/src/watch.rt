@@ -1,0 +1,67 @@
+//! A call that is watched: each of its packets is logged for a while.
+
+use rohc_serve::Sends;
+
+/// The most packets that are logged.
+pub(crate) const MOST_PACKETS: u32 = 100;
+
+/// How long they are logged at most, in milliseconds.
+pub(crate) const LONGEST: u64 = 60_000;
+
+/// A call that is watched.
+#[derive(Clone, Copy)]
+pub(crate) struct Watch {
+    link: u16,
+    cid: u16,
+    /// How many packets are still to be logged.
+    left: u32,
+    /// When the watch ends.
+    end: u64,
+}
+
+impl Watch {
+    /// A watch that begins at this moment.
+    pub(crate) fn new(link: u16, cid: u16, moment: u64) -> Watch {
+        Watch {
+            link,
+            cid,
+            left: MOST_PACKETS,
+            end: moment.saturating_add(LONGEST),
+        }
+    }
+
+    /// Whether a packet of this call is logged at this moment.
+    pub(crate) fn sees(&self, call: Option<(u16, u16)>) -> bool {
+        call == Some((self.link, self.cid))
+    }
+
+    /// Whether the watch is over at this moment.
+    pub(crate) fn is_over(&self, moment: u64) -> bool {
+        self.left == 0 || self.end <= moment
+    }
+
+    /// Logs what became of a packet.
+    pub(crate) fn log<R: Eprint>(&mut self, rt: &R, octets: usize, sends: &Sends<'_>) {
+        self.left = self.left.saturating_sub(1);
+        let Watch { link, cid, .. } = *self;
+        let feedback = match &sends.feedback {
+            Some(element) => element.len(),
+            None => 0,
+        };
+        let head = "<7>rohc-gateway: watch";
+        let _ = match &sends.packet {
+            Some(packet) => {
+                let size = packet.head.len().saturating_add(packet.payload.len());
+                eprintln!(rt;
+                    "{head} {link}/{cid}: {octets} octets: delivered {size}, feedback {feedback}"
+                )
+            }
+            None if sends.refused => {
+                eprintln!(rt; "{head} {link}/{cid}: {octets} octets: refused, feedback {feedback}")
+            }
+            None => eprintln!(rt;
+                "{head} {link}/{cid}: {octets} octets: nothing delivered, feedback {feedback}"
+            ),
+        };
+    }
+}
