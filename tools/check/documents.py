@@ -128,19 +128,27 @@ def has_clauses(top: Path, crate: str, kind: str, function: str, labels: Sequenc
     return False
 
 
+def named_contracts(text: str) -> Iterator[tuple[str, Sequence[str]]]:
+    """Each function that docs/PROOFS.md names, by its path, with the labels between parentheses behind it. An item that begins
+    with a function says something of it; one of the part by crate begins with a module and names its functions."""
+    by_hand, _, by_crate = re.sub(r"\n  +", " ", text).partition(proofs_table.BY_CRATE)
+    labelled = r"`([\w:]+)`(?: \(([^)]*)\))?"
+    for path, labels in re.findall(rf"^- (?=`rohc){labelled}:", by_hand, re.MULTILINE):
+        yield path, re.findall(r"`(\w+)`", labels)
+    for module, functions in re.findall(r"^- `(rohc[\w:]+)`: (.*)$", by_crate, re.MULTILINE):
+        for function, labels in re.findall(labelled, functions):
+            yield f"{module}::{function}", re.findall(r"`(\w+)`", labels)
+
+
 def check_proofs(top: Path) -> Iterator[str]:
     """Finds functions and clauses of docs/PROOFS.md that aren't in the sources, and what it lacks of them."""
     text = documents(top)["docs/PROOFS.md"]
-    rows = 0
-    for row in re.findall(r"^\| (`rohc.*)$", text, re.MULTILINE):
-        cells = row.split(" | ")
-        labels = re.findall(r"`(\w+)`", cells[1])
-        for path in re.findall(r"`([\w:]+)`", cells[0]):
-            rows += 1
-            crate, *middle, function = path.split("::")
-            if not has_clauses(top, crate, middle[0] if middle else "", function, labels):
-                yield f"docs/PROOFS.md: {path} has no contract with {', '.join(labels) or 'a clause'}"
-    if rows == 0:
+    named = list(named_contracts(text))
+    for path, labels in named:
+        crate, *middle, function = path.split("::")
+        if not has_clauses(top, crate, middle[-1] if middle else "", function, labels):
+            yield f"docs/PROOFS.md: {path} has no contract with {', '.join(labels) or 'a clause'}"
+    if not named:
         yield "docs/PROOFS.md names no function"
     wanted, found = (page.splitlines() for page in (proofs_table.page(top), text))
     for line in wanted:

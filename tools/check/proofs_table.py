@@ -1,34 +1,34 @@
-"""The part of docs/PROOFS.md that the sources write: each public contract of a library crate, with its clauses.
-
-What a row says is the first sentence of the function's own comment.
-"""
+"""The part of docs/PROOFS.md that the sources write: each public function of a library crate with a contract, and its clauses."""
 
 import re
 from collections.abc import Iterator
 from dataclasses import dataclass
 from pathlib import Path
+from textwrap import TextWrapper
 
 BY_CRATE, PREMISES = "\n## By crate\n", "\n## Premises\n"
 HEAD = """
-`bin/check --proofs` writes this from the sources. What a row says is the first sentence of the function's comment.
+`bin/check --proofs` writes this from the sources: each public function that has a contract, with its labels.
+
 """
 PUBLIC = re.compile(r"^( *)pub (?:extern \"C\" )?fn (\w+)", re.MULTILINE)
 OWNER = re.compile(r"^(?:impl\b[^{]*?\b|pub trait )(\w+)(?:<[^{]*>)?(?: where[^{]*)? \{", re.MULTILINE)
+WRAPPED = TextWrapper(width=118, subsequent_indent="  ", break_long_words=False, break_on_hyphens=False)
 END = re.compile(r"\n *\{\}?\n|\};\n")
 
 
 @dataclass(frozen=True)
-class Row:
-    """A function, the labels of its clauses, and what its comment begins with."""
+class Function:
+    """A function of a module, and the labels of its clauses."""
 
-    path: str
+    module: str
+    name: str
     labels: tuple[str, ...]
-    says: str
 
-    def line(self) -> str:
-        """Its line of the table."""
-        labels = ", ".join(f"`{label}`" for label in self.labels) or "*whole*"
-        return f"| `{self.path}` | {labels} | {self.says} |"
+    def text(self) -> str:
+        """What the row of its module says of it."""
+        labels = ", ".join(f"`{label}`" for label in self.labels)
+        return f"`{self.name}` ({labels})" if labels else f"`{self.name}`"
 
 
 def crates(top: Path) -> list[str]:
@@ -37,21 +37,7 @@ def crates(top: Path) -> list[str]:
     return [name for name in names if (top / "crates" / name / "src/lib.rt").exists()]
 
 
-def first_sentence(before: str) -> str:
-    """The first sentence of the comment that ends before a function."""
-    lines: list[str] = []
-    for line in reversed(before.rstrip("\n").split("\n")):
-        text = line.strip()
-        if text.startswith("///"):
-            lines.insert(0, text[3:].strip())
-        elif not text.startswith("#["):
-            break
-    paragraph = " ".join(lines).partition("  ")[0].strip()
-    found = re.match(r"(.*?[.:])(?= [A-Z`0-9]|$)", paragraph)
-    return (found[1] if found else paragraph).rstrip(":").rstrip(".") + "."
-
-
-def rows_of_file(file: Path, prefix: str) -> Iterator[Row]:
+def functions_of_file(file: Path, module: str) -> Iterator[Function]:
     """The public functions of a file that have a contract."""
     text = file.read_text()
     for found in PUBLIC.finditer(text):
@@ -66,32 +52,31 @@ def rows_of_file(file: Path, prefix: str) -> Iterator[Row]:
         owners = OWNER.findall(text[: found.start()])
         owner = f"{owners[-1]}::" if found[1] and owners else ""
         labels = tuple(dict.fromkeys(re.findall(r"\bensures (\w+) \{", contract)))
-        yield Row(f"{prefix}{owner}{found[2]}", labels, first_sentence(text[: found.start()]))
+        yield Function(module, f"{owner}{found[2]}", labels)
 
 
-def rows(top: Path, crate: str) -> Iterator[Row]:
-    """The rows of a crate, file by file in the order of its modules."""
+def functions(top: Path, crate: str) -> Iterator[Function]:
+    """The functions of a crate, file by file in the order of its modules."""
     folder = top / "crates" / crate / "src"
     lib = (folder / "lib.rt").read_text()
-    yield from rows_of_file(folder / "lib.rt", f"{crate}::")
+    yield from functions_of_file(folder / "lib.rt", crate)
     for public, name in re.findall(r"^(pub )?mod (\w+);", lib, re.MULTILINE):
         file = folder / f"{name}.rt"
         is_used = re.search(rf"^pub use (?:crate::)?{name}::", lib, re.MULTILINE)
         if file.exists():
-            yield from rows_of_file(file, f"{crate}::" if is_used or not public else f"{crate}::{name}::")
+            yield from functions_of_file(file, crate if is_used or not public else f"{crate}::{name}")
         for inner in sorted((folder / name).rglob("*.rt")) if (folder / name).is_dir() else ():
-            yield from rows_of_file(inner, f"{crate}::")
+            yield from functions_of_file(inner, crate)
 
 
 def by_crate(top: Path) -> str:
-    """The part of the document."""
-    parts = [BY_CRATE, HEAD]
+    """The part of the document: a row for each module, crate by crate."""
+    found: dict[str, list[str]] = {}
     for crate in crates(top):
-        found = list(rows(top, crate))
-        if found:
-            parts.append(f"\n### {crate}\n\n| Function | Clauses | What it says |\n|---|---|---|\n")
-            parts += [f"{row.line()}\n" for row in found]
-    return "".join(parts)
+        for function in functions(top, crate):
+            found.setdefault(function.module, []).append(function.text())
+    rows = (f"- `{module}`: {', '.join(texts)}" for module, texts in found.items())
+    return BY_CRATE + HEAD + "".join(f"{WRAPPED.fill(row)}\n" for row in rows)
 
 
 def page(top: Path) -> str:
