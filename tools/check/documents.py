@@ -193,16 +193,20 @@ def sections(text: str, begin: str) -> dict[str, list[str]]:
 
 
 def check_examples(top: Path) -> Iterator[str]:
-    """Compares docs/EXAMPLES.md, tools/worked_examples.txt and examples/worked."""
-    short = (top / "tools/worked_examples.txt").read_text()
+    """Compares docs/EXAMPLES.md, tools/worked_examples.txt and examples/worked. The document shows an example as a block below
+    its name, or has an item that begins with its name."""
+    short, text = (top / "tools/worked_examples.txt").read_text(), documents(top)["docs/EXAMPLES.md"]
     kept = {name: [s for s in lines if s and s[0] != "#"] for name, lines in sections(short, r"= (\S+)$").items()}
     shown: dict[str, list[str]] = {}
-    for name, lines in sections(documents(top)["docs/EXAMPLES.md"], r"### (\S+)$").items():
+    for name, lines in sections(text, r"### (\S+)$").items():
         block = next((i for i, line in enumerate(lines) if FENCE.match(line)), len(lines))
         shown[name] = (block_at(lines, block)[0] or "").splitlines()
-    for name in sorted(kept.keys() | shown.keys()):
-        if kept.get(name) != shown.get(name):
+    listed = [name for names in re.findall(r"^- (`[a-z0-9`, -]+`):", text, re.MULTILINE) for name in re.findall(r"`([^`]+)`", names)]
+    for name in sorted(kept.keys() | shown.keys() | set(listed)):
+        if name in shown and kept.get(name) != shown[name]:
             yield f"docs/EXAMPLES.md: {name} isn't the example of tools/worked_examples.txt"
+        if name not in kept or listed.count(name) + (name in shown) != 1:
+            yield f"docs/EXAMPLES.md: {name} isn't once there and in tools/worked_examples.txt"
     with tempfile.TemporaryDirectory() as room:
         folder = Path(room)
         (folder / "tools").mkdir()
