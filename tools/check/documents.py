@@ -11,7 +11,7 @@
 - Each function and each clause of docs/PROOFS.md stands in the sources. So does each name of code there and in six other
   documents.
 - The examples of docs/EXAMPLES.md are those of tools/worked_examples.txt and of examples/worked.
-- docs/OPERATING.md has each key, each fault of the links file, each status's text and each refusal with its number.
+- The manual pages have each key, each fault of the links file, each status's text and each refusal with its number.
 - What documents say of the number of scripts, of test data and of refusals is true.
 - The pictures are those that tools/draw_pictures.py draws.
 - docs/TESTED.md is what `bin/check --table` writes, and that table lacks nothing.
@@ -31,7 +31,7 @@ from functools import partial
 from pathlib import Path
 
 from documents_commands import check_beside, check_commands
-from documents_text import FENCE, block_at, documents
+from documents_text import FENCE, block_at, documents, manual_items
 from program import Call, run
 import proofs_table
 from trial import Trial
@@ -222,13 +222,11 @@ def check_examples(top: Path) -> Iterator[str]:
                 yield f"examples/worked/{file.name} isn't what tools/expand_examples.py writes"
 
 
-def check_operating(top: Path) -> Iterator[str]:
-    """Finds keys, faults, texts and refusals that docs/OPERATING.md lacks."""
-    text = documents(top)["docs/OPERATING.md"]
+def check_manual(top: Path) -> Iterator[str]:
+    """Finds keys, faults, statuses' texts and refusals that the manual pages lack."""
     refusals = (top / "crates/rohc_context/specs/Refusal.antt").read_text()
     names = dict(re.findall(r"^name_of (\w+) = codes \"(\w+)\"", refusals, re.MULTILINE))
     numbers = dict(re.findall(r"^number_of (\w+) = (\d+)", refusals, re.MULTILINE))
-    rows = {f"| {numbers.get(variant)} | {name} |" for variant, name in names.items()}
     keys = re.findall(r"^(\w+) = ", (top / "examples/two-links.toml").read_text(), re.MULTILINE)
     ends = re.findall(r"f\.write_str\(\"(rohcd: [\w ]+?):? ?\"\)", (top / "crates/rohc_end/src/lib.rt").read_text())
     faults: list[str] = []
@@ -236,15 +234,18 @@ def check_operating(top: Path) -> Iterator[str]:
         files = [top / f"crates/{place}.rt", *top.glob(f"crates/{place}/*.rt")]
         source = "".join(file.read_text() for file in files if file.exists())
         faults += re.findall(r"(?:Links|Setup)Fault::\w+(?: \{ \.\. \})? => \"(\w+)\"", source)
-    if min(len(rows), len(keys), len(ends), len(faults)) == 0:
-        yield "no refusals, keys, ends or faults were found in the sources"
-    cells = re.findall(r"^\| ([^|]+) \|", text, re.MULTILINE)
-    named = {word.strip(" `") for cell in cells for word in cell.split(",")}
-    for word in sorted({*keys, *faults} - {"version", "NoMemory"} - named):
-        yield f"docs/OPERATING.md lacks a row of {word}"
-    for word in sorted([*rows, *(f"`{end}" for end in ends)]):
-        if word not in text:
-            yield f"docs/OPERATING.md lacks {word}"
+    wanted = (
+        ("rohc-links.5", "DESCRIPTION", set(keys) - {"version"}),
+        ("rohc-links.5", "FAULTS", set(faults) - {"NoMemory"}),
+        ("rohc-script.5", "REFUSALS", {f"{numbers.get(variant)} {name}" for variant, name in names.items()}),
+        ("rohcd.1", "EXIT STATUS", set(ends)),
+    )
+    for page, section, words in wanted:
+        items = manual_items(top, page, section)
+        named = {re.sub(r"^\d (?=rohcd: )|: NAME$", "", word) for item in items for word in item.split(", ")}
+        if not words:
+            yield f"nothing was found in the sources for {section} of man/{page}"
+        yield from (f"man/{page} lacks an item of {word}" for word in sorted(words - named))
 
 
 def check_counts(top: Path) -> Iterator[str]:
@@ -287,7 +288,7 @@ CHECKS = (
     check_proofs,
     check_names,
     check_examples,
-    check_operating,
+    check_manual,
     check_counts,
     check_pictures,
     check_tested,
