@@ -10,7 +10,8 @@
 - Each link, each anchor, and each file or folder of the repository that a document names is there.
 - Each function and each clause of docs/PROOFS.md stands in the sources. So does each name of code there and in six other
   documents.
-- The examples of docs/EXAMPLES.md are those of tools/worked_examples.txt and of examples/worked.
+- The examples of docs/EXAMPLES.md are those of tools/worked_examples.txt, each of which says what it shows, and
+  examples/worked has all of them.
 - The manual pages have each key, each fault of the links file, each status's text and each refusal with its number.
 - What documents say of the number of scripts, of test data and of refusals is true.
 - The pictures are those that tools/draw_pictures.py draws.
@@ -192,21 +193,31 @@ def sections(text: str, begin: str) -> dict[str, list[str]]:
     return found
 
 
+def plain_words(text: str) -> list[str]:
+    """The words of a text without its marks."""
+    return re.sub("[`*]", "", text).split()
+
+
 def check_examples(top: Path) -> Iterator[str]:
-    """Compares docs/EXAMPLES.md, tools/worked_examples.txt and examples/worked. The document shows an example as a block below
-    its name, or has an item that begins with its name."""
+    """Compares docs/EXAMPLES.md, tools/worked_examples.txt and examples/worked. Each example has a comment below its name. What
+    the document shows of an example, its text and its block, is the same."""
     short, text = (top / "tools/worked_examples.txt").read_text(), documents(top)["docs/EXAMPLES.md"]
-    kept = {name: [s for s in lines if s and s[0] != "#"] for name, lines in sections(short, r"= (\S+)$").items()}
-    shown: dict[str, list[str]] = {}
-    for name, lines in sections(text, r"### (\S+)$").items():
-        block = next((i for i, line in enumerate(lines) if FENCE.match(line)), len(lines))
-        shown[name] = (block_at(lines, block)[0] or "").splitlines()
-    listed = [name for names in re.findall(r"^- (`[a-z0-9`, -]+`):", text, re.MULTILINE) for name in re.findall(r"`([^`]+)`", names)]
-    for name in sorted(kept.keys() | shown.keys() | set(listed)):
-        if name in shown and kept.get(name) != shown[name]:
+    kept = sections(short, r"= (\S+)$")
+    told = {name: plain_words(" ".join(line[1:] for line in lines if line.startswith("#"))) for name, lines in kept.items()}
+    yield from (f"tools/worked_examples.txt: says nothing of {name}" for name, words in told.items() if not words)
+    shown = sections(text, r"### (\S+)$")
+    if not shown:
+        yield "docs/EXAMPLES.md shows no example"
+    for name, lines in shown.items():
+        start = next((i for i, line in enumerate(lines) if FENCE.match(line)), len(lines))
+        block = (block_at(lines, start)[0] or "").splitlines()
+        if block != [line for line in kept.get(name, ["#"]) if line and line[0] != "#"]:
             yield f"docs/EXAMPLES.md: {name} isn't the example of tools/worked_examples.txt"
-        if name not in kept or listed.count(name) + (name in shown) != 1:
-            yield f"docs/EXAMPLES.md: {name} isn't once there and in tools/worked_examples.txt"
+        if plain_words(" ".join(lines[:start])) != told.get(name):
+            yield f"docs/EXAMPLES.md: {name} isn't told as in tools/worked_examples.txt"
+    count = re.search(r"has all (\d+)", text)
+    if not count or int(count[1]) != len(kept):
+        yield f"docs/EXAMPLES.md doesn't count {len(kept)} examples"
     with tempfile.TemporaryDirectory() as room:
         folder = Path(room)
         (folder / "tools").mkdir()
