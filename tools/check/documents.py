@@ -131,14 +131,12 @@ def has_clauses(top: Path, crate: str, kind: str, function: str, labels: Sequenc
 
 def named_contracts(text: str) -> Iterator[tuple[str, Sequence[str]]]:
     """Each function that docs/PROOFS.md names, by its path, with the labels between parentheses behind it. An item that begins
-    with a function says something of it; one of the part by crate begins with a module and names its functions."""
+    with a function says something of it; one of the part by crate begins with a crate and names its functions."""
     by_hand, _, by_crate = re.sub(r"\n  +", " ", text).partition(proofs_table.BY_CRATE)
-    labelled = r"`([\w:]+)`(?: \(([^)]*)\))?"
-    for path, labels in re.findall(rf"^- (?=`rohc){labelled}:", by_hand, re.MULTILINE):
+    for path, labels in re.findall(r"^- `(rohc[\w:]+)`(?: \(([^)]*)\))?:", by_hand, re.MULTILINE):
         yield path, re.findall(r"`(\w+)`", labels)
-    for module, functions in re.findall(r"^- `(rohc[\w:]+)`: (.*)$", by_crate, re.MULTILINE):
-        for function, labels in re.findall(labelled, functions):
-            yield f"{module}::{function}", re.findall(r"`(\w+)`", labels)
+    for crate, functions in re.findall(r"^- `(rohc\w+)` [0-9a-f]{8}: (.*)$", by_crate, re.MULTILINE):
+        yield from ((f"{crate}::{function}", ()) for function in re.findall(r"`([\w:]+)`", functions))
 
 
 def check_proofs(top: Path) -> Iterator[str]:

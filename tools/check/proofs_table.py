@@ -1,14 +1,19 @@
-"""The part of docs/PROOFS.md that the sources write: each public function of a library crate with a contract, and its clauses."""
+"""The part of docs/PROOFS.md that the sources write: each public function of a library crate that has a contract.
 
+A digest of all these contracts stands with each crate, so that a change of any of them shows in the document.
+"""
+
+import hashlib
 import re
-from collections.abc import Iterator
+from collections.abc import Iterator, Sequence
 from dataclasses import dataclass
 from pathlib import Path
 from textwrap import TextWrapper
 
 BY_CRATE, PREMISES = "\n## By crate\n", "\n## Premises\n"
 HEAD = """
-`bin/check --proofs` writes this from the sources: each public function that has a contract, with its labels.
+Each public function that has a contract, behind a digest of all contracts of its crate: if one changes, so does this page.
+`bin/check --proofs` writes it.
 
 """
 PUBLIC = re.compile(r"^( *)pub (?:extern \"C\" )?fn (\w+)", re.MULTILINE)
@@ -19,16 +24,10 @@ END = re.compile(r"\n *\{\}?\n|\};\n")
 
 @dataclass(frozen=True)
 class Function:
-    """A function of a module, and the labels of its clauses."""
+    """A function by its path within its crate, and its contract."""
 
-    module: str
-    name: str
-    labels: tuple[str, ...]
-
-    def text(self) -> str:
-        """What the row of its module says of it."""
-        labels = ", ".join(f"`{label}`" for label in self.labels)
-        return f"`{self.name}` ({labels})" if labels else f"`{self.name}`"
+    path: str
+    contract: str
 
 
 def crates(top: Path) -> list[str]:
@@ -37,7 +36,7 @@ def crates(top: Path) -> list[str]:
     return [name for name in names if (top / "crates" / name / "src/lib.rt").exists()]
 
 
-def functions_of_file(file: Path, module: str) -> Iterator[Function]:
+def functions_of_file(file: Path, prefix: str) -> Iterator[Function]:
     """The public functions of a file that have a contract."""
     text = file.read_text()
     for found in PUBLIC.finditer(text):
@@ -51,32 +50,33 @@ def functions_of_file(file: Path, module: str) -> Iterator[Function]:
             continue
         owners = OWNER.findall(text[: found.start()])
         owner = f"{owners[-1]}::" if found[1] and owners else ""
-        labels = tuple(dict.fromkeys(re.findall(r"\bensures (\w+) \{", contract)))
-        yield Function(module, f"{owner}{found[2]}", labels)
+        yield Function(f"{prefix}{owner}{found[2]}", contract)
 
 
 def functions(top: Path, crate: str) -> Iterator[Function]:
     """The functions of a crate, file by file in the order of its modules."""
     folder = top / "crates" / crate / "src"
     lib = (folder / "lib.rt").read_text()
-    yield from functions_of_file(folder / "lib.rt", crate)
+    yield from functions_of_file(folder / "lib.rt", "")
     for public, name in re.findall(r"^(pub )?mod (\w+);", lib, re.MULTILINE):
         file = folder / f"{name}.rt"
         is_used = re.search(rf"^pub use (?:crate::)?{name}::", lib, re.MULTILINE)
         if file.exists():
-            yield from functions_of_file(file, crate if is_used or not public else f"{crate}::{name}")
+            yield from functions_of_file(file, "" if is_used or not public else f"{name}::")
         for inner in sorted((folder / name).rglob("*.rt")) if (folder / name).is_dir() else ():
-            yield from functions_of_file(inner, crate)
+            yield from functions_of_file(inner, "")
+
+
+def row(crate: str, found: Sequence[Function]) -> str:
+    """The item of a crate."""
+    digest = hashlib.sha256("".join(f"{one.path}{one.contract}" for one in found).encode()).hexdigest()[:8]
+    return WRAPPED.fill(f"- `{crate}` {digest}: {', '.join(f'`{one.path}`' for one in found)}") + "\n"
 
 
 def by_crate(top: Path) -> str:
-    """The part of the document: a row for each module, crate by crate."""
-    found: dict[str, list[str]] = {}
-    for crate in crates(top):
-        for function in functions(top, crate):
-            found.setdefault(function.module, []).append(function.text())
-    rows = (f"- `{module}`: {', '.join(texts)}" for module, texts in found.items())
-    return BY_CRATE + HEAD + "".join(f"{WRAPPED.fill(row)}\n" for row in rows)
+    """The part of the document: an item for each crate with such functions."""
+    found = ((crate, list(functions(top, crate))) for crate in crates(top))
+    return BY_CRATE + HEAD + "".join(row(crate, each) for crate, each in found if each)
 
 
 def page(top: Path) -> str:
