@@ -94,7 +94,7 @@ IN_WORDS: tuple[Plant, ...] = (
         "name_of NoMemory",
         "name_of NoRoom = codes \"NoRoom\"\nname_of NoMemory",
     ),
-    ("docs/TESTED.md isn't", "docs/TESTED.md", "| Key | `idle_ms` |", "| Key | `idle` |"),
+    ("docs/TESTED.md isn't", "docs/TESTED.md", "- `idle_ms`:", "- `idle`:"),
     ("there is no row of the key idle_s", "man/rohc-links.5", ".It Li idle_ms", ".It Li idle_s"),
     ("no document names the key idle_ms", "man/rohc-links.5", ".It Li idle_ms", ".It Li idle_s"),
     (

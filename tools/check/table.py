@@ -2,6 +2,7 @@
 
 import re
 from collections.abc import Iterator
+from textwrap import TextWrapper
 
 from documents_text import manual_items
 from registry import CHECKS, TESTED, TOP
@@ -9,13 +10,23 @@ from registry import CHECKS, TESTED, TOP
 HEAD = """\
 # What is tested, and by which checks
 
+For auditors, and for whoever changes something and asks which checks to run.
+
 `bin/check --table` writes this from tools/check/registry.py. `bin/check --list` says what each check shows, and
 `bin/check NAME` runs it. Promises are all those of docs/PROMISES.md; keys, faults, statuses and refusals those of the
 manual pages. What `gate` proves is in docs/PROOFS.md.
-
-| | | Checks |
-|---|---|---|
 """
+
+PLURALS = {
+    "Promise": "Promises",
+    "Key": "Keys of the links file",
+    "Fault": "Faults of the links file",
+    "Status": "Exit statuses",
+    "Refusal": "Refusals",
+    "Command": "Commands",
+    "Text": "Texts",
+}
+WRAPPED = TextWrapper(width=118, subsequent_indent="  ", break_long_words=False, break_on_hyphens=False)
 
 
 def words(cell: str) -> list[str]:
@@ -52,10 +63,14 @@ def faults() -> Iterator[str]:
 
 
 def page() -> str:
-    """The page, with each row's checks in the order in which they are told."""
+    """The page: a list for each kind, with each item's checks in the order in which they are told."""
     lines = []
-    for tested in TESTED:
+    kinds = [tested.kind for tested in TESTED]
+    for place, tested in enumerate(TESTED):
+        if tested.kind not in kinds[:place]:
+            lines.append(f"\n## {PLURALS[tested.kind]}\n\n")
         checks = [check.name for check in CHECKS if check.name in tested.checks.split()]
         shown = ", ".join(f"`{name}`" for name in words(tested.names)) if tested.kind == "Key" else tested.names
-        lines.append(f"| {tested.kind} | {shown} | {', '.join(checks)} |\n")
+        head = f"Promise {shown}" if tested.kind == "Promise" else shown
+        lines.append(WRAPPED.fill(f"- {head}: {', '.join(checks)}") + "\n")
     return HEAD + "".join(lines)
