@@ -130,10 +130,10 @@ def has_clauses(top: Path, crate: str, kind: str, function: str, labels: Sequenc
 
 
 def named_contracts(text: str) -> Iterator[tuple[str, Sequence[str]]]:
-    """Each function that docs/PROOFS.md names, by its path, with the labels between parentheses behind it. An item that begins
-    with a function says something of it; one of the part by crate begins with a crate and names its functions."""
-    by_hand, _, by_crate = re.sub(r"\n  +", " ", text).partition(proofs_table.BY_CRATE)
-    for path, labels in re.findall(r"^- `(rohc[\w:]+)`(?: \(([^)]*)\))?:", by_hand, re.MULTILINE):
+    """Each function that docs/PROOFS.md names, by its path, with the labels between parentheses behind it. In the part by crate
+    an item begins with a crate and names its functions."""
+    by_hand, _, by_crate = re.sub(r"\n +", " ", text).partition(proofs_table.BY_CRATE)
+    for path, labels in re.findall(r"`(rohc_\w+::[\w:]+)`(?: \(((?:`\w+`(?:, )?)+)\))?", by_hand):
         yield path, re.findall(r"`(\w+)`", labels)
     for crate, functions in re.findall(r"^- `(rohc\w+)` [0-9a-f]{8}: (.*)$", by_crate, re.MULTILINE):
         yield from ((f"{crate}::{function}", ()) for function in re.findall(r"`([\w:]+)`", functions))
