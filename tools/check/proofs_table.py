@@ -12,8 +12,8 @@ from textwrap import TextWrapper
 
 BY_CRATE, PREMISES = "\n## By crate\n", "\n## Premises\n"
 HEAD = """
-Each public function that has a contract, behind a digest of all contracts of its crate: if one changes, so does this page.
-`bin/check --proofs` writes it.
+Each public function that has a contract, behind a digest of all contracts of its crate: if one changes, so does this
+page. `bin/check --proofs` writes it.
 
 """
 PUBLIC = re.compile(r"^( *)pub (?:extern \"C\" )?fn (\w+)", re.MULTILINE)
