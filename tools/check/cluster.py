@@ -7,7 +7,6 @@ a Redis that is killed, from a base and a cut log. Programs that break a promise
 import contextlib
 import os
 import random
-import re
 import shutil
 import signal
 import socket
@@ -21,6 +20,7 @@ from pathlib import Path
 
 import redis_server
 from redis_server import Client, Server
+from refusals import refusal_names
 from trial import Trial
 
 sys.path.insert(0, str(Path(__file__).resolve().parent.parent))
@@ -60,12 +60,6 @@ def arrivals_in(block: bytes) -> Iterator[Arrival]:
         kind, link, moment, count = ARRIVAL.unpack_from(block, at)
         at += ARRIVAL.size + count
         yield Arrival(link) if kind == 1 else Arrival(link, moment, block[at - count : at])
-
-
-def refusal_names(top: Path) -> dict[int, str]:
-    """The name of the refusal with each number."""
-    text = (top / "crates/rohc_context/src/refusal.rt").read_text()
-    return {int(number): name for name, number in re.findall(r"Refusal::(\w+) => (\d+),", text)}
 
 
 def lines_in(answers: bytes, names: dict[int, str]) -> Iterator[str]:

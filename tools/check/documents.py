@@ -13,6 +13,7 @@
 - The examples of docs/EXAMPLES.md are those of tools/worked_examples.txt, each of which says what it shows, and
   examples/worked has all of them.
 - The manual pages have each key, each fault of the links file, each status's text and each refusal with its number.
+- The causes of refusals stand in the order of the refusals' numbers.
 - What documents say of the number of scripts, of test data and of refusals is true.
 - The pictures are those that tools/draw_pictures.py draws.
 - docs/TESTED.md is what `bin/check --table` writes, and that table lacks nothing.
@@ -35,6 +36,7 @@ from documents_commands import check_beside, check_commands
 from documents_text import FENCE, block_at, documents, manual_items
 from program import Call, run
 import proofs_table
+from refusals import refusal_names
 from trial import Trial
 
 README_WORDS = 1200
@@ -233,9 +235,6 @@ def check_examples(top: Path) -> Iterator[str]:
 
 def check_manual(top: Path) -> Iterator[str]:
     """Finds keys, faults, statuses' texts and refusals that the manual pages lack."""
-    refusals = (top / "crates/rohc_context/specs/Refusal.antt").read_text()
-    names = dict(re.findall(r"^name_of (\w+) = codes \"(\w+)\"", refusals, re.MULTILINE))
-    numbers = dict(re.findall(r"^number_of (\w+) = (\d+)", refusals, re.MULTILINE))
     keys = re.findall(r"^(\w+) = ", (top / "examples/two-links.toml").read_text(), re.MULTILINE)
     ends = re.findall(r"f\.write_str\(\"(rohcd: [\w ]+?):? ?\"\)", (top / "crates/rohc_end/src/lib.rt").read_text())
     faults: list[str] = []
@@ -246,7 +245,7 @@ def check_manual(top: Path) -> Iterator[str]:
     wanted = (
         ("rohc-links.5", "DESCRIPTION", set(keys) - {"version"}),
         ("rohc-links.5", "FAULTS", set(faults) - {"NoMemory"}),
-        ("rohc-script.5", "REFUSALS", {f"{numbers.get(variant)} {name}" for variant, name in names.items()}),
+        ("rohc-script.5", "REFUSALS", {f"{number} {name}" for number, name in refusal_names(top).items()}),
         ("rohcd.1", "EXIT STATUS", set(ends)),
     )
     for page, section, words in wanted:
@@ -259,7 +258,7 @@ def check_manual(top: Path) -> Iterator[str]:
 
 def check_counts(top: Path) -> Iterator[str]:
     """Finds counts in documents that aren't true."""
-    names = (top / "crates/rohc_context/specs/Refusal.antt").read_text().count("\nname_of ")
+    names = len(refusal_names(top))
     questions = (top / "crates/vectors/stdin").read_text().splitlines()
     counts = {
         r"(\d+) whole\s+scripts": str(len([*top.glob("examples/scripts/*.script")])),
@@ -273,6 +272,14 @@ def check_counts(top: Path) -> Iterator[str]:
         for name, count in found:
             if count != true:
                 yield f"{name}: counts {count} where {true} is true"
+
+
+def check_causes(top: Path) -> Iterator[str]:
+    """Finds whether the causes of the refusals stand in the order of their numbers."""
+    text = (top / "crates/rohc_tries/src/cause.rt").read_text()
+    causes = re.findall(r"^        refusal: Refusal::(\w+),$", text, re.MULTILINE)
+    if causes != list(refusal_names(top).values()):
+        yield "crates/rohc_tries/src/cause.rt: the causes aren't in the order of the refusals' numbers"
 
 
 def check_pictures(top: Path) -> Iterator[str]:
@@ -298,6 +305,7 @@ CHECKS = (
     check_names,
     check_examples,
     check_manual,
+    check_causes,
     check_counts,
     check_pictures,
     check_tested,

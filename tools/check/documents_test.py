@@ -91,8 +91,14 @@ IN_WORDS: tuple[Plant, ...] = (
     (
         "where 31 is true",
         "crates/rohc_context/specs/Refusal.antt",
-        "name_of NoMemory",
-        "name_of NoRoom = codes \"NoRoom\"\nname_of NoMemory",
+        "row_of NoMemory",
+        "row_of NoRoom = row 31 (codes \"NoRoom\") (Tables ∷ [])\nrow_of NoMemory",
+    ),
+    (
+        "the causes aren't in the order",
+        "crates/rohc_tries/src/cause.rt",
+        "        refusal: Refusal::Check,",
+        "        refusal: Refusal::NoLink,",
     ),
     ("docs/TESTED.md isn't", "docs/TESTED.md", "- `idle_ms`:", "- `idle`:"),
     ("there is no row of the key idle_s", "man/rohc-links.5", ".It Li idle_ms", ".It Li idle_s"),

@@ -11,8 +11,10 @@ from collections.abc import Iterator
 from dataclasses import dataclass
 from pathlib import Path
 
+from refusals import refusal_names
 from trial import Trial
 
+TOP = Path(__file__).resolve().parents[2]
 WORKED = "examples/worked"
 SCRIPTS = "examples/scripts"
 LINKS = ("links-1.toml", "links-2.toml")
@@ -23,14 +25,8 @@ CHAINS = "40110a0000010a0000021388138a00000001004000012000000090000001000000a000
 WHOLE_IR = f"fd012b{CHAINS}ab"
 WHOLE_IR_300 = f"fd812c01cb{CHAINS}ab"
 
-# The names of the refusals of a packet.
-REFUSALS = (
-    "Empty FeedbackShort AfterAddCid Segment ReservedType AddCidOnLarge LargeCid CidRange NoHeader NoContext Profile "
-    "ProfileChange Truncated IpVersion Protocol ExtensionList RtpVersion Csrc ZeroStride ReliableMode OuterHeader "
-    "NoStride RndInUo1 IpIdTwice Trailing TooLong StateTooLow Check NoLink NoMemory"
-)
 OCTETS = "(?:-|(?:[0-9a-f]{2})+)"
-REFUSED = f"refused (?:{'|'.join(REFUSALS.split())})"
+REFUSED = f"refused (?:{'|'.join(refusal_names(TOP).values())})"
 KIND = re.compile(f"[0-9]+ (?:- relay {OCTETS}|[0-9]+ (?:ip {OCTETS}|stored|feedback {OCTETS}|{REFUSED})|- {REFUSED})")
 
 

@@ -9,13 +9,14 @@ use crate::arrival::RohcArrival;
 use crate::gateway::Gateway;
 use crate::link::RohcLink;
 use crate::many::RohcPacket;
-use crate::names::{put_name, refusal_of};
+use crate::names::put_name;
 use crate::room::has_room;
 use crate::saved::{RohcRestored, SavedLink, put_octets, rebuild, saved_link, saved_octets};
 use crate::setup::build;
 use crate::standing::{RohcContextInfo, context_at, has_expired};
 use crate::taking::take_packet;
 use crate::taking_many::{has_room_for_many, take_many};
+use rohc_context::Refusal;
 use std::alloc::Global;
 
 /// Makes a concentrator with these links, in this order and without a record, in place of what the gateway had.
@@ -253,7 +254,7 @@ pub extern "C" fn polorowan_refusal_name(number: u8, name: &mut [u8]) -> usize
     ensures unnamed { result ≡ 0 → IsUnnamed number name.old }
     ensures kept { result ≡ 0 → name.new ≡ name.old }
 {
-    let Some(refusal) = refusal_of(number) else {
+    let Some(refusal) = Refusal::of_number(number) else {
         return 0;
     };
     let text = refusal.name().as_bytes();

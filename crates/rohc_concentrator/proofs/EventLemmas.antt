@@ -1,5 +1,5 @@
 -- Isolation over events: the answers of a run to a pair are those of one context run over the pair's own events.
-use Rattle.std.proofs.Common.{◌≡◌, ◌≢◌, ℕ, List, [], ◌∷◌, ◌++◌, map, filter, Bool, true, false, ◌==◌, Option, Some, None, Result, Ok, Err, ◌⊎◌, inl, inr, ⊎_elim, eq-eqb, ne_eqb, refl, sym, ◌∙◌, ap, subst}
+use Rattle.std.proofs.Common.{◌≡◌, ◌≢◌, ℕ, List, [], ◌∷◌, ◌++◌, map, filter, Bool, true, false, ◌==◌, Option, Some, None, Result, Ok, Err, ◌⊎◌, inl, inr, ⊎_elim, eq-eqb, ne_eqb, refl, sym, ◌∙◌, ap, subst, rules}
 use Rattle.std.specs.List.{AllByRecursion}
 use Rattle.std.proofs.lemmas.Bool.{cases_eq}
 use Rattle.rohc_frame.specs.Header.{Header}
@@ -28,36 +28,7 @@ use Rattle.rohc_concentrator.specs.Laws.{IsolatedEvents}
 pub is_no_memory-not : (o : Outcome) → o ≢ outcomes.Refused refusals.NoMemory → is_no_memory o ≡ false
 is_no_memory-not outcomes.Delivered rich = refl
 is_no_memory-not outcomes.Stored rich = refl
-is_no_memory-not (outcomes.Refused refusals.Empty) rich = refl
-is_no_memory-not (outcomes.Refused refusals.FeedbackShort) rich = refl
-is_no_memory-not (outcomes.Refused refusals.AfterAddCid) rich = refl
-is_no_memory-not (outcomes.Refused refusals.Segment) rich = refl
-is_no_memory-not (outcomes.Refused refusals.ReservedType) rich = refl
-is_no_memory-not (outcomes.Refused refusals.AddCidOnLarge) rich = refl
-is_no_memory-not (outcomes.Refused refusals.LargeCid) rich = refl
-is_no_memory-not (outcomes.Refused refusals.CidRange) rich = refl
-is_no_memory-not (outcomes.Refused refusals.NoHeader) rich = refl
-is_no_memory-not (outcomes.Refused refusals.NoContext) rich = refl
-is_no_memory-not (outcomes.Refused refusals.Profile) rich = refl
-is_no_memory-not (outcomes.Refused refusals.ProfileChange) rich = refl
-is_no_memory-not (outcomes.Refused refusals.Truncated) rich = refl
-is_no_memory-not (outcomes.Refused refusals.IpVersion) rich = refl
-is_no_memory-not (outcomes.Refused refusals.Protocol) rich = refl
-is_no_memory-not (outcomes.Refused refusals.ExtensionList) rich = refl
-is_no_memory-not (outcomes.Refused refusals.RtpVersion) rich = refl
-is_no_memory-not (outcomes.Refused refusals.Csrc) rich = refl
-is_no_memory-not (outcomes.Refused refusals.ZeroStride) rich = refl
-is_no_memory-not (outcomes.Refused refusals.ReliableMode) rich = refl
-is_no_memory-not (outcomes.Refused refusals.OuterHeader) rich = refl
-is_no_memory-not (outcomes.Refused refusals.NoStride) rich = refl
-is_no_memory-not (outcomes.Refused refusals.RndInUo1) rich = refl
-is_no_memory-not (outcomes.Refused refusals.IpIdTwice) rich = refl
-is_no_memory-not (outcomes.Refused refusals.Trailing) rich = refl
-is_no_memory-not (outcomes.Refused refusals.TooLong) rich = refl
-is_no_memory-not (outcomes.Refused refusals.StateTooLow) rich = refl
-is_no_memory-not (outcomes.Refused refusals.Check) rich = refl
-is_no_memory-not (outcomes.Refused refusals.NoLink) rich = refl
-is_no_memory-not (outcomes.Refused refusals.NoMemory) rich = absurd (rich refl)
+is_no_memory-not (outcomes.Refused refusal) rich = search rules
 
 -- marked runs of one machine, one after the other
 pub MarkedRun-append : (s : Settings) (a b c : Option Record) (xs ys : List (LoneEvent × Bool)) (ps qs : List Response) → MarkedRun s a xs ps b → MarkedRun s b ys qs c → MarkedRun s a (xs ++ ys) (ps ++ qs) c

@@ -1,5 +1,5 @@
 -- The ways in which an arrival ends. Every step is one of them; a law of the step goes by these cases.
-use Rattle.std.proofs.Common.{◌≡◌, ℕ, ◌-◌, ◌⊎◌, inl, inr, List, [], ◌∷◌, length, Bool, true, false, Option, Some, None, refl, sym, ap, subst, ◌∙◌}
+use Rattle.std.proofs.Common.{◌≡◌, ℕ, ◌-◌, ◌⊎◌, inl, inr, List, [], ◌∷◌, length, Bool, true, false, not, ◌&&◌, ◌||◌, Option, Some, None, refl, sym, ap, subst, ◌∙◌, rules}
 use Rattle.std.specs.Prelude.{Result, Ok, Err, nat_lt, if◌then◌else◌}
 use Rattle.rohc_frame.specs.declared.header.HeadKind.{HeadKind}
 use Rattle.rohc_frame.specs.declared.header.HeadKind.TheVariants.{Ir, IrDyn, Other}
@@ -7,10 +7,8 @@ use Rattle.rohc_frame.specs.Header.{Header, IsIr}
 use Rattle.rohc_header.specs.declared.fields.Static.{Static}
 use Rattle.rohc_header.specs.Original.{longest_payload}
 use Rattle.rohc_chain.specs.declared.refusal.ChainRefusal.{ChainRefusal}
-use Rattle.rohc_chain.specs.declared.refusal.ChainRefusal.TheVariants as chains
 use Rattle.rohc_chain.specs.Packets.{IrContent, DynContent, ir_at}
 use Rattle.rohc_forms.specs.declared.refusal.FormRefusal.{FormRefusal}
-use Rattle.rohc_forms.specs.declared.refusal.FormRefusal.TheVariants as forms
 use Rattle.rohc_forms.specs.Content.{Content}
 use Rattle.rohc_context.specs.declared.due.Due.{Due}
 use Rattle.rohc_context.specs.declared.due.Due.TheVariants as dues
@@ -19,6 +17,7 @@ use Rattle.rohc_context.specs.declared.fault.Fault.TheVariants.{Unfit, Refused}
 use Rattle.rohc_context.specs.declared.refusal.Refusal.{Refusal}
 use Rattle.rohc_context.specs.declared.refusal.Refusal.TheVariants as refusals
 use Rattle.rohc_context.specs.declared.settings.Settings.{Settings}
+use Rattle.rohc_context.specs.Refusal.{Chain, Form, Context, is_found_by}
 use Rattle.rohc_context.specs.Record.{Reference, State, Plain, NoContext, StaticContext, FullContext, Record}
 use Rattle.rohc_context.specs.Window.{and_outcome}
 use Rattle.rohc_context.specs.Response.{Response, delivered, refused}
@@ -34,11 +33,7 @@ use Rattle.rohc_context.specs.Step.{counts, counting, TakenBy, Turn, LoneStep}
 
 -- a refusal for what the octets say; no state and no lack of memory leads to it
 abbrev pub is_of_octets : Refusal → Bool
-is_of_octets refusals.NoContext = false
-is_of_octets refusals.StateTooLow = false
-is_of_octets refusals.Check = false
-is_of_octets refusals.NoMemory = false
-is_of_octets refusal = true
+is_of_octets refusal = not (is_found_by Context refusal) && (is_found_by Chain refusal || is_found_by Form refusal)
 
 -- the tries of a packet, and the state and the feedback that an acceptance leads to
 pub record Trying : Type 0 where
@@ -79,31 +74,10 @@ is_fault_of_octets Unfit = true
 is_fault_of_octets (Refused refusal) = is_of_octets refusal
 
 of_chain : (refusal : ChainRefusal) → is_fault_of_octets (fault_of_chain refusal) ≡ true
-of_chain chains.Profile = refl
-of_chain chains.ProfileChange = refl
-of_chain chains.Truncated = refl
-of_chain chains.IpVersion = refl
-of_chain chains.Protocol = refl
-of_chain chains.ExtensionList = refl
-of_chain chains.RtpVersion = refl
-of_chain chains.Csrc = refl
-of_chain chains.ZeroStride = refl
-of_chain chains.ReliableMode = refl
-of_chain chains.Trailing = refl
-of_chain chains.TooLong = refl
-of_chain chains.Check = refl
+of_chain refusal = search rules
 
 of_form : (refusal : FormRefusal) → is_fault_of_octets (fault_of_form refusal) ≡ true
-of_form forms.Truncated = refl
-of_form forms.Protocol = refl
-of_form forms.ExtensionList = refl
-of_form forms.Csrc = refl
-of_form forms.ZeroStride = refl
-of_form forms.ReliableMode = refl
-of_form forms.OuterHeader = refl
-of_form forms.NoStride = refl
-of_form forms.RndInUo1 = refl
-of_form forms.IpIdTwice = refl
+of_form refusal = search rules
 
 -- a verdict's fault, if it has one, is one of them
 abbrev IsVerdictOfOctets : Result Acceptance Fault → Type 0

@@ -1,5 +1,5 @@
 -- What windows count, and when a context falls.
-use Rattle.std.proofs.Common.{◌≡◌, ℕ, zero, suc, ◌≤◌, ◌<◌, inl, inr, List, [], ◌∷◌, take, length, Bool, true, false, Option, Some, None, refl, sym, ap, subst, ◌∙◌, arith}
+use Rattle.std.proofs.Common.{◌≡◌, ℕ, zero, suc, ◌≤◌, ◌<◌, inl, inr, List, [], ◌∷◌, take, length, Bool, true, false, Option, Some, None, refl, sym, ap, subst, ◌∙◌, arith, rules}
 use Rattle.std.specs.Prelude.{count_by, ◌↔◌, unwrap_or, if◌then◌else◌}
 use Rattle.std.proofs.lemmas.Bool.{leb-true, leb-false}
 use Rattle.std.proofs.lemmas.List.{take_all}
@@ -53,36 +53,7 @@ unfilled_by k n window h e = subst (λ x. x < k) (failures_kept n true window h)
 -- ---- What is added
 
 marks_none : (refusal : Refusal) → is_of_octets refusal ≡ true → (marks (outcomes.Refused refusal) ≡ []) × (first_marks (outcomes.Refused refusal) ≡ [])
-marks_none refusals.Empty e = (refl, refl)
-marks_none refusals.FeedbackShort e = (refl, refl)
-marks_none refusals.AfterAddCid e = (refl, refl)
-marks_none refusals.Segment e = (refl, refl)
-marks_none refusals.ReservedType e = (refl, refl)
-marks_none refusals.AddCidOnLarge e = (refl, refl)
-marks_none refusals.LargeCid e = (refl, refl)
-marks_none refusals.CidRange e = (refl, refl)
-marks_none refusals.NoHeader e = (refl, refl)
-marks_none refusals.NoContext e = (refl, refl)
-marks_none refusals.Profile e = (refl, refl)
-marks_none refusals.ProfileChange e = (refl, refl)
-marks_none refusals.Truncated e = (refl, refl)
-marks_none refusals.IpVersion e = (refl, refl)
-marks_none refusals.Protocol e = (refl, refl)
-marks_none refusals.ExtensionList e = (refl, refl)
-marks_none refusals.RtpVersion e = (refl, refl)
-marks_none refusals.Csrc e = (refl, refl)
-marks_none refusals.ZeroStride e = (refl, refl)
-marks_none refusals.ReliableMode e = (refl, refl)
-marks_none refusals.OuterHeader e = (refl, refl)
-marks_none refusals.NoStride e = (refl, refl)
-marks_none refusals.RndInUo1 e = (refl, refl)
-marks_none refusals.IpIdTwice e = (refl, refl)
-marks_none refusals.Trailing e = (refl, refl)
-marks_none refusals.TooLong e = (refl, refl)
-marks_none refusals.StateTooLow e = absurd (let f : false ≡ true = e in cc)
-marks_none refusals.Check e = absurd (let f : false ≡ true = e in cc)
-marks_none refusals.NoLink e = (refl, refl)
-marks_none refusals.NoMemory e = (refl, refl)
+marks_none refusal e = search rules
 
 all_kept : (window : List Bool) → length window ≤ 64 → window ≡ take 64 window
 all_kept window few = sym (take_all 64 window few)

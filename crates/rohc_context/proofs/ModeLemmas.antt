@@ -1,5 +1,5 @@
 -- Modes, the previous reference, what is taken at once, and what is lent.
-use Rattle.std.proofs.Common.{◌≡◌, ℕ, ◌-◌, ◌+◌, ◌/◌, ◌%◌, ◌<◌, ◌≤◌, ◌⊎◌, inl, inr, List, [], ◌∷◌, ◌++◌, length, Bool, true, false, Option, Some, None, refl, sym, ap, subst, ◌∙◌, arith}
+use Rattle.std.proofs.Common.{◌≡◌, ℕ, ◌-◌, ◌+◌, ◌/◌, ◌%◌, ◌<◌, ◌≤◌, ◌⊎◌, inl, inr, List, [], ◌∷◌, ◌++◌, length, Bool, true, false, Option, Some, None, refl, sym, ap, subst, ◌∙◌, arith, rules}
 use Rattle.std.specs.Prelude.{All, get_or, Result, Ok, Err, IfOk, is_some, nat_lt, if◌then◌else◌}
 use Rattle.std.proofs.lemmas.Bool.{false≢true}
 use Rattle.std.proofs.lemmas.Bool.Decides.{nat_tests}
@@ -19,7 +19,6 @@ use Rattle.rohc_chain.proofs.TextLemmas.{dyn_text}
 use Rattle.rohc_chain.specs.Packets.{IrContent, DynContent, kept_values, cover, ir_at}
 use Rattle.rohc_chain.specs.Packets as chain
 use Rattle.rohc_forms.specs.declared.refusal.FormRefusal.{FormRefusal}
-use Rattle.rohc_forms.specs.declared.refusal.FormRefusal.TheVariants as forms
 use Rattle.rohc_forms.specs.Content.{Content}
 use Rattle.rohc_forms.specs.Kinds.{is_uor2}
 use Rattle.rohc_forms.specs.Good.{IsGoodContent}
@@ -46,7 +45,6 @@ use Rattle.rohc_context.specs.NextReference.{first_reference}
 use Rattle.rohc_context.specs.Explains.{Explained, Explains}
 use Rattle.rohc_context.specs.Tries.{Try, Fits, Acceptance, Verdict, unshifted, static_tries, full_tries}
 use Rattle.rohc_context.specs.Update.{said_under, VerdictUnless, Judges, Accepts, promoted, updated, acknowledged, silent, UpdatesBy}
-use Rattle.rohc_context.specs.declared.at_once.AtOnce.{AtOnce}
 use Rattle.rohc_context.specs.declared.at_once.AtOnce.TheVariants.{Any, Rebuilt}
 use Rattle.rohc_context.specs.AtOnce.{MissesFirst, MissesAtOnce, NeedsStep}
 use Rattle.rohc_context.specs.Step.{counts_within, counting, TakenBy, Turn, LoneStep}
@@ -432,16 +430,7 @@ saves_by_reference (FullContext fixed r previous window) saved (registers, e, ar
 -- ---- What is not refused means one header
 
 form_below : (refusal : FormRefusal) → number_of (refusal_of (fault_of_form refusal)) ≤ 26
-form_below forms.Truncated = omega arith
-form_below forms.Protocol = omega arith
-form_below forms.ExtensionList = omega arith
-form_below forms.Csrc = omega arith
-form_below forms.ZeroStride = omega arith
-form_below forms.ReliableMode = omega arith
-form_below forms.OuterHeader = omega arith
-form_below forms.NoStride = omega arith
-form_below forms.RndInUo1 = omega arith
-form_below forms.IpIdTwice = omega arith
+form_below refusal = search rules
 
 -- no refusal of 10 to 27
 abbrev IsFree : Response → Type 0

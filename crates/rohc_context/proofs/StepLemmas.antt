@@ -38,8 +38,8 @@ use Rattle.rohc_context.specs.Failures.{takes, after_low_state}
 use Rattle.rohc_context.specs.Outcomes.{refusal_of, Fails, Ends}
 use Rattle.rohc_context.specs.Renewal.{full_window_of, Delivers, Renewed, state_in, Renews}
 use Rattle.rohc_context.specs.Refresh.{kept_by, dyn_said, PlainRefuses, RefreshesTo, RefreshesBy}
-use Rattle.rohc_context.specs.Tries.{Try, Acceptance, static_tries, full_tries}
-use Rattle.rohc_context.specs.Update.{said_under, Judges, Accepts, promoted, updated, acknowledged, silent, UpdatesBy}
+use Rattle.rohc_context.specs.Tries.{Acceptance, static_tries, full_tries}
+use Rattle.rohc_context.specs.Update.{said_under, Accepts, promoted, updated, acknowledged, silent, UpdatesBy}
 use Rattle.rohc_context.specs.Step.{counts, counting, TakenBy, Turn, LoneStep}
 use Rattle.rohc_context.proofs.ExplainLemmas.{original_some, original_one}
 use Rattle.rohc_context.proofs.TryLemmas.{judges_one, judges_some}

@@ -31,3 +31,4 @@ pub mod Counts
 pub mod Waits
 pub mod Modes
 pub mod Laws
+pub mod RefusalLaws

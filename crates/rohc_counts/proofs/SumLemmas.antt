@@ -1,9 +1,8 @@
 -- One count more is one answer more.
-use Rattle.std.proofs.Common.{◌≡◌, ℕ, zero, suc, ◌+◌, ◌-◌, ◌^◌, ◌<◌, ◌≤◌, List, true, false, ◌==◌, min, Some, None, slice_index, eqb-true, eq-eqb, ne_eqb, inl, inr, arith, refl, sym}
+use Rattle.std.proofs.Common.{◌≡◌, ℕ, zero, suc, ◌+◌, ◌-◌, ◌^◌, ◌<◌, ◌≤◌, List, true, false, ◌==◌, min, Some, None, slice_index, eqb-true, eq-eqb, ne_eqb, inl, inr, arith, refl, rules, sym}
 use Rattle.std.proofs.lemmas.Bool.{cases_eq}
 use Rattle.rohc_context.specs.Refusal.{number_of}
 use Rattle.rohc_context.specs.declared.refusal.Refusal.{Refusal}
-use Rattle.rohc_context.specs.declared.refusal.Refusal.TheVariants.{Empty, FeedbackShort, AfterAddCid, Segment, ReservedType, AddCidOnLarge, LargeCid, CidRange, NoHeader, NoContext, Profile, ProfileChange, Truncated, IpVersion, Protocol, ExtensionList, RtpVersion, Csrc, ZeroStride, ReliableMode, OuterHeader, NoStride, RndInUo1, IpIdTwice, Trailing, TooLong, StateTooLow, Check, NoLink, NoMemory}
 use Rattle.rohc_context.specs.declared.reply.Outcome.{Outcome}
 use Rattle.rohc_context.specs.declared.reply.Outcome.TheVariants.{Delivered, Stored}
 use Rattle.rohc_context.specs.declared.reply.Outcome.TheVariants as outcomes
@@ -56,36 +55,7 @@ sum_at (suc m) n f g less small e = elim (n == m) as (λ b. (n == m) ≡ b → s
         let last : g m ≡ f m = (let at = e m (omega arith) in cc) in omega (arith, rest, last)
 
 few : (r : Refusal) → number_of r < 31
-few Empty = omega arith
-few FeedbackShort = omega arith
-few AfterAddCid = omega arith
-few Segment = omega arith
-few ReservedType = omega arith
-few AddCidOnLarge = omega arith
-few LargeCid = omega arith
-few CidRange = omega arith
-few NoHeader = omega arith
-few NoContext = omega arith
-few Profile = omega arith
-few ProfileChange = omega arith
-few Truncated = omega arith
-few IpVersion = omega arith
-few Protocol = omega arith
-few ExtensionList = omega arith
-few RtpVersion = omega arith
-few Csrc = omega arith
-few ZeroStride = omega arith
-few ReliableMode = omega arith
-few OuterHeader = omega arith
-few NoStride = omega arith
-few RndInUo1 = omega arith
-few IpIdTwice = omega arith
-few Trailing = omega arith
-few TooLong = omega arith
-few StateTooLow = omega arith
-few Check = omega arith
-few NoLink = omega arith
-few NoMemory = omega arith
+few r = search rules
 
 few_outcomes : (o : Outcome) → outcome_number o < 32
 few_outcomes Delivered = omega arith

@@ -69,44 +69,10 @@ fn write_one<W: Write>(
     writeln!(out, "{name} {value}")
 }
 
-/// The refusals, in the order of their numbers.
-const REFUSALS: [Refusal; 30] = [
-    Refusal::Empty,
-    Refusal::FeedbackShort,
-    Refusal::AfterAddCid,
-    Refusal::Segment,
-    Refusal::ReservedType,
-    Refusal::AddCidOnLarge,
-    Refusal::LargeCid,
-    Refusal::CidRange,
-    Refusal::NoHeader,
-    Refusal::NoContext,
-    Refusal::Profile,
-    Refusal::ProfileChange,
-    Refusal::Truncated,
-    Refusal::IpVersion,
-    Refusal::Protocol,
-    Refusal::ExtensionList,
-    Refusal::RtpVersion,
-    Refusal::Csrc,
-    Refusal::ZeroStride,
-    Refusal::ReliableMode,
-    Refusal::OuterHeader,
-    Refusal::NoStride,
-    Refusal::RndInUo1,
-    Refusal::IpIdTwice,
-    Refusal::Trailing,
-    Refusal::TooLong,
-    Refusal::StateTooLow,
-    Refusal::Check,
-    Refusal::NoLink,
-    Refusal::NoMemory,
-];
-
 /// The number of refusals in the counts of a link.
 fn refused(counts: &Counts) -> u64 {
     let mut refused = 0u64;
-    for refusal in &REFUSALS {
+    for refusal in Refusal::all() {
         refused = refused.saturating_add(outcome_count(counts, refusal.number()));
     }
     refused
@@ -151,7 +117,7 @@ fn write_refusals<W: Write>(out: &mut W, station: &Station) -> io::Result<()> {
         "Refused packets, by link and refusal.",
     )?;
     for (link, of_link) in station.counters() {
-        for refusal in &REFUSALS {
+        for refusal in Refusal::all() {
             let count = outcome_count(&of_link.answers, refusal.number());
             if count > 0 {
                 writeln!(

@@ -1,10 +1,9 @@
 -- Each line is of one kind.
-use Rattle.std.proofs.Common.{◌≡◌, ℕ, zero, suc, ◌+◌, ◌<◌, ◌≤◌, [], ◌∷◌, length, true, false, cond, ◌==◌, count_by, eqb-true, eq-eqb, ne_eqb, inl, inr, arith, refl}
+use Rattle.std.proofs.Common.{◌≡◌, ℕ, zero, suc, ◌+◌, ◌<◌, ◌≤◌, [], ◌∷◌, length, true, false, cond, ◌==◌, count_by, eqb-true, eq-eqb, ne_eqb, inl, inr, arith, refl, rules}
 use Rattle.std.proofs.lemmas.Bool.{cases_eq}
 use Rattle.std.proofs.lemmas.List.Sums.{sum_by-cons}
 use Rattle.rohc_context.specs.Refusal.{number_of}
 use Rattle.rohc_context.specs.declared.refusal.Refusal.{Refusal}
-use Rattle.rohc_context.specs.declared.refusal.Refusal.TheVariants.{Empty, FeedbackShort, AfterAddCid, Segment, ReservedType, AddCidOnLarge, LargeCid, CidRange, NoHeader, NoContext, Profile, ProfileChange, Truncated, IpVersion, Protocol, ExtensionList, RtpVersion, Csrc, ZeroStride, ReliableMode, OuterHeader, NoStride, RndInUo1, IpIdTwice, Trailing, TooLong, StateTooLow, Check, NoLink, NoMemory}
 use Rattle.rohc_totals.specs.declared.kind.LineKind.{LineKind}
 use Rattle.rohc_totals.specs.declared.kind.LineKind.TheVariants.{NoAnswer, BadLine, LongLine, Delivered, Stored, Relayed, Ack, Nack, StaticNack, Plain, OtherFeedback, Refused}
 use Rattle.rohc_totals.specs.declared.kind.AnswerLine.{AnswerLine}
@@ -43,36 +42,7 @@ one_below (suc n) m e = elim (m == n) as (λ b. (m == n) ≡ b → sum_below n (
     ]
 
 few : (r : Refusal) → number_of r < 31
-few Empty = omega arith
-few FeedbackShort = omega arith
-few AfterAddCid = omega arith
-few Segment = omega arith
-few ReservedType = omega arith
-few AddCidOnLarge = omega arith
-few LargeCid = omega arith
-few CidRange = omega arith
-few NoHeader = omega arith
-few NoContext = omega arith
-few Profile = omega arith
-few ProfileChange = omega arith
-few Truncated = omega arith
-few IpVersion = omega arith
-few Protocol = omega arith
-few ExtensionList = omega arith
-few RtpVersion = omega arith
-few Csrc = omega arith
-few ZeroStride = omega arith
-few ReliableMode = omega arith
-few OuterHeader = omega arith
-few NoStride = omega arith
-few RndInUo1 = omega arith
-few IpIdTwice = omega arith
-few Trailing = omega arith
-few TooLong = omega arith
-few StateTooLow = omega arith
-few Check = omega arith
-few NoLink = omega arith
-few NoMemory = omega arith
+few r = search rules
 
 few_kinds : (kind : LineKind) → kind_number kind < kinds
 few_kinds NoAnswer = omega arith

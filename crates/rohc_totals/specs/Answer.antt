@@ -5,7 +5,6 @@ use Rattle.std.specs.List.{list_any, list_all}
 use Rattle.std.specs.Fmt.{decimal}
 use Rattle.rohc_context.specs.Refusal.{name_of}
 use Rattle.rohc_context.specs.declared.refusal.Refusal.{Refusal}
-use Rattle.rohc_context.specs.declared.refusal.Refusal.TheVariants.{Empty, FeedbackShort, AfterAddCid, Segment, ReservedType, AddCidOnLarge, LargeCid, CidRange, NoHeader, NoContext, Profile, ProfileChange, Truncated, IpVersion, Protocol, ExtensionList, RtpVersion, Csrc, ZeroStride, ReliableMode, OuterHeader, NoStride, RndInUo1, IpIdTwice, Trailing, TooLong, StateTooLow, Check, NoLink, NoMemory}
 use Rattle.std.specs.Str.{bytes_eq}
 use Rattle.hex.specs.Hex.{decode_of}
 use Rattle.rohc_frame.specs.declared.header.CidKind.{CidKind}
@@ -56,14 +55,6 @@ is_pairs octets = nat_lt 0 (length octets) && (length octets % 2 == 0) && list_a
 -- pairs of lower case digits, or `-`
 abbrev pub is_hex : List ℕ → Bool
 is_hex octets = bytes_eq octets (codes "-") || is_pairs octets
-
--- the refusals in the order of their numbers
-abbrev pub all_refusals : List Refusal
-all_refusals =
-    Empty ∷ FeedbackShort ∷ AfterAddCid ∷ Segment ∷ ReservedType ∷ AddCidOnLarge ∷ LargeCid ∷ CidRange
-    ∷ NoHeader ∷ NoContext ∷ Profile ∷ ProfileChange ∷ Truncated ∷ IpVersion ∷ Protocol ∷ ExtensionList
-    ∷ RtpVersion ∷ Csrc ∷ ZeroStride ∷ ReliableMode ∷ OuterHeader ∷ NoStride ∷ RndInUo1 ∷ IpIdTwice
-    ∷ Trailing ∷ TooLong ∷ StateTooLow ∷ Check ∷ NoLink ∷ NoMemory ∷ []
 
 -- The kind of feedback in this hex text: that of the element for this CID, whose octets these are, on a link
 -- of small or of large CIDs. Any other text is of no kind that rohcd writes. An element has at most 8 octets.

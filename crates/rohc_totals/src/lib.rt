@@ -17,7 +17,7 @@ mod totals;
 pub use call::CallTotals;
 pub use counts::Counts;
 pub use kind::{AnswerLine, KINDS, LineKind};
-pub use line::{all_refusals, read_answer};
+pub use line::read_answer;
 pub use reading::{Nobody, TotalsFault, Watcher, read_totals, watch_totals};
 pub use rows::{CallRow, call_rows};
 pub use totals::{LinkTotals, Totals};

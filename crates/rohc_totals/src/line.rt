@@ -5,7 +5,7 @@ ghost use Rattle.std.specs.Fmt.{decimal};
 ghost use Rattle.rohc_context.specs.Refusal.{name_of};
 ghost use Rattle.rohc_context.specs.declared.refusal.Refusal.{Refusal};
 ghost use Rattle.rohc_context.specs.declared.refusal.Refusal.TheVariants.{Empty};
-ghost use Rattle.rohc_totals.specs.Answer.{LinkSays, CallSays, Answer, OfLink, OfCall, IsLinkSays, IsCallSays, IsAnswer, link_says_text, call_text, spelling, link_kind, IsCallKind, TellsLine, IsNoAnswer, all_refusals};
+ghost use Rattle.rohc_totals.specs.Answer.{LinkSays, CallSays, Answer, OfLink, OfCall, IsLinkSays, IsCallSays, IsAnswer, link_says_text, call_text, spelling, link_kind, IsCallKind, TellsLine, IsNoAnswer};
 
 use crate::feedback::feedback_kind;
 use crate::field::{is_hex, read_field};
@@ -103,44 +103,6 @@ fn after_refused(text: &[u8]) -> Option<&[u8]>
     }
 }
 
-/// The refusals in the order of their numbers.
-pub fn all_refusals() -> [Refusal; 30]
-    ensures { result ≡ all_refusals }
-{
-    [
-        Refusal::Empty,
-        Refusal::FeedbackShort,
-        Refusal::AfterAddCid,
-        Refusal::Segment,
-        Refusal::ReservedType,
-        Refusal::AddCidOnLarge,
-        Refusal::LargeCid,
-        Refusal::CidRange,
-        Refusal::NoHeader,
-        Refusal::NoContext,
-        Refusal::Profile,
-        Refusal::ProfileChange,
-        Refusal::Truncated,
-        Refusal::IpVersion,
-        Refusal::Protocol,
-        Refusal::ExtensionList,
-        Refusal::RtpVersion,
-        Refusal::Csrc,
-        Refusal::ZeroStride,
-        Refusal::ReliableMode,
-        Refusal::OuterHeader,
-        Refusal::NoStride,
-        Refusal::RndInUo1,
-        Refusal::IpIdTwice,
-        Refusal::Trailing,
-        Refusal::TooLong,
-        Refusal::StateTooLow,
-        Refusal::Check,
-        Refusal::NoLink,
-        Refusal::NoMemory,
-    ]
-}
-
 /// The first of these refusals with this name.
 fn named_among(refusals: &[Refusal], name: &[u8]) -> Option<Refusal>
     ensures named { IfSome result (λ r. name.now ≡ name_of r) }
@@ -159,7 +121,7 @@ fn refusal_named(name: &[u8]) -> Option<Refusal>
     ensures named { IfSome result (λ r. name.now ≡ name_of r) }
     ensures none { IfNone result ((r : Refusal) → name.now ≢ name_of r) }
 {
-    named_among(all_refusals().as_slice(), name)
+    named_among(Refusal::all().as_slice(), name)
 }
 
 /// The refusal in `refused NAME`.

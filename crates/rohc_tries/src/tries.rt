@@ -1,10 +1,12 @@
 //! The tries of a packet in the order of the definition, each with what it gives or why it wasn't made.
 
-ghost use Rattle.std.specs.Prelude.{◌≡◌, ◌≤◌, ◌==◌, length, not, IfSome};
+ghost use Rattle.std.specs.Prelude.{◌≡◌, ◌<◌, ◌≤◌, ◌==◌, ◌*◌, ◌^◌, ◌&&◌, length, nat_le, not, is_some, is_none, IfSome};
 ghost use Rattle.rohc_header.specs.Original.{IsOriginal};
 ghost use Rattle.rohc_bits.specs.LowBits.{low_bits};
 ghost use Rattle.rohc_forms.specs.Kinds.{is_uor2};
 ghost use Rattle.rohc_tries.specs.Meant.{HasSn, check_in};
+ghost use Rattle.rohc_tries.specs.Tries.{AreMade, fits_in, IsTold, made, planned};
+ghost use Rattle.rohc_tries.specs.declared.tries.Against.TheVariants as against;
 
 use crate::standing::{GREATEST_STRIDE, Reference};
 use rohc_context::Settings;
@@ -167,9 +169,19 @@ impl Meant {
     }
 }
 
+/// How many milliseconds so many SN bits take to wrap around.
+fn wrap_time(packet_ms: u32, count: u8) -> u64
+    requires { count < 32 }
+    ensures { result ≡ packet_ms * 2 ^ count }
+{
+    u64::from(packet_ms) << count
+}
+
 impl Situation<'_> {
     /// Why there is no second or third try, if both aren't made for one reason.
-    fn one_try(&self, form: &Form<'_>, settled: bool) -> Option<NotMade> {
+    fn one_try(&self, form: &Form<'_>, settled: bool) -> Option<NotMade>
+        ensures { is_none result ≡ ((self.now.is_full && not (is_uor2 form.now.kind)) && not settled) }
+    {
         if settled {
             Some(NotMade::Settled)
         } else if !self.is_full {
@@ -182,9 +194,12 @@ impl Situation<'_> {
     }
 
     /// The second try: the SN bits wrapped around once.
-    fn second(&self, form: &Form<'_>, settled: bool) -> Option<Told> {
+    fn second(&self, form: &Form<'_>, settled: bool) -> Option<Told>
+        ensures { IfSome result (λ told. IsTold told against.Reference (2 ^ form.now.sn.count)
+            (((self.now.is_full && not (is_uor2 form.now.kind)) && nat_le (self.now.settings.now.packet_ms * 2 ^ form.now.sn.count) self.now.passed) && not settled)) }
+    {
         let shift = 1u32 << form.sn.count;
-        let needed = u64::from(self.settings.packet_ms).saturating_mul(1u64 << form.sn.count);
+        let needed = wrap_time(self.settings.packet_ms, form.sn.count);
         let result = if let Some(reason) = self.one_try(form, settled) {
             Err(reason)
         } else if self.passed < needed {
@@ -203,7 +218,10 @@ impl Situation<'_> {
     }
 
     /// The third try: the last packet was accepted wrongly.
-    fn third(&self, form: &Form<'_>, settled: bool) -> Option<Told> {
+    fn third(&self, form: &Form<'_>, settled: bool) -> Option<Told>
+        ensures { IfSome result (λ told. IsTold told against.Previous 0
+            (((self.now.is_full && not (is_uor2 form.now.kind)) && is_some self.now.previous) && not settled)) }
+    {
         let result = match (self.one_try(form, settled), self.previous) {
             (Some(reason), _) => Err(reason),
             (None, None) => Err(NotMade::NoPrevious),
@@ -218,7 +236,9 @@ impl Situation<'_> {
 }
 
 /// Whether a try fits.
-fn fits(told: &Told) -> bool {
+fn fits(told: &Told) -> bool
+    ensures { result ≡ fits_in told.now.result }
+{
     match &told.result {
         Ok(meant) => meant.fits(),
         Err(_) => false,
@@ -227,15 +247,18 @@ fn fits(told: &Told) -> bool {
 
 /// The three tries of a packet in their order. `None` if the payload is too long for a try.
 ///
-/// They are made beside the step, and are only tested: a caller compares what the first that fits gives with the
-/// answer of the step.
-pub fn tries_of(situation: &Situation<'_>, form: &Form<'_>) -> Option<[Told; 3]> {
+/// They are made beside the step: a caller compares what the first that fits gives with the answer of the step.
+pub fn tries_of(situation: &Situation<'_>, form: &Form<'_>) -> Option<[Told; 3]>
+    ensures made { IfSome result (λ told. AreMade (planned situation.now.settings.now.packet_ms situation.now.passed form.now.sn.count
+        situation.now.is_full (not (is_uor2 form.now.kind)) (is_some situation.now.previous)) (made told)) }
+{
     let first = Told {
         against: Against::Reference,
         shift: 0,
         result: Ok(header_meant(situation.fixed, situation.reference, 0, form)?),
     };
-    let second = situation.second(form, fits(&first))?;
-    let third = situation.third(form, fits(&first) || fits(&second))?;
+    let settled = fits(&first);
+    let second = situation.second(form, settled)?;
+    let third = situation.third(form, settled | fits(&second))?;
     Some([first, second, third])
 }

@@ -1,6 +1,7 @@
 //! Totals as JSON, one object a line. Every text in it is a name of ours.
 
-use rohc_totals::{CallRow, Counts, LineKind, Totals, all_refusals};
+use rohc_context::Refusal;
+use rohc_totals::{CallRow, Counts, LineKind, Totals};
 use std::io;
 use std::io::Write;
 
@@ -25,7 +26,7 @@ fn write_counts<W: Write>(out: &mut W, counts: &Counts) -> io::Result<()> {
 /// Writes the members of those refusals that came.
 fn write_refused<W: Write>(out: &mut W, counts: &Counts) -> io::Result<()> {
     let mut is_first = true;
-    for refusal in all_refusals() {
+    for refusal in Refusal::all() {
         let count = counts.of(LineKind::Refused(refusal));
         if count > 0 {
             if !is_first {

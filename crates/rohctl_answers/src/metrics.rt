@@ -1,7 +1,8 @@
 //! Totals in the text format of Prometheus.
 
 use crate::table::refused;
-use rohc_totals::{CallRow, Counts, LineKind, Totals, all_refusals};
+use rohc_context::Refusal;
+use rohc_totals::{CallRow, Counts, LineKind, Totals};
 use std::io;
 use std::io::Write;
 
@@ -54,7 +55,7 @@ fn write_feedback<W: Write>(out: &mut W, row: &CallRow) -> io::Result<()> {
 
 /// Writes the samples of a call's refusals: those that came, by name.
 fn write_refused<W: Write>(out: &mut W, row: &CallRow) -> io::Result<()> {
-    for refusal in all_refusals() {
+    for refusal in Refusal::all() {
         let count = row.totals.counts.of(LineKind::Refused(refusal));
         if count > 0 {
             writeln!(

@@ -1,5 +1,6 @@
 //! Totals as a table.
 
+use rohc_context::Refusal;
 use rohc_totals::{CallRow, Counts, LineKind, Totals};
 use std::io;
 use std::io::Write;
@@ -13,7 +14,7 @@ const PLAIN: &str = "\x1b[0m";
 /// The refusals among these lines.
 pub(crate) fn refused(counts: &Counts) -> u64 {
     let mut refused = 0u64;
-    for refusal in rohc_totals::all_refusals() {
+    for refusal in Refusal::all() {
         refused = refused.saturating_add(counts.of(LineKind::Refused(refusal)));
     }
     refused
