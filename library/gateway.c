@@ -48,7 +48,7 @@ void polorowan_close(polorowan_gateway *gateway) {
     free(gateway);
 }
 
-/* The name and the meaning of each refusal, by its number. docs/OPERATING.md has the same. */
+/* The name and the meaning of each refusal, by its number. man/rohc-script.5 has the same. */
 static const struct {
     const char *name;
     const char *text;

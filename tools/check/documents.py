@@ -10,8 +10,9 @@
 - Each link, each anchor, and each file or folder of the repository that a document names is there.
 - Each function and each clause of docs/PROOFS.md stands in the sources. So does each name of code there and in six other
   documents.
-- The examples of docs/EXAMPLES.md are those of tools/worked_examples.txt and of examples/worked.
-- docs/OPERATING.md has each key, each fault of the links file, each status's text and each refusal with its number.
+- The examples of docs/EXAMPLES.md are those of tools/worked_examples.txt, each of which says what it shows, and
+  examples/worked has all of them.
+- The manual pages have each key, each fault of the links file, each status's text and each refusal with its number.
 - The causes of refusals stand in the order of the refusals' numbers.
 - What documents say of the number of scripts, of test data and of refusals is true.
 - The pictures are those that tools/draw_pictures.py draws.
@@ -32,7 +33,7 @@ from functools import partial
 from pathlib import Path
 
 from documents_commands import check_beside, check_commands
-from documents_text import FENCE, block_at, documents
+from documents_text import FENCE, block_at, documents, manual_items
 from program import Call, run
 import proofs_table
 from refusals import refusal_names
@@ -130,19 +131,25 @@ def has_clauses(top: Path, crate: str, kind: str, function: str, labels: Sequenc
     return False
 
 
+def named_contracts(text: str) -> Iterator[tuple[str, Sequence[str]]]:
+    """Each function that docs/PROOFS.md names, by its path, with the labels between parentheses behind it. In the part by crate
+    an item begins with a crate and names its functions."""
+    by_hand, _, by_crate = re.sub(r"\n +", " ", text).partition(proofs_table.BY_CRATE)
+    for path, labels in re.findall(r"`(rohc_\w+::[\w:]+)`(?: \(((?:`\w+`(?:, )?)+)\))?", by_hand):
+        yield path, re.findall(r"`(\w+)`", labels)
+    for crate, functions in re.findall(r"^- `(rohc\w+)` [0-9a-f]{8}: (.*)$", by_crate, re.MULTILINE):
+        yield from ((f"{crate}::{function}", ()) for function in re.findall(r"`([\w:]+)`", functions))
+
+
 def check_proofs(top: Path) -> Iterator[str]:
     """Finds functions and clauses of docs/PROOFS.md that aren't in the sources, and what it lacks of them."""
     text = documents(top)["docs/PROOFS.md"]
-    rows = 0
-    for row in re.findall(r"^\| (`rohc.*)$", text, re.MULTILINE):
-        cells = row.split(" | ")
-        labels = re.findall(r"`(\w+)`", cells[1])
-        for path in re.findall(r"`([\w:]+)`", cells[0]):
-            rows += 1
-            crate, *middle, function = path.split("::")
-            if not has_clauses(top, crate, middle[0] if middle else "", function, labels):
-                yield f"docs/PROOFS.md: {path} has no contract with {', '.join(labels) or 'a clause'}"
-    if rows == 0:
+    named = list(named_contracts(text))
+    for path, labels in named:
+        crate, *middle, function = path.split("::")
+        if not has_clauses(top, crate, middle[-1] if middle else "", function, labels):
+            yield f"docs/PROOFS.md: {path} has no contract with {', '.join(labels) or 'a clause'}"
+    if not named:
         yield "docs/PROOFS.md names no function"
     wanted, found = (page.splitlines() for page in (proofs_table.page(top), text))
     for line in wanted:
@@ -186,17 +193,31 @@ def sections(text: str, begin: str) -> dict[str, list[str]]:
     return found
 
 
+def plain_words(text: str) -> list[str]:
+    """The words of a text without its marks."""
+    return re.sub("[`*]", "", text).split()
+
+
 def check_examples(top: Path) -> Iterator[str]:
-    """Compares docs/EXAMPLES.md, tools/worked_examples.txt and examples/worked."""
-    short = (top / "tools/worked_examples.txt").read_text()
-    kept = {name: [s for s in lines if s and s[0] != "#"] for name, lines in sections(short, r"= (\S+)$").items()}
-    shown: dict[str, list[str]] = {}
-    for name, lines in sections(documents(top)["docs/EXAMPLES.md"], r"### (\S+)$").items():
-        block = next((i for i, line in enumerate(lines) if FENCE.match(line)), len(lines))
-        shown[name] = (block_at(lines, block)[0] or "").splitlines()
-    for name in sorted(kept.keys() | shown.keys()):
-        if kept.get(name) != shown.get(name):
+    """Compares docs/EXAMPLES.md, tools/worked_examples.txt and examples/worked. Each example has a comment below its name. What
+    the document shows of an example, its text and its block, is the same."""
+    short, text = (top / "tools/worked_examples.txt").read_text(), documents(top)["docs/EXAMPLES.md"]
+    kept = sections(short, r"= (\S+)$")
+    told = {name: plain_words(" ".join(line[1:] for line in lines if line.startswith("#"))) for name, lines in kept.items()}
+    yield from (f"tools/worked_examples.txt: says nothing of {name}" for name, words in told.items() if not words)
+    shown = sections(text, r"### (\S+)$")
+    if not shown:
+        yield "docs/EXAMPLES.md shows no example"
+    for name, lines in shown.items():
+        start = next((i for i, line in enumerate(lines) if FENCE.match(line)), len(lines))
+        block = (block_at(lines, start)[0] or "").splitlines()
+        if block != [line for line in kept.get(name, ["#"]) if line and line[0] != "#"]:
             yield f"docs/EXAMPLES.md: {name} isn't the example of tools/worked_examples.txt"
+        if plain_words(" ".join(lines[:start])) != told.get(name):
+            yield f"docs/EXAMPLES.md: {name} isn't told as in tools/worked_examples.txt"
+    count = re.search(r"has all (\d+)", text)
+    if not count or int(count[1]) != len(kept):
+        yield f"docs/EXAMPLES.md doesn't count {len(kept)} examples"
     with tempfile.TemporaryDirectory() as room:
         folder = Path(room)
         (folder / "tools").mkdir()
@@ -212,10 +233,8 @@ def check_examples(top: Path) -> Iterator[str]:
                 yield f"examples/worked/{file.name} isn't what tools/expand_examples.py writes"
 
 
-def check_operating(top: Path) -> Iterator[str]:
-    """Finds keys, faults, texts and refusals that docs/OPERATING.md lacks."""
-    text = documents(top)["docs/OPERATING.md"]
-    rows = {f"| {number} | {name} |" for number, name in refusal_names(top).items()}
+def check_manual(top: Path) -> Iterator[str]:
+    """Finds keys, faults, statuses' texts and refusals that the manual pages lack."""
     keys = re.findall(r"^(\w+) = ", (top / "examples/two-links.toml").read_text(), re.MULTILINE)
     ends = re.findall(r"f\.write_str\(\"(rohcd: [\w ]+?):? ?\"\)", (top / "crates/rohc_end/src/lib.rt").read_text())
     faults: list[str] = []
@@ -223,15 +242,18 @@ def check_operating(top: Path) -> Iterator[str]:
         files = [top / f"crates/{place}.rt", *top.glob(f"crates/{place}/*.rt")]
         source = "".join(file.read_text() for file in files if file.exists())
         faults += re.findall(r"(?:Links|Setup)Fault::\w+(?: \{ \.\. \})? => \"(\w+)\"", source)
-    if min(len(rows), len(keys), len(ends), len(faults)) == 0:
-        yield "no refusals, keys, ends or faults were found in the sources"
-    cells = re.findall(r"^\| ([^|]+) \|", text, re.MULTILINE)
-    named = {word.strip(" `") for cell in cells for word in cell.split(",")}
-    for word in sorted({*keys, *faults} - {"version", "NoMemory"} - named):
-        yield f"docs/OPERATING.md lacks a row of {word}"
-    for word in sorted([*rows, *(f"`{end}" for end in ends)]):
-        if word not in text:
-            yield f"docs/OPERATING.md lacks {word}"
+    wanted = (
+        ("rohc-links.5", "DESCRIPTION", set(keys) - {"version"}),
+        ("rohc-links.5", "FAULTS", set(faults) - {"NoMemory"}),
+        ("rohc-script.5", "REFUSALS", {f"{number} {name}" for number, name in refusal_names(top).items()}),
+        ("rohcd.1", "EXIT STATUS", set(ends)),
+    )
+    for page, section, words in wanted:
+        items = manual_items(top, page, section)
+        named = {re.sub(r"^\d (?=rohcd: )|: NAME$", "", word) for item in items for word in item.split(", ")}
+        if not words:
+            yield f"nothing was found in the sources for {section} of man/{page}"
+        yield from (f"man/{page} lacks an item of {word}" for word in sorted(words - named))
 
 
 def check_counts(top: Path) -> Iterator[str]:
@@ -282,7 +304,7 @@ CHECKS = (
     check_proofs,
     check_names,
     check_examples,
-    check_operating,
+    check_manual,
     check_causes,
     check_counts,
     check_pictures,

@@ -4,6 +4,7 @@ import re
 from collections.abc import Sequence
 from pathlib import Path
 
+ITEM = re.compile(r"^\.It (.*)$", re.MULTILINE)
 FENCE = re.compile(r"^```\w*$")
 
 
@@ -23,3 +24,9 @@ def block_at(lines: Sequence[str], start: int) -> tuple[str | None, int]:
     while end < len(lines) and lines[end] != "```":
         end += 1
     return "".join(line + "\n" for line in lines[start + 1 : end]), end + 1
+
+
+def manual_items(top: Path, page: str, section: str) -> list[str]:
+    """What the items of a section of a manual page begin with, without the word for literal text."""
+    text = (top / "man" / page).read_text().partition(f"\n.Sh {section}\n")[2].partition("\n.Sh ")[0]
+    return [item.replace("Li ", "").replace(" , ", ", ") for item in ITEM.findall(text)]

@@ -1,34 +1,33 @@
-"""The part of docs/PROOFS.md that the sources write: each public contract of a library crate, with its clauses.
+"""The part of docs/PROOFS.md that the sources write: each public function of a library crate that has a contract.
 
-What a row says is the first sentence of the function's own comment.
+A digest of all these contracts stands with each crate, so that a change of any of them shows in the document.
 """
 
+import hashlib
 import re
-from collections.abc import Iterator
+from collections.abc import Iterator, Sequence
 from dataclasses import dataclass
 from pathlib import Path
+from textwrap import TextWrapper
 
 BY_CRATE, PREMISES = "\n## By crate\n", "\n## Premises\n"
 HEAD = """
-`bin/check --proofs` writes this from the sources. What a row says is the first sentence of the function's comment.
+Each public function that has a contract, behind a digest of all contracts of its crate: if one changes, so does this
+page. `bin/check --proofs` writes it.
+
 """
 PUBLIC = re.compile(r"^( *)pub (?:extern \"C\" )?fn (\w+)", re.MULTILINE)
 OWNER = re.compile(r"^(?:impl\b[^{]*?\b|pub trait )(\w+)(?:<[^{]*>)?(?: where[^{]*)? \{", re.MULTILINE)
+WRAPPED = TextWrapper(width=118, subsequent_indent="  ", break_long_words=False, break_on_hyphens=False)
 END = re.compile(r"\n *\{\}?\n|\};\n")
 
 
 @dataclass(frozen=True)
-class Row:
-    """A function, the labels of its clauses, and what its comment begins with."""
+class Function:
+    """A function by its path within its crate, and its contract."""
 
     path: str
-    labels: tuple[str, ...]
-    says: str
-
-    def line(self) -> str:
-        """Its line of the table."""
-        labels = ", ".join(f"`{label}`" for label in self.labels) or "*whole*"
-        return f"| `{self.path}` | {labels} | {self.says} |"
+    contract: str
 
 
 def crates(top: Path) -> list[str]:
@@ -37,21 +36,7 @@ def crates(top: Path) -> list[str]:
     return [name for name in names if (top / "crates" / name / "src/lib.rt").exists()]
 
 
-def first_sentence(before: str) -> str:
-    """The first sentence of the comment that ends before a function."""
-    lines: list[str] = []
-    for line in reversed(before.rstrip("\n").split("\n")):
-        text = line.strip()
-        if text.startswith("///"):
-            lines.insert(0, text[3:].strip())
-        elif not text.startswith("#["):
-            break
-    paragraph = " ".join(lines).partition("  ")[0].strip()
-    found = re.match(r"(.*?[.:])(?= [A-Z`0-9]|$)", paragraph)
-    return (found[1] if found else paragraph).rstrip(":").rstrip(".") + "."
-
-
-def rows_of_file(file: Path, prefix: str) -> Iterator[Row]:
+def functions_of_file(file: Path, prefix: str) -> Iterator[Function]:
     """The public functions of a file that have a contract."""
     text = file.read_text()
     for found in PUBLIC.finditer(text):
@@ -65,33 +50,33 @@ def rows_of_file(file: Path, prefix: str) -> Iterator[Row]:
             continue
         owners = OWNER.findall(text[: found.start()])
         owner = f"{owners[-1]}::" if found[1] and owners else ""
-        labels = tuple(dict.fromkeys(re.findall(r"\bensures (\w+) \{", contract)))
-        yield Row(f"{prefix}{owner}{found[2]}", labels, first_sentence(text[: found.start()]))
+        yield Function(f"{prefix}{owner}{found[2]}", contract)
 
 
-def rows(top: Path, crate: str) -> Iterator[Row]:
-    """The rows of a crate, file by file in the order of its modules."""
+def functions(top: Path, crate: str) -> Iterator[Function]:
+    """The functions of a crate, file by file in the order of its modules."""
     folder = top / "crates" / crate / "src"
     lib = (folder / "lib.rt").read_text()
-    yield from rows_of_file(folder / "lib.rt", f"{crate}::")
+    yield from functions_of_file(folder / "lib.rt", "")
     for public, name in re.findall(r"^(pub )?mod (\w+);", lib, re.MULTILINE):
         file = folder / f"{name}.rt"
         is_used = re.search(rf"^pub use (?:crate::)?{name}::", lib, re.MULTILINE)
         if file.exists():
-            yield from rows_of_file(file, f"{crate}::" if is_used or not public else f"{crate}::{name}::")
+            yield from functions_of_file(file, "" if is_used or not public else f"{name}::")
         for inner in sorted((folder / name).rglob("*.rt")) if (folder / name).is_dir() else ():
-            yield from rows_of_file(inner, f"{crate}::")
+            yield from functions_of_file(inner, "")
+
+
+def row(crate: str, found: Sequence[Function]) -> str:
+    """The item of a crate."""
+    digest = hashlib.sha256("".join(f"{one.path}{one.contract}" for one in found).encode()).hexdigest()[:8]
+    return WRAPPED.fill(f"- `{crate}` {digest}: {', '.join(f'`{one.path}`' for one in found)}") + "\n"
 
 
 def by_crate(top: Path) -> str:
-    """The part of the document."""
-    parts = [BY_CRATE, HEAD]
-    for crate in crates(top):
-        found = list(rows(top, crate))
-        if found:
-            parts.append(f"\n### {crate}\n\n| Function | Clauses | What it says |\n|---|---|---|\n")
-            parts += [f"{row.line()}\n" for row in found]
-    return "".join(parts)
+    """The part of the document: an item for each crate with such functions."""
+    found = ((crate, list(functions(top, crate))) for crate in crates(top))
+    return BY_CRATE + HEAD + "".join(row(crate, each) for crate, each in found if each)
 
 
 def page(top: Path) -> str:

@@ -219,7 +219,7 @@ class Tested:
     checks: str
 
 
-# The kinds up to Refusal are whole lists of docs/PROMISES.md and docs/OPERATING.md.
+# The kinds up to Refusal are whole lists of docs/PROMISES.md and the manual pages.
 TESTED = (
     Tested("Promise", "1. Isolation", "closed gate lines random limits evidence"),
     Tested("Promise", "2. Safe and total", "gate library examples lines random limits poverty evidence"),

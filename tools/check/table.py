@@ -2,30 +2,31 @@
 
 import re
 from collections.abc import Iterator
+from textwrap import TextWrapper
 
+from documents_text import manual_items
 from registry import CHECKS, TESTED, TOP
 
 HEAD = """\
 # What is tested, and by which checks
 
-`bin/check --table` writes this from tools/check/registry.py. `bin/check --list` says what each check shows, and
-`bin/check NAME` runs it. Promises, keys, faults, statuses and refusals are all those of docs/PROMISES.md and
-docs/OPERATING.md. What `gate` proves is in docs/PROOFS.md.
+For auditors, and for whoever changes something and asks which checks to run.
 
-| | | Checks |
-|---|---|---|
+`bin/check --table` writes this from tools/check/registry.py. `bin/check --list` says what each check shows, and
+`bin/check NAME` runs it. Promises are all those of docs/PROMISES.md; keys, faults, statuses and refusals those of the
+manual pages. What `gate` proves is in docs/PROOFS.md.
 """
 
-
-def section(text: str, heading: str) -> str:
-    """What stands below a heading, up to the next."""
-    return re.split(r"^#+ ", text.partition(f"\n{heading}\n")[2], maxsplit=1, flags=re.MULTILINE)[0]
-
-
-def rows(text: str, heading: str) -> list[list[str]]:
-    """The cells of the table below a heading, without its head."""
-    lines = [line for line in section(text, heading).splitlines() if line.startswith("| ")]
-    return [[cell.strip() for cell in line.strip("|").split(" | ")] for line in lines[1:]]
+PLURALS = {
+    "Promise": "Promises",
+    "Key": "Keys of the links file",
+    "Fault": "Faults of the links file",
+    "Status": "Exit statuses",
+    "Refusal": "Refusals",
+    "Command": "Commands",
+    "Text": "Texts",
+}
+WRAPPED = TextWrapper(width=118, subsequent_indent="  ", break_long_words=False, break_on_hyphens=False)
 
 
 def words(cell: str) -> list[str]:
@@ -35,16 +36,14 @@ def words(cell: str) -> list[str]:
 
 def named_in_documents() -> dict[str, list[str]]:
     """What the documents name, by its kind."""
-    operating = (TOP / "docs/OPERATING.md").read_text()
     promises = (TOP / "docs/PROMISES.md").read_text()
-    ends = rows(operating, "## How the program ends")
-    texts = [re.match(r"`?(?:rohcd: )?([a-z ]+)", end[1]) for end in ends]
+    ends = [re.match(r"(\d) (?:rohcd: )?([a-z ]+)", end) for end in manual_items(TOP, "rohcd.1", "EXIT STATUS")]
     return {
         "Promise": re.findall(r"^## (\d\. .*)$", promises, re.MULTILINE),
-        "Key": [word for row in rows(operating, "## The links file") for word in words(row[0])],
-        "Fault": [word for row in rows(operating, "### Faults of the links file") for word in words(row[0])],
-        "Status": [f"{end[0]} {text[1]}" for end, text in zip(ends, texts) if text],
-        "Refusal": [row[1] for row in rows(operating, "## Refusals")],
+        "Key": [word for item in manual_items(TOP, "rohc-links.5", "DESCRIPTION") for word in words(item)],
+        "Fault": [word for item in manual_items(TOP, "rohc-links.5", "FAULTS") for word in words(item)],
+        "Status": [f"{end[1]} {end[2]}" for end in ends if end],
+        "Refusal": [item.split()[-1] for item in manual_items(TOP, "rohc-script.5", "REFUSALS")],
     }
 
 
@@ -64,10 +63,14 @@ def faults() -> Iterator[str]:
 
 
 def page() -> str:
-    """The page, with each row's checks in the order in which they are told."""
+    """The page: a list for each kind, with each item's checks in the order in which they are told."""
     lines = []
-    for tested in TESTED:
+    kinds = [tested.kind for tested in TESTED]
+    for place, tested in enumerate(TESTED):
+        if tested.kind not in kinds[:place]:
+            lines.append(f"\n## {PLURALS[tested.kind]}\n\n")
         checks = [check.name for check in CHECKS if check.name in tested.checks.split()]
         shown = ", ".join(f"`{name}`" for name in words(tested.names)) if tested.kind == "Key" else tested.names
-        lines.append(f"| {tested.kind} | {shown} | {', '.join(checks)} |\n")
+        head = f"Promise {shown}" if tested.kind == "Promise" else shown
+        lines.append(WRAPPED.fill(f"- {head}: {', '.join(checks)}") + "\n")
     return HEAD + "".join(lines)

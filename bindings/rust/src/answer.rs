@@ -6,7 +6,7 @@ use std::os::raw::c_char;
 
 use crate::ffi;
 
-/// A refusal, by its number (docs/OPERATING.md).
+/// A refusal, by its number (man/rohc-script.5).
 #[derive(Clone, Copy, PartialEq, Eq, Hash)]
 pub struct Refusal(u8);
 

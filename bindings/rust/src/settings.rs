@@ -24,7 +24,7 @@ pub struct Range {
     pub mode: Mode,
 }
 
-/// The settings of a link. docs/OPERATING.md has each setting with its limits.
+/// The settings of a link. man/rohc-links.5 has each setting with its limits.
 #[derive(Clone, Debug, PartialEq, Eq)]
 pub struct Link {
     /// Its number.
