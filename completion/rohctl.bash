@@ -2,21 +2,22 @@
 # shellcheck shell=bash
 
 _rohctl() {
-    local word=${COMP_WORDS[COMP_CWORD]} options='' asking='status stop save reload drain reset contexts calls'
+    local word=${COMP_WORDS[COMP_CWORD]} options='' asking='status stop save reload drain reset contexts calls watch'
     COMPREPLY=()
     if [ "$COMP_CWORD" -eq 1 ]; then
-        mapfile -t COMPREPLY < <(compgen -W "totals links trace explain diff plan decompress spread verify $asking" -- "$word")
+        mapfile -t COMPREPLY < <(compgen -W "totals links trace explain diff plan decompress script spread verify $asking" -- "$word")
         return
     fi
     case ${COMP_WORDS[1]} in
-    totals) options='--json --prometheus' ;;
+    totals) options='--json --prometheus --follow' ;;
     links) options='--json --new' ;;
     trace) options='--links' ;;
     explain) options='--links --line --call --link --brief --json' ;;
     diff) options='--json' ;;
     decompress) options='--links --link --vlan --port --padded --pcapng --stats --feedback' ;;
     plan) options='--damage --packet-ms --window --calls --split --links --json' ;;
-    status | stop | save | reload | drain) options='--control' ;;
+    script) options='--link --vlan --port --from --other --lines --back --pcapng' ;;
+    status | stop | save | reload | drain | watch) options='--control' ;;
     spread) options='--hosts --nginx --out' ;;
     verify) options='--root' ;;
     reset) options='--control --link --cid' ;;

@@ -24,27 +24,28 @@ from random_script import check8
 from trial import Trial
 
 ROHCTL = "crates/rohctl/out/rohctl"
-PARTS = ("words", "calls", "killed", "reloaded", "asked", "hostile", "flood", "poor", "files")
+PARTS = ("words", "calls", "killed", "reloaded", "asked", "watched", "hostile", "flood", "poor", "files")
 LINKS = range(1, 21)
 KILLS = 20
 SLOW = 40
+WATCHED = 100
 FLOOD = 200_000
 
 # Gateway files that are refused, and what `check` says of each.
 FAULTS = (
     ("port = 4000\n", ["gateway: links: missing"]),
     ('links = "links.toml"\n', ["gateway: port: missing"]),
-    ('links = "links.toml"\nport = 0\n', ["gateway: port: wrong value"]),
-    ('links = "links.toml"\nport = 4000\nprot = 4001\n', ["gateway: prot: unknown key"]),
-    ('links = "links.toml"\nport = 4000\ntimed_port = 4000\n', ["gateway: timed_port: the same port as port"]),
-    ('links = "links.toml"\nport = 4000\nsave_seconds = 5\n', ["gateway: save_seconds: wants state"]),
-    ("links =\n", ["gateway: not TOML"]),
+    ('links = "links.toml"\nport = 0\n', ["gateway:2: port: wrong value"]),
+    ('links = "links.toml"\nport = 4000\nprot = 4001\n', ["gateway:3: prot: unknown key"]),
+    ('links = "links.toml"\nport = 4000\ntimed_port = 4000\n', ["gateway:3: timed_port: the same port as port"]),
+    ('links = "links.toml"\nport = 4000\nsave_seconds = 5\n', ["gateway:3: save_seconds: wants state"]),
+    ("links =\n", ["gateway:1: not TOML"]),
     ('links = "none.toml"\nport = 4000\n', ["links: Unreadable"]),
     ('links = "bad.toml"\nport = 4000\n', ["links: BadSetting entry 1"]),
     ('links = 5\nport = "x"\nmetrics_port = 70000\n', [
-        "gateway: links: wrong value",
-        "gateway: port: wrong value",
-        "gateway: metrics_port: wrong value",
+        "gateway:1: links: wrong value",
+        "gateway:2: port: wrong value",
+        "gateway:3: metrics_port: wrong value",
     ]),
 )  # fmt: skip
 
@@ -64,6 +65,9 @@ REQUESTS = (
     (b"POST /reset?link=70000 HTTP/1.1\r\n\r\n", 400),
     (b"POST /reset?link=1&link=2 HTTP/1.1\r\n\r\n", 400),
     (b"POST /reset?link=999 HTTP/1.1\r\n\r\n", 404),
+    (b"POST /watch?link=1 HTTP/1.1\r\n\r\n", 400),
+    (b"GET /watch?link=1&cid=0 HTTP/1.1\r\n\r\n", 405),
+    (b"POST /watch?link=999&cid=0 HTTP/1.1\r\n\r\n", 404),
     (b"GET /contexts?link=999 HTTP/1.1\r\n\r\n", 404),
     (b"GET /ready HTTP/1.1\r\nA: " + b"a" * 9_000 + b"\r\n\r\n", 413),
 )
@@ -249,6 +253,28 @@ def check_asked(trial: Trial) -> None:
         trial.demand(told.is_good and json.loads(told.text)["stopped"] is True, f"stop: {told.all}", told.call)
         assert gateway.process
         trial.demand(gateway.process.wait(30) == 0, f"stop: {gateway.said}")
+
+
+def check_watched(trial: Trial) -> None:
+    """A watched call has a line for each packet in the log, no other call has one, and the watch ends by itself."""
+    first, second = bytes.fromhex("fc00b745aa"), bytes.fromhex("e1fc003045aa")
+    log = "<7>rohc-gateway: watch 1/0: "
+    with Receivers() as receivers, Gateway(trial, trial.scratch / "watched", receivers.links(LINKS)) as gateway:
+        told = asked(trial, gateway, "watch", "1/0")
+        trial.demand(told.is_good and json.loads(told.text) == {"packets": WATCHED, "milliseconds": 60_000}, f"watch: {told.all}")
+        gateway.send(Arrival(1, 1, second))
+        for moment in range(WATCHED + 1):
+            gateway.send(Arrival(1, 2 + moment, first if moment != 1 else b"\xfc\x00\xb8\x45\xaa"))
+        gateway.wait_taken()
+        asked(trial, gateway, "stop")
+        lines = [line for line in gateway.said.splitlines() if "watch" in line]
+    # The IR makes a context, and its feedback has four octets (docs/EXAMPLES.md); the second is damaged.
+    trial.demand(lines[0] == "<6>rohc-gateway: watch 1/0 begins", f"watched: {lines[:1]}")
+    trial.demand(lines[1].startswith(f"{log}5 octets: delivered 2, feedback "), f"watched: {lines[1:2]}")
+    trial.demand(lines[2].startswith(f"{log}5 octets: refused, feedback "), f"watched: {lines[2:3]}")
+    trial.demand(lines[-1] == "<6>rohc-gateway: watch ends", f"watched: {lines[-1:]}")
+    count = sum(line.startswith(log) for line in lines)
+    trial.demand(count == WATCHED, f"watched: {count} packets have a line; wanted {WATCHED}")
 
 
 def slow_ones(gateway: Gateway) -> Iterator[socket.socket]:

@@ -3,6 +3,7 @@
 import json
 import os
 import pty
+import select
 import subprocess
 from collections import Counter
 from collections.abc import Sequence
@@ -23,6 +24,8 @@ PLAIN = "examples/plain-call"
 LINKS = "examples/links.toml"
 SCRIPTS = "examples/scripts"
 SHOWN = 120
+WAIT_SECONDS = 20.0
+CLEAR = b"\x1b[H\x1b[2J"
 
 # The call of plain-call.answers: two packets, FEEDBACK-1, and refusals since its line 4. Line 5 is a bad line.
 PLAIN_ROWS = (
@@ -57,11 +60,16 @@ HOSTILE = b"\x1b[31m\n1 0 ip \x00\n\xff\xfe refused Check\n1 0 refused \"}\n" + 
 
 # What bash completes, and behind which words.
 COMPLETIONS = (
-    ("calls contexts decompress diff drain explain links plan reload reset save spread status stop totals trace verify", ("",)),
+    (
+        "calls contexts decompress diff drain explain links plan reload reset save script spread status stop totals trace verify"
+        " watch",
+        ("",),
+    ),
     ("totals", ("to",)),
     ("--json --new", ("links", "--")),
     ("--calls --damage --json --links --packet-ms --split --window", ("plan", "--")),
-    ("--json --prometheus", ("totals", "--")),
+    ("--follow --json --prometheus", ("totals", "--")),
+    ("--back --from --lines --link --other --pcapng --port --vlan", ("script", "--")),
     ("--feedback --link --links --padded --pcapng --port --stats --vlan", ("decompress", "--")),
     ("--links", ("trace", "--l")),
     ("--line --link --links", ("explain", "--li")),
@@ -231,6 +239,58 @@ def check_colour(trial: Trial) -> None:
     trial.demand(b"\x1b" not in ended.output, "a colour in a pipe", ended.call)
 
 
+def read_until(terminal: int, mark: bytes) -> bytes:
+    """What stands on a terminal up to a mark, or all that is written if it never comes."""
+    found = b""
+    while mark not in found and select.select([terminal], [], [], WAIT_SECONDS)[0]:
+        try:
+            found += os.read(terminal, 1 << 16)
+        except OSError:
+            break
+    return found
+
+
+def check_follow(trial: Trial) -> None:
+    """On a terminal the table is drawn again while lines come; the last is that of all lines. In a pipe there is one table."""
+    text = (trial.top / f"{PLAIN}.answers").read_bytes()
+    first, rest = text.split(b"\n", 1)
+    wanted = call(trial, "totals", f"{PLAIN}.answers").output
+    ours, theirs = pty.openpty()
+    words = [trial.top / PROGRAM, "totals", "--follow"]
+    environment = os.environ | {"NO_COLOR": "1"}
+    with subprocess.Popen(words, stdin=subprocess.PIPE, stdout=theirs, env=environment) as process:
+        os.close(theirs)
+        assert process.stdin
+        process.stdin.write(first + b"\n")
+        process.stdin.flush()
+        early = read_until(ours, b"lines 1 ")
+        trial.demand(b"lines 1 " in early, f"followed: no table behind one line: {early!r}")
+        process.stdin.write(rest)
+        process.stdin.close()
+        late = read_until(ours, b"no such text")
+    os.close(ours)
+    tables = (early + late).replace(b"\r\n", b"\n").split(CLEAR)
+    trial.demand(len(tables) >= 3, f"followed: {len(tables) - 1} tables; wanted one for each write and the last")
+    trial.same("followed: the last table", wanted, tables[-1])
+    ended = call(trial, "totals", "--follow", given=text)
+    trial.same("followed in a pipe", wanted, ended.output, ended.call)
+
+
+def check_progress(trial: Trial) -> None:
+    """Long input shows on a terminal how far it is, and takes that away at its end. Elsewhere nothing is shown."""
+    lines = b"1 0 stored\n" * 2_000_000
+    for words in (["totals"], ["script", "--back", "--port", "1", "-", os.devnull]):
+        ours, theirs = pty.openpty()
+        with subprocess.Popen([trial.top / PROGRAM, *words], stdin=subprocess.PIPE, stdout=subprocess.DEVNULL, stderr=theirs) as process:
+            os.close(theirs)
+            process.communicate(lines)
+        shown = read_until(ours, b"no such text")
+        os.close(ours)
+        trial.demand(b"\r16 MB read" in shown and b"\r\x1b[K" in shown, f"progress of {words[0]}: {shown!r}")
+    ended = call(trial, "totals", given=lines)
+    trial.demand(not ended.said, f"progress in a pipe: {ended.said}", ended.call)
+
+
 def check_completion(trial: Trial) -> None:
     """What bash completes."""
     for name in ("links.toml", "answers"):
@@ -270,7 +330,7 @@ def check_ends(trial: Trial) -> None:
 
 def check(trial: Trial) -> None:
     """All of it, on the program that the gate left."""
-    for part in (check_totals, check_json, check_metrics, check_hostile, check_trace, check_whole, check_colour, check_completion, check_site, check_ends,
+    for part in (check_totals, check_json, check_metrics, check_hostile, check_trace, check_whole, check_colour, check_follow, check_progress, check_completion, check_site, check_ends,
                  rohctl_explain.check, rohctl_links.check, rohctl_diff.check, rohctl_plan.check, rohctl_spread.check,
                  rohctl_capture.check):
         part(trial)

@@ -1,4 +1,4 @@
-"""Runs `rohctl decompress` on captures made here by the words of the formats, whole, cut and changed, and on Wireshark's."""
+"""Runs `rohctl decompress` and `script` on captures made here by the words of the formats, whole, cut and changed, and on Wireshark's."""
 
 import re
 import shutil
@@ -14,6 +14,8 @@ LINKS = "examples/links.toml"
 SECOND = 1_700_000_000
 STEP = 20_000_000
 ETHERNET, PPP, RAW, COOKED, SECOND_COOKED = 1, 9, 101, 113, 276
+# The longest packet of a datagram behind two headers and the number of a link.
+LONGEST = 65_535 - 30
 SECTION, INTERFACE, OBSOLETE, SIMPLE, ENHANCED = 0x0A0D0D0A, 1, 2, 3, 6
 
 # An arrival of a script, with at least one octet.
@@ -285,6 +287,73 @@ def check_scripts(trial: Trial) -> None:
         good(trial, decompress(trial, pcap(frames, RAW), "--port", "5000", links=links), wanted, script.name)
 
 
+def sum_of(head: bytes) -> int:
+    """The checksum of an IPv4 header whose own is 0 (RFC 1071)."""
+    total = sum(struct.unpack(f">{len(head) // 2}H", head))
+    while total >= 2**16:
+        total = total % 2**16 + total // 2**16
+    return 2**16 - 1 - total
+
+
+def sent(port: int, link: int, packet: bytes) -> bytes:
+    """A datagram from a port of 127.0.0.1 to itself with the number of a link in front (RFC 768, RFC 791)."""
+    payload = struct.pack(">H", link) + packet
+    front = struct.pack(">BBHHHBB", 0x45, 0, 28 + len(payload), 0, 0x4000, 64, 17)
+    addresses = bytes((127, 0, 0, 1)) * 2
+    head = front + struct.pack(">H", sum_of(front + b"\0\0" + addresses)) + addresses
+    return head + struct.pack(">HHHH", port, port, 8 + len(payload), 0) + payload
+
+
+def scripted(trial: Trial, given: bytes, *words: str | Path) -> Ended:
+    """How `rohctl script` ends on this input."""
+    return run(Call((trial.top / PROGRAM, "script", *words), given, {}, trial.top))
+
+
+def check_back(trial: Trial) -> None:
+    """Each whole script as a capture, and that as a script again: its arrivals that a datagram and a capture can hold."""
+    for script in sorted((trial.top / "examples/scripts").glob("*.script")):
+        lines = script.read_bytes().split(b"\n")[: -1 if script.read_bytes().endswith(b"\n") else None]
+        found = [one for one in arrivals(script) if len(one[2]) <= LONGEST]
+        frames = [(moment * 10**6, sent(7000, link, octets)) for link, moment, octets in found]
+        ended = scripted(trial, b"", "--back", "--port", "7000", script)
+        kept = [one for one in records(ended.output) if one[0] < 2**32 * 10**6 and len(one[1]) > 30]
+        trial.same(f"{script.name}: the datagrams", repr(frames), repr(kept), ended.call)
+        everything = len(list(records(ended.output)))
+        left = len(lines) - everything
+        said = f"lines left out: {left} (no arrivals, or more than a capture holds)" if left else ""
+        trial.demand(ended.said == said, f"{script.name}: {ended.said}; wanted {said}", ended.call)
+        again = scripted(trial, ended.output, "--port", "7000")
+        wanted = [f"arrive {link} {moment} {octets.hex()}" for link, moment, octets in found]
+        text = [line for line in again.text.splitlines() if ARRIVAL.fullmatch(line) and int(line.split()[2]) < 2**32]
+        trial.same(f"{script.name}: back and forth", "\n".join(wanted), "\n".join(text), again.call)
+
+
+def check_sides(trial: Trial) -> None:
+    """A capture of both directions: one sender's packets arrive, the others' make a script of their own, and each line its frame."""
+    near, far = b"\2\0\0\0\0\1", b"\2\0\0\0\0\2"
+    feedback = bytes.fromhex("f420011139")
+    both = [far + near + b"\x22\xf1" + ROHC[0], near + far + b"\x22\xf1" + feedback, bytes(20), far + near + b"\x22\xf1" + ROHC[1]]
+    given = pcap(frames_of(both))
+    times = [at // 10**6 for at in moments(4)]
+    other, lines = (trial.scratch / name for name in ("other.script", "lines"))
+    for octets, address in ((near, "02:00:00:00:00:01"), (far, "02:00:00:00:00:02")):
+        ended = scripted(trial, given, "--link", "1", "--from", address, "--other", other, "--lines", lines)
+        ours = [f"arrive 1 {times[0]} {ROHC[0].hex()}\n", f"arrive 1 {times[3]} {ROHC[1].hex()}\n"]
+        theirs = [f"arrive 1 {times[1]} {feedback.hex()}\n"]
+        # The record of frame 1 begins behind the head of 24 octets; each has 16 and its frame.
+        starts = [24 + sum(16 + len(frame) for frame in both[:place]) for place in range(4)]
+        listed = [f"1 1 {starts[0]}\n2 4 {starts[3]}\n", f"1 2 {starts[1]}\n"]
+        wanted = ("".join(ours), "".join(theirs), listed[0]) if octets == near else ("".join(theirs), "".join(ours), listed[1])
+        trial.same(f"sides, {address}", repr(wanted), repr((ended.text, other.read_text(), lines.read_text())), ended.call)
+    datagrams = [(at, datagram(5000, b"\0\1" + packet)) for at, packet in zip(moments(3), ROHC, strict=True)]
+    for address, count in (("127.0.0.1", 3), ("127.0.0.2", 0)):
+        ended = scripted(trial, pcap(datagrams, RAW), "--port", "5000", "--from", address)
+        trial.demand(ended.text.count("\n") == count, f"sides, {address}: {ended.text}", ended.call)
+    for words in ((), ("--back",), ("--link", "1", "--from", "1.2.3"), ("--link", "1", "--from", "1:2"), ("--port", "x"), ("--link", "1", "--other", "x")):
+        ended = scripted(trial, b"", *words)
+        trial.demand(ended.status == 2, f"script {words}: {ended.end()}; wanted 2", ended.call)
+
+
 def check_tools(trial: Trial) -> None:
     """Captures that Wireshark's tools turned from one form into another, and what tshark reads of those written here."""
     names = ("editcap", "mergecap", "tshark")
@@ -310,5 +379,5 @@ def check_tools(trial: Trial) -> None:
 
 def check(trial: Trial) -> None:
     """All of it."""
-    for part in (check_carriers, check_lost, check_cuts, check_changes, check_blocks, check_outputs, check_scripts, check_tools):
+    for part in (check_carriers, check_lost, check_cuts, check_changes, check_blocks, check_outputs, check_scripts, check_back, check_sides, check_tools):
         part(trial)

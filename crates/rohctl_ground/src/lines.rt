@@ -141,6 +141,33 @@ pub fn read_script<S: Read, T: Taker>(
     read_by(alloc, source, packet.as_mut_slice(), taker)
 }
 
+/// Has packets taken, by way of this buffer.
+fn read_packets_by<T: Taker>(
+    alloc: Global,
+    link: u16,
+    step: u64,
+    packets: &str,
+    packet: &mut [u8],
+    taker: &mut T,
+) -> Result<(), Ending>
+    requires { length packet.old ≡ longest_packet }
+{
+    let mut number = 0u64;
+    let mut moment = 0u64;
+    for digits in packets.split(",") {
+        number = number.saturating_add(1);
+        let Ok(text) = format!(in alloc; "arrive {link} {moment} {digits}") else {
+            return Err(Ending::Memory);
+        };
+        match line_of(text.as_bytes(), packet) {
+            Line::Bad => return Err(Ending::CommandLine),
+            line => taker.take(number, line)?,
+        }
+        moment = moment.saturating_add(step);
+    }
+    Ok(())
+}
+
 /// Has packets taken that are given as digits with commas between them. All are of one link, and each arrives so many
 /// milliseconds behind the one before it.
 pub fn read_packets<T: Taker>(
@@ -153,18 +180,5 @@ pub fn read_packets<T: Taker>(
     let Ok(mut packet) = zeros(alloc, LONGEST_PACKET) else {
         return Err(Ending::Memory);
     };
-    let mut number = 0u64;
-    let mut moment = 0u64;
-    for digits in packets.split(",") {
-        number = number.saturating_add(1);
-        let Ok(text) = format!(in alloc; "arrive {link} {moment} {digits}") else {
-            return Err(Ending::Memory);
-        };
-        match line_of(text.as_bytes(), packet.as_mut_slice()) {
-            Line::Bad => return Err(Ending::CommandLine),
-            line => taker.take(number, line)?,
-        }
-        moment = moment.saturating_add(step);
-    }
-    Ok(())
+    read_packets_by(alloc, link, step, packets, packet.as_mut_slice(), taker)
 }
