@@ -1,5 +1,5 @@
 -- What finds a refusal.
-use Rattle.std.proofs.Common.{◌≡◌, ℕ, inl, inr, List, [], ◌∷◌, Bool, true, false, ◌||◌, ◌==◌, not, Option, Some, None, refl, sym, subst, rules, eqb-true}
+use Rattle.std.proofs.Common.{◌≡◌, ℕ, inl, inr, List, [], ◌∷◌, Bool, true, false, ◌||◌, ◌==◌, not, Option, Some, None, refl, sym, ap, ◌∙◌, subst, rules, eqb-true}
 use Rattle.std.proofs.Math.Bool.{xor}
 use Rattle.std.specs.List.{list_any, list_all}
 use Rattle.rohc_bits.specs.Reading.{next_octet}
@@ -22,7 +22,7 @@ use Rattle.rohc_context.specs.declared.reply.Outcome.TheVariants as outcomes
 use Rattle.rohc_context.specs.declared.settings.Mode.TheVariants.{U}
 use Rattle.rohc_context.specs.declared.settings.Settings.{Settings}
 use Rattle.rohc_context.specs.Refusal.{Finder, Framing, Chain, Form, Context, Tables, number_of, is_found_by}
-use Rattle.rohc_context.specs.RefusalLaws.{FoundByFraming, FoundInChains, FoundInForms, FoundByContexts, RefusesByRow, HasFinder}
+use Rattle.rohc_context.specs.RefusalLaws.{FoundByFraming, FoundInChains, FoundInForms, FoundByContexts, RefusesByRow, KeepsByRow, HasFinder}
 use Rattle.rohc_context.specs.Framing.{refusal_of_framing}
 use Rattle.rohc_context.specs.Faults.{fault_of_chain, fault_of_form}
 use Rattle.rohc_context.specs.Outcomes.{refusal_of}
@@ -139,6 +139,17 @@ refuses_by_row before s m h a x r step e = go (refusing before s m h a x r step 
   go (misread octets g) = of_octets r octets
   go (unfit q is f p) = subst Wanted f (refl, refl)
   go (untaken q is f low p) = subst Wanted f (refl, refl)
+
+pub keeps_by_row : KeepsByRow
+keeps_by_row before s m h a x r step e apart = go (refusing before s m h a x r step e) where
+  changes_nothing : (q : Refusal) → is_found_by Context q ≡ true → q ≡ r → x ≡ before
+  changes_nothing q found same = absurd (let k : true ≡ false = sym found ∙ ap (λ p. is_found_by Context p) same ∙ apart in cc)
+
+  go : Refusing before s m h a x r → x ≡ before
+  go (uncounted none which f g) = g
+  go (misread octets g) = g
+  go (unfit q is f p) = changes_nothing refusals.Check refl f
+  go (untaken q is f low p) = changes_nothing refusals.StateTooLow refl f
 
 pub has_finder : HasFinder
 has_finder r = search rules

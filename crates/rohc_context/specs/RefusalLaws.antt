@@ -66,6 +66,13 @@ RefusesByRow = (before : Option Record) (s : Settings) (moment : ℕ) (h : Heade
     ((is_found_by Chain r || is_found_by Form r || is_found_by Context r) ≡ true)
     × (is_found_by Tables r ≡ false)
 
+-- what no state finds changes nothing
+abbrev pub KeepsByRow : Type 0
+KeepsByRow = (before : Option Record) (s : Settings) (moment : ℕ) (h : Header) (response : Response)
+    (next : Option Record) (r : Refusal) →
+    LoneStep before s moment h response next → response.outcome ≡ Refused r →
+    is_found_by Context r ≡ false → next ≡ before
+
 -- each refusal is found by something
 abbrev pub HasFinder : Type 0
 HasFinder = (r : Refusal) → 0 < length (row_of r).finders

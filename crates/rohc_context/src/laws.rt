@@ -4,7 +4,7 @@ ghost use Rattle.rohc_context.specs.Counts.{WindowsCount, FallsFromFull, FallsFr
 ghost use Rattle.rohc_context.specs.Modes.{IsSilentInU, KeepsPrevious, HasOneTry, PlainAtOnce, FitsAtOnce, SavesByReference, KeepsFlags, MeansOneUnrefused};
 ghost use Rattle.rohc_context.specs.Waits.{NacksAfterWait, WaitsToNack, IdleIsNone, CountsUntilIdle, TriesAfterWait, WaitsToTry};
 ghost use Rattle.rohc_context.specs.Laws.{HasAnswer, HasNoOther, LeavesGood, BeginsByIr, LeavesNone, NeverPoor, KeepsGood, KeepsRefused, LendsPayload, ChecksChange, LowStatesChange, LowStatesRefuse, ComesToOne, MeansOne, TakesPlain, DeliversHonest, PromotesHonest, DeliversWritten, HasWritten};
-ghost use Rattle.rohc_context.specs.RefusalLaws.{HasNumbers, HasEachNumber, NumbersDiffer, NamesDiffer, FoundByFraming, FoundInChains, FoundInForms, FoundByContexts, RefusesByRow, HasFinder};
+ghost use Rattle.rohc_context.specs.RefusalLaws.{HasNumbers, HasEachNumber, NumbersDiffer, NamesDiffer, FoundByFraming, FoundInChains, FoundInForms, FoundByContexts, RefusesByRow, KeepsByRow, HasFinder};
 ghost use Rattle.rohc_context.specs.SavedLaws.{ComesBack, RecordIsSpelled};
 
 /// A step from good values has exactly one answer, and exactly one record after it, or none.
@@ -154,12 +154,13 @@ pub fn refusals_numbered()
 {}
 
 /// The table of refusals says what finds each: framing, the reading of a chain or of a format, the state of a context, or
-/// the tables. No step answers what the tables find.
+/// the tables. No step answers what the tables find, and what no state finds changes nothing.
 pub fn refusals_found()
     ensures framing { FoundByFraming }
     ensures chains { FoundInChains }
     ensures forms { FoundInForms }
     ensures contexts { FoundByContexts }
     ensures steps { RefusesByRow }
+    ensures keeps { KeepsByRow }
     ensures any { HasFinder }
 {}
