@@ -75,7 +75,8 @@ impl Gateway<'_> {
                         (false, true) => self.station.take_known(self.moments.now(rt), octets),
                     };
                     if is_watched && let Some(watch) = &mut self.watch {
-                        watch.log(rt, octets.len(), &sends);
+                        let head: usize = if is_timed { 10 } else { 2 };
+                        watch.log(rt, octets.len().saturating_sub(head), &sends);
                     }
                     let failed = send_all(socket, self.packet.as_mut_slice(), &sends);
                     if failed > 0 {

@@ -30,9 +30,9 @@ impl Watch {
         }
     }
 
-    /// Whether a packet of this call is logged at this moment.
+    /// Whether a packet of this call is logged.
     pub(crate) fn sees(&self, call: Option<(u16, u16)>) -> bool {
-        call == Some((self.link, self.cid))
+        self.left > 0 && call == Some((self.link, self.cid))
     }
 
     /// Whether the watch is over at this moment.
