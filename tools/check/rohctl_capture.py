@@ -263,7 +263,7 @@ def check_outputs(trial: Trial) -> None:
 
 def arrivals(script: Path) -> list[tuple[int, int, bytes]]:
     """The link, the time in milliseconds and the octets of each good arrival of a script whose time a capture can have."""
-    found = (ARRIVAL.fullmatch(line) for line in script.read_text(errors="replace").split("\n"))
+    found = (ARRIVAL.fullmatch(line) for line in script.read_bytes().decode(errors="replace").split("\n"))
     words = [(int(match[1]), int(match[2]), bytes.fromhex(match[3])) for match in found if match]
     return [(link, moment, octets) for link, moment, octets in words if link < 2**16 and moment < 2**32]
 

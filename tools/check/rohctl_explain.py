@@ -1,11 +1,13 @@
 """Explains every script of the examples by `rohctl explain`: its answers must be those of `rohcd replay`."""
 
 import json
+import re
 from collections.abc import Iterator
 from pathlib import Path
 
 import examples
 from program import Call, Ended, run
+from refusals import refusal_names
 from trial import Trial
 
 PROGRAM = "crates/rohctl/out/rohctl"
@@ -21,6 +23,13 @@ BRIEF = """1 1 0 IR delivered
 7 9 - - refused NoLink
 """
 NO_LINK = "NoLink"
+NO_MEMORY = "NoMemory"
+# A sentence that begins with capital letters.
+ABBREVIATION = re.compile(r"[A-Z]{2}")
+# A first IR asks for memory less often than this.
+MOST_REQUESTS = 1000
+# A refusal's sentence, and behind it what usually causes it, with a section of an RFC or a document of this repository.
+TELLING = re.compile(r"^answer: refused (\w+): (.*)\nusual cause: .* \((?:RFC \d+ [\d.]+|docs/\w+\.md[^()]*|man [\w.-]+)\)$", re.MULTILINE)
 HOSTILE = b"\x1b[2J\narrive 1 0 \x1b[31m\narrive 1 0 fc00b745aa\x07\narrive 1 0 fc00b745aa\n\xff\n"
 
 
@@ -85,9 +94,52 @@ def check_scripts(trial: Trial) -> None:
             trial.demand(numbers_stand(row, octets), f"{script.name}: line {row['line']}: a field in another place", ended.call)
 
 
+def sentences(top: Path) -> dict[str, str]:
+    """The sentence of each refusal in the manual page, without its capital letter and its full stop."""
+    text = (top / "man/rohc-script.5").read_text()
+    found = {}
+    for name, body in re.findall(r"^\.It \d+ Li (\w+)\n(.*?)(?=^\.It|^\.El)", text, re.MULTILINE | re.DOTALL):
+        words = " ".join(line.removeprefix(".Li ") for line in body.splitlines()).replace(" .", ".")
+        sentence = words.split(". ")[0].rstrip(".")
+        found[name] = sentence if ABBREVIATION.match(sentence) else sentence[0].lower() + sentence[1:]
+    return found
+
+
+def without_memory(trial: Trial) -> str:
+    """What is told of a first IR for which there is no memory."""
+    refuse = trial.compiled("tools/refuse_request.c")
+    count = trial.scratch / "made"
+    words = (trial.top / PROGRAM, "explain", "--links", LINKS, "--link", "1", "fc00b745aa")
+    for request in range(1, MOST_REQUESTS):
+        given = {"LD_PRELOAD": str(refuse), "REFUSED_REQUEST": str(request), "REQUEST_COUNT": str(count)}
+        ended = run(Call(words, b"", given, trial.top))
+        if NO_MEMORY in ended.text or int(count.read_text()) < request:
+            return ended.text
+    return ""
+
+
+def too_long(trial: Trial) -> str:
+    """What is told of a UO-0 of 65,535 octets behind the IR of a worked example: its header grows from one octet to 40."""
+    script = (trial.top / "examples/worked/two-calls-and-noise.script").read_text().splitlines()[0]
+    links = trial.top / "examples/worked/links-1.toml"
+    return explain(trial, "--links", links, given=f"{script}\narrive 1 20 10{'ac' * 65_534}\n".encode()).text
+
+
+def check_sentences(trial: Trial) -> None:
+    """Each of the thirty refusals is told at least once, with its sentence and the section that defines it."""
+    wanted = sentences(trial.top)
+    trial.demand(set(wanted) == set(refusal_names(trial.top).values()), f"{len(wanted)} sentences in the manual page")
+    told = [explain(trial, "--links", links, script).text for script, links in scripts(trial)]
+    told += [too_long(trial), without_memory(trial)]
+    found = {match[1]: match[2] for text in told for match in TELLING.finditer(text)}
+    for name, sentence in wanted.items():
+        trial.same(f"the sentence of {name}", sentence, found.get(name, "isn't told"))
+
+
 def check(trial: Trial) -> None:
     """All scripts, a brief telling, one line, one call, given packets, and hostile lines."""
     check_scripts(trial)
+    check_sentences(trial)
     brief = explain(trial, "--brief", "--links", LINKS, PLAIN)
     trial.same("the brief telling", BRIEF, brief.text, brief.call)
     trial.demand(brief.status == 1, f"rohctl explain: {brief.end()}; wanted 1", brief.call)
