@@ -115,6 +115,7 @@ pub fn put_header(octets: &mut ArrayVec<u8, 40>, fixed: &Static, moving: &Dynami
 /// It takes one look-up. Since 1 + x + x^3 divides x^7 + 1, bits may be added without carry in groups of seven. So
 /// each dynamic field is shifted by the bits before it modulo seven, where the Total Length starts at bit 4. Two words
 /// with the same shift are added first.
+#[inline(always)]
 pub fn check3_after(octets: &[u8], reg: u8) -> u8
     requires { length octets.now ≡ 40 }
     ensures { result ≡ check poly3 reg (dynamic_octets octets.now) }

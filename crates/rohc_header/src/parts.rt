@@ -25,6 +25,7 @@ pub(crate) fn put_ip(octets: &mut Octets, fixed: &Static, moving: &Dynamic, payl
 
 /// The IPv4 checksum, computed from the header's nine other words as numbers; no octet is read
 /// back.
+#[inline(always)]
 fn checksum(fixed: &Static, moving: &Dynamic, payload_len: u16) -> u16
     requires { payload_len ≤ longest_payload }
     ensures { result ≡ ip_sum fixed.now moving.now payload_len }
@@ -51,6 +52,7 @@ fn two_words(address: &[u8; 4]) -> u32
 }
 
 /// Appends the IPv4 header up to its checksum.
+#[inline(always)]
 fn put_ip_front(octets: &mut Octets, moving: &Dynamic, payload_len: u16)
     requires room { length octets.old.items + 10 ≤ 40 }
     requires fits { payload_len ≤ longest_payload }
@@ -63,6 +65,7 @@ fn put_ip_front(octets: &mut Octets, moving: &Dynamic, payload_len: u16)
 }
 
 /// Appends the two addresses, which follow the IPv4 checksum.
+#[inline(always)]
 fn put_addresses(octets: &mut Octets, fixed: &Static)
     requires { length octets.old.items + 8 ≤ 40 }
     ensures { octets.new.items ≡ octets.old.items ++ addresses fixed.now }
@@ -74,6 +77,7 @@ fn put_addresses(octets: &mut Octets, fixed: &Static)
 }
 
 /// Appends the UDP header (RFC 768).
+#[inline(always)]
 pub(crate) fn put_udp(octets: &mut Octets, fixed: &Static, moving: &Dynamic, payload_len: u16)
     requires room { length octets.old.items + 8 ≤ 40 }
     requires fits { payload_len ≤ longest_payload }
@@ -86,6 +90,7 @@ pub(crate) fn put_udp(octets: &mut Octets, fixed: &Static, moving: &Dynamic, pay
 }
 
 /// Appends the RTP header (RFC 3550 5.1).
+#[inline(always)]
 pub(crate) fn put_rtp(octets: &mut Octets, fixed: &Static, moving: &Dynamic)
     requires room { length octets.old.items + 12 ≤ 40 }
     requires narrow { moving.now.payload_type < 128 }

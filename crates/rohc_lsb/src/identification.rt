@@ -13,6 +13,7 @@ use rohc_bits::Bits;
 /// The offset is the Identification less the sequence number. With `bits`, it is the value that they mean
 /// against the reference's offset; without, it is the reference's offset. If `nbo` is false, the two
 /// octets of an Identification are swapped in the header. If there are bits, there are 1 to 16.
+#[inline(always)]
 pub fn ip_id(sn: u16, reference_sn: u16, reference_id: u16, nbo: bool, bits: Option<Bits>) -> u16
     requires some { ForSome bits (λ b. 1 ≤ b.count) }
     requires narrow { ForSome bits (λ b. b.count ≤ 16) }

@@ -23,6 +23,7 @@ pub fn sn_shift(k: u8) -> u32
 ///
 /// The bits are read against `reference + shift`. The shift is 0, except in the second try of a
 /// packet, which moves the reference on. It is at most 65,536. There are 1 to 16 bits.
+#[inline(always)]
 pub fn sn_value(reference: u16, shift: u32, bits: Bits) -> (u16, i32)
     requires some { 1 ≤ bits.count }
     requires narrow { bits.count ≤ 16 }
