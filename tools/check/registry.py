@@ -180,7 +180,7 @@ CHECKS = (
         "spread",
         ON_PROGRAM,
         spreading.check,
-        "eight links over four gateways, by the rules of nftables and by nginx, as one replay answers",
+        "eight links over four gateways, on one host and on four, by nftables and by nginx, as one replay answers",
     ),
     Check(
         "cluster",
