@@ -127,7 +127,7 @@ CHECKS = (
         "library",
         ON_PROGRAM,
         library.check,
-        "the library from C and Python; proves rohc_c once more, unless the gate ran just before",
+        "the library from C, Python, Rust and Go, and under stress; proves rohc_c once more, unless the gate ran just before",
         can_do_without=True,
     ),
     Check(
@@ -186,7 +186,7 @@ CHECKS = (
         "cluster",
         ON_PROGRAM,
         cluster.check,
-        "front, workers and outlet over Redis: killed, stopped, from a base; programs that break a promise",
+        "front, workers and outlet over Redis and two hosts: killed, stopped, from a base; broken promises found out",
         knows=cluster.is_part,
     ),
     Check(

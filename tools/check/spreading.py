@@ -88,13 +88,13 @@ def sent(arrivals: Sequence[Arrival], wanted: Sequence[Sequence[str]], receivers
 
 
 @contextlib.contextmanager
-def nginx(trial: Trial, folder: Path) -> Iterator[None]:
+def nginx(trial: Trial, folder: Path) -> Iterator[subprocess.Popen[bytes]]:
     """Nginx with the configuration in a folder."""
     shutil.copy(trial.top / "deploy/link.js", folder)
     process = subprocess.Popen(["nginx", "-p", folder, "-c", folder / "rules"], stderr=subprocess.DEVNULL)
     try:
         time.sleep(1)
-        yield
+        yield process
     finally:
         process.terminate()
         process.wait(30)
