@@ -27,19 +27,26 @@ static void *grown(void *place, size_t size) {
     return place;
 }
 
+/* The value of a lower case digit, or a greater one of any other character. */
+static unsigned value_of(char digit) {
+    return digit >= '0' && digit <= '9' ? (unsigned)(digit - '0') : digit >= 'a' && digit <= 'f' ? (unsigned)(digit - 'a') + 10 : 16;
+}
+
+/* Reads pairs of digits up to the first other character. Returns how many octets they are. */
 static size_t read_octets(const char *text, uint8_t *to) {
     size_t found = 0;
-    unsigned octet;
-    for (; sscanf(text + 2 * found, "%2x", &octet) == 1; found++) to[found] = (uint8_t)octet;
+    for (; value_of(text[2 * found]) < 16 && value_of(text[2 * found + 1]) < 16; found++)
+        to[found] = (uint8_t)(16 * value_of(text[2 * found]) + value_of(text[2 * found + 1]));
     return found;
 }
 
 static void read_script(FILE *file) {
     static char line[LINE];
+    size_t packet_room = 0, octet_room = 0;
     while (fgets(line, sizeof line, file)) {
         int digits;
-        packets = grown(packets, (count + 1) * sizeof *packets);
-        octets = grown(octets, length + LINE / 2);
+        if (count == packet_room) packets = grown(packets, (packet_room = 2 * packet_room + 1024) * sizeof *packets);
+        if (length + LINE / 2 > octet_room) octets = grown(octets, octet_room = 2 * octet_room + LINE);
         struct polorowan_packet *p = &packets[count];
         if (sscanf(line, "arrive %" SCNu16 " %" SCNu64 " %n", &p->link, &p->moment, &digits) != 2) exit(3);
         p->at = length;
