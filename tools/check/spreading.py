@@ -141,6 +141,52 @@ def set_rules(trial: Trial, folder: Path, before: Network, places: Sequence[Netw
         host.run(f"nft -f {rules(trial, folder, hosts(its, [PORT] * len(NAMES)))}")
 
 
+def checksum(octets: bytes) -> bytes:
+    """The Internet checksum."""
+    octets += b"\0" * (len(octets) % 2)
+    total = sum(struct.unpack(f">{len(octets) // 2}H", octets))
+    while total > 0xFFFF:
+        total = (total & 0xFFFF) + (total >> 16)
+    return struct.pack(">H", total ^ 0xFFFF)
+
+
+def frame(arrival: Arrival, hardware: bytes) -> bytes:
+    """A frame with an arrival for 127.0.0.1, as a neighbour may send it. Its UDP checksum must be there: the rules change it."""
+    octets = struct.pack(">HQ", arrival.link, arrival.moment) + (arrival.octets or b"")
+    ends = socket.inet_aton(address(-1, 2)) + socket.inet_aton(LOOPBACK)
+    udp = struct.pack(">HHHH", PORT, PORT, 8 + len(octets), 0) + octets
+    udp = udp[:6] + checksum(ends + struct.pack(">HH", 17, len(udp)) + udp) + udp[8:]
+    ip = struct.pack(">BBHHHBBH", 0x45, 0, 20 + len(udp), 0, 0, 64, 17, 0) + ends
+    ip = ip[:10] + checksum(ip) + ip[12:]
+    return hardware + bytes(6) + b"\x08\x00" + ip + udp
+
+
+def comes_in(before: Network, host: Network, gateway: Gateway, arrival: Arrival, seconds: float) -> bool:
+    """Whether a host's loopback takes what its neighbour sends for it, in so many seconds."""
+    with host.inside():
+        count = gateway.datagrams()
+        told = subprocess.run(["ip", "link", "show", "eth"], check=True, capture_output=True, text=True).stdout
+    hardware = bytes.fromhex(told.partition("link/ether ")[2].split(" ")[0].replace(":", ""))
+    with before.inside(), socket.socket(socket.AF_PACKET, socket.SOCK_RAW) as line:
+        line.bind(("host0", 0))
+        line.send(frame(arrival, hardware))
+    end = time.monotonic() + seconds
+    with host.inside():
+        while gateway.datagrams() <= count:
+            if time.monotonic() > end:
+                return False
+            time.sleep(0.05)
+    return True
+
+
+def check_loopback(trial: Trial, before: Network, host: Network, gateway: Gateway, arrivals: Sequence[Arrival]) -> None:
+    """The loopback of a host takes nothing from outside; without the rules against it, it would."""
+    arrival = next(one for one in arrivals if own(one.link) == 0)
+    trial.demand(not comes_in(before, host, gateway, arrival, 1), "a neighbour reaches the loopback of a host")
+    host.run("nft delete table ip polorowan_loopback")
+    trial.demand(comes_in(before, host, gateway, arrival, 20), "deploy/loopback.nft isn't what keeps the loopback closed")
+
+
 def dropped(before: Network) -> int:
     """How many datagrams of unknown links the rules counted."""
     with before.inside():
@@ -161,10 +207,11 @@ def over_hosts(trial: Trial, folder: Path, way: str) -> int:
                 receivers.append(stack.enter_context(Receivers()))
         (folder / "links.toml").write_text(links_of(receivers))
         set_rules(trial, folder, before, places)
+        gateways = []
         for name, host in zip(NAMES, places, strict=True):
             with host.inside():
                 links = (folder / f"{name}.toml").read_text()
-                stack.enter_context(Gateway(trial, folder / name, links, timed_port=PORT))
+                gateways.append(stack.enter_context(Gateway(trial, folder / name, links, timed_port=PORT)))
         wanted = replayed(trial, folder / "links.toml", arrivals)
         trial.demand(sent(arrivals, wanted, receivers, address(-1, 1)), f"spread by {way}: not what one replay answers")
         with socket.socket(socket.AF_INET, socket.SOCK_DGRAM) as sender:
@@ -172,6 +219,7 @@ def over_hosts(trial: Trial, folder: Path, way: str) -> int:
                 sender.sendto(struct.pack(">HQ", LINKS + 1, 0), (address(-1, 1), PORT))
         found = dropped(before)
         trial.demand(found == NOBODYS, f"spread by {way}: {found} datagrams of unknown links, {NOBODYS} wanted")
+        check_loopback(trial, before, places[0], gateways[0], arrivals)
     return len(arrivals)
 
 
