@@ -38,7 +38,7 @@ KILLS, STOPS = 20, 10
 ARRIVAL, ANSWER = struct.Struct("<BHQH"), struct.Struct("<HBBHBHBH")
 WAIT_SECONDS = 60.0
 ALIVE_MS = 600
-PARTS = ("twins", "redis", "whole", "hosts", "controls")
+PARTS = ("twins", "redis", "whole", "hosts", "up", "controls")
 # The kinds of ports of a link, in their order there, and the words of what goes to them.
 WORDS = {"deliver": "ip", "feedback": "feedback", "relay": "relay"}
 
@@ -508,6 +508,51 @@ def check_hosts(trial: Trial, made: "Made") -> None:
             trial.say(f"hosts: {len(blocks)} blocks over two hosts with stunnel between, one of them taken away")
 
 
+def children(pid: int) -> list[int]:
+    """The processes that a process started."""
+    with contextlib.suppress(OSError):
+        return [int(word) for word in Path(f"/proc/{pid}/task/{pid}/children").read_text().split()]
+    return []
+
+
+def delivers(port: int, octets: bytes, sink: socket.socket) -> bytes:
+    """What comes for a packet of link 1."""
+    with socket.socket(socket.AF_INET, socket.SOCK_DGRAM) as sender, contextlib.suppress(TimeoutError):
+        sender.sendto(b"\0\1" + octets, ("127.0.0.1", port))
+        return sink.recv(65_535)
+    return b""
+
+
+def check_up(trial: Trial, made: "Made") -> None:
+    """cluster/up and cluster/down: a call goes on when a worker is killed, which comes back, and nothing runs in the end."""
+    folder, port, up = trial.scratch / "up", free_port(), trial.top / "cluster/up"
+    with contextlib.ExitStack() as stack:
+        sink = stack.enter_context(socket.socket(socket.AF_INET, socket.SOCK_DGRAM))
+        sink.bind(("127.0.0.1", 0))
+        sink.settimeout(WAIT_SECONDS)
+        text = (trial.top / "examples/links.toml").read_text()
+        text = re.sub(r"deliver_port = \d+", f"deliver_port = {sink.getsockname()[1]}", text)
+        stack.callback(trial.ran, trial.top / "cluster/down", folder)
+        started = trial.ran(up, folder, trial.write("up.toml", text), str(port), environment={"CLUSTER_BIN": str(made.built)})
+        if not trial.demand(started.text.startswith("ready"), f"cluster/up: {started.end()}", started.call):
+            return
+        pids = [int(word) for word in (folder / "pids").read_text().split()]
+        found = [delivers(port, bytes.fromhex("fc00b745aa"), sink)]
+        for worker in children(pids[2]):
+            os.kill(worker, signal.SIGKILL)
+        found.append(delivers(port, bytes.fromhex("45ab"), sink))
+        trial.demand(found == [b"\x45\xaa", b"\x45\xab"], f"cluster/up: {[one.hex() for one in found]} came")
+        end = time.monotonic() + WAIT_SECONDS
+        while (folder / "a.log").read_text().count("reads") < 2 and time.monotonic() < end:
+            time.sleep(0.05)
+        is_back = (folder / "a.log").read_text().count("reads") >= 2
+        trial.demand(is_back, "cluster/up: a worker that was killed isn't started again")
+        every = [*pids, *(child for pid in pids for child in children(pid))]
+        ended = [trial.ran(trial.top / "cluster/down", folder).status for _ in range(2)]
+        left = [pid for pid in every if Path(f"/proc/{pid}").exists()]
+        trial.demand(ended == [0, 1] and not left, f"cluster/down: statuses {ended}, 0 and 1 wanted; {left} still run")
+
+
 def check_controls(trial: Trial, made: "Made") -> None:
     """Programs that break a promise are found out."""
     blocks = blocks_of(made_arrivals(3_000, 4))
@@ -600,6 +645,6 @@ def check(trial: Trial) -> None:
         trial.leave_out("hiredis or libcrypto is not installed, cluster/ was not run")
         return
     made = make(trial)
-    parts = dict(zip(PARTS, (check_twins, check_redis, check_whole, check_hosts, check_controls), strict=True))
+    parts = dict(zip(PARTS, (check_twins, check_redis, check_whole, check_hosts, check_up, check_controls), strict=True))
     for name in trial.chosen(PARTS):
         parts[name](trial, made)
