@@ -7,18 +7,24 @@ a Redis that is killed, from a base and a cut log. Programs that break a promise
 import contextlib
 import os
 import random
+import re
+import select
 import shutil
 import signal
 import socket
 import struct
 import subprocess
 import sys
+import threading
 import time
 from collections.abc import Callable, Iterator, Sequence
 from dataclasses import dataclass, field
 from pathlib import Path
+from typing import TypeVar
 
+import networks
 import redis_server
+from networks import Network
 from redis_server import Client, Server
 from refusals import refusal_names
 from trial import Trial
@@ -26,11 +32,19 @@ from trial import Trial
 sys.path.insert(0, str(Path(__file__).resolve().parent.parent))
 from random_script import line_of, made_calls
 
-SHARDS, LINKS, CALLS = 4, 20, 50
+# A thousand calls: as many on a link of small CIDs as it can have, and the others on those of large ones.
+SHARDS, LINKS = 4, 20
+SMALL_CALLS, LARGE_CALLS = 16, 84
+KILLS, STOPS = 20, 10
 ARRIVAL, ANSWER = struct.Struct("<BHQH"), struct.Struct("<HBBHBHBH")
 WAIT_SECONDS = 60.0
 ALIVE_MS = 600
-PARTS = ("twins", "redis", "whole", "hosts", "controls")
+PARTS = ("twins", "redis", "whole", "hosts", "up", "controls")
+# The kinds of ports of a link, in their order there, and the words of what goes to them.
+WORDS = {"deliver": "ip", "feedback": "feedback", "relay": "relay"}
+
+
+Item = TypeVar("Item")
 
 
 @dataclass(frozen=True)
@@ -97,6 +111,7 @@ class Cluster:
     server: Server = field(init=False)
     processes: dict[str, subprocess.Popen[bytes]] = field(default_factory=dict)
     calls: dict[str, list[str | Path]] = field(default_factory=dict)
+    places: dict[str, Network] = field(default_factory=dict)
 
     def __post_init__(self) -> None:
         self.folder.mkdir(parents=True)
@@ -116,9 +131,9 @@ class Cluster:
         self.calls[name] = [self.built / program, *words, "--redis", self.server.socket, "--shards", str(SHARDS)]
         self.start_again(name)
 
-    def start_in(self, host: str, name: str, *words: str | Path) -> None:
-        """Starts a program on a host, which is a network namespace."""
-        self.calls[name] = ["ip", "netns", "exec", host, *words]
+    def start_in(self, host: Network, name: str, *words: str | Path) -> None:
+        """Starts a program on a host, which is a network."""
+        self.calls[name], self.places[name] = list(words), host
         self.start_again(name)
 
     def worker(self, name: str, base: int, program: str = "rohc-worker") -> None:
@@ -128,7 +143,9 @@ class Cluster:
 
     def start_again(self, name: str) -> None:
         """Starts a program once more."""
-        with (self.folder / f"{name}.log").open("ab") as log:
+        with (self.folder / f"{name}.log").open("ab") as log, contextlib.ExitStack() as stack:
+            if name in self.places:
+                stack.enter_context(self.places[name].inside())
             self.processes[name] = subprocess.Popen(self.calls[name], stderr=log)
 
     def kill(self, name: str, number: int = signal.SIGKILL) -> None:
@@ -175,9 +192,9 @@ class Cluster:
 
 
 def made_arrivals(count: int, seed: int) -> list[Arrival]:
-    """Arrivals of fifty calls on each of twenty links, with damage, feedback and resets."""
+    """Arrivals of a thousand calls on twenty links, with damage, feedback and resets."""
     dice = random.Random(seed)
-    pairs = [(link, cid) for link in range(1, LINKS + 1) for cid in range(16 if link % 2 else CALLS)]
+    pairs = [(link, cid) for link in range(1, LINKS + 1) for cid in range(SMALL_CALLS if link % 2 else LARGE_CALLS)]
     calls = made_calls(dice, pairs)
     found = []
     for number in range(count):
@@ -239,30 +256,40 @@ def append(client: Client, blocks: Sequence[tuple[int, bytes]], counts: list[int
         client.reply()
 
 
-def disturbed(cluster: Cluster, blocks: Sequence[tuple[int, bytes]], kills: int, stops: int) -> None:
-    """Appends blocks while workers are killed and stopped, each time another."""
+def parts_of(all_of_it: Sequence[Item], count: int) -> list[Sequence[Item]]:
+    """So many parts, one behind the other."""
+    size = -(-len(all_of_it) // count)
+    return [all_of_it[at * size : (at + 1) * size] for at in range(count)]
+
+
+def other(name: str) -> str:
+    """The other of two workers."""
+    return "b" if name == "a" else "a"
+
+
+def disturbed(cluster: Cluster, feed: Callable[[Sequence[Item]], None], all_of_it: Sequence[Item]) -> None:
+    """Feeds in parts. Behind each the worker that is awake is killed, or stopped, and then the other goes on."""
     dice = random.Random(7)
-    steps = ["kill"] * kills + ["stop"] * stops
+    steps = ["kill"] * KILLS + ["stop"] * STOPS
     dice.shuffle(steps)
-    part = len(blocks) // (len(steps) + 1)
-    counts, sleeping = [0] * SHARDS, ""
-    with cluster.server.client() as client:
-        for number, step in enumerate(steps):
-            append(client, blocks[number * part : (number + 1) * part], counts)
-            time.sleep(dice.random() * 0.15)
-            name = "ab"[number % 2]
-            if step == "kill" and name != sleeping:
-                cluster.kill(name)
-                cluster.start_again(name)
-            elif step == "stop":
-                if sleeping:
-                    cluster.processes[sleeping].send_signal(signal.SIGCONT)
-                cluster.processes[name].send_signal(signal.SIGSTOP)
-                sleeping = name
-                time.sleep(2 * ALIVE_MS / 1000 if number % 3 == 0 else 0.1)
-        append(client, blocks[len(steps) * part :], counts)
-    if sleeping:
-        cluster.processes[sleeping].send_signal(signal.SIGCONT)
+    *parts, last = parts_of(all_of_it, len(steps) + 1)
+    asleep, awake = "", "a"
+    for number, (part, step) in enumerate(zip(parts, steps, strict=True)):
+        feed(part)
+        time.sleep(dice.random() * 0.15)
+        if step == "kill":
+            cluster.kill(awake)
+            cluster.start_again(awake)
+            awake = awake if asleep else other(awake)
+            continue
+        if asleep:
+            cluster.processes[asleep].send_signal(signal.SIGCONT)
+        cluster.processes[awake].send_signal(signal.SIGSTOP)
+        asleep, awake = awake, other(awake)
+        time.sleep(2 * ALIVE_MS / 1000 if number % 3 == 0 else 0.1)
+    feed(last)
+    if asleep:
+        cluster.processes[asleep].send_signal(signal.SIGCONT)
 
 
 def check_twins(trial: Trial, made: "Made") -> None:
@@ -271,7 +298,9 @@ def check_twins(trial: Trial, made: "Made") -> None:
     with Cluster(trial, made.built, trial.scratch / "twins", made.lines) as cluster:
         cluster.worker("a", 40)
         cluster.worker("b", 40)
-        disturbed(cluster, blocks, 20, 10)
+        counts = [0] * SHARDS
+        with cluster.server.client() as client:
+            disturbed(cluster, lambda part: append(client, part, counts), blocks)
         trial.demand(cluster.wait(), "twins: not every block has its answers")
         cluster.worker("late", 40)
         trial.demand(compare(cluster, made.links, logs_of(blocks)), "twins: the answers aren't those of one replay")
@@ -282,7 +311,7 @@ def check_twins(trial: Trial, made: "Made") -> None:
             trial.demand(is_cut, f"twins: the log wasn't cut: {lengths}")
         told = "".join(cluster.said(name) for name in ("a", "b"))
         slept = told.count("slept; it begins again")
-        trial.say(f"twins: {len(blocks)} blocks, 20 kills, 10 stops, {slept} times a log was cut behind a stopped worker")
+        trial.say(f"twins: {len(blocks)} blocks, {KILLS} kills, {STOPS} stops, {slept} times a log was cut behind a stopped worker")
         ended = trial.ran(made.built / "rohc-metrics", "--redis", cluster.server.socket, "--shards", str(SHARDS))
         trial.demand("polorowan_cluster_blocks_unanswered" in ended.text, f"rohc-metrics: {ended.end()}", ended.call)
 
@@ -339,54 +368,83 @@ def check_redis(trial: Trial, made: "Made") -> None:
         trial.say(f"redis: {count} arrivals in the log, Redis killed three times")
 
 
+class Sink:
+    """Takes the datagrams of each kind from each shard, in their order, until it is closed."""
+
+    def __init__(self) -> None:
+        self.found: dict[tuple[str, int], list[str]] = {(kind, shard): [] for kind in WORDS for shard in range(SHARDS)}
+        self.sockets = {key: socket.socket(socket.AF_INET, socket.SOCK_DGRAM) for key in self.found}
+        for one in self.sockets.values():
+            one.setsockopt(socket.SOL_SOCKET, socket.SO_RCVBUF, 1 << 23)
+            one.bind(("127.0.0.1", 0))
+        self.keys = {one: key for key, one in self.sockets.items()}
+        self.latest = time.monotonic()
+        self.is_open = True
+        self.thread = threading.Thread(target=self.take)
+
+    def __enter__(self) -> "Sink":
+        self.thread.start()
+        return self
+
+    def __exit__(self, *_: object) -> None:
+        self.is_open = False
+        self.thread.join()
+        for one in self.sockets.values():
+            one.close()
+
+    def take(self) -> None:
+        """Takes what comes."""
+        while self.is_open:
+            for one in select.select(list(self.keys), [], [], 0.05)[0]:
+                self.found[self.keys[one]].append(one.recv(65_535).hex() or "-")
+                self.latest = time.monotonic()
+
+    def ports(self) -> str:
+        """The lines that tell an outlet the ports of all links."""
+        numbers = {key: one.getsockname()[1] for key, one in self.sockets.items()}
+        links = range(1, LINKS + 1)
+        return "".join(f"ports {link} {' '.join(str(numbers[kind, link % SHARDS]) for kind in WORDS)}\n" for link in links)
+
+    def wait(self) -> None:
+        """Waits until nothing has come for a while."""
+        while time.monotonic() < self.latest + 0.5:
+            time.sleep(0.05)
+
+
 def check_whole(trial: Trial, made: "Made") -> None:
-    """Datagrams in, datagrams out, as one replay of the log says."""
-    arrivals = made_arrivals(4_000, 3)
+    """A front, two workers that are killed twenty times and stopped ten times, and an outlet: datagrams in, datagrams out."""
+    arrivals = made_arrivals(20_000, 3)
     names = refusal_names(trial.top)
-    with Cluster(trial, made.built, trial.scratch / "whole", made.lines) as cluster:
-        with contextlib.ExitStack() as stack:
-            receivers = {}
-            for kind in ("deliver", "feedback", "relay"):
-                one = stack.enter_context(socket.socket(socket.AF_INET, socket.SOCK_DGRAM))
-                one.setsockopt(socket.SOL_SOCKET, socket.SO_RCVBUF, 1 << 23)
-                one.bind(("127.0.0.1", 0))
-                one.settimeout(0.5)
-                receivers[kind] = one
-            text = "".join(
-                f"ports {link} {' '.join(str(one.getsockname()[1]) for one in receivers.values())}\n"
-                for link in range(1, LINKS + 1)
-            )
-            ports, port = trial.write("whole/ports", text), free_port()
-            cluster.start("front", "rohc-front", "--port", str(port))
-            cluster.worker("a", 1_000_000)
-            cluster.start("outlet", "rohc-outlet", "--ports", ports)
-            time.sleep(0.3)
-            send_all(port, arrivals)
-            time.sleep(0.3)
-            trial.demand(cluster.wait(), "whole: not every block has its answers")
-            found = {kind: sorted(received(one)) for kind, one in receivers.items()}
+    with Cluster(trial, made.built, trial.scratch / "whole", made.lines) as cluster, Sink() as sink:
+        ports, port = trial.write("whole/ports", sink.ports()), free_port()
+        cluster.start("front", "rohc-front", "--port", str(port))
+        cluster.worker("a", 1_000_000)
+        cluster.worker("b", 1_000_000)
+        cluster.start("outlet", "rohc-outlet", "--ports", ports)
+        time.sleep(0.3)
+        disturbed(cluster, lambda part: send_all(port, part), arrivals)
+        time.sleep(0.3)
+        trial.demand(cluster.wait(), "whole: not every block has its answers")
+        sink.wait()
         logs = logged(cluster)
         trial.demand(compare(cluster, made.links, logs), "whole: the answers aren't those of one replay")
         with cluster.server.client() as client:
-            answers = b"".join(octets for i in range(SHARDS) for _, octets in client.entries(f"out:{i}"))
-        for kind, word in (("deliver", "ip"), ("feedback", "feedback"), ("relay", "relay")):
-            lines = [line.split(" ") for line in lines_in(answers, names)]
-            sent = sorted(words[3] for words in lines if words[2] == word)
-            trial.demand(found[kind] == sent, f"whole: {len(found[kind])} datagrams at the {kind} port, {len(sent)} wanted")
-        for name in ("front", "a", "outlet"):
+            for shard in range(SHARDS):
+                answers = b"".join(octets for _, octets in client.entries(f"out:{shard}"))
+                lines = [line.split(" ") for line in lines_in(answers, names)]
+                for kind, word in WORDS.items():
+                    sent, found = [words[3] for words in lines if words[2] == word], sink.found[kind, shard]
+                    text = f"whole: {len(found)} datagrams of shard {shard} at the {kind} port, {len(sent)} wanted, in order"
+                    trial.demand(found == sent and (bool(sent) or kind == "relay"), text)
+        count = sum(1 for blocks in logs.values() for block in blocks for _ in arrivals_in(block))
+        trial.demand(count > 0.9 * len(arrivals), f"whole: only {count} arrivals are in the log")
+        trial.say(f"whole: {count} arrivals from the front to the outlet, {KILLS} kills, {STOPS} stops")
+        for name in ("front", "a", "b", "outlet"):
             process = cluster.processes[name]
             process.terminate()
             trial.demand(process.wait(WAIT_SECONDS) == 0, f"whole: {name} ends with {process.returncode} at SIGTERM")
 
 
-def received(one: socket.socket) -> Iterator[str]:
-    """The datagrams that come to a socket until none comes for a while."""
-    with contextlib.suppress(TimeoutError):
-        while True:
-            yield one.recv(65_535).hex() or "-"
-
-
-NEAR, FAR = "polorowan-near", "polorowan-far"
 SERVICE = """
 foreground = yes
 pid =
@@ -397,21 +455,6 @@ verifyPeer = yes
 [redis]
 {lines}
 """
-
-
-@contextlib.contextmanager
-def hosts(trial: Trial) -> Iterator[bool]:
-    """Two hosts with a line between them. False if they can't be made here."""
-    steps = [f"netns add {NEAR}", f"netns add {FAR}"]
-    steps += [f"link add polorowan-a netns {NEAR} type veth peer name polorowan-b netns {FAR}"]
-    for host, number, line in ((NEAR, 1, "polorowan-a"), (FAR, 2, "polorowan-b")):
-        steps += [f"-n {host} addr add 10.77.0.{number}/24 dev {line}", f"-n {host} link set {line} up"]
-        steps += [f"-n {host} link set lo up"]
-    try:
-        yield all(trial.ran("ip", *step.split()).status == 0 for step in steps)
-    finally:
-        for host in (NEAR, FAR):
-            trial.ran("ip", "netns", "del", host)
 
 
 def certificates(trial: Trial, folder: Path) -> None:
@@ -431,30 +474,78 @@ def check_hosts(trial: Trial, made: "Made") -> None:
         return
     blocks = blocks_of(made_arrivals(3_000, 8))
     half = len(blocks) // 2
-    with hosts(trial) as are_there:
-        if not are_there:
-            trial.leave_out("namespaces can't be made here, the cluster was not run over hosts")
+    with networks.made(2) as places:
+        if not places:
+            trial.leave_out("networks can't be made here, the cluster was not run over hosts")
             return
+        near, far = places
+        near.join("far", "10.77.0.1/24", far, "10.77.0.2/24")
         with Cluster(trial, made.built, trial.scratch / "hosts", made.lines) as cluster:
             certificates(trial, cluster.folder)
             for host, own, other, lines in (
-                (NEAR, "near", "far", f"accept = 10.77.0.1:7443\nconnect = {cluster.server.socket}"),
-                (FAR, "far", "near", "client = yes\naccept = 127.0.0.1:6390\nconnect = 10.77.0.1:7443"),
+                (near, "near", "far", f"accept = 10.77.0.1:7443\nconnect = {cluster.server.socket}"),
+                (far, "far", "near", "client = yes\naccept = 127.0.0.1:6390\nconnect = 10.77.0.1:7443"),
             ):
                 text = SERVICE.format(folder=cluster.folder, own=own, other=other, lines=lines)
                 cluster.start_in(host, f"tunnel-{own}", "stunnel4", trial.write(f"hosts/{own}.conf", text))
             time.sleep(0.5)
             worker = (made.built / "rohc-worker", "b", "--links", made.lines, "--shards", str(SHARDS))
-            cluster.start_in(FAR, "b", *worker, "--redis", "6390")
+            cluster.start_in(far, "b", *worker, "--redis", "6390")
             counts = [0] * SHARDS
             with cluster.server.client() as client:
                 append(client, blocks[:half], counts)
                 trial.demand(cluster.wait(20.0), "hosts: the far worker alone doesn't answer")
                 cluster.worker("a", 40)
-                trial.ran("ip", "-n", FAR, "link", "set", "polorowan-b", "down")
+                far.run("ip link set eth down")
                 append(client, blocks[half:], counts)
             trial.demand(cluster.wait(20.0), "hosts: without the far host not every block has its answers")
             trial.demand(compare(cluster, made.links, logs_of(blocks)), "hosts: the answers aren't those of one replay")
+            trial.say(f"hosts: {len(blocks)} blocks over two hosts with stunnel between, one of them taken away")
+
+
+def children(pid: int) -> list[int]:
+    """The processes that a process started."""
+    with contextlib.suppress(OSError):
+        return [int(word) for word in Path(f"/proc/{pid}/task/{pid}/children").read_text().split()]
+    return []
+
+
+def delivers(port: int, octets: bytes, sink: socket.socket) -> bytes:
+    """What comes for a packet of link 1."""
+    with socket.socket(socket.AF_INET, socket.SOCK_DGRAM) as sender, contextlib.suppress(TimeoutError):
+        sender.sendto(b"\0\1" + octets, ("127.0.0.1", port))
+        return sink.recv(65_535)
+    return b""
+
+
+def check_up(trial: Trial, made: "Made") -> None:
+    """cluster/up and cluster/down: a call goes on when a worker is killed, which comes back, and nothing runs in the end."""
+    folder, port, up = trial.scratch / "up", free_port(), trial.top / "cluster/up"
+    with contextlib.ExitStack() as stack:
+        sink = stack.enter_context(socket.socket(socket.AF_INET, socket.SOCK_DGRAM))
+        sink.bind(("127.0.0.1", 0))
+        sink.settimeout(WAIT_SECONDS)
+        text = (trial.top / "examples/links.toml").read_text()
+        text = re.sub(r"deliver_port = \d+", f"deliver_port = {sink.getsockname()[1]}", text)
+        stack.callback(trial.ran, trial.top / "cluster/down", folder)
+        started = trial.ran(up, folder, trial.write("up.toml", text), str(port), environment={"CLUSTER_BIN": str(made.built)})
+        if not trial.demand(started.text.startswith("ready"), f"cluster/up: {started.end()}", started.call):
+            return
+        pids = [int(word) for word in (folder / "pids").read_text().split()]
+        found = [delivers(port, bytes.fromhex("fc00b745aa"), sink)]
+        for worker in children(pids[2]):
+            os.kill(worker, signal.SIGKILL)
+        found.append(delivers(port, bytes.fromhex("45ab"), sink))
+        trial.demand(found == [b"\x45\xaa", b"\x45\xab"], f"cluster/up: {[one.hex() for one in found]} came")
+        end = time.monotonic() + WAIT_SECONDS
+        while (folder / "a.log").read_text().count("reads") < 2 and time.monotonic() < end:
+            time.sleep(0.05)
+        is_back = (folder / "a.log").read_text().count("reads") >= 2
+        trial.demand(is_back, "cluster/up: a worker that was killed isn't started again")
+        every = [*pids, *(child for pid in pids for child in children(pid))]
+        ended = [trial.ran(trial.top / "cluster/down", folder).status for _ in range(2)]
+        left = [pid for pid in every if Path(f"/proc/{pid}").exists()]
+        trial.demand(ended == [0, 1] and not left, f"cluster/down: statuses {ended}, 0 and 1 wanted; {left} still run")
 
 
 def check_controls(trial: Trial, made: "Made") -> None:
@@ -549,6 +640,6 @@ def check(trial: Trial) -> None:
         trial.leave_out("hiredis or libcrypto is not installed, cluster/ was not run")
         return
     made = make(trial)
-    parts = dict(zip(PARTS, (check_twins, check_redis, check_whole, check_hosts, check_controls), strict=True))
+    parts = dict(zip(PARTS, (check_twins, check_redis, check_whole, check_hosts, check_up, check_controls), strict=True))
     for name in trial.chosen(PARTS):
         parts[name](trial, made)

@@ -6,7 +6,7 @@ Each part says what it leaves out if a tool isn't there. Words behind `evidence`
 - lossy: tests/lossy_link.sh, calls over a lossy link with feedback in time.
 - real: calls that SIPp, GStreamer and FFmpeg make now (tools/real_calls, as root), sent likewise.
 - tshark: packets of such calls and what was delivered for them, as Wireshark's dissectors and scapy read them, beside
-  tools/model (tools/dissect). A bit that is turned in each packet must be seen.
+  tools/model and beside what `rohctl explain` says (tools/dissect). A bit that is turned in each packet must be seen.
 - fuzz: libFuzzer on the library for C (tools/fuzz), and bugs that are planted into it, which must be found.
 - bench: the loads of bench/run that the repository makes by itself, each answered without a refusal.
 
@@ -25,6 +25,7 @@ from program import Word
 from trial import LEFT_OUT, Trial
 
 SECONDS = 1200
+ROHCTL = "crates/rohctl/out/rohctl"
 # The version of Wireshark whose readings are known. Another's may differ.
 VERSION = re.compile(r"Wireshark\) (\d+\.\d+)")
 KNOWN_VERSION = "4.0"
@@ -147,14 +148,18 @@ def tshark(evidence: Evidence) -> None:
             folders.append(sent(evidence, f"{file.stem}-{cid}-{pick}", file, "--cid", cid, "--pick", pick))
         folders.append(sent(evidence, f"{file.stem}-damaged", file, *DAMAGED))
     words = (sys.executable, "-B", "tools/dissect")
-    ended = trial.ran(*words, *folders, seconds=SECONDS)
+    told: tuple[Word, ...] = ("--explain", ROHCTL)
+    if not (trial.top / ROHCTL).exists():
+        trial.leave_out("rohctl isn't built, what it explains was not compared with Wireshark's readings")
+        told = ()
+    ended = trial.ran(*words, *told, *folders, seconds=SECONDS)
     trial.say(ended.text)
     version = VERSION.search(trial.ran("tshark", "--version").text)
     if version and version[1] == KNOWN_VERSION or ended.status == 0:
         trial.demand(ended.status == 0, f"tools/dissect: {ended.end()}", ended.call)
     else:
         trial.leave_out(f"tshark isn't of version {KNOWN_VERSION}, with which tools/dissect was tried: readings differ")
-    bent = trial.ran(*words, "--bend", folders[0], seconds=SECONDS)
+    bent = trial.ran(*words, "--bend", *told, folders[0], seconds=SECONDS)
     trial.demand(bent.status == 1 and "otherwise: 0\n" not in bent.text, "a bit that is turned isn't seen", bent.call)
 
 

@@ -5,8 +5,8 @@ program does. tools/library_calls.c calls the library at its limits, and tools/l
 with many packets in one call, and from four threads that read at once. All run under the address sanitizer and under
 valgrind, if these are installed, and the readers under helgrind. tools/library_memory.c counts the memory that calls ask for and give back. The header
 is compiled as C99, C11 and C++. Scripts go on in other processes from saved calls. examples/udp_gateway.c takes a packet,
-the package in Python runs the examples, and pkg-config and CMake find the installed library. shipping.py has what the
-library is to others.
+the package in Python and the example in Go run the examples, and pkg-config and CMake find the installed library. tools/stress
+runs for a short while, and finds bugs that are planted. shipping.py has what the library is to others.
 """
 
 import os
@@ -34,6 +34,7 @@ VALGRIND = ("valgrind", "-q", "--error-exitcode=9", "--leak-check=full")
 HELGRIND = ("valgrind", "-q", "--error-exitcode=9", "--tool=helgrind")
 INSTALLED = ("lib/libpolorowan.a", "lib/pkgconfig/polorowan.pc", "include/polorowan.h", "share/doc/polorowan/LIBRARY.md")
 SECONDS = 3600
+STRESS_SECONDS = "10"
 
 
 class NotBuilt(Exception):
@@ -151,6 +152,15 @@ def check_valgrind(library: Library, gateway: Path, calls: Path, running: Path) 
     answers_call(library, *VALGRIND, gateway)
 
 
+def check_stress(library: Library) -> None:
+    """A short run of tools/stress, and planted bugs, which it must find."""
+    if not sanitizes(library):
+        library.trial.leave_out("the sanitizers are not installed, tools/stress was not run")
+        return
+    must_end_well(library, library.trial.top / "tools/stress", STRESS_SECONDS, library.folder)
+    must_end_well(library, library.trial.top / "tools/stress", "--test", library.folder)
+
+
 def answers_call(library: Library, *words: str | Path) -> None:
     """A program must answer one example."""
     example = library.call_of_example
@@ -243,6 +253,7 @@ def check(trial: Trial) -> None:
         must_end_well(library, memory)
         check_sanitized(library)
         check_valgrind(library, gateway, calls, running)
+        check_stress(library)
         check_random(library, gateway)
         check_restarts(library, gateway)
         check_beside(library)

@@ -11,6 +11,7 @@ import zipfile
 from collections.abc import Iterator
 from pathlib import Path
 
+from program import Call, run
 from trial import Trial
 
 SYMBOLS = "tools/library_symbols.txt"
@@ -250,6 +251,23 @@ def check_rust(trial: Trial, folder: Path) -> None:
     trial.must_run("cargo", "fmt", "--check", "--manifest-path", trial.top / "bindings/rust/Cargo.toml")
 
 
+def check_go(trial: Trial, folder: Path, links: Path, script: Path, answers: bytes) -> None:
+    """The example in Go: vetted, laid out, and it answers an example."""
+    if not shutil.which("go"):
+        trial.leave_out("go is not installed, examples/go was not run")
+        return
+    environment = {"PKG_CONFIG_PATH": str(folder), "LD_LIBRARY_PATH": str(folder), "GOPROXY": "off", "CGO_ENABLED": "1"}
+    environment |= {"GOCACHE": str(trial.scratch / "go/cache"), "GOPATH": str(trial.scratch / "go/path")}
+    program = trial.scratch / "go/gateway"
+    for words in (("go", "vet", "."), ("go", "build", "-o", program, ".")):
+        made = run(Call(words, environment=environment, folder=trial.top / "examples/go"))
+        if not trial.demand(made.status == 0, f"examples/go: {made.end()}", made.call):
+            return
+    ended = trial.ran(program, links, given=script, environment=environment)
+    trial.demand(ended.is_good, f"examples/go: {ended.end()}", ended.call)
+    trial.same("examples/go", answers, ended.output, ended.call)
+
+
 def check_wheel(trial: Trial, folder: Path) -> None:
     """The wheel is the same each time, contains the library, and answers from a folder where nothing else is."""
     if not (folder / "libpolorowan.so").exists():
@@ -284,5 +302,6 @@ def check(trial: Trial, folder: Path, links: Path, script: Path, answers: bytes)
     check_ways(trial, folder, links, script, answers)
     check_wheel(trial, folder)
     check_rust(trial, folder)
+    check_go(trial, folder, links, script, answers)
     check_cpp(trial, folder)
     check_types(trial)

@@ -1,32 +1,35 @@
 """Eight links over four gateways, each datagram brought to the process of its link by what `rohctl spread` writes.
 
-It runs in a network of its own, so that the rules of nftables touch nothing else. What each process sends must be what one
-replay of all arrivals answers to its links, octet for octet and in order.
+By nftables and by nginx on one host, in a network of its own, so that the rules touch nothing else; and over four hosts, which
+are networks behind a fifth. There each gateway listens on 127.0.0.1 alone: the fifth sends each datagram to its host, whose own
+rules turn its address. What each process sends must be what one replay of all arrivals answers to its links, octet for octet
+and in order.
 """
 
 import contextlib
-import ctypes
 import multiprocessing
 import os
+import re
 import shutil
 import socket
 import struct
 import subprocess
 import time
-from collections.abc import Iterator, Sequence
+from collections.abc import Callable, Iterator, Sequence
 from multiprocessing.connection import Connection
 from pathlib import Path
 
+import networks
 from cluster import Arrival, made_arrivals
 from gateway_run import BATCH, KINDS, LOOPBACK, Gateway, Receivers, replayed, sends_of
+from networks import Network
 from trial import Trial
 
 ROHCTL = "crates/rohctl/out/rohctl"
-NEW_NETWORK = 0x40000000
 PORT = 7000
 NAMES = "abcd"
 LINKS = 8
-WAYS = {"nftables": "nft", "nginx": "nginx"}
+NOBODYS = 3
 
 
 def own(link: int) -> int:
@@ -34,44 +37,48 @@ def own(link: int) -> int:
     return link % len(NAMES)
 
 
-def hosts() -> str:
+def address(place: int, side: int) -> str:
+    """An address on the line from the fifth host to this one: its side 1 is there, 2 here."""
+    return f"10.77.{1 + place}.{side}"
+
+
+def hosts(addresses: Sequence[str], ports: Sequence[int]) -> str:
     """The hosts file: each process has every fourth link."""
     text = f"port = {PORT}\n"
     for place, name in enumerate(NAMES):
         links = [link for link in range(1, LINKS + 1) if own(link) == place]
-        text += f'[[process]]\nname = "{name}"\nport = {PORT + 1 + place}\nlinks = {links}\n'
+        text += f'[[process]]\nname = "{name}"\naddress = "{addresses[place]}"\nport = {ports[place]}\nlinks = {links}\n'
     return text
 
 
-@contextlib.contextmanager
-def spread(trial: Trial, folder: Path, way: str) -> Iterator[None]:
-    """Has the datagrams brought to their processes. Each gets a links file of its own."""
-    words = [trial.top / ROHCTL, "spread", folder / "links.toml", "--hosts", folder / "hosts.toml", "--out", folder]
-    told = trial.ran(*words, *(["--nginx"] if way == "nginx" else []))
+def rules(trial: Trial, folder: Path, text: str, *words: str | Path) -> Path:
+    """What `rohctl spread` writes for a hosts file."""
+    (folder / "hosts.toml").write_text(text)
+    told = trial.ran(trial.top / ROHCTL, "spread", folder / "links.toml", "--hosts", folder / "hosts.toml", *words)
     trial.demand(told.is_good, f"rohctl spread: {told.end()}", told.call)
     (folder / "rules").write_bytes(told.output)
-    if way == "nftables":
-        subprocess.run(["nft", "-f", folder / "rules"], check=True)
-        yield
-        return
-    shutil.copy(trial.top / "deploy/link.js", folder)
-    process = subprocess.Popen(["nginx", "-p", folder, "-c", folder / "rules"], stderr=subprocess.DEVNULL)
-    try:
-        time.sleep(1)
-        yield
-    finally:
-        process.terminate()
-        process.wait(30)
+    return folder / "rules"
 
 
-def sent(arrivals: Sequence[Arrival], wanted: Sequence[Sequence[str]], receivers: Sequence[Receivers]) -> bool:
+def links_of(receivers: Sequence[Receivers]) -> str:
+    """The links file of all links, whose ports are those of their own process."""
+    parts = [receivers[own(link)].links([link]).split("\n", 1)[1] for link in range(1, LINKS + 1)]
+    return "version = 1\n" + "".join(parts)
+
+
+def some_arrivals() -> list[Arrival]:
+    """Whole calls of eight links, with damage, losses and feedback."""
+    return [one for one in made_arrivals(16_000, 21) if one.octets is not None and one.link <= LINKS]
+
+
+def sent(arrivals: Sequence[Arrival], wanted: Sequence[Sequence[str]], receivers: Sequence[Receivers], there: str) -> bool:
     """Sends arrivals to the one port. Whether each process sends exactly what must be sent for its own."""
     due: list[dict[str, list[bytes]]] = [{kind: [] for kind in KINDS} for _ in receivers]
     with socket.socket(socket.AF_INET, socket.SOCK_DGRAM) as sender:
         for at in range(0, len(arrivals), BATCH):
             for arrival, lines in zip(arrivals[at : at + BATCH], wanted[at : at + BATCH], strict=True):
                 head = struct.pack(">HQ", arrival.link, arrival.moment)
-                sender.sendto(head + (arrival.octets or b""), (LOOPBACK, PORT))
+                sender.sendto(head + (arrival.octets or b""), (there, PORT))
                 for kind, octets in sends_of(lines):
                     due[own(arrival.link)][kind].append(octets)
             for one, its in zip(receivers, due, strict=True):
@@ -80,40 +87,168 @@ def sent(arrivals: Sequence[Arrival], wanted: Sequence[Sequence[str]], receivers
     return all(one.found == its for one, its in zip(receivers, due, strict=True))
 
 
-def run_there(trial: Trial, way: str) -> None:
-    """All of it, in this network."""
+@contextlib.contextmanager
+def nginx(trial: Trial, folder: Path) -> Iterator[subprocess.Popen[bytes]]:
+    """Nginx with the configuration in a folder."""
+    shutil.copy(trial.top / "deploy/link.js", folder)
+    process = subprocess.Popen(["nginx", "-p", folder, "-c", folder / "rules"], stderr=subprocess.DEVNULL)
+    try:
+        time.sleep(1)
+        yield process
+    finally:
+        process.terminate()
+        process.wait(30)
+
+
+def on_one_host(trial: Trial, folder: Path, way: str) -> int:
+    """Four processes in this network. How many arrivals there were."""
     subprocess.run(["ip", "link", "set", "lo", "up"], check=True)
-    folder = trial.scratch / way
-    folder.mkdir(parents=True)
-    arrivals = [one for one in made_arrivals(16_000, 21) if one.octets is not None and one.link <= LINKS]
+    arrivals = some_arrivals()
     with contextlib.ExitStack() as stack:
         receivers = [stack.enter_context(Receivers()) for _ in NAMES]
-        parts = [receivers[own(link)].links([link]).split("\n", 1)[1] for link in range(1, LINKS + 1)]
-        (folder / "links.toml").write_text("version = 1\n" + "".join(parts))
-        (folder / "hosts.toml").write_text(hosts())
-        stack.enter_context(spread(trial, folder, way))
+        (folder / "links.toml").write_text(links_of(receivers))
+        text = hosts([LOOPBACK] * len(NAMES), range(PORT + 1, PORT + 1 + len(NAMES)))
+        file = rules(trial, folder, text, "--out", folder, *(["--nginx"] if way == "nginx" else []))
+        if way == "nginx":
+            stack.enter_context(nginx(trial, folder))
+        else:
+            subprocess.run(["nft", "-f", file], check=True)
         for place, name in enumerate(NAMES):
             links = (folder / f"{name}.toml").read_text()
             stack.enter_context(Gateway(trial, folder / name, links, timed_port=PORT + 1 + place))
         wanted = replayed(trial, folder / "links.toml", arrivals)
-        trial.demand(sent(arrivals, wanted, receivers), f"spread by {way}: not what one replay answers")
-    trial.say(f"spread by {way}: {len(arrivals)} arrivals over {len(NAMES)} processes as one replay answers")
+        trial.demand(sent(arrivals, wanted, receivers, LOOPBACK), f"spread by {way}: not what one replay answers")
+    return len(arrivals)
+
+
+def join(before: Network, places: Sequence[Network]) -> None:
+    """Lays the lines: from this network to the one before the hosts, and from there to each host."""
+    Network.here().join("polorowan", address(-1, 2) + "/24", before, address(-1, 1) + "/24")
+    before.set("ipv4/ip_forward", 1)
+    for place, host in enumerate(places):
+        before.join(f"host{place}", address(place, 1) + "/24", host, address(place, 2) + "/24")
+        # What comes for 127.0.0.1 is taken from this line too.
+        host.set("ipv4/conf/eth/route_localnet", 1)
+
+
+def set_rules(trial: Trial, folder: Path, before: Network, places: Sequence[Network]) -> None:
+    """Sets the rules of all hosts: one hosts file, in which each host has its own address as 127.0.0.1."""
+    addresses = [address(place, 2) for place in range(len(places))]
+    before.run(f"nft -f {rules(trial, folder, hosts(addresses, [PORT] * len(NAMES)), '--out', folder)}")
+    for place, host in enumerate(places):
+        its = [LOOPBACK if other == place else one for other, one in enumerate(addresses)]
+        host.run(f"nft -f {trial.top / 'deploy/loopback.nft'}")
+        host.run(f"nft -f {rules(trial, folder, hosts(its, [PORT] * len(NAMES)))}")
+
+
+def checksum(octets: bytes) -> bytes:
+    """The Internet checksum."""
+    octets += b"\0" * (len(octets) % 2)
+    total = sum(struct.unpack(f">{len(octets) // 2}H", octets))
+    while total > 0xFFFF:
+        total = (total & 0xFFFF) + (total >> 16)
+    return struct.pack(">H", total ^ 0xFFFF)
+
+
+def frame(arrival: Arrival, hardware: bytes) -> bytes:
+    """A frame with an arrival for 127.0.0.1, as a neighbour may send it. Its UDP checksum must be there: the rules change it."""
+    octets = struct.pack(">HQ", arrival.link, arrival.moment) + (arrival.octets or b"")
+    ends = socket.inet_aton(address(-1, 2)) + socket.inet_aton(LOOPBACK)
+    udp = struct.pack(">HHHH", PORT, PORT, 8 + len(octets), 0) + octets
+    udp = udp[:6] + checksum(ends + struct.pack(">HH", 17, len(udp)) + udp) + udp[8:]
+    ip = struct.pack(">BBHHHBBH", 0x45, 0, 20 + len(udp), 0, 0, 64, 17, 0) + ends
+    ip = ip[:10] + checksum(ip) + ip[12:]
+    return hardware + bytes(6) + b"\x08\x00" + ip + udp
+
+
+def comes_in(before: Network, host: Network, gateway: Gateway, arrival: Arrival, seconds: float) -> bool:
+    """Whether a host's loopback takes what its neighbour sends for it, in so many seconds."""
+    with host.inside():
+        count = gateway.datagrams()
+        told = subprocess.run(["ip", "link", "show", "eth"], check=True, capture_output=True, text=True).stdout
+    hardware = bytes.fromhex(told.partition("link/ether ")[2].split(" ")[0].replace(":", ""))
+    with before.inside(), socket.socket(socket.AF_PACKET, socket.SOCK_RAW) as line:
+        line.bind(("host0", 0))
+        line.send(frame(arrival, hardware))
+    end = time.monotonic() + seconds
+    with host.inside():
+        while gateway.datagrams() <= count:
+            if time.monotonic() > end:
+                return False
+            time.sleep(0.05)
+    return True
+
+
+def check_loopback(trial: Trial, before: Network, host: Network, gateway: Gateway, arrivals: Sequence[Arrival]) -> None:
+    """The loopback of a host takes nothing from outside; without the rules against it, it would."""
+    arrival = next(one for one in arrivals if own(one.link) == 0)
+    trial.demand(not comes_in(before, host, gateway, arrival, 1), "a neighbour reaches the loopback of a host")
+    host.run("nft delete table ip polorowan_loopback")
+    trial.demand(comes_in(before, host, gateway, arrival, 20), "deploy/loopback.nft isn't what keeps the loopback closed")
+
+
+def dropped(before: Network) -> int:
+    """How many datagrams of unknown links the rules counted."""
+    with before.inside():
+        told = subprocess.run(["nft", "list", "counters"], check=True, capture_output=True, text=True).stdout
+    found = re.search(r"packets (\d+)", told)
+    return int(found[1]) if found else -1
+
+
+def over_hosts(trial: Trial, folder: Path, way: str) -> int:
+    """Four hosts behind a fifth, with one process each. How many arrivals there were."""
+    arrivals = some_arrivals()
+    with contextlib.ExitStack() as stack:
+        before, *places = stack.enter_context(networks.made(1 + len(NAMES)))
+        join(before, places)
+        receivers = []
+        for host in places:
+            with host.inside():
+                receivers.append(stack.enter_context(Receivers()))
+        (folder / "links.toml").write_text(links_of(receivers))
+        set_rules(trial, folder, before, places)
+        gateways = []
+        for name, host in zip(NAMES, places, strict=True):
+            with host.inside():
+                links = (folder / f"{name}.toml").read_text()
+                gateways.append(stack.enter_context(Gateway(trial, folder / name, links, timed_port=PORT)))
+        wanted = replayed(trial, folder / "links.toml", arrivals)
+        trial.demand(sent(arrivals, wanted, receivers, address(-1, 1)), f"spread by {way}: not what one replay answers")
+        with socket.socket(socket.AF_INET, socket.SOCK_DGRAM) as sender:
+            for _ in range(NOBODYS):
+                sender.sendto(struct.pack(">HQ", LINKS + 1, 0), (address(-1, 1), PORT))
+        found = dropped(before)
+        trial.demand(found == NOBODYS, f"spread by {way}: {found} datagrams of unknown links, {NOBODYS} wanted")
+        check_loopback(trial, before, places[0], gateways[0], arrivals)
+    return len(arrivals)
+
+
+WAYS: dict[str, tuple[str, Callable[[Trial, Path, str], int]]] = {
+    "nftables": ("nft", on_one_host),
+    "nginx": ("nginx", on_one_host),
+    "nftables on four hosts": ("nft", over_hosts),
+}
 
 
 def in_own_network(trial: Trial, way: str, pipe: Connection) -> None:
     """Runs it in a new network, and sends what was found."""
-    if ctypes.CDLL(None).unshare(NEW_NETWORK) != 0:
-        trial.leave_out(f"no network of its own can be made here, links were not spread by {way}")
-    else:
-        run_there(trial, way)
+    with networks.made(1) as own_network:
+        if not own_network:
+            trial.leave_out(f"no network of its own can be made here, links were not spread by {way}")
+        else:
+            own_network[0].enter()
+            folder = trial.scratch / way.replace(" ", "-")
+            folder.mkdir(parents=True)
+            count = WAYS[way][1](trial, folder, way)
+            trial.say(f"spread by {way}: {count} arrivals over {len(NAMES)} processes as one replay answers")
     pipe.send((trial.lines, trial.rights, trial.wrongs))
 
 
 def check(trial: Trial) -> None:
     """Each way, in a process of its own."""
-    for way, tool in WAYS.items():
-        if not shutil.which(tool) or os.geteuid() != 0:
-            trial.leave_out(f"{tool} is not installed, or root isn't, links were not spread by it")
+    for way, (tool, _) in WAYS.items():
+        if not shutil.which(tool) or not shutil.which("ip") or os.geteuid() != 0:
+            trial.leave_out(f"{tool} or ip is not installed, or root isn't, links were not spread by {way}")
             continue
         here, there = multiprocessing.Pipe()
         child = multiprocessing.get_context("fork").Process(target=in_own_network, args=(trial, way, there))

@@ -1,6 +1,6 @@
 """Compares others' readings of ROHC packets, and of what was delivered for them, with tools/model's.
 
-usage: python3 tools/dissect [--bend] FOLDER..
+usage: python3 tools/dissect [--bend] [--explain ROHCTL] FOLDER..
 
 Each FOLDER has links.toml, with one link; a script of arrivals; and answers, which are what a program said to it.
 Wireshark's dissector reads each packet of the script and each element of feedback; the model says what they are. Of each
@@ -16,6 +16,7 @@ import tempfile
 from collections import Counter
 from collections.abc import Iterator
 from concurrent.futures import ProcessPoolExecutor
+from dataclasses import dataclass, replace
 from pathlib import Path
 
 # The comparison leaves no compiled modules beside its own.
@@ -25,7 +26,8 @@ import capture  # noqa: E402
 import said  # noqa: E402
 import wireshark  # noqa: E402
 from comparison import Counts, Seen  # noqa: E402
-from links import read  # noqa: E402
+from explained import Explained, explained  # noqa: E402
+from links import Setting, read  # noqa: E402
 
 HELP = (__doc__ or "").strip()
 SHOWN = 8
@@ -48,22 +50,68 @@ def with_bit_turned(octets: bytes) -> bytes:
     return bytes([octets[0] ^ 1]) + octets[1:]
 
 
-def by_wireshark(counts: Counts, setting: said.Setting, packets: list[said.Said], room: Path, bend: bool) -> None:
-    """Compares what Wireshark's dissectors say."""
-    shown = (with_bit_turned(one.octets) if bend else one.octets for one in packets)
-    capture.write_rohc(room / "rohc.pcap", shown, setting.is_small)
-    views = wireshark.rohc_views(room / "rohc.pcap")
-    seen = Seen(setting.is_small)
+@dataclass(frozen=True)
+class Asked:
+    """What is asked for: a Python that has scapy, a rohctl, and whether bits are turned."""
+
+    python: str
+    rohctl: str
+    bend: bool
+
+
+@dataclass(frozen=True)
+class Run:
+    """The packets of a run, with what a teller says of them."""
+
+    setting: Setting
+    packets: list[said.Said]
+    room: Path
+    # What Wireshark's dissectors say of the packet that was delivered for each.
+    delivered: dict[int, wireshark.View]
+
+
+def compare_all(counts: Counts, run: Run, views: list[wireshark.View]) -> list[tuple[said.Said, wireshark.View]]:
+    """Compares what Wireshark's dissectors say of the ROHC packets. Those that were delivered, each with what was said."""
+    seen = Seen(run.setting.is_small)
     delivered = []
-    for one, theirs in zip(packets, views, strict=True):
+    for one, theirs in zip(run.packets, views, strict=True):
         if not one.view:
-            counts.packets["refused, or no header"] += 1
+            counts.packets["not compared"] += 1
         elif counts.compare(one, theirs, seen) and one.delivered:
             delivered.append((one, theirs))
-    capture.write(room / "ip.pcap", capture.RAW_IP, (one.delivered for one, _ in delivered))
-    ports = {int.from_bytes(one.delivered[DESTINATION_PORT]) for one, _ in delivered}
-    for (one, theirs), found in zip(delivered, wireshark.delivered_views(room / "ip.pcap", ports), strict=True):
-        counts.compare_delivered(one, theirs, found)
+    return delivered
+
+
+def views_of_delivered(packets: list[said.Said], room: Path) -> dict[int, wireshark.View]:
+    """What Wireshark's dissectors say of what was delivered for these packets."""
+    delivered = [one for one in packets if one.delivered]
+    capture.write(room / "ip.pcap", capture.RAW_IP, (one.delivered for one in delivered))
+    ports = {int.from_bytes(one.delivered[DESTINATION_PORT]) for one in delivered}
+    return dict(zip(map(id, delivered), wireshark.delivered_views(room / "ip.pcap", ports), strict=True))
+
+
+def by_wireshark(counts: Counts, run: Run, views: list[wireshark.View]) -> None:
+    """Compares what Wireshark's dissectors say with what the model says."""
+    for one, theirs in compare_all(counts, run, views):
+        counts.compare_delivered(one, theirs, run.delivered[id(one)])
+
+
+def with_explained(counts: Counts, run: Run, views: list[wireshark.View], rows: list[Explained]) -> None:
+    """Compares what Wireshark's dissectors say with what `rohctl explain` says of the same packets."""
+    left, told, theirs, tried = iter(rows), [], [], []
+    for one, view in zip(run.packets, views, strict=True):
+        # Feedback that is sent isn't explained.
+        if one.view.get("format") != "feedback":
+            row = next(left)
+            told.append(replace(one, view=row.view))
+            theirs.append(view)
+            if row.tried and one.delivered:
+                tried.append((one, row.tried))
+    counts.faults += ["packets without a line of rohctl explain, or more lines"] * (next(left, None) is not None)
+    compare_all(counts, replace(run, packets=told), theirs)
+    for one, ours in tried:
+        for name, number in ours.items():
+            counts.compare_numbers(one, f"tried {name}", number, run.delivered[id(one)].get(name, ""))
 
 
 def by_scapy(counts: Counts, python: str, packets: list[said.Said]) -> None:
@@ -80,21 +128,28 @@ def by_scapy(counts: Counts, python: str, packets: list[said.Said]) -> None:
                 counts.compare_numbers(one, f"{name} by scapy", one.view[name], number)
 
 
-def compared(folder: Path, python: str, bend: bool) -> Counts:
-    """What is found of a run."""
-    counts = Counts()
+def compared(folder: Path, asked: Asked) -> tuple[Counts, Counts]:
+    """What is found of a run: with what the model says, and with what `rohctl explain` says."""
+    model, ours = Counts(), Counts("rohctl explain")
     setting = next(iter(read((folder / "links.toml").read_bytes()).values()))
     all_said = list(said.all_said(setting, (folder / "script").read_bytes()))
     packets = [one for one, _ in all_said]
     told = [line for _, lines in all_said for line in lines]
     if told != (folder / "answers").read_text().splitlines():
-        counts.faults.append("the answers aren't the model's")
+        model.faults.append("the answers aren't the model's")
     with tempfile.TemporaryDirectory() as room:
-        by_wireshark(counts, setting, packets, Path(room), bend)
-    if python:
-        by_scapy(counts, python, packets)
-    counts.faults = [f"{folder.name}: {fault}" for fault in counts.faults]
-    return counts
+        run = Run(setting, packets, Path(room), views_of_delivered(packets, Path(room)))
+        shown = (with_bit_turned(one.octets) if asked.bend else one.octets for one in packets)
+        capture.write_rohc(run.room / "rohc.pcap", shown, setting.is_small)
+        views = wireshark.rohc_views(run.room / "rohc.pcap")
+        by_wireshark(model, run, views)
+        if asked.rohctl:
+            with_explained(ours, run, views, list(explained(asked.rohctl, folder / "links.toml", folder / "script")))
+    if asked.python:
+        by_scapy(model, asked.python, packets)
+    for counts in (model, ours):
+        counts.faults = [f"{folder.name}: {fault}" for fault in counts.faults]
+    return model, ours
 
 
 def group(name: str) -> str:
@@ -105,6 +160,8 @@ def group(name: str) -> str:
         return "headers of what was delivered, written anew by scapy"
     if name.endswith(" by scapy"):
         return "numbers of SN, TS and SSRC, by scapy"
+    if name.startswith("tried "):
+        return "SN and TS of the try that fits, in what was delivered, by Wireshark"
     if name.startswith("delivered "):
         return "fields of a compressed packet that are in the delivered one, by Wireshark"
     return "fields of compressed packets and of feedback, by Wireshark"
@@ -115,8 +172,10 @@ def rows(counts: Counts) -> Iterator[str]:
     agreed: Counter[str] = Counter()
     for name, number in counts.agreed.items():
         agreed[group(name)] += number
-    parts = {"packets": counts.packets, "as the model says": agreed, "known differences": counts.known}
+    parts = {"packets": counts.packets, f"as {counts.teller} says": agreed, "known differences": counts.known}
     for title, found in {**parts, "UDP checksums, by scapy": counts.udp_checksums}.items():
+        if not found:
+            continue
         yield f"{title}: {sum(found.values())}"
         yield from (f"  {number:7} {name}" for name, number in sorted(found.items()))
     yield f"otherwise: {len(counts.faults)}"
@@ -130,17 +189,22 @@ def main(words: list[str]) -> int:
         return 0
     bend = words[:1] == ["--bend"]
     words = words[bend:]
+    rohctl = words[1] if words[:1] == ["--explain"] and len(words) > 1 else ""
+    words = words[2 if rohctl else 0 :]
     if not words or not all(Path(word).is_dir() for word in words):
         print(HELP, file=sys.stderr)
         return 2
-    python, counts = python_of_scapy(), Counts()
-    if not python:
+    asked = Asked(python_of_scapy(), rohctl and str(Path(rohctl).resolve()), bend)
+    if not asked.python:
         print("left out: scapy is not installed, delivered headers were read by Wireshark alone")
+    model, ours = Counts(), Counts("rohctl explain")
     with ProcessPoolExecutor() as pool:
-        for found in pool.map(compared, map(Path, words), [python] * len(words), [bend] * len(words)):
-            counts.add(found)
-    print("\n".join(rows(counts)))
-    return int(bool(counts.faults))
+        for found, other in pool.map(compared, map(Path, words), [asked] * len(words)):
+            model.add(found)
+            ours.add(other)
+    for counts in (model, ours) if rohctl else (model,):
+        print("\n".join(rows(counts)))
+    return int(bool(model.faults or ours.faults))
 
 
 if __name__ == "__main__":

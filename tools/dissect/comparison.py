@@ -1,4 +1,4 @@
-"""Compares what Wireshark's dissectors say with what tools/model says, and counts."""
+"""Compares what Wireshark's dissectors say with what tools/model, or `rohctl explain`, says, and counts."""
 
 from collections import Counter
 from collections.abc import Callable
@@ -47,8 +47,9 @@ FIELD: dict[str, Callable[[Said, str, str, str], bool]] = {
 
 @dataclass
 class Counts:
-    """What was compared."""
+    """What was compared with what one teller says."""
 
+    teller: str = "the model"
     packets: Counter[str] = field(default_factory=Counter)
     agreed: Counter[str] = field(default_factory=Counter)
     known: Counter[str] = field(default_factory=Counter)
@@ -72,13 +73,14 @@ class Counts:
             self.known[reasons[0]] += 1
         else:
             shown = f"{said.octets[:24].hex()}, {said.view['format']}"
-            self.faults.append(f"{shown}: {name}: {theirs or 'none'} by tshark, {ours or 'none'} by the model")
+            self.faults.append(f"{shown}: {name}: {theirs or 'none'} by tshark, {ours or 'none'} by {self.teller}")
 
     def compare(self, said: Said, theirs: View, seen: Seen) -> bool:
         """Compares what is said of a packet. Whether the dissector read it by what the model read it by."""
         kind = said.view["format"]
         self.packets[kind] += 1
-        names = {*said.view, *theirs} - ({"Mode"} if kind != "feedback" else set())
+        # The model drops a Mode.
+        names = {*said.view, *theirs} - ({"Mode"} if "Mode" not in said.view else set())
         differ = any(said.view.get(name) != theirs.get(name) for name in names)
         reasons = [reason for reason, holds in WHOLE.items() if differ and holds(said, theirs, seen)]
         if reasons:

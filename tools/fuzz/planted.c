@@ -1,6 +1,6 @@
 /*
- * Bugs that the fuzzer must find, one for each value of PLANTED. It is linked with --wrap for polorowan_arrive, polorowan_new and
- * polorowan_restore, and alters the library's answers in one rare case each.
+ * Bugs that the fuzzer must find, and most of which tools/stress must, one for each value of PLANTED. It is linked with --wrap
+ * for polorowan_arrive, polorowan_new and polorowan_restore, and alters the library's answers in one rare case each.
  */
 #define POLOROWAN_IN_PLACE
 #include <stdbool.h>
@@ -53,10 +53,10 @@ static void plant(const uint8_t *octets, uint8_t *packet, uint8_t *feedback, str
     if (said == 2) fell = true, fallen = arrival->cid;
 #elif PLANTED == 3
     /* After a restoration a packet that isn't an IR isn't delivered whole. */
-    if (is_restored && octets[0] < 0xe0 && arrival->has_packet) packet[arrival->packet_length - 1] ^= 1;
-#else
+    if (is_restored && arrival->has_packet && octets[0] < 0xe0) packet[arrival->packet_length - 1] ^= 1;
+#elif PLANTED == 4
     /* An IR-DYN that is refused for its check hands on one octet too many. */
-    if (octets[0] == 0xf8 && arrival->outcome == 28) arrival->packet_length = 1;
+    if (arrival->outcome == 28 && octets[0] == 0xf8) arrival->packet_length = 1;
 #endif
 }
 
@@ -66,5 +66,9 @@ uint8_t __wrap_polorowan_arrive(struct polorowan_gateway *gateway, uint16_t link
     uint8_t status = __real_polorowan_arrive(gateway, link, moment, octets, count, packet, packet_room, feedback, feedback_room,
                                         relayed, relayed_room, arrival);
     if (status == POLOROWAN_ARRIVED) plant(octets, packet, feedback, arrival);
+#if PLANTED == 5
+    /* The octet behind the room for the rebuilt packet, of a packet that is stored: of tools/stress alone. */
+    if (arrival->outcome == POLOROWAN_STORED) packet[packet_room] = 0;
+#endif
     return status;
 }

@@ -1,0 +1,3 @@
+module polorowan.example/gateway
+
+go 1.19
