@@ -128,6 +128,19 @@ fn write_view<W: Write>(
     writeln!(out, "")
 }
 
+/// What a context takes, until it expires (docs/FORMATS.md, *States*). In Static Context an SN is kept with a reference.
+fn taken_by(view: Option<&View>) -> &'static str {
+    let Some(view) = view else {
+        return "an IR alone";
+    };
+    match view.state {
+        ContextState::FullContext => "every packet",
+        ContextState::StaticContext if view.sn.is_some() => "an IR, an IR-DYN or a UOR-2",
+        ContextState::StaticContext => "an IR or an IR-DYN",
+        ContextState::NoContext => "an IR alone",
+    }
+}
+
 /// Writes why a try wasn't made.
 fn write_not_made<W: Write>(out: &mut W, reason: NotMade) -> io::Result<()> {
     match reason {
@@ -224,6 +237,7 @@ pub(crate) fn write_whole<W: Write>(
     }
     write_answer(out, explained)?;
     write_view(out, "after", explained, explained.after.as_ref())?;
+    writeln!(out, "taken next: {}", taken_by(explained.after.as_ref()))?;
     writeln!(out, "")
 }
 
