@@ -38,7 +38,7 @@ pub(crate) fn capture_end(fault: CaptureFault) -> Ending {
 }
 
 /// The ending of a run. `flushed` is whether all that was written has gone out.
-fn ran_end(ran: Result<(), BulkFault>, flushed: bool) -> Result<Ending, Ending> {
+pub(crate) fn ran_end(ran: Result<(), BulkFault>, flushed: bool) -> Result<Ending, Ending> {
     match ran {
         Ok(()) if flushed => Ok(Ending::Good),
         Err(BulkFault::Capture(fault)) if flushed => Err(capture_end(fault)),

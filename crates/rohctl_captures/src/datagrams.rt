@@ -1,7 +1,7 @@
 //! The arrivals of a script as datagrams of a capture.
 
 use rohc_capture::{Format, write_record};
-use rohctl_ground::{Ending, Line, Taker};
+use rohctl_ground::{Line, Stop, Taker};
 use std::io::Write;
 
 /// The octets of an IPv4 and a UDP header, and of a link's number.
@@ -67,7 +67,7 @@ fn nanos_of(format: Format, moment: u64) -> Option<u64> {
 
 impl<W: Write + Drop> Datagrams<W> {
     /// Writes an arrival. Returns whether there is a datagram for it.
-    fn arrived(&mut self, link: u16, moment: u64, packet: &[u8]) -> Result<bool, Ending> {
+    fn arrived(&mut self, link: u16, moment: u64, packet: &[u8]) -> Result<bool, Stop> {
         let (Some(front), Some(nanos)) = (
             front_of(self.port, link, packet.len()),
             nanos_of(self.format, moment),
@@ -76,14 +76,14 @@ impl<W: Write + Drop> Datagrams<W> {
         };
         match write_record(&mut self.out, self.format, nanos, &front, packet) {
             Ok(()) => Ok(true),
-            Err(_) => Err(Ending::Write),
+            Err(_) => Err(Stop::Write),
         }
     }
 }
 
 impl<W: Write + Drop> Taker for Datagrams<W> {
     /// Writes an arrival. Any other line has no datagram.
-    fn take(&mut self, _number: u64, line: Line<'_>) -> Result<(), Ending> {
+    fn take(&mut self, _number: u64, line: Line<'_>) -> Result<(), Stop> {
         let written = match line {
             Line::Arrive {
                 link,

@@ -1,11 +1,12 @@
 //! The subcommand `script`: a capture as a script, and back.
 
-use crate::bulk::capture_end;
+use crate::bulk::{capture_end, ran_end};
 use crate::datagrams::Datagrams;
 use crate::rules::{RuleWords, rules_of};
 use crate::sender::{Sender, sender_of};
 use hex::encode_to_slice;
 use rohc_capture::{Capture, Format, Record, Rule, packet_in, write_head};
+use rohc_decompress::BulkFault;
 use rohctl_ground::{Ending, Screen, Target, Told, make_target, open_source, read_script};
 use std::io;
 use std::io::{Printer, Read, Write};
@@ -48,8 +49,9 @@ fn write_digits<W: Write>(out: &mut W, octets: &[u8]) -> io::Result<()> {
     }
     let mut text = [0u8; 2 * PIECE];
     for piece in octets.chunks(PIECE) {
-        let digits = &mut text[..2 * piece.len()];
-        if encode_to_slice(piece, digits).is_ok() {
+        if let Some(digits) = text.get_mut(..piece.len().saturating_mul(2))
+            && encode_to_slice(piece, digits).is_ok()
+        {
             out.write_all(digits)?;
         }
     }
@@ -98,7 +100,7 @@ fn run_frames<R, S, O, L>(
     rules: &[Rule],
     sender: Option<Sender>,
     out: &mut Outputs<S, O, L>,
-) -> Result<(), Ending>
+) -> Result<(), BulkFault>
 where
     R: Read,
     S: Write + Drop,
@@ -106,7 +108,7 @@ where
     L: Write + Drop,
 {
     for frame in 1..u64::MAX {
-        let Some(record) = capture.next().map_err(|fault| capture_end(fault))? else {
+        let Some(record) = capture.next()? else {
             return Ok(());
         };
         let octets = capture.frame();
@@ -123,9 +125,9 @@ where
             }
             _ => out.arrived(frame, &record, link, packet),
         };
-        written.map_err(|_| Ending::Write)?;
+        written.map_err(|_| BulkFault::Write)?;
         if !capture.is_ahead() {
-            out.flush().map_err(|_| Ending::Write)?;
+            out.flush().map_err(|_| BulkFault::Write)?;
         }
     }
     Ok(())
@@ -150,10 +152,7 @@ where
         lines: 0,
     };
     let ran = run_frames(&mut capture, rules.as_slice(), sender, &mut out);
-    match out.flush() {
-        Ok(()) => ran.map(|_| Ending::Good),
-        Err(_) => Err(Ending::Write),
-    }
+    ran_end(ran, out.flush().is_ok())
 }
 
 /// A file to be written, if one is asked for.
@@ -193,7 +192,8 @@ where
             "lines left out: {left_out} (no arrivals, or more than a capture holds)"
         ).is_ok();
     if flushed && told {
-        ran.map(|_| Ending::Good)
+        ran.map_err(|stop| stop.ending())?;
+        Ok(Ending::Good)
     } else {
         Err(Ending::Write)
     }

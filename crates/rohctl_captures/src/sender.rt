@@ -1,5 +1,7 @@
 //! Who sent a frame.
 
+ghost use Rattle.std.specs.Prelude.{◌≤◌};
+
 use rohc_capture::{Protocol, network_in};
 
 /// The address of a sender.
@@ -48,7 +50,9 @@ impl Sender {
 }
 
 /// The numbers of a text with a mark between them, each below 256; `None` if it isn't so many.
-fn numbers<const N: usize>(text: &str, mark: &str, radix: u32) -> Option<[u8; N]> {
+fn numbers<const N: usize>(text: &str, mark: &str, radix: u32) -> Option<[u8; N]>
+    requires { (2 ≤ radix) × (radix ≤ 36) }
+{
     let mut all = [0u8; N];
     let mut count = 0usize;
     for part in text.split(mark) {

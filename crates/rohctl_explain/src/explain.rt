@@ -6,7 +6,8 @@ use crate::explain_packet::{Explained, Got, explain_packet};
 use crate::explain_text::{write_brief, write_whole};
 use rohc_concentrator::Concentrator;
 use rohctl_ground::{
-    Ending, Line, Screen, Taker, Told, concentrator_of, open_source, read_packets, read_script,
+    Ending, Line, Screen, Stop, Taker, Told, concentrator_of, open_source, read_packets,
+    read_script,
 };
 use std::alloc::Global;
 use std::io;
@@ -15,10 +16,11 @@ use std::rt::Files;
 
 /// A run through packets, which are told to a writer.
 #[derive(Drop)]
-struct Run<'a, W: Write + Drop> {
+struct Run<W: Write + Drop> {
     alloc: Global,
     concentrator: Concentrator,
-    asked: &'a Asked<'a>,
+    which: Which,
+    telling: Telling,
     out: W,
     /// Whether a packet that was told is refused.
     found: bool,
@@ -33,25 +35,25 @@ fn is_told(which: Which, line: u64, explained: &Explained) -> bool {
     }
 }
 
-impl<W: Write + Drop> Run<'_, W> {
+impl<W: Write + Drop> Run<W> {
     /// Writes what is told of a packet.
-    fn tell(&mut self, line: u64, explained: &Explained) -> Result<(), Ending> {
+    fn tell(&mut self, line: u64, explained: &Explained) -> Result<(), Stop> {
         if matches!(explained.got, Got::Refused(_)) {
             self.found = true;
         }
         let out = &mut self.out;
-        let written = match self.asked.telling {
+        let written = match self.telling {
             Telling::Whole => write_whole(out, line, explained),
             Telling::Brief => write_brief(out, line, explained),
             Telling::Json => write_object(out, line, explained),
         };
-        written.map_err(|_| Ending::Write)
+        written.map_err(|_| Stop::Write)
     }
 }
 
-impl<W: Write + Drop> Taker for Run<'_, W> {
+impl<W: Write + Drop> Taker for Run<W> {
     /// Runs the event of a line. A line that is no event changes nothing.
-    fn take(&mut self, number: u64, line: Line<'_>) -> Result<(), Ending> {
+    fn take(&mut self, number: u64, line: Line<'_>) -> Result<(), Stop> {
         match line {
             Line::Arrive {
                 link,
@@ -65,7 +67,7 @@ impl<W: Write + Drop> Taker for Run<'_, W> {
                     moment,
                     packet,
                 )?;
-                if is_told(self.asked.which, number, &explained) {
+                if is_told(self.which, number, &explained) {
                     self.tell(number, &explained)?;
                 }
             }
@@ -98,20 +100,22 @@ where
     let mut run = Run {
         alloc: rt.alloc(),
         concentrator,
-        asked,
+        which: asked.which,
+        telling: asked.telling,
         out,
         found: false,
     };
-    match asked.source {
+    let ran = match asked.source {
         Source::Word { link, packets } => {
             let step = step_of(&run.concentrator, link);
-            read_packets(rt.alloc(), link, step, packets, &mut run)?;
+            read_packets(rt.alloc(), link, step, packets, &mut run)
         }
         Source::Script(path) => {
             let mut lines = Told::new(rt, open_source(rt, path)?, screen.error && !screen.output);
-            read_script(rt.alloc(), &mut lines, &mut run)?;
+            read_script(rt.alloc(), &mut lines, &mut run)
         }
-    }
+    };
+    ran.map_err(|stop| stop.ending())?;
     match run.out.flush() {
         Err(_) => Err(Ending::Write),
         Ok(()) if run.found => Ok(Ending::Findings),

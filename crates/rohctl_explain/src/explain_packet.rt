@@ -7,7 +7,7 @@ use rohc_forms::{Form, FormKind, read_form};
 use rohc_frame::{CidKind, Forward, HeadKind, cut};
 use rohc_header::LONGEST_PAYLOAD;
 use rohc_tries::{Reference, Situation, Standing, Told, standing_of, tries_of};
-use rohctl_ground::Ending;
+use rohctl_ground::Stop;
 use std::alloc::Global;
 
 /// What is told of a context before a packet or after it.
@@ -258,7 +258,7 @@ fn got_of(answer: &Answer<'_>) -> (Got, usize) {
     }
 }
 
-/// Runs a packet, and tells what there is of it. An ending `Differs` means that what is derived beside the step isn't
+/// Runs a packet, and tells what there is of it. A stop `Differs` means that what is derived beside the step isn't
 /// what the step answered.
 pub(crate) fn explain_packet(
     alloc: Global,
@@ -266,7 +266,7 @@ pub(crate) fn explain_packet(
     link: u16,
     moment: u64,
     octets: &[u8],
-) -> Result<Explained, Ending> {
+) -> Result<Explained, Stop> {
     let mut explained = Explained {
         link,
         cid: None,
@@ -286,7 +286,7 @@ pub(crate) fn explain_packet(
     let answer = concentrator.arrive(link, moment, octets);
     if let Some(tries) = &explained.tries {
         if !lead_to(tries, &answer) {
-            return Err(Ending::Differs);
+            return Err(Stop::Differs);
         }
     }
     let (got, feedback) = got_of(&answer);
@@ -306,7 +306,7 @@ fn derive(
     explained: &mut Explained,
     known: &Known<'_>,
     octets: &[u8],
-) -> Result<(), Ending> {
+) -> Result<(), Stop> {
     let mut form = None;
     let mut terms = None;
     if let Some(forward) = &known.forward {
@@ -325,10 +325,10 @@ fn derive(
     }
     explained.settings = known.settings;
     explained.before = known.context.as_ref().map(|context| view_of(context));
-    let told = packet_fields(alloc, known.size, octets, terms).map_err(|_| Ending::Memory)?;
+    let told = packet_fields(alloc, known.size, octets, terms).map_err(|_| Stop::Memory)?;
     if let Some(form) = &form {
         if !agrees(&told, form, octets) {
-            return Err(Ending::Differs);
+            return Err(Stop::Differs);
         }
         explained.tries = tries_in(known, form, explained.moment);
     }

@@ -32,10 +32,38 @@ pub enum Line<'a> {
     Bad,
 }
 
+/// Why a script is read no further.
+#[derive(Clone, Copy, Debug, PartialEq, Eq)]
+pub enum Stop {
+    /// A packet that was given isn't one.
+    Words,
+    /// What was found is not what rohcd finds.
+    Differs,
+    /// A read failed.
+    Read,
+    /// A write failed.
+    Write,
+    /// There is no memory.
+    Memory,
+}
+
+impl Stop {
+    /// How a run of the program ends by it.
+    pub fn ending(self) -> Ending {
+        match self {
+            Stop::Words => Ending::CommandLine,
+            Stop::Differs => Ending::Differs,
+            Stop::Read => Ending::Read,
+            Stop::Write => Ending::Write,
+            Stop::Memory => Ending::Memory,
+        }
+    }
+}
+
 /// Who takes the lines of a script.
 pub trait Taker {
     /// Takes the line with this number. After an error no more lines come.
-    fn take(&mut self, number: u64, line: Line<'_>) -> Result<(), Ending>;
+    fn take(&mut self, number: u64, line: Line<'_>) -> Result<(), Stop>;
 }
 
 /// The line that is being read.
@@ -70,7 +98,7 @@ fn line_of<'a>(octets: &[u8], packet: &'a mut [u8]) -> Line<'a>
 
 impl Unfinished {
     /// Ends the line, and has it taken.
-    fn end<T: Taker>(&mut self, packet: &mut [u8], taker: &mut T) -> Result<(), Ending>
+    fn end<T: Taker>(&mut self, packet: &mut [u8], taker: &mut T) -> Result<(), Stop>
         requires { length packet.old ≡ longest_packet }
     {
         self.number = self.number.saturating_add(1);
@@ -81,19 +109,14 @@ impl Unfinished {
     }
 
     /// Takes octets of the script.
-    fn add<T: Taker>(
-        &mut self,
-        piece: &[u8],
-        packet: &mut [u8],
-        taker: &mut T,
-    ) -> Result<(), Ending>
+    fn add<T: Taker>(&mut self, piece: &[u8], packet: &mut [u8], taker: &mut T) -> Result<(), Stop>
         requires { length packet.old ≡ longest_packet }
     {
         for octet in piece {
             if *octet == b'\n' {
                 self.end(packet, taker)?;
             } else if self.octets.len() <= LONGEST_LINE && self.octets.push(*octet).is_err() {
-                return Err(Ending::Memory);
+                return Err(Stop::Memory);
             }
         }
         Ok(())
@@ -106,7 +129,7 @@ fn read_by<S: Read, T: Taker>(
     source: &mut S,
     packet: &mut [u8],
     taker: &mut T,
-) -> Result<(), Ending>
+) -> Result<(), Stop>
     requires { length packet.old ≡ longest_packet }
 {
     let mut unfinished = Unfinished {
@@ -116,7 +139,7 @@ fn read_by<S: Read, T: Taker>(
     let mut buffer = [0; PIECE];
     for _ in 0..u64::MAX {
         let Ok(count) = source.read(buffer.as_mut_slice()) else {
-            return Err(Ending::Read);
+            return Err(Stop::Read);
         };
         if count == 0 {
             break;
@@ -134,9 +157,9 @@ pub fn read_script<S: Read, T: Taker>(
     alloc: Global,
     source: &mut S,
     taker: &mut T,
-) -> Result<(), Ending> {
+) -> Result<(), Stop> {
     let Ok(mut packet) = zeros(alloc, LONGEST_PACKET) else {
-        return Err(Ending::Memory);
+        return Err(Stop::Memory);
     };
     read_by(alloc, source, packet.as_mut_slice(), taker)
 }
@@ -149,7 +172,7 @@ fn read_packets_by<T: Taker>(
     packets: &str,
     packet: &mut [u8],
     taker: &mut T,
-) -> Result<(), Ending>
+) -> Result<(), Stop>
     requires { length packet.old ≡ longest_packet }
 {
     let mut number = 0u64;
@@ -157,10 +180,10 @@ fn read_packets_by<T: Taker>(
     for digits in packets.split(",") {
         number = number.saturating_add(1);
         let Ok(text) = format!(in alloc; "arrive {link} {moment} {digits}") else {
-            return Err(Ending::Memory);
+            return Err(Stop::Memory);
         };
         match line_of(text.as_bytes(), packet) {
-            Line::Bad => return Err(Ending::CommandLine),
+            Line::Bad => return Err(Stop::Words),
             line => taker.take(number, line)?,
         }
         moment = moment.saturating_add(step);
@@ -176,9 +199,9 @@ pub fn read_packets<T: Taker>(
     step: u64,
     packets: &str,
     taker: &mut T,
-) -> Result<(), Ending> {
+) -> Result<(), Stop> {
     let Ok(mut packet) = zeros(alloc, LONGEST_PACKET) else {
-        return Err(Ending::Memory);
+        return Err(Stop::Memory);
     };
     read_packets_by(alloc, link, step, packets, packet.as_mut_slice(), taker)
 }
