@@ -1,16 +1,15 @@
 -- What a capture's octets say, by those of them that are ahead.
-use Rattle.std.proofs.Common.{◌≡◌, ◌≢◌, ℕ, ◌+◌, ◌-◌, ◌<◌, ◌≤◌, ◌%◌, min, List, [], ◌∷◌, ◌++◌, length, take, drop, Bool, true, false, Option, Some, None, IfSome, Result, Ok, Err, arith, refl, sym, ◌∙◌, ap, subst, append-nil, length-append, length-drop, length-take}
-use Rattle.std.specs.Option.{is_some}
+use Rattle.std.proofs.Common.{◌≡◌, ◌≢◌, ℕ, ◌+◌, ◌<◌, ◌≤◌, ◌%◌, min, List, [], ◌∷◌, ◌++◌, length, take, drop, Bool, true, false, Option, Some, None, IfSome, Ok, Err, arith, refl, sym, ◌∙◌, ap, subst, append-nil, length-append, length-drop, length-take}
 use Rattle.std.specs.Io.KnownBytes.{Keeps, IsAtEnd, prepend_known}
 use Rattle.rohc_capture.specs.declared.number.ByteOrder.{ByteOrder}
-use Rattle.rohc_capture.specs.declared.number.ByteOrder.TheVariants.{Big, Little}
+use Rattle.rohc_capture.specs.declared.number.ByteOrder.TheVariants.{Big}
 use Rattle.rohc_capture.specs.declared.pcap.PcapHead.{PcapHead}
 use Rattle.rohc_capture.specs.declared.pcap.RecordHead.{RecordHead}
 use Rattle.rohc_capture.specs.Number.{◌>>=◌, long_at}
 use Rattle.rohc_capture.specs.Pcap.{magic_of, file_in, record_in}
 use Rattle.rohc_capture.specs.declared.fault.FaultKind.{FaultKind}
 use Rattle.rohc_capture.specs.declared.fault.FaultKind.TheVariants.{Read, NotACapture, CutOff, TooLong}
-use Rattle.rohc_capture.specs.Records.{Entry, Next, standing, head_at, longest, record_at, placed, next_in_pcap, is_number, is_section}
+use Rattle.rohc_capture.specs.Records.{Next, standing, head_at, longest, record_at, placed, next_in_pcap, is_number, is_section}
 use Rattle.rohc_capture.specs.declared.reader.Kind.TheVariants.{Pcap}
 use Rattle.rohc_capture.specs.Window.{counted}
 use Rattle.std.proofs.lemmas.Bool.{le-leb, lt-leb}

@@ -3,7 +3,7 @@
 use Rattle.std.specs.Prelude.{◌≡◌, ℕ, ◌/◌, ◌%◌, List, [], ◌∷◌, ◌++◌, take, Bool, true, false, Option, Some, None}
 use Rattle.std.specs.Io.KnownBytes.{Appends}
 use Rattle.rohc_context.specs.declared.reply.Delivered.{Delivered}
-use Rattle.rohc_context.specs.Response.{Packet, Response}
+use Rattle.rohc_context.specs.Response.{Packet}
 use Rattle.rohc_concentrator.specs.declared.concentrator.Concentrator.{Concentrator}
 use Rattle.rohc_concentrator.specs.Report.{Report, Arrived, OnlyFront, Refused}
 use Rattle.rohc_concentrator.specs.Events.{Arrives}

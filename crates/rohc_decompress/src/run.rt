@@ -4,6 +4,7 @@ ghost use Rattle.std.specs.Prelude.{[], ◌∷◌, Some, Ok, OnOk, IfErr};
 ghost use Rattle.std.specs.Option.{option_map};
 ghost use Rattle.std.specs.Io.KnownBytes.{Appends, Keeps};
 ghost use Rattle.rohc_context.specs.Response.{response_of};
+ghost use Rattle.rohc_feedback.specs.Element.{octets_of};
 ghost use Rattle.rohc_concentrator.specs.Report.{report_of};
 ghost use Rattle.rohc_capture.specs.Written.{head_of};
 ghost use Rattle.rohc_capture.specs.Records.{standing};
@@ -14,9 +15,12 @@ ghost use Rattle.rohc_decompress.specs.Run.{how, Runs, Decompresses, Stops};
 use crate::cut::without_padding;
 use crate::fault::BulkFault;
 use crate::tally::{Tally, more};
-use rohc_capture::{Capture, CaptureFault, FaultKind, Format, Record, Rule, packet_in, write_head, write_record};
+use rohc_capture::{
+    Capture, CaptureFault, FaultKind, Format, Record, Rule, packet_in, write_head, write_record,
+};
 use rohc_concentrator::{Answer, Concentrator};
 use rohc_context::{Delivered, Reply};
+use rohc_feedback::Element;
 use rohc_frame::Elements;
 use std::io::{Read, Write};
 
@@ -84,19 +88,13 @@ pub fn decompress<R: Read, W: Write, V: Write>(
             Err(fault) => return Err(BulkFault::Capture(fault)),
         };
         more(&mut tally.frames);
-        take_frame(
-            concentrator,
-            bulk,
-            &record,
-            capture.frame(),
-            packets,
-            feedback,
-            tally,
-        )?;
-        if !capture.is_ahead() {
-            flush(packets)?;
-            flush(feedback)?;
-        }
+        let frame = capture.frame();
+        let Ok(()) = take_frame(concentrator, bulk, &record, frame, packets, feedback, tally) else {
+            return Err(BulkFault::Write);
+        };
+        let Ok(()) = settle(capture.is_ahead(), packets, feedback) else {
+            return Err(BulkFault::Write);
+        };
     }
     Err(BulkFault::Capture(CaptureFault {
         kind: FaultKind::Read,
@@ -114,6 +112,22 @@ fn flush<W: Write>(writer: &mut W) -> Result<(), BulkFault>
     }
 }
 
+/// Flushes both writers, unless the next record is ahead.
+fn settle<W: Write, V: Write>(
+    is_ahead: bool,
+    packets: &mut W,
+    feedback: &mut V,
+) -> Result<(), BulkFault>
+    ensures packets { OnOk result (Keeps (W.contents packets.old) (W.contents packets.new)) }
+    ensures feedback { OnOk result (Keeps (V.contents feedback.old) (V.contents feedback.new)) }
+{
+    if is_ahead {
+        return Ok(());
+    }
+    flush(packets)?;
+    flush(feedback)
+}
+
 /// Takes one frame. Nothing is written of a frame that carries nothing, or of which no rule speaks.
 fn take_frame<W: Write, V: Write>(
     concentrator: &mut Concentrator,
@@ -124,7 +138,7 @@ fn take_frame<W: Write, V: Write>(
     feedback: &mut V,
     tally: &mut Tally,
 ) -> Result<(), BulkFault>
-    ensures { OnOk result (Runs (how bulk.now) (entry_of record.now frame.now ∷ [])
+    ensures { OnOk result (Runs (how bulk.now) (entry_of «record».now frame.now ∷ [])
         (work concentrator.old (W.contents packets.old) (V.contents feedback.old))
         (work concentrator.new (W.contents packets.new) (V.contents feedback.new))) }
 {
@@ -171,7 +185,8 @@ pub fn take_packet<W: Write, V: Write>(
         (work concentrator.old (W.contents packets.old) (V.contents feedback.old))
         (work concentrator.new (W.contents packets.new) (V.contents feedback.new))) }
 {
-    let answer = concentrator.arrive(link, nanos / 1_000_000, packet);
+    let mut answer = Answer::blank();
+    concentrator.arrive_into(link, nanos / 1_000_000, packet, &mut answer);
     take_answer(bulk, link, nanos, &answer, packets, feedback, tally)
 }
 
@@ -213,6 +228,27 @@ fn take_answer<W: Write, V: Write>(
     }
 }
 
+/// Writes the feedback that is due, if there is some, and counts it.
+fn take_feedback<V: Write>(
+    format: Format,
+    link: u16,
+    nanos: u64,
+    due: &Option<Element>,
+    feedback: &mut V,
+    tally: &mut Tally,
+) -> Result<(), BulkFault>
+    ensures { OnOk result (Appends (V.contents feedback.old) (V.contents feedback.new)
+        (feedback_text format link nanos (octets_of due.now))) }
+{
+    match due {
+        Some(element) => {
+            more(&mut tally.feedback);
+            put_feedback(format, link, nanos, element.as_slice(), feedback)
+        }
+        None => Ok(()),
+    }
+}
+
 /// Writes a context's packet and its feedback.
 fn take_reply<W: Write, V: Write>(
     bulk: &Bulk<'_>,
@@ -229,10 +265,7 @@ fn take_reply<W: Write, V: Write>(
         (feedback_text bulk.now.format link nanos (response_of reply.now).feedback)) }
 {
     tally.add_outcome(reply.outcome);
-    if let Some(element) = &reply.feedback {
-        put_feedback(bulk.format, link, nanos, element.as_slice(), feedback)?;
-        more(&mut tally.feedback);
-    }
+    take_feedback(bulk.format, link, nanos, &reply.feedback, feedback, tally)?;
     match &reply.packet {
         Some(packet) => put_packet(bulk.format, bulk.padded, nanos, packet, packets),
         None => Ok(()),
@@ -280,7 +313,8 @@ fn put_feedback<V: Write>(
     ensures { OnOk result (Appends (V.contents feedback.old) (V.contents feedback.new)
         (feedback_text format link nanos (Some element.now))) }
 {
-    let [high, low] = link.to_be_bytes();
+    let high = (link / 256) as u8;
+    let low = (link % 256) as u8;
     let head = [2, 0, 0, 0, 0, 0, 2, 0, 0, 0, high, low, 0x22, 0xf1];
     match write_record(feedback, format, nanos, &head, element) {
         Ok(()) => Ok(()),

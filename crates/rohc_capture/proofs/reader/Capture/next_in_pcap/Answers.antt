@@ -1,5 +1,4 @@
-use Rattle.std.proofs.Common.{◌≡◌, ◌+◌, ◌≤◌, ◌<◌, length, Some, None, arith, ap, sym, ◌∙◌}
-use Rattle.std.proofs.KnownBytes.{Keeps-trans}
+use Rattle.std.proofs.Common.{◌≡◌, ◌<◌, length, Some, None, arith, ap, sym, ◌∙◌}
 use Rattle.rohc_capture.specs.Pcap.{record_in}
 use Rattle.rohc_capture.specs.Window.{ahead_of}
 use Rattle.rohc_capture.proofs.ReaderLemmas.{next-cut_head, next-no_record, next-too_long, next-cut_off, next-record}

@@ -2,7 +2,7 @@ use Rattle.std.proofs.Common.{◌≡◌, ◌+◌, ◌-◌, length, arith, sym, s
 use Rattle.std.specs.List.{slice_range}
 use Rattle.std.specs.Io.KnownBytes.{Keeps, prepend_known}
 use Rattle.std.proofs.lemmas.List.{with_items_is}
-use Rattle.rohc_capture.proofs.WindowLemmas.{text-read, text-moved}
+use Rattle.rohc_capture.proofs.WindowLemmas.{text-read}
 use Rattle.rohc_capture.proofs.window.Window.more.Goals as goal
 
 pub returns-in-Ok-clause-text : goal.returns-in-Ok-clause-text

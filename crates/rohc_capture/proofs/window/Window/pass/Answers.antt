@@ -1,4 +1,4 @@
-use Rattle.std.proofs.Common.{◌+◌, ◌-◌, arith, ap, sym, ◌∙◌}
+use Rattle.std.proofs.Common.{◌+◌, arith, ap, sym, ◌∙◌}
 use Rattle.std.specs.List.{slice_range}
 use Rattle.rohc_capture.proofs.WindowLemmas.{range-drop, range-drop-all}
 use Rattle.rohc_capture.proofs.window.Window.pass.Goals as goal
