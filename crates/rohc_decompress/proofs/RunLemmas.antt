@@ -1,5 +1,5 @@
 -- Runs one after another.
-use Rattle.std.proofs.Common.{◌≡◌, ◌≢◌, ℕ, List, [], ◌∷◌, ◌++◌, map, Bool, Option, Some, None, IfSome, Result, Ok, Err, refl, sym, ◌∙◌, ap, subst, append_assoc, append-nil}
+use Rattle.std.proofs.Common.{◌≡◌, ◌≢◌, ℕ, List, [], ◌∷◌, ◌++◌, map, Option, Some, None, IfSome, Result, Ok, Err, refl, sym, ◌∙◌, ap, subst, append_assoc, append-nil}
 use Rattle.std.specs.List.{flat_map}
 use Rattle.std.specs.Option.{option_map}
 use Rattle.std.specs.Io.KnownBytes.{Appends, Keeps}
@@ -8,7 +8,6 @@ use Rattle.rohc_concentrator.specs.declared.concentrator.Concentrator.{Concentra
 use Rattle.rohc_concentrator.specs.Report.{Report}
 use Rattle.rohc_concentrator.specs.Events.{Event, RunsEvents}
 use Rattle.rohc_capture.specs.declared.choice.Rule.{Rule}
-use Rattle.rohc_capture.specs.declared.writer.Format.{Format}
 use Rattle.rohc_concentrator.specs.Isolation.{IsIsolatedRun}
 use Rattle.rohc_concentrator.proofs.EventLemmas.{isolated_events}
 use Rattle.rohc_capture.specs.declared.fault.FrameFault.{FrameFault}
@@ -19,8 +18,8 @@ use Rattle.rohc_capture.specs.declared.reader.Record.{Record}
 use Rattle.rohc_capture.specs.Choice.{packet_in}
 use Rattle.rohc_capture.specs.Records.{Entry, Standing, standing, IsNext, Leads, Holds}
 use Rattle.rohc_capture.specs.Standing.{entry_of, ReadsOn}
-use Rattle.rohc_decompress.specs.Written.{feedback_of, feedback_text, TakesPacket, Work, work}
-use Rattle.rohc_decompress.specs.Run.{arrival_of, arrival_in, arrivals_in, Turn, event_of, AreTexts, turn_feedback, How, Runs, event_run, Decompresses, Breaks}
+use Rattle.rohc_decompress.specs.Written.{packet_of, packet_text, feedback_of, feedback_text, TakesPacket, Work, work}
+use Rattle.rohc_decompress.specs.Run.{arrival_of, arrival_in, arrivals_in, Turn, event_of, turn_packet, turn_feedback, How, Runs, event_run, Decompresses, Breaks}
 
 some_is : (x y : List ℕ) → ◌≡◌ {A = Option (List ℕ)} (Some x) (Some y) → x ≡ y
 some_is x y e = cc
@@ -38,16 +37,12 @@ arrivals-append : (rules : List Rule) (xs ys : List Entry) → arrivals_in rules
 arrivals-append rules [] ys = refl
 arrivals-append rules (x ∷ xs) ys = ap (λ zs. arrival_in rules x ++ zs) (arrivals-append rules xs ys) ∙ sym (append_assoc (arrival_in rules x) (arrivals_in rules xs) (arrivals_in rules ys))
 
-texts-append : (format : Format) (padded : Bool) (xs ys : List Turn) → AreTexts format padded xs → AreTexts format padded ys → AreTexts format padded (xs ++ ys)
-texts-append format padded [] ys p q = q
-texts-append format padded (x ∷ xs) ys p q = (p.0, texts-append format padded xs ys p.1 q)
-
 run-append : (a b c : Concentrator) (xs ys : List (Event × Option Report)) → RunsEvents a xs b → RunsEvents b ys c → RunsEvents a (xs ++ ys) c
 run-append a b c [] ys p q = subst (λ k. RunsEvents k ys c) p q
 run-append a b c (x ∷ xs) ys p q = (p.0, p.1, run-append p.0 b c xs ys p.2 q)
 
 pub Runs-none : (how : How) (w : Work) → Runs how [] w w
-Runs-none how w = record { turns = []; arrivals = refl; run = refl; texts = tt; packets = Appends-nil w.packets; feedback = Appends-nil w.feedback }
+Runs-none how w = record { turns = []; arrivals = refl; run = refl; packets = Appends-nil w.packets; feedback = Appends-nil w.feedback }
 
 pub Runs-more : (how : How) (xs ys : List Entry) (a b c : Work) → Runs how xs a b → Runs how ys b c → Runs how (xs ++ ys) a c
 Runs-more how xs ys a b c p q = record {
@@ -55,8 +50,7 @@ Runs-more how xs ys a b c p q = record {
   arrivals = map-append (λ (t : Turn). t.arrival) p.turns q.turns ∙ ap (λ l. l ++ map (λ (t : Turn). t.arrival) q.turns) p.arrivals
       ∙ ap (λ l. arrivals_in how.rules xs ++ l) q.arrivals ∙ sym (arrivals-append how.rules xs ys);
   run = subst (λ l. RunsEvents a.concentrator l c.concentrator) (sym (map-append event_of p.turns q.turns)) (run-append _ _ _ _ _ p.run q.run);
-  texts = texts-append how.format how.padded p.turns q.turns p.texts q.texts;
-  packets = subst (Appends a.packets c.packets) (sym (flat-append (λ (t : Turn). t.text) p.turns q.turns)) (Appends-trans a.packets b.packets c.packets _ _ p.packets q.packets);
+  packets = subst (Appends a.packets c.packets) (sym (flat-append (turn_packet how.format how.padded) p.turns q.turns)) (Appends-trans a.packets b.packets c.packets _ _ p.packets q.packets);
   feedback = subst (Appends a.feedback c.feedback) (sym (flat-append (turn_feedback how.format) p.turns q.turns)) (Appends-trans a.feedback b.feedback c.feedback _ _ p.feedback q.feedback);
 }
 
@@ -67,7 +61,6 @@ Runs-kept how es a b packets feedback r p q = record {
   turns = r.turns;
   arrivals = r.arrivals;
   run = r.run;
-  texts = r.texts;
   packets = Appends-kept a.packets b.packets packets _ r.packets p;
   feedback = Appends-kept a.feedback b.feedback feedback _ r.feedback q;
 }
@@ -77,11 +70,10 @@ Runs-kept how es a b packets feedback r p q = record {
 pub one-turn : (how : How) (e : Entry) (link : ℕ) (packet : List ℕ) (old new : Work) → packet_in how.rules e.link_type e.original e.frame ≡ Ok (Some (link, packet)) →
     TakesPacket how.format how.padded link e.nanos packet old new → Runs how (e ∷ []) old new
 one-turn how e link packet old new is t = record {
-  turns = record { arrival = record { link = link; nanos = e.nanos; packet = packet }; report = t.report; text = t.packets.0 } ∷ [];
+  turns = record { arrival = record { link = link; nanos = e.nanos; packet = packet }; report = t.report } ∷ [];
   arrivals = sym (ap (λ r. arrival_of e.nanos r ++ []) is);
   run = (new.concentrator, t.arrives, refl);
-  texts = (t.packets.1, tt);
-  packets = subst (Appends old.packets new.packets) (sym (append-nil t.packets.0)) t.packets.2;
+  packets = subst (Appends old.packets new.packets) (sym (append-nil (packet_text how.format how.padded e.nanos (packet_of t.report)))) t.packets;
   feedback = subst (Appends old.feedback new.feedback) (sym (append-nil (feedback_text how.format link e.nanos (feedback_of t.report)))) t.feedback;
 }
 
@@ -90,7 +82,6 @@ none_here how e w is = record {
   turns = [];
   arrivals = sym (ap (λ l. l ++ []) is);
   run = refl;
-  texts = tt;
   packets = Appends-nil w.packets;
   feedback = Appends-nil w.feedback;
 }

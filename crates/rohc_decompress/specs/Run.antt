@@ -15,7 +15,7 @@ use Rattle.rohc_capture.specs.Records.{Entry, Standing, Leads, Holds}
 use Rattle.rohc_decompress.specs.declared.run.Bulk.{Bulk}
 use Rattle.rohc_decompress.specs.declared.fault.BulkFault.{BulkFault}
 use Rattle.rohc_decompress.specs.declared.fault.BulkFault.TheVariants.{Capture, Write}
-use Rattle.rohc_decompress.specs.Written.{IsPacketText, feedback_text, packet_of, feedback_of, Work}
+use Rattle.rohc_decompress.specs.Written.{packet_text, feedback_text, packet_of, feedback_of, Work}
 
 -- a packet that arrives on a link, with the nanosecond of its frame
 pub record Arrival : Type 0 where
@@ -37,21 +37,18 @@ abbrev pub arrivals_in : List Rule → List Entry → List Arrival
 arrivals_in rules [] = []
 arrivals_in rules (e ∷ es) = arrival_in rules e ++ arrivals_in rules es
 
--- an arrival, its answer, and the octets that are written of the packet that the answer delivers
+-- an arrival and its answer
 pub record Turn : Type 0 where
   pub arrival : Arrival
   pub report : Report
-  pub text : List ℕ
 
 -- the arrival at its moment in milliseconds, with its answer
 abbrev pub event_of : Turn → Event × Option Report
 event_of t = (Arrive t.arrival.link (t.arrival.nanos / 1000000) t.arrival.packet, Some t.report)
 
--- each text is that of the answer's packet, with the time of its frame
-abbrev pub AreTexts : Format → Bool → List Turn → Type 0
-AreTexts format padded [] = Unit {0}
-AreTexts format padded (t ∷ ts) =
-    IsPacketText format padded t.arrival.nanos (packet_of t.report) t.text × AreTexts format padded ts
+-- the octets that are written of the packet that the answer delivers
+abbrev pub turn_packet : Format → Bool → Turn → List ℕ
+turn_packet format padded t = packet_text format padded t.arrival.nanos (packet_of t.report)
 
 -- the octets that are written of the feedback of the answer
 abbrev pub turn_feedback : Format → Turn → List ℕ
@@ -72,8 +69,7 @@ pub record Runs (how : How) (es : List Entry) (old new : Work) : Type 0 where
   pub turns : List Turn
   pub arrivals : map (λ (t : Turn). t.arrival) turns ≡ arrivals_in how.rules es
   pub run : RunsEvents old.concentrator (map event_of turns) new.concentrator
-  pub texts : AreTexts how.format how.padded turns
-  pub packets : Appends old.packets new.packets (flat_map (λ (t : Turn). t.text) turns)
+  pub packets : Appends old.packets new.packets (flat_map (turn_packet how.format how.padded) turns)
   pub feedback : Appends old.feedback new.feedback (flat_map (turn_feedback how.format) turns)
 
 -- the run from outside, for the concentrator

@@ -1,6 +1,6 @@
--- What a run over a capture writes. Words: IsShown; delivered_packet; packet_text, feedback_text; packet_of, feedback_of;
+-- What a run over a capture writes. Words: delivered_packet; packet_text, feedback_text; packet_of, feedback_of;
 -- TakesPacket.
-use Rattle.std.specs.Prelude.{◌≡◌, ℕ, ◌/◌, ◌%◌, List, [], ◌∷◌, ◌++◌, take, Bool, true, false, Option, Some, None}
+use Rattle.std.specs.Prelude.{ℕ, ◌/◌, ◌%◌, List, [], ◌∷◌, ◌++◌, Bool, Option, Some, None}
 use Rattle.std.specs.Io.KnownBytes.{Appends}
 use Rattle.rohc_context.specs.declared.reply.Delivered.{Delivered}
 use Rattle.rohc_context.specs.Response.{Packet}
@@ -9,25 +9,15 @@ use Rattle.rohc_concentrator.specs.Report.{Report, Arrived, OnlyFront, Refused}
 use Rattle.rohc_concentrator.specs.Events.{Arrives}
 use Rattle.rohc_capture.specs.declared.writer.Format.{Format}
 use Rattle.rohc_capture.specs.Written.{frame_record}
-
--- the part of a payload that is written: a front if padding is cut, and else all of it
-pub record IsShown (padded : Bool) (payload part : List ℕ) : Type 0 where
-  pub is_front : padded ≡ true → (count : ℕ) × (part ≡ take count payload)
-  pub is_whole : padded ≡ false → part ≡ payload
+use Rattle.rohc_decompress.specs.Cut.{shown}
 
 abbrev pub delivered_packet : Delivered → Packet
 delivered_packet d = record { head = d.head.items; payload = d.payload.now }
 
 -- the octets that are written of a packet, if there is one: its record
-abbrev pub IsPacketText : Format → Bool → ℕ → Option Packet → List ℕ → Type 0
-IsPacketText format padded nanos None text = text ≡ []
-IsPacketText format padded nanos (Some p) text =
-    (part : List ℕ) × IsShown padded p.payload part × (text ≡ frame_record format nanos (p.head ++ part))
-
--- those octets are appended
-abbrev pub Writes : Format → Bool → ℕ → Option Packet → Option (List ℕ) → Option (List ℕ) → Type 0
-Writes format padded nanos packet before after =
-    (text : List ℕ) × IsPacketText format padded nanos packet text × Appends before after text
+abbrev pub packet_text : Format → Bool → ℕ → Option Packet → List ℕ
+packet_text format padded nanos None = []
+packet_text format padded nanos (Some p) = frame_record format nanos (p.head ++ shown padded p.head p.payload)
 
 -- an Ethernet header with the EtherType of ROHC, to 02:00:00:00:00:00, from 02:00:00:00 with the link's number behind
 abbrev pub feedback_header : ℕ → List ℕ
@@ -64,5 +54,5 @@ work concentrator packets feedback =
 pub record TakesPacket (format : Format) (padded : Bool) (link nanos : ℕ) (packet : List ℕ) (old new : Work) : Type 0 where
   pub report : Report
   pub arrives : Arrives old.concentrator link (nanos / 1000000) packet report new.concentrator
-  pub packets : Writes format padded nanos (packet_of report) old.packets new.packets
+  pub packets : Appends old.packets new.packets (packet_text format padded nanos (packet_of report))
   pub feedback : Appends old.feedback new.feedback (feedback_text format link nanos (feedback_of report))

@@ -1,6 +1,6 @@
 //! A run over a capture.
 
-ghost use Rattle.std.specs.Prelude.{[], ◌∷◌, Some, Ok, OnOk, IfErr};
+ghost use Rattle.std.specs.Prelude.{◌≡◌, [], ◌∷◌, Some, Ok, OnOk, IfErr};
 ghost use Rattle.std.specs.Option.{option_map};
 ghost use Rattle.std.specs.Io.KnownBytes.{Appends, Keeps};
 ghost use Rattle.rohc_context.specs.Response.{response_of};
@@ -9,7 +9,8 @@ ghost use Rattle.rohc_concentrator.specs.Report.{report_of};
 ghost use Rattle.rohc_capture.specs.Written.{head_of};
 ghost use Rattle.rohc_capture.specs.Records.{standing};
 ghost use Rattle.rohc_capture.specs.Standing.{entry_of, rest_of, place_of};
-ghost use Rattle.rohc_decompress.specs.Written.{Writes, IsShown, packet_of, feedback_of, feedback_text, delivered_packet, work, TakesPacket};
+ghost use Rattle.rohc_decompress.specs.Cut.{shown};
+ghost use Rattle.rohc_decompress.specs.Written.{packet_text, packet_of, feedback_of, feedback_text, delivered_packet, work, TakesPacket};
 ghost use Rattle.rohc_decompress.specs.Run.{how, Runs, Decompresses, Stops};
 
 use crate::cut::without_padding;
@@ -207,8 +208,8 @@ fn take_answer<W: Write, V: Write>(
     feedback: &mut V,
     tally: &mut Tally,
 ) -> Result<(), BulkFault>
-    ensures packets { OnOk result (Writes bulk.now.format bulk.now.padded nanos (packet_of (report_of answer.now))
-        (W.contents packets.old) (W.contents packets.new)) }
+    ensures packets { OnOk result (Appends (W.contents packets.old) (W.contents packets.new)
+        (packet_text bulk.now.format bulk.now.padded nanos (packet_of (report_of answer.now)))) }
     ensures feedback { OnOk result (Appends (V.contents feedback.old) (V.contents feedback.new)
         (feedback_text bulk.now.format link nanos (feedback_of (report_of answer.now)))) }
 {
@@ -259,8 +260,8 @@ fn take_reply<W: Write, V: Write>(
     feedback: &mut V,
     tally: &mut Tally,
 ) -> Result<(), BulkFault>
-    ensures packets { OnOk result (Writes bulk.now.format bulk.now.padded nanos (response_of reply.now).packet
-        (W.contents packets.old) (W.contents packets.new)) }
+    ensures packets { OnOk result (Appends (W.contents packets.old) (W.contents packets.new)
+        (packet_text bulk.now.format bulk.now.padded nanos (response_of reply.now).packet)) }
     ensures feedback { OnOk result (Appends (V.contents feedback.old) (V.contents feedback.new)
         (feedback_text bulk.now.format link nanos (response_of reply.now).feedback)) }
 {
@@ -274,7 +275,7 @@ fn take_reply<W: Write, V: Write>(
 
 /// The part of a payload that is written: all of it, unless padding is cut.
 fn shown<'a>(padded: bool, head: &[u8], payload: &'a [u8]) -> &'a [u8]
-    ensures { IsShown padded payload.entry.now result.now }
+    ensures { result.now ≡ shown padded head.now payload.entry.now }
 {
     if padded {
         without_padding(head, payload)
@@ -291,8 +292,8 @@ fn put_packet<W: Write>(
     packet: &Delivered<'_>,
     packets: &mut W,
 ) -> Result<(), BulkFault>
-    ensures { OnOk result (Writes format padded nanos (Some (delivered_packet packet.now))
-        (W.contents packets.old) (W.contents packets.new)) }
+    ensures { OnOk result (Appends (W.contents packets.old) (W.contents packets.new)
+        (packet_text format padded nanos (Some (delivered_packet packet.now)))) }
 {
     let head = packet.head.as_slice();
     let payload = shown(padded, head, packet.payload);
