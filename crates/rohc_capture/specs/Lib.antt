@@ -8,3 +8,6 @@ pub mod Number
 pub mod Pcap
 pub mod Block
 pub mod Written
+pub mod Window
+pub mod Records
+pub mod Standing

@@ -1,5 +1,11 @@
 //! Reading a capture, record by record.
 
+ghost use Rattle.std.specs.Prelude.{◌≡◌, ◌≢◌, ◌+◌, ◌≤◌, ℕ, List, [], length, drop, true, false, Some, None, Ok, Err, IfOk, IfErr, IfSome, OnOk, OnErr};
+ghost use Rattle.rohc_capture.specs.declared.reader.Kind.TheVariants as kinds;
+ghost use Rattle.rohc_capture.specs.Window.{ahead_of, text_in, StaysKnown};
+ghost use Rattle.rohc_capture.specs.Records.{standing, is_section};
+ghost use Rattle.rohc_capture.specs.Standing.{frame_of, rest_of, place_of, at_place, is_whole, IsBegun, ReadsOn, BeginsAs};
+
 use crate::block::{
     ENHANCED, INTERFACE, Interface, OBSOLETE, PacketHead, SECTION, SIMPLE, enhanced_in,
     interface_in, obsolete_in, order_of, simple_in,
@@ -98,6 +104,16 @@ pub struct Capture<R> {
     nanos: u64,
 }
 
+/// Whether a section's block begins here.
+fn is_section(octets: &[u8]) -> bool
+    ensures { result ≡ is_section octets.now }
+{
+    match long(ByteOrder::Big, octets) {
+        Some((number, _)) => number == SECTION,
+        None => false,
+    }
+}
+
 /// The last four octets of a block as a number.
 fn second_length(order: ByteOrder, block: &[u8]) -> Option<u32> {
     let (_, last) = block.split_last_chunk::<4>()?;
@@ -121,6 +137,9 @@ impl<R: Read> Capture<R> {
     pub fn new(alloc: Global, reader: R) -> Result<Capture<R>, CaptureFault>
     where
         R: Drop,
+        ensures kind { IfOk result (λ c. c.kind ≡ kinds.Unknown) }
+        ensures place { IfOk result (λ c. place_of c ≡ 0) }
+        ensures rest { IfOk result (λ c. rest_of R.remaining c ≡ R.remaining reader) }
     {
         let Ok(window) = Window::new(alloc, reader) else {
             return Err(CaptureFault {
@@ -139,7 +158,11 @@ impl<R: Read> Capture<R> {
     }
 
     /// Reads the next record; `None` at the end. After a fault nothing is known of what follows.
-    pub fn next(&mut self) -> Result<Option<Record>, CaptureFault> {
+    pub fn next(&mut self) -> Result<Option<Record>, CaptureFault>
+        ensures { IfSome (rest_of R.remaining self.old) (λ text.
+            ReadsOn (standing self.old.kind (place_of self.old) text) result
+            (frame_of self.new) self.new.kind (place_of self.new) (rest_of R.remaining self.new)) }
+    {
         let _ = self.window.pass(self.span.all);
         self.span = NOTHING;
         self.place = self.window.place();
@@ -153,18 +176,22 @@ impl<R: Read> Capture<R> {
     }
 
     /// The captured octets of the record that `next` read last.
-    pub fn frame(&self) -> &[u8] {
+    pub fn frame(&self) -> &[u8]
+        ensures { result.now ≡ frame_of self.now }
+    {
         match self.window.ahead().get(self.span.skip..) {
             Some(rest) => match rest.get(..self.span.captured) {
                 Some(frame) => frame,
-                None => &[],
+                None => rest,
             },
             None => &[],
         }
     }
 
     /// Whether the next record, or the next block, was read to its end already, so that `next` doesn't wait for it.
-    pub fn is_ahead(&self) -> bool {
+    pub fn is_ahead(&self) -> bool
+        ensures { result ≡ is_whole self.now.kind (drop self.now.span.all (ahead_of self.now.window)) }
+    {
         let Some(rest) = self.window.ahead().get(self.span.all..) else {
             return false;
         };
@@ -185,13 +212,28 @@ impl<R: Read> Capture<R> {
     }
 
     /// Reads the next record by the capture's kind, which the first octets say.
-    fn next_of_kind(&mut self) -> Result<Option<Record>, FaultKind> {
-        if let Kind::Unknown = self.kind {
-            if !self.window.need(4)? {
-                return Err(FaultKind::NotACapture);
-            }
-            self.begin()?;
+    fn next_of_kind(&mut self) -> Result<Option<Record>, FaultKind>
+        requires { self.old.place ≡ self.old.window.place }
+        ensures { IfSome (text_in R.remaining self.old.window) (λ text.
+            ReadsOn (standing self.old.kind self.old.place text) (at_place self.new.place result)
+            (frame_of self.new) self.new.kind (place_of self.new) (rest_of R.remaining self.new)) }
+    {
+        match self.kind {
+            Kind::Unknown => match self.begin() {
+                Ok(()) => self.next_begun(),
+                Err(kind) => Err(kind),
+            },
+            _ => self.next_begun(),
         }
+    }
+
+    /// Reads the next record of a capture whose kind is known.
+    fn next_begun(&mut self) -> Result<Option<Record>, FaultKind>
+        requires { self.old.place ≡ self.old.window.place }
+        ensures next { IsBegun self.old.kind → IfSome (text_in R.remaining self.old.window) (λ text.
+            ReadsOn (standing self.old.kind self.old.place text) (at_place self.new.place result)
+            (frame_of self.new) self.new.kind (place_of self.new) (rest_of R.remaining self.new)) }
+    {
         match self.kind {
             Kind::Pcap(head) => self.next_in_pcap(head),
             Kind::Pcapng(order) => self.next_in_blocks(order),
@@ -200,12 +242,21 @@ impl<R: Read> Capture<R> {
     }
 
     /// Finds out the kind of the capture.
-    fn begin(&mut self) -> Result<(), FaultKind> {
-        if let Some((SECTION, _)) = long(ByteOrder::Big, self.window.ahead()) {
+    fn begin(&mut self) -> Result<(), FaultKind>
+        requires { self.old.place ≡ self.old.window.place }
+        ensures begins { IfSome (text_in R.remaining self.old.window) (λ text.
+            BeginsAs self.old.place text result self.new.kind self.new.place (text_in R.remaining self.new.window)) }
+        ensures place { OnOk result (self.new.place ≡ self.new.window.place) }
+        ensures same_place { OnErr result (self.new.place ≡ self.old.place) }
+    {
+        let has_head = self.window.need(FILE_HEAD)?;
+        if is_section(self.window.ahead()) {
             self.kind = Kind::Pcapng(ByteOrder::Big);
             return Ok(());
         }
-        let _ = self.window.need(FILE_HEAD)?;
+        if !has_head {
+            return Err(FaultKind::NotACapture);
+        }
         let Some(head) = file_in(self.window.ahead()) else {
             return Err(FaultKind::NotACapture);
         };
@@ -215,21 +266,20 @@ impl<R: Read> Capture<R> {
         Ok(())
     }
 
-    /// Whether so many octets are ahead; `false` if the capture ends before the first of them.
-    fn has(&mut self, count: usize) -> Result<bool, FaultKind> {
-        if self.window.need(count)? {
-            Ok(true)
-        } else if self.window.ahead().is_empty() {
-            Ok(false)
-        } else {
-            Err(FaultKind::CutOff)
-        }
-    }
-
     /// Reads the next record of a capture of pcap.
-    fn next_in_pcap(&mut self, head: PcapHead) -> Result<Option<Record>, FaultKind> {
-        if !self.has(RECORD_HEAD)? {
-            return Ok(None);
+    fn next_in_pcap(&mut self, head: PcapHead) -> Result<Option<Record>, FaultKind>
+        requires { self.old.place ≡ self.old.window.place }
+        ensures next { IfSome (text_in R.remaining self.old.window) (λ text.
+            ReadsOn (standing (kinds.Pcap head) self.old.place text) (at_place self.old.place result)
+            (frame_of self.new) (kinds.Pcap head) (place_of self.new) (rest_of R.remaining self.new)) }
+        ensures kind { self.new.kind ≡ self.old.kind }
+        ensures place { self.new.place ≡ self.old.place }
+    {
+        if !self.window.need(RECORD_HEAD)? {
+            return match self.window.ahead() {
+                [] => Ok(None),
+                _ => Err(FaultKind::CutOff),
+            };
         }
         let Some(record) = record_in(head, self.window.ahead()) else {
             return Err(FaultKind::CutOff);
@@ -257,7 +307,9 @@ impl<R: Read> Capture<R> {
     }
 
     /// Reads blocks up to the next with a packet.
-    fn next_in_blocks(&mut self, order: ByteOrder) -> Result<Option<Record>, FaultKind> {
+    fn next_in_blocks(&mut self, order: ByteOrder) -> Result<Option<Record>, FaultKind>
+        ensures known { StaysKnown (R.remaining self.old.window.reader) (R.remaining self.new.window.reader) }
+    {
         let mut order = order;
         for _ in 0..u64::MAX {
             let block = self.next_block(order)?;
@@ -277,9 +329,14 @@ impl<R: Read> Capture<R> {
     }
 
     /// Reads the next block.
-    fn next_block(&mut self, order: ByteOrder) -> Result<Block, FaultKind> {
-        if !self.has(BLOCK)? {
-            return Ok(Block::End);
+    fn next_block(&mut self, order: ByteOrder) -> Result<Block, FaultKind>
+        ensures known { StaysKnown (R.remaining self.old.window.reader) (R.remaining self.new.window.reader) }
+    {
+        if !self.window.need(BLOCK)? {
+            return match self.window.ahead() {
+                [] => Ok(Block::End),
+                _ => Err(FaultKind::CutOff),
+            };
         }
         let Some((kind, rest)) = long(order, self.window.ahead()) else {
             return Err(FaultKind::CutOff);
@@ -298,7 +355,9 @@ impl<R: Read> Capture<R> {
     }
 
     /// Reads a whole block of this length into the window.
-    fn whole_block(&mut self, order: ByteOrder, length: u32) -> Result<(), FaultKind> {
+    fn whole_block(&mut self, order: ByteOrder, length: u32) -> Result<(), FaultKind>
+        ensures known { StaysKnown (R.remaining self.old.window.reader) (R.remaining self.new.window.reader) }
+    {
         let all = length as usize;
         if length % 4 != 0 || all < BLOCK {
             return Err(FaultKind::BlockLength);
@@ -332,7 +391,9 @@ impl<R: Read> Capture<R> {
     }
 
     /// Reads the block that begins a section, by its own octet order.
-    fn next_section(&mut self) -> Result<Block, FaultKind> {
+    fn next_section(&mut self) -> Result<Block, FaultKind>
+        ensures known { StaysKnown (R.remaining self.old.window.reader) (R.remaining self.new.window.reader) }
+    {
         let Some((length_octets, magic)) = self
             .window
             .ahead()
@@ -358,7 +419,9 @@ impl<R: Read> Capture<R> {
     }
 
     /// Reads the block that describes an interface.
-    fn next_interface(&mut self, order: ByteOrder, length: u32) -> Result<Block, FaultKind> {
+    fn next_interface(&mut self, order: ByteOrder, length: u32) -> Result<Block, FaultKind>
+        ensures known { StaysKnown (R.remaining self.old.window.reader) (R.remaining self.new.window.reader) }
+    {
         self.whole_block(order, length)?;
         let Some(interface) = interface_in(order, self.body()) else {
             return Err(FaultKind::BlockLength);
@@ -373,7 +436,9 @@ impl<R: Read> Capture<R> {
     }
 
     /// Passes a block of any length whose body says nothing of packets.
-    fn skip_block(&mut self, order: ByteOrder, length: u32) -> Result<Block, FaultKind> {
+    fn skip_block(&mut self, order: ByteOrder, length: u32) -> Result<Block, FaultKind>
+        ensures known { StaysKnown (R.remaining self.old.window.reader) (R.remaining self.new.window.reader) }
+    {
         if length % 4 != 0 || length < 12 {
             return Err(FaultKind::BlockLength);
         }
@@ -418,12 +483,9 @@ impl<R: Read> Capture<R> {
     }
 
     /// Reads the block of a packet.
-    fn next_packet(
-        &mut self,
-        order: ByteOrder,
-        kind: u32,
-        length: u32,
-    ) -> Result<Block, FaultKind> {
+    fn next_packet(&mut self, order: ByteOrder, kind: u32, length: u32) -> Result<Block, FaultKind>
+        ensures known { StaysKnown (R.remaining self.old.window.reader) (R.remaining self.new.window.reader) }
+    {
         self.whole_block(order, length)?;
         let head = self.packet_head(order, kind)?;
         let interface = self.interface(head.interface)?;

@@ -1,71 +1,107 @@
 //! A window onto a reader: octets that were read and not yet passed.
 
-ghost use Rattle.std.specs.Prelude.{◌≡◌, ◌≤◌, ◌<◌, length, drop, vec_len};
+ghost use Rattle.std.specs.Prelude.{◌≡◌, ◌+◌, ◌-◌, ◌≤◌, length, take, vec_len, IfOk, OnErr};
+ghost use Rattle.std.specs.List.{slice_range};
+ghost use Rattle.std.specs.Io.KnownBytes.{Keeps, Consumes, IsAtEnd};
 
 use crate::fault::FaultKind;
 use std::alloc::{AllocError, Global};
+use std::io;
 use std::io::{ErrorKind, Read};
 
 /// How many octets are asked for at once.
-const PIECE: usize = 65_536;
+const PIECE: usize = 131_072;
 
 /// The longest record or block, in octets.
 pub(crate) const LONGEST: usize = 1_048_576;
 
-/// Octets that were read and not yet passed, and what they come from.
+/// Octets that were read and not yet passed, from `start` to `end`, and what they come from.
 #[derive(Drop)]
 pub(crate) struct Window<R> {
     reader: R,
-    piece: Vec<u8>,
-    ahead: Vec<u8>,
+    octets: Vec<u8>,
     start: usize,
+    end: usize,
     place: u64,
-    ghost within: { start ≤ vec_len ahead },
-    ghost room: { 0 < vec_len piece },
+    ghost ordered: { start ≤ end },
+    ghost within: { end ≤ vec_len octets },
+    ghost room: { vec_len octets ≡ 1048576 + 131072 },
 }
 
-/// Drops octets from the front.
-fn drop_front(octets: &mut Vec<u8>, count: usize)
-    requires { count ≤ length octets.old.items }
-    ensures { octets.new.items ≡ drop count octets.old.items }
+/// Moves the octets from `start` to `end` to the front, and reads a piece behind them. Returns how many octets it has.
+fn refill<R: Read>(reader: &mut R, octets: &mut [u8], start: usize, end: usize) -> io::Result<usize>
+    requires ordered { start ≤ end }
+    requires within { end ≤ length octets.old }
+    requires room { end - start + PIECE ≤ length octets.old }
+    ensures few { IfOk result (λ count. count ≤ PIECE) }
+    ensures moved { take (end - start) octets.new ≡ slice_range octets.old start end }
+    ensures read { IfOk result (λ count. Consumes (R.remaining reader.old) (R.remaining reader.new)
+        (slice_range octets.new (end - start) (end - start + count))) }
+    ensures at_end { IfOk result (λ count. count ≡ 0 → IsAtEnd (R.remaining reader.new)) }
+    ensures fault { OnErr result (Keeps (R.remaining reader.old) (R.remaining reader.new)) }
 {
-    let rest = octets.len() - count;
-    octets.as_mut_slice().rotate_left(count);
-    octets.truncate(rest);
+    octets.copy_within(start..end, 0);
+    let held = end - start;
+    reader.read(&mut octets[held..held + PIECE])
 }
 
 impl<R: Read> Window<R> {
-    /// A window onto a reader, before its first octet. It has room for the longest block.
+    ghost use Rattle.std.specs.Prelude.{◌≡◌, ℕ, ◌+◌, ◌<◌, ◌≤◌, min, length, take, drop, [], true, false, Some, Ok, Err, IfOk, IfErr};
+    ghost use Rattle.std.specs.Io.KnownBytes.{Keeps, IsAtEnd};
+    ghost use Rattle.rohc_capture.specs.Window.{ahead_of, text_in, StaysKnown, counted};
+    ghost use Rattle.rohc_capture.specs.declared.fault.FaultKind.TheVariants as faults;
+
+    /// A window onto a reader, before its first octet. It has room for the longest block, and a piece behind it.
     pub(crate) fn new(alloc: Global, reader: R) -> Result<Window<R>, AllocError>
     where
         R: Drop,
+        ensures ahead { IfOk result (λ w. ahead_of w ≡ []) }
+        ensures reader { IfOk result (λ w. w.reader ≡ reader) }
+        ensures place { IfOk result (λ w. w.place ≡ 0) }
     {
         Ok(Window {
             reader,
-            piece: vec![in alloc; 0u8; PIECE]?,
-            ahead: Vec::with_capacity(alloc, LONGEST + PIECE)?,
+            octets: vec![in alloc; 0u8; LONGEST + PIECE]?,
             start: 0,
+            end: 0,
             place: 0,
         })
     }
 
     /// How many octets were passed.
-    pub(crate) fn place(&self) -> u64 {
+    pub(crate) fn place(&self) -> u64
+        ensures { result ≡ self.now.place }
+    {
         self.place
     }
 
     /// The octets that were read and not yet passed.
-    pub(crate) fn ahead(&self) -> &[u8] {
-        &self.ahead[self.start..]
+    pub(crate) fn ahead(&self) -> &[u8]
+        ensures { result.now ≡ ahead_of self.now }
+    {
+        &self.octets[self.start..self.end]
     }
 
     /// Reads some octets more, and returns whether there may be more still.
-    fn more(&mut self) -> Result<bool, FaultKind> {
-        drop_front(&mut self.ahead, self.start);
+    fn more(&mut self) -> Result<bool, FaultKind>
+        requires { length (ahead_of self.old) ≤ LONGEST }
+        ensures text { Keeps (text_in R.remaining self.old) (text_in R.remaining self.new) }
+        ensures place { self.new.place ≡ self.old.place }
+        ensures at_end { IfOk result (λ more. more ≡ false → (ahead_of self.new ≡ ahead_of self.old) × IsAtEnd (R.remaining self.new.reader)) }
+        ensures fault { IfErr result (λ kind. kind ≡ faults.Read) }
+    {
+        let held = self.end - self.start;
+        let read = refill(
+            &mut self.reader,
+            self.octets.as_mut_slice(),
+            self.start,
+            self.end,
+        );
         self.start = 0;
-        match self.reader.read(self.piece.as_mut_slice()) {
+        self.end = held;
+        match read {
             Ok(count) => {
-                self.ahead.extend_from_slice(&self.piece[..count])?;
+                self.end = held + count;
                 Ok(0 < count)
             }
             Err(e) if e.kind() == ErrorKind::Interrupted => Ok(true),
@@ -74,9 +110,17 @@ impl<R: Read> Window<R> {
     }
 
     /// Reads until at least `count` octets are ahead, and returns whether there are so many.
-    pub(crate) fn need(&mut self, count: usize) -> Result<bool, FaultKind> {
+    pub(crate) fn need(&mut self, count: usize) -> Result<bool, FaultKind>
+        requires { count ≤ LONGEST }
+        ensures text { Keeps (text_in R.remaining self.old) (text_in R.remaining self.new) }
+        ensures place { self.new.place ≡ self.old.place }
+        ensures known { StaysKnown (R.remaining self.old.reader) (R.remaining self.new.reader) }
+        ensures enough { IfOk result (λ enough. enough ≡ true → count ≤ length (ahead_of self.new)) }
+        ensures few { IfOk result (λ enough. enough ≡ false → (length (ahead_of self.new) < count) × IsAtEnd (R.remaining self.new.reader)) }
+        ensures fault { IfErr result (λ kind. kind ≡ faults.Read) }
+    {
         for _ in 0..u64::MAX {
-            if count <= self.ahead.len() - self.start {
+            if count <= self.end - self.start {
                 return Ok(true);
             }
             if !self.more()? {
@@ -88,9 +132,12 @@ impl<R: Read> Window<R> {
 
     /// Passes `count` octets, or all that are ahead if they are fewer. Returns how many.
     pub(crate) fn pass(&mut self, count: usize) -> usize
-        ensures { result ≤ count }
+        ensures passed { result ≡ min count (length (ahead_of self.old)) }
+        ensures ahead { ahead_of self.new ≡ drop count (ahead_of self.old) }
+        ensures reader { self.new.reader ≡ self.old.reader }
+        ensures place { self.new.place ≡ counted self.old.place result }
     {
-        let ahead = self.ahead.len() - self.start;
+        let ahead = self.end - self.start;
         let passed = if count < ahead { count } else { ahead };
         self.start += passed;
         self.place = self.place.saturating_add(passed as u64);

@@ -20,6 +20,9 @@ pub enum Format {
 /// The octets before a packet, or before the first record.
 type Head = ArrayVec<u8, 64>;
 
+/// The longest first part of a packet that is written together with the head of its record, in octets.
+const LONGEST_FRONT: usize = 48;
+
 /// The longest packet that is written, in octets.
 const LONGEST_PACKET: usize = 262_144;
 
@@ -126,8 +129,12 @@ fn write_pcap<W: Write>(writer: &mut W, nanos: u64, front: &[u8], rest: &[u8]) -
         return Err(Error::from(ErrorKind::InvalidInput));
     };
     let nano = (nanos % 1_000_000_000) as u32;
-    let head = pcap_front(second, nano, size);
-    write_three(writer, head.as_slice(), front, rest)
+    let mut head = pcap_front(second, nano, size);
+    if front.len() > LONGEST_FRONT {
+        return write_three(writer, head.as_slice(), front, rest);
+    }
+    put_all(&mut head, front);
+    write_two(writer, head.as_slice(), rest)
 }
 
 /// What stands before a frame in its block of pcapng.

@@ -1,1 +1,3 @@
+pub mod Cut
 pub mod Written
+pub mod Run

@@ -1,16 +1,27 @@
 //! A run over a capture.
 
-ghost use Rattle.std.specs.Prelude.{Some, OnOk};
+ghost use Rattle.std.specs.Prelude.{◌≡◌, [], ◌∷◌, Some, Ok, OnOk, IfErr};
+ghost use Rattle.std.specs.Option.{option_map};
+ghost use Rattle.std.specs.Io.KnownBytes.{Appends, Keeps};
 ghost use Rattle.rohc_context.specs.Response.{response_of};
+ghost use Rattle.rohc_feedback.specs.Element.{octets_of};
 ghost use Rattle.rohc_concentrator.specs.Report.{report_of};
-ghost use Rattle.rohc_decompress.specs.Written.{Writes, IsShown, packet_of, delivered_packet, TakesPacket};
+ghost use Rattle.rohc_capture.specs.Written.{head_of};
+ghost use Rattle.rohc_capture.specs.Records.{standing};
+ghost use Rattle.rohc_capture.specs.Standing.{entry_of, rest_of, place_of};
+ghost use Rattle.rohc_decompress.specs.Cut.{shown};
+ghost use Rattle.rohc_decompress.specs.Written.{packet_text, packet_of, feedback_of, feedback_text, delivered_packet, work, TakesPacket};
+ghost use Rattle.rohc_decompress.specs.Run.{how, Runs, Decompresses, Stops};
 
 use crate::cut::without_padding;
 use crate::fault::BulkFault;
 use crate::tally::{Tally, more};
-use rohc_capture::{Capture, Format, Record, Rule, packet_in, write_head, write_record};
+use rohc_capture::{
+    Capture, CaptureFault, FaultKind, Format, Record, Rule, packet_in, write_head, write_record,
+};
 use rohc_concentrator::{Answer, Concentrator};
 use rohc_context::{Delivered, Reply};
+use rohc_feedback::Element;
 use rohc_frame::Elements;
 use std::io::{Read, Write};
 
@@ -36,7 +47,10 @@ pub fn begin<W: Write, V: Write>(
     format: Format,
     packets: &mut W,
     feedback: &mut V,
-) -> Result<(), BulkFault> {
+) -> Result<(), BulkFault>
+    ensures packets { OnOk result (Appends (W.contents packets.old) (W.contents packets.new) (head_of format RAW_IP)) }
+    ensures feedback { OnOk result (Appends (V.contents feedback.old) (V.contents feedback.new) (head_of format ETHERNET)) }
+{
     let first = write_head(packets, format, RAW_IP);
     let second = write_head(feedback, format, ETHERNET);
     if first.is_err() || second.is_err() {
@@ -58,35 +72,61 @@ pub fn decompress<R: Read, W: Write, V: Write>(
     packets: &mut W,
     feedback: &mut V,
     tally: &mut Tally,
-) -> Result<(), BulkFault> {
+) -> Result<(), BulkFault>
+    ensures whole { OnOk result (Decompresses (how bulk.now)
+        (option_map (standing capture.old.kind (place_of capture.old)) (rest_of R.remaining capture.old)) (Ok tt)
+        (work concentrator.old (W.contents packets.old) (V.contents feedback.old))
+        (work concentrator.new (W.contents packets.new) (V.contents feedback.new))) }
+    ensures fault { IfErr result (λ fault. Stops (how bulk.now)
+        (option_map (standing capture.old.kind (place_of capture.old)) (rest_of R.remaining capture.old)) fault
+        (work concentrator.old (W.contents packets.old) (V.contents feedback.old))
+        (work concentrator.new (W.contents packets.new) (V.contents feedback.new))) }
+{
     for _ in 0..u64::MAX {
-        let Some(record) = capture.next()? else {
-            return Ok(());
+        let record = match capture.next() {
+            Ok(Some(record)) => record,
+            Ok(None) => return Ok(()),
+            Err(fault) => return Err(BulkFault::Capture(fault)),
         };
         more(&mut tally.frames);
-        take_frame(
-            concentrator,
-            bulk,
-            &record,
-            capture.frame(),
-            packets,
-            feedback,
-            tally,
-        )?;
-        if !capture.is_ahead() {
-            flush(packets)?;
-            flush(feedback)?;
-        }
+        let frame = capture.frame();
+        let Ok(()) = take_frame(concentrator, bulk, &record, frame, packets, feedback, tally) else {
+            return Err(BulkFault::Write);
+        };
+        let Ok(()) = settle(capture.is_ahead(), packets, feedback) else {
+            return Err(BulkFault::Write);
+        };
     }
-    Ok(())
+    Err(BulkFault::Capture(CaptureFault {
+        kind: FaultKind::Read,
+        place: u64::MAX,
+    }))
 }
 
 /// Flushes a writer.
-fn flush<W: Write>(writer: &mut W) -> Result<(), BulkFault> {
+fn flush<W: Write>(writer: &mut W) -> Result<(), BulkFault>
+    ensures { OnOk result (Keeps (W.contents writer.old) (W.contents writer.new)) }
+{
     match writer.flush() {
         Ok(()) => Ok(()),
         Err(_) => Err(BulkFault::Write),
     }
+}
+
+/// Flushes both writers, unless the next record is ahead.
+fn settle<W: Write, V: Write>(
+    is_ahead: bool,
+    packets: &mut W,
+    feedback: &mut V,
+) -> Result<(), BulkFault>
+    ensures packets { OnOk result (Keeps (W.contents packets.old) (W.contents packets.new)) }
+    ensures feedback { OnOk result (Keeps (V.contents feedback.old) (V.contents feedback.new)) }
+{
+    if is_ahead {
+        return Ok(());
+    }
+    flush(packets)?;
+    flush(feedback)
 }
 
 /// Takes one frame. Nothing is written of a frame that carries nothing, or of which no rule speaks.
@@ -98,7 +138,11 @@ fn take_frame<W: Write, V: Write>(
     packets: &mut W,
     feedback: &mut V,
     tally: &mut Tally,
-) -> Result<(), BulkFault> {
+) -> Result<(), BulkFault>
+    ensures { OnOk result (Runs (how bulk.now) (entry_of «record».now frame.now ∷ [])
+        (work concentrator.old (W.contents packets.old) (V.contents feedback.old))
+        (work concentrator.new (W.contents packets.new) (V.contents feedback.new))) }
+{
     match packet_in(bulk.rules, record.link_type, record.original, frame) {
         Ok(Some((link, packet))) => {
             more(&mut tally.arrivals);
@@ -138,10 +182,12 @@ pub fn take_packet<W: Write, V: Write>(
     feedback: &mut V,
     tally: &mut Tally,
 ) -> Result<(), BulkFault>
-    ensures { OnOk result (TakesPacket bulk.now.format bulk.now.padded concentrator.old link nanos packet.now
-        (W.contents packets.old) (W.contents packets.new) concentrator.new) }
+    ensures { OnOk result (TakesPacket bulk.now.format bulk.now.padded link nanos packet.now
+        (work concentrator.old (W.contents packets.old) (V.contents feedback.old))
+        (work concentrator.new (W.contents packets.new) (V.contents feedback.new))) }
 {
-    let answer = concentrator.arrive(link, nanos / 1_000_000, packet);
+    let mut answer = Answer::blank();
+    concentrator.arrive_into(link, nanos / 1_000_000, packet, &mut answer);
     take_answer(bulk, link, nanos, &answer, packets, feedback, tally)
 }
 
@@ -162,8 +208,10 @@ fn take_answer<W: Write, V: Write>(
     feedback: &mut V,
     tally: &mut Tally,
 ) -> Result<(), BulkFault>
-    ensures { OnOk result (Writes bulk.now.format bulk.now.padded nanos (packet_of (report_of answer.now))
-        (W.contents packets.old) (W.contents packets.new)) }
+    ensures packets { OnOk result (Appends (W.contents packets.old) (W.contents packets.new)
+        (packet_text bulk.now.format bulk.now.padded nanos (packet_of (report_of answer.now)))) }
+    ensures feedback { OnOk result (Appends (V.contents feedback.old) (V.contents feedback.new)
+        (feedback_text bulk.now.format link nanos (feedback_of (report_of answer.now)))) }
 {
     match answer {
         Answer::Arrived { reply, relayed, .. } => {
@@ -181,6 +229,27 @@ fn take_answer<W: Write, V: Write>(
     }
 }
 
+/// Writes the feedback that is due, if there is some, and counts it.
+fn take_feedback<V: Write>(
+    format: Format,
+    link: u16,
+    nanos: u64,
+    due: &Option<Element>,
+    feedback: &mut V,
+    tally: &mut Tally,
+) -> Result<(), BulkFault>
+    ensures { OnOk result (Appends (V.contents feedback.old) (V.contents feedback.new)
+        (feedback_text format link nanos (octets_of due.now))) }
+{
+    match due {
+        Some(element) => {
+            more(&mut tally.feedback);
+            put_feedback(format, link, nanos, element.as_slice(), feedback)
+        }
+        None => Ok(()),
+    }
+}
+
 /// Writes a context's packet and its feedback.
 fn take_reply<W: Write, V: Write>(
     bulk: &Bulk<'_>,
@@ -191,14 +260,13 @@ fn take_reply<W: Write, V: Write>(
     feedback: &mut V,
     tally: &mut Tally,
 ) -> Result<(), BulkFault>
-    ensures { OnOk result (Writes bulk.now.format bulk.now.padded nanos (response_of reply.now).packet
-        (W.contents packets.old) (W.contents packets.new)) }
+    ensures packets { OnOk result (Appends (W.contents packets.old) (W.contents packets.new)
+        (packet_text bulk.now.format bulk.now.padded nanos (response_of reply.now).packet)) }
+    ensures feedback { OnOk result (Appends (V.contents feedback.old) (V.contents feedback.new)
+        (feedback_text bulk.now.format link nanos (response_of reply.now).feedback)) }
 {
     tally.add_outcome(reply.outcome);
-    if let Some(element) = &reply.feedback {
-        put_feedback(bulk.format, link, nanos, element.as_slice(), feedback)?;
-        more(&mut tally.feedback);
-    }
+    take_feedback(bulk.format, link, nanos, &reply.feedback, feedback, tally)?;
     match &reply.packet {
         Some(packet) => put_packet(bulk.format, bulk.padded, nanos, packet, packets),
         None => Ok(()),
@@ -207,7 +275,7 @@ fn take_reply<W: Write, V: Write>(
 
 /// The part of a payload that is written: all of it, unless padding is cut.
 fn shown<'a>(padded: bool, head: &[u8], payload: &'a [u8]) -> &'a [u8]
-    ensures { IsShown padded payload.entry.now result.now }
+    ensures { result.now ≡ shown padded head.now payload.entry.now }
 {
     if padded {
         without_padding(head, payload)
@@ -224,8 +292,8 @@ fn put_packet<W: Write>(
     packet: &Delivered<'_>,
     packets: &mut W,
 ) -> Result<(), BulkFault>
-    ensures { OnOk result (Writes format padded nanos (Some (delivered_packet packet.now))
-        (W.contents packets.old) (W.contents packets.new)) }
+    ensures { OnOk result (Appends (W.contents packets.old) (W.contents packets.new)
+        (packet_text format padded nanos (Some (delivered_packet packet.now)))) }
 {
     let head = packet.head.as_slice();
     let payload = shown(padded, head, packet.payload);
@@ -242,8 +310,12 @@ fn put_feedback<V: Write>(
     nanos: u64,
     element: &[u8],
     feedback: &mut V,
-) -> Result<(), BulkFault> {
-    let [high, low] = link.to_be_bytes();
+) -> Result<(), BulkFault>
+    ensures { OnOk result (Appends (V.contents feedback.old) (V.contents feedback.new)
+        (feedback_text format link nanos (Some element.now))) }
+{
+    let high = (link / 256) as u8;
+    let low = (link % 256) as u8;
     let head = [2, 0, 0, 0, 0, 0, 2, 0, 0, 0, high, low, 0x22, 0xf1];
     match write_record(feedback, format, nanos, &head, element) {
         Ok(()) => Ok(()),

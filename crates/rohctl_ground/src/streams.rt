@@ -77,13 +77,16 @@ pub fn open_source<R: Files + Input>(
     }
 }
 
+/// How many octets are kept before they are written.
+const ROOM: usize = 131_072;
+
 /// Makes a file to be written, empty if it is there; `-` is standard output.
 pub fn make_target<'a, R: Files + Print + AllocGlobal>(
     rt: &'a R,
     path: &str,
 ) -> Result<Target<R::File, Printer<'a, R>>, Ending> {
     if path == "-" {
-        return match BufWriter::new(rt.alloc(), io::writer(rt)) {
+        return match BufWriter::with_capacity(rt.alloc(), ROOM, io::writer(rt)) {
             Ok(output) => Ok(Target::Output(output)),
             Err(_) => Err(Ending::Memory),
         };
@@ -91,7 +94,7 @@ pub fn make_target<'a, R: Files + Print + AllocGlobal>(
     let Ok(file) = fs::create(rt, path) else {
         return Err(Ending::Write);
     };
-    match BufWriter::new(rt.alloc(), file) {
+    match BufWriter::with_capacity(rt.alloc(), ROOM, file) {
         Ok(file) => Ok(Target::File(file)),
         Err(_) => Err(Ending::Memory),
     }

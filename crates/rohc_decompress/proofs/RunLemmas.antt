@@ -1,0 +1,148 @@
+-- Runs one after another.
+use Rattle.std.proofs.Common.{◌≡◌, ◌≢◌, ℕ, List, [], ◌∷◌, ◌++◌, map, Option, Some, None, IfSome, Result, Ok, Err, refl, sym, ◌∙◌, ap, subst, append_assoc, append-nil}
+use Rattle.std.specs.List.{flat_map}
+use Rattle.std.specs.Option.{option_map}
+use Rattle.std.specs.Io.KnownBytes.{Appends, Keeps}
+use Rattle.std.proofs.KnownBytes.{Appends-nil, Appends-trans, Appends-kept}
+use Rattle.rohc_concentrator.specs.declared.concentrator.Concentrator.{Concentrator}
+use Rattle.rohc_concentrator.specs.Report.{Report}
+use Rattle.rohc_concentrator.specs.Events.{Event, RunsEvents}
+use Rattle.rohc_capture.specs.declared.choice.Rule.{Rule}
+use Rattle.rohc_concentrator.specs.Isolation.{IsIsolatedRun}
+use Rattle.rohc_concentrator.proofs.EventLemmas.{isolated_events}
+use Rattle.rohc_capture.specs.declared.fault.FrameFault.{FrameFault}
+use Rattle.rohc_capture.specs.declared.fault.CaptureFault.{CaptureFault}
+use Rattle.rohc_capture.specs.declared.fault.FaultKind.TheVariants.{Read}
+use Rattle.rohc_capture.specs.declared.reader.Kind.{Kind}
+use Rattle.rohc_capture.specs.declared.reader.Record.{Record}
+use Rattle.rohc_capture.specs.Choice.{packet_in}
+use Rattle.rohc_capture.specs.Records.{Entry, Standing, standing, IsNext, Leads, Holds}
+use Rattle.rohc_capture.specs.Standing.{entry_of, ReadsOn}
+use Rattle.rohc_decompress.specs.Written.{packet_of, packet_text, feedback_of, feedback_text, TakesPacket, Work, work}
+use Rattle.rohc_decompress.specs.Run.{arrival_of, arrival_in, arrivals_in, Turn, event_of, turn_packet, turn_feedback, How, Runs, event_run, Decompresses, Breaks}
+
+some_is : (x y : List ℕ) → ◌≡◌ {A = Option (List ℕ)} (Some x) (Some y) → x ≡ y
+some_is x y e = cc
+
+-- lists of lists that stand one after the other
+map-append : {A B : Type 0} (f : A → B) (xs ys : List A) → map f (xs ++ ys) ≡ map f xs ++ map f ys
+map-append f [] ys = refl
+map-append f (x ∷ xs) ys = ap (λ zs. f x ∷ zs) (map-append f xs ys)
+
+flat-append : {A : Type 0} (f : A → List ℕ) (xs ys : List A) → flat_map f (xs ++ ys) ≡ flat_map f xs ++ flat_map f ys
+flat-append f [] ys = refl
+flat-append f (x ∷ xs) ys = ap (λ zs. f x ++ zs) (flat-append f xs ys) ∙ sym (append_assoc (f x) (flat_map f xs) (flat_map f ys))
+
+arrivals-append : (rules : List Rule) (xs ys : List Entry) → arrivals_in rules (xs ++ ys) ≡ arrivals_in rules xs ++ arrivals_in rules ys
+arrivals-append rules [] ys = refl
+arrivals-append rules (x ∷ xs) ys = ap (λ zs. arrival_in rules x ++ zs) (arrivals-append rules xs ys) ∙ sym (append_assoc (arrival_in rules x) (arrivals_in rules xs) (arrivals_in rules ys))
+
+run-append : (a b c : Concentrator) (xs ys : List (Event × Option Report)) → RunsEvents a xs b → RunsEvents b ys c → RunsEvents a (xs ++ ys) c
+run-append a b c [] ys p q = subst (λ k. RunsEvents k ys c) p q
+run-append a b c (x ∷ xs) ys p q = (p.0, p.1, run-append p.0 b c xs ys p.2 q)
+
+pub Runs-none : (how : How) (w : Work) → Runs how [] w w
+Runs-none how w = record { turns = []; arrivals = refl; run = refl; packets = Appends-nil w.packets; feedback = Appends-nil w.feedback }
+
+pub Runs-more : (how : How) (xs ys : List Entry) (a b c : Work) → Runs how xs a b → Runs how ys b c → Runs how (xs ++ ys) a c
+Runs-more how xs ys a b c p q = record {
+  turns = p.turns ++ q.turns;
+  arrivals = map-append (λ (t : Turn). t.arrival) p.turns q.turns ∙ ap (λ l. l ++ map (λ (t : Turn). t.arrival) q.turns) p.arrivals
+      ∙ ap (λ l. arrivals_in how.rules xs ++ l) q.arrivals ∙ sym (arrivals-append how.rules xs ys);
+  run = subst (λ l. RunsEvents a.concentrator l c.concentrator) (sym (map-append event_of p.turns q.turns)) (run-append _ _ _ _ _ p.run q.run);
+  packets = subst (Appends a.packets c.packets) (sym (flat-append (turn_packet how.format how.padded) p.turns q.turns)) (Appends-trans a.packets b.packets c.packets _ _ p.packets q.packets);
+  feedback = subst (Appends a.feedback c.feedback) (sym (flat-append (turn_feedback how.format) p.turns q.turns)) (Appends-trans a.feedback b.feedback c.feedback _ _ p.feedback q.feedback);
+}
+
+-- both writers were flushed
+pub Runs-kept : (how : How) (es : List Entry) (a b : Work) (packets feedback : Option (List ℕ)) → Runs how es a b → Keeps b.packets packets → Keeps b.feedback feedback →
+    Runs how es a (work b.concentrator packets feedback)
+Runs-kept how es a b packets feedback r p q = record {
+  turns = r.turns;
+  arrivals = r.arrivals;
+  run = r.run;
+  packets = Appends-kept a.packets b.packets packets _ r.packets p;
+  feedback = Appends-kept a.feedback b.feedback feedback _ r.feedback q;
+}
+
+-- ---- one record
+
+pub one-turn : (how : How) (e : Entry) (link : ℕ) (packet : List ℕ) (old new : Work) → packet_in how.rules e.link_type e.original e.frame ≡ Ok (Some (link, packet)) →
+    TakesPacket how.format how.padded link e.nanos packet old new → Runs how (e ∷ []) old new
+one-turn how e link packet old new is t = record {
+  turns = record { arrival = record { link = link; nanos = e.nanos; packet = packet }; report = t.report } ∷ [];
+  arrivals = sym (ap (λ r. arrival_of e.nanos r ++ []) is);
+  run = (new.concentrator, t.arrives, refl);
+  packets = subst (Appends old.packets new.packets) (sym (append-nil (packet_text how.format how.padded e.nanos (packet_of t.report)))) t.packets;
+  feedback = subst (Appends old.feedback new.feedback) (sym (append-nil (feedback_text how.format link e.nanos (feedback_of t.report)))) t.feedback;
+}
+
+none_here : (how : How) (e : Entry) (w : Work) → arrival_in how.rules e ≡ [] → Runs how (e ∷ []) w w
+none_here how e w is = record {
+  turns = [];
+  arrivals = sym (ap (λ l. l ++ []) is);
+  run = refl;
+  packets = Appends-nil w.packets;
+  feedback = Appends-nil w.feedback;
+}
+
+pub no-turn : (how : How) (e : Entry) (w : Work) → packet_in how.rules e.link_type e.original e.frame ≡ Ok None → Runs how (e ∷ []) w w
+no-turn how e w is = none_here how e w (ap (arrival_of e.nanos) is)
+
+pub bad-frame : (how : How) (e : Entry) (w : Work) (fault : FrameFault) → packet_in how.rules e.link_type e.original e.frame ≡ Err fault → Runs how (e ∷ []) w w
+bad-frame how e w fault is = none_here how e w (ap (arrival_of e.nanos) is)
+
+-- ---- the records of a capture
+
+leads-more : (s mid t : Standing) (es : List Entry) (e : Entry) → Leads s es mid → IsNext mid (Ok (Some (e, t))) → Leads s (es ++ e ∷ []) t
+leads-more s mid t [] e l n = (t, subst (λ m. IsNext m (Ok (Some (e, t)))) (sym l) n, refl)
+leads-more s mid t (x ∷ es) e l n = (l.0, l.1, leads-more l.0 mid t es e l.2 n)
+
+-- a capture was read up to here
+abbrev pub IsLed : Option Standing → List Entry → Kind → ℕ → Option (List ℕ) → Type 0
+IsLed s es kind place rest = IfSome s (λ (s : Standing). (text : List ℕ) × (rest ≡ Some text) × Leads s es (standing kind place text))
+
+pub led-first : (kind : Kind) (place : ℕ) (rest : Option (List ℕ)) → IsLed (option_map (standing kind place) rest) [] kind place rest
+led-first kind place None = tt
+led-first kind place (Some text) = (text, refl, refl)
+
+pub led-more : (s : Option Standing) (es : List Entry) (kind now : Kind) (place after : ℕ) (rest left : Option (List ℕ)) (r : Record) (frame : List ℕ) → IsLed s es kind place rest →
+    IfSome rest (λ text. ReadsOn (standing kind place text) (Ok (Some r)) frame now after left) → IsLed s (es ++ entry_of r frame ∷ []) now after left
+led-more None es kind now place after rest left r frame l n = tt
+led-more (Some s) es kind now place after None left r frame l n = let e = l.1 in absurd (cc)
+led-more (Some s) es kind now place after (Some x) left r frame l n =
+    let same : l.0 ≡ x = some_is l.0 x (sym l.1) in
+    (n.0, n.1, leads-more s (standing kind place x) (standing now after n.0) es (entry_of r frame) (subst (λ t. Leads s es (standing kind place t)) same l.2) n.2)
+
+pub led-end : (s : Option Standing) (es : List Entry) (kind now : Kind) (place after : ℕ) (rest left : Option (List ℕ)) (frame : List ℕ) → IsLed s es kind place rest →
+    IfSome rest (λ text. ReadsOn (standing kind place text) (Ok None) frame now after left) → IfSome s (λ (s : Standing). Holds s es (Ok tt))
+led-end None es kind now place after rest left frame l n = tt
+led-end (Some s) es kind now place after None left frame l n = let e = l.1 in absurd (cc)
+led-end (Some s) es kind now place after (Some x) left frame l n =
+    let same : l.0 ≡ x = some_is l.0 x (sym l.1) in
+    record { last = standing kind place x; leads = subst (λ t. Leads s es (standing kind place t)) same l.2; ends = n }
+
+pub led-fault : (s : Option Standing) (es : List Entry) (kind now : Kind) (place after : ℕ) (rest left : Option (List ℕ)) (frame : List ℕ) (fault : CaptureFault) → IsLed s es kind place rest →
+    IfSome rest (λ text. ReadsOn (standing kind place text) (Err fault) frame now after left) → fault.kind ≢ Read → IfSome s (λ (s : Standing). Holds s es (Err fault))
+led-fault None es kind now place after rest left frame fault l n k = tt
+led-fault (Some s) es kind now place after None left frame fault l n k = let e = l.1 in absurd (cc)
+led-fault (Some s) es kind now place after (Some x) left frame fault l n k =
+    let same : l.0 ≡ x = some_is l.0 x (sym l.1) in
+    record { last = standing kind place x; leads = subst (λ t. Leads s es (standing kind place t)) same l.2; ends = n k }
+
+led-here : (s : Option Standing) (es : List Entry) (kind : Kind) (place : ℕ) (rest : Option (List ℕ)) → IsLed s es kind place rest → IfSome s (λ (s : Standing). (t : Standing) × Leads s es t)
+led-here None es kind place rest l = tt
+led-here (Some s) es kind place rest l = (standing kind place l.0, l.2)
+
+-- ---- the run
+
+isolated : {how : How} {es : List Entry} {old new : Work} (r : Runs how es old new) → IsIsolatedRun (event_run r)
+isolated r = isolated_events (event_run r) r.run
+
+pub ends_well : (how : How) (s : Option Standing) (es : List Entry) (old new : Work) (ending : Result Unit CaptureFault) → IfSome s (λ (s : Standing). Holds s es ending) → Runs how es old new →
+    Decompresses how s ending old new
+ends_well how s es old new ending h r = record { records = es; held = h; run = r; isolated = isolated r }
+
+pub breaks_off : (how : How) (s : Option Standing) (es : List Entry) (kind : Kind) (place : ℕ) (rest : Option (List ℕ)) (old new : Work) → IsLed s es kind place rest → Runs how es old new →
+    Breaks how s old new
+breaks_off how s es kind place rest old new l r = record { records = es; led = led-here s es kind place rest l; run = r; isolated = isolated r }
