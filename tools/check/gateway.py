@@ -256,7 +256,7 @@ def check_asked(trial: Trial) -> None:
 
 
 def check_watched(trial: Trial) -> None:
-    """A watched call has a line for each packet in the log, no other call has one, and the watch ends by itself."""
+    """Each packet of a watched call has a line, with the refusal's name, no other call has one, and the watch ends by itself."""
     first, second = bytes.fromhex("fc00b745aa"), bytes.fromhex("e1fc003045aa")
     log = "<7>rohc-gateway: watch 1/0: "
     with Receivers() as receivers, Gateway(trial, trial.scratch / "watched", receivers.links(LINKS)) as gateway:
@@ -271,7 +271,7 @@ def check_watched(trial: Trial) -> None:
     # The IR makes a context, and its feedback has four octets (docs/EXAMPLES.md); the second is damaged.
     trial.demand(lines[0] == "<6>rohc-gateway: watch 1/0 begins", f"watched: {lines[:1]}")
     trial.demand(lines[1].startswith(f"{log}5 octets: delivered 2, feedback "), f"watched: {lines[1:2]}")
-    trial.demand(lines[2].startswith(f"{log}5 octets: refused, feedback "), f"watched: {lines[2:3]}")
+    trial.demand(lines[2].startswith(f"{log}5 octets: refused Check, feedback "), f"watched: {lines[2:3]}")
     trial.demand(lines[-1] == "<6>rohc-gateway: watch ends", f"watched: {lines[-1:]}")
     count = sum(line.startswith(log) for line in lines)
     trial.demand(count == WATCHED, f"watched: {count} packets have a line; wanted {WATCHED}")

@@ -68,7 +68,7 @@ impl Gateway<'_> {
                         Some(watch) => watch.sees(self.station.call_of(octets)),
                         None => false,
                     };
-                    let sends = match (is_timed, self.figures.draining) {
+                    let taken = match (is_timed, self.figures.draining) {
                         (true, false) => self.station.take_timed(octets),
                         (true, true) => self.station.take_timed_known(octets),
                         (false, false) => self.station.take(self.moments.now(rt), octets),
@@ -76,9 +76,9 @@ impl Gateway<'_> {
                     };
                     if is_watched && let Some(watch) = &mut self.watch {
                         let head: usize = if is_timed { 10 } else { 2 };
-                        watch.log(rt, octets.len().saturating_sub(head), &sends);
+                        watch.log(rt, octets.len().saturating_sub(head), &taken);
                     }
-                    let failed = send_all(socket, self.packet.as_mut_slice(), &sends);
+                    let failed = send_all(socket, self.packet.as_mut_slice(), &taken.sends);
                     if failed > 0 {
                         self.station.add_failed_sends(octets, failed);
                     }

@@ -1,6 +1,6 @@
 //! A call that is watched: each of its packets is logged for a while.
 
-use rohc_serve::Sends;
+use rohc_station::Taken;
 
 /// The most packets that are logged.
 pub(crate) const MOST_PACKETS: u32 = 100;
@@ -41,25 +41,28 @@ impl Watch {
     }
 
     /// Logs what became of a packet.
-    pub(crate) fn log<R: Eprint>(&mut self, rt: &R, octets: usize, sends: &Sends<'_>) {
+    pub(crate) fn log<R: Eprint>(&mut self, rt: &R, octets: usize, taken: &Taken<'_>) {
         self.left = self.left.saturating_sub(1);
         let Watch { link, cid, .. } = *self;
-        let feedback = match &sends.feedback {
+        let feedback = match &taken.sends.feedback {
             Some(element) => element.len(),
             None => 0,
         };
         let head = "<7>rohc-gateway: watch";
-        let _ = match &sends.packet {
-            Some(packet) => {
+        let _ = match (&taken.sends.packet, taken.refusal) {
+            (Some(packet), _) => {
                 let size = packet.head.len().saturating_add(packet.payload.len());
                 eprintln!(rt;
                     "{head} {link}/{cid}: {octets} octets: delivered {size}, feedback {feedback}"
                 )
             }
-            None if sends.refused => {
-                eprintln!(rt; "{head} {link}/{cid}: {octets} octets: refused, feedback {feedback}")
+            (None, Some(refusal)) => eprintln!(rt;
+                "{head} {link}/{cid}: {octets} octets: refused {refusal}, feedback {feedback}"
+            ),
+            (None, None) if taken.sends.refused => {
+                eprintln!(rt; "{head} {link}/{cid}: {octets} octets: turned away")
             }
-            None => eprintln!(rt;
+            (None, None) => eprintln!(rt;
                 "{head} {link}/{cid}: {octets} octets: nothing delivered, feedback {feedback}"
             ),
         };

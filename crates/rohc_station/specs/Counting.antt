@@ -1,6 +1,7 @@
--- What is counted. Words: one_if; with_datagram; CountsAnswer.
-use Rattle.std.specs.Prelude.{◌≡◌, ℕ, Bool, if◌then◌else◌, Option, Some, None}
+-- What is counted. Words: one_if; with_datagram; IsUncounted; CountsAnswer; with_failed_sends; KeepsCounts.
+use Rattle.std.specs.Prelude.{◌≡◌, ℕ, Bool, if◌then◌else◌, Option, Some, None, slice_index}
 use Rattle.rohc_concentrator.specs.Report.{Report}
+use Rattle.rohc_concentrator.specs.declared.setting.LinkSetting.{LinkSetting}
 use Rattle.rohc_links.specs.Limits.{counted}
 use Rattle.rohc_counts.specs.Counted.{IsCounted}
 use Rattle.rohc_station.specs.declared.counters.LinkCounters.{LinkCounters}
@@ -16,9 +17,29 @@ with_datagram c is_bad = record {
   bad_datagrams = counted c.bad_datagrams (one_if is_bad);
 }
 
+-- nothing is counted yet
+pub record IsUncounted (c : LinkCounters) : Type 0 where
+  pub outcomes : (k : ℕ) → slice_index c.answers.outcomes k ≡ 0
+  pub words : (k : ℕ) → slice_index c.answers.words k ≡ 0
+  pub no_fronts : c.answers.fronts ≡ 0
+  pub none_relayed : c.answers.relayed ≡ 0
+  pub none_failed : c.failed_sends ≡ 0
+
 -- one more answer, in the counts of a link that has some
 abbrev pub CountsAnswer : Report → Option LinkCounters → Option LinkCounters → Type 0
 CountsAnswer report None after = after ≡ None
 CountsAnswer report (Some before) None = ⊥
 CountsAnswer report (Some before) (Some after) =
     IsCounted report before.answers after.answers × (after.failed_sends ≡ before.failed_sends)
+
+-- so many more failed sends
+abbrev pub with_failed_sends : ℕ → LinkCounters → LinkCounters
+with_failed_sends failed c = record c { failed_sends = counted c.failed_sends failed }
+
+-- The counts of a link, by its entry in a file that is taken: it keeps those that it has, and begins with none.
+-- A link that isn't in the file has no counts.
+abbrev pub KeepsCounts : Option LinkCounters → Option LinkSetting → Option LinkCounters → Type 0
+KeepsCounts before None after = after ≡ None
+KeepsCounts (Some before) (Some s) after = after ≡ Some before
+KeepsCounts None (Some s) None = ⊥
+KeepsCounts None (Some s) (Some after) = IsUncounted after

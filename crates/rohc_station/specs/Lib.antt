@@ -1,5 +1,10 @@
 pub mod Timed
+pub mod Told
 pub mod Counting
 pub mod Taking
 pub mod Reload
+pub mod Settling
+pub mod Reset
 pub mod Requests
+pub mod Life
+pub mod CallLife

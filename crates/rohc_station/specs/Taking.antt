@@ -1,5 +1,5 @@
--- What a station does with a datagram. Words: counters_at a link; TakesPacket; IsRefusedUnread;
--- TakesDatagram, TakesTimed; begins_call; call_in, timed_call_in; TakesKnownPacket, TakesKnown, TakesTimedKnown.
+-- What a station does with a datagram. Words: counters_at a link; TakesPacket; IsRefusedUnread; dated; Takes;
+-- begins_call; call_in, timed_call_in; TakesUnless, TakesKnownPacket, TakesKnown; CountsFailedSends, FailsSends.
 use Rattle.std.specs.Prelude.{◌≡◌, ◌≢◌, ℕ, List, Option, Some, None, nat_eq, not, is_some, Bool, true, false}
 use Rattle.std.specs.Option.{option_map}
 use Rattle.indexmap.specs.IndexMap.{get}
@@ -9,45 +9,45 @@ use Rattle.rohc_concentrator.specs.Tables.{setting_at, record_at}
 use Rattle.rohc_concentrator.specs.Bears.{borne}
 use Rattle.rohc_concentrator.specs.Report.{Report}
 use Rattle.rohc_concentrator.specs.Events.{Arrives}
-use Rattle.rohc_serve.specs.Outgoing.{Outgoing, refused_for, sends_of}
-use Rattle.rohc_serve.specs.Datagram.{ports_of}
+use Rattle.rohc_serve.specs.Datagram.{named_link, datagram_packet, ports_of}
 use Rattle.rohc_station.specs.declared.counters.LinkCounters.{LinkCounters}
 use Rattle.rohc_station.specs.declared.station.Station.{Station}
-use Rattle.rohc_station.specs.Counting.{CountsAnswer, with_datagram}
+use Rattle.rohc_station.specs.Counting.{CountsAnswer, with_datagram, with_failed_sends}
 use Rattle.rohc_station.specs.Timed.{TimedPacket}
+use Rattle.rohc_station.specs.Told.{Told, told_unread, told_for}
 
 -- the counts of a link, if it has some
 abbrev pub counters_at : Station → ℕ → Option LinkCounters
 counters_at s link = get nat_eq s.counters link
 
--- A packet of a link arrives: what is sent is the concentrator's answer to the link's ports, and what is
+-- A packet of a link arrives: what is told is the concentrator's answer to the link's ports, and what is
 -- counted is that answer, for that link alone.
-pub record TakesPacket (old new : Station) (link moment : ℕ) (packet : List ℕ) (outgoing : Outgoing) : Type 0 where
+pub record TakesPacket (old new : Station) (link moment : ℕ) (packet : List ℕ) (told : Told) : Type 0 where
   pub report : Report
   pub arrives : Arrives old.concentrator link moment packet report new.concentrator
-  pub sends : outgoing ≡ sends_of (ports_of link old.links) report
-  pub counted : CountsAnswer report (counters_at old link) (counters_at new link)
+  pub tells : told ≡ told_for (ports_of link old.links) report
+  pub counts : CountsAnswer report (counters_at old link) (counters_at new link)
   pub others : (l : ℕ) → l ≢ link → counters_at new l ≡ counters_at old l
   pub totals : new.totals ≡ with_datagram old.totals (not (is_some (ports_of link old.links)))
   pub links : new.links ≡ old.links
 
--- a datagram that is too short: nothing is sent, and no link's counts change
-pub record IsRefusedUnread (old new : Station) (outgoing : Outgoing) : Type 0 where
+-- a datagram that is too short, or turned away: nothing is sent, and no link's counts change
+pub record IsRefusedUnread (old new : Station) (told : Told) : Type 0 where
   pub concentrator : new.concentrator ≡ old.concentrator
-  pub sends : outgoing ≡ refused_for None
+  pub tells : told ≡ told_unread
   pub counters : new.counters ≡ old.counters
   pub totals : new.totals ≡ with_datagram old.totals true
   pub links : new.links ≡ old.links
 
--- a datagram that names this link, or none, and bears this packet
-abbrev pub TakesDatagram : Station → Station → ℕ → Option ℕ → List ℕ → Outgoing → Type 0
-TakesDatagram old new moment None packet outgoing = IsRefusedUnread old new outgoing
-TakesDatagram old new moment (Some link) packet outgoing = TakesPacket old new link moment packet outgoing
+-- a datagram that came at this moment: the link that it names, if it names one, the moment and the packet
+abbrev pub dated : ℕ → List ℕ → Option TimedPacket
+dated moment octets =
+    option_map (λ link. record { link = link; moment = moment; packet = datagram_packet octets }) (named_link octets)
 
--- a timed datagram, if it can be read
-abbrev pub TakesTimed : Station → Station → Option TimedPacket → Outgoing → Type 0
-TakesTimed old new None outgoing = IsRefusedUnread old new outgoing
-TakesTimed old new (Some t) outgoing = TakesPacket old new t.link t.moment t.packet outgoing
+-- a datagram is taken, as it was read: a packet with its link and its moment, if it could be read
+abbrev pub Takes : Station → Station → Option TimedPacket → Told → Type 0
+Takes old new None told = IsRefusedUnread old new told
+Takes old new (Some t) told = TakesPacket old new t.link t.moment t.packet told
 
 -- this CID, if there is one, has no record
 abbrev pub is_unknown : Option ℕ → (ℕ → Option Record) → Bool
@@ -69,18 +69,23 @@ timed_call_in k None = None
 timed_call_in k (Some t) = call_in k (Some t.link) t.packet
 
 -- while no call is begun, a packet that would begin one is refused, and every other is taken
-abbrev pub TakesUnless : Bool → Station → Station → ℕ → ℕ → List ℕ → Outgoing → Type 0
-TakesUnless true old new link moment packet outgoing = IsRefusedUnread old new outgoing
-TakesUnless false old new link moment packet outgoing = TakesPacket old new link moment packet outgoing
+abbrev pub TakesUnless : Bool → Station → Station → TimedPacket → Told → Type 0
+TakesUnless true old new t told = IsRefusedUnread old new told
+TakesUnless false old new t told = TakesPacket old new t.link t.moment t.packet told
 
-abbrev pub TakesKnownPacket : Station → Station → ℕ → ℕ → List ℕ → Outgoing → Type 0
-TakesKnownPacket old new link moment packet outgoing =
-    TakesUnless (begins_call old.concentrator link packet) old new link moment packet outgoing
+abbrev pub TakesKnown : Station → Station → Option TimedPacket → Told → Type 0
+TakesKnown old new None told = IsRefusedUnread old new told
+TakesKnown old new (Some t) told = TakesUnless (begins_call old.concentrator t.link t.packet) old new t told
 
-abbrev pub TakesKnown : Station → Station → ℕ → Option ℕ → List ℕ → Outgoing → Type 0
-TakesKnown old new moment None packet outgoing = IsRefusedUnread old new outgoing
-TakesKnown old new moment (Some link) packet outgoing = TakesKnownPacket old new link moment packet outgoing
+-- sends for a packet of this link failed, and are counted for it, if it has counts
+pub record CountsFailedSends (old new : Station) (link failed : ℕ) : Type 0 where
+  pub own : counters_at new link ≡ option_map (with_failed_sends failed) (counters_at old link)
+  pub others : (l : ℕ) → l ≢ link → counters_at new l ≡ counters_at old l
+  pub concentrator : new.concentrator ≡ old.concentrator
+  pub totals : new.totals ≡ old.totals
+  pub links : new.links ≡ old.links
 
-abbrev pub TakesTimedKnown : Station → Station → Option TimedPacket → Outgoing → Type 0
-TakesTimedKnown old new None outgoing = IsRefusedUnread old new outgoing
-TakesTimedKnown old new (Some t) outgoing = TakesKnownPacket old new t.link t.moment t.packet outgoing
+-- sends failed for a datagram of the link that it names, if it names one
+abbrev pub FailsSends : Station → Station → Option ℕ → ℕ → Type 0
+FailsSends old new None failed = new ≡ old
+FailsSends old new (Some link) failed = CountsFailedSends old new link failed

@@ -1,10 +1,10 @@
 //! What a station counts. Each count stays at the greatest `u64`.
 
-ghost use Rattle.std.specs.Prelude.{◌≡◌, ◌≢◌, ℕ, nat_eq};
+ghost use Rattle.std.specs.Prelude.{◌≡◌, ◌≢◌, ℕ, nat_eq, option_map};
 ghost use Rattle.indexmap.specs.IndexMap.{get};
 ghost use Rattle.rohc_concentrator.specs.Report.{report_of};
 ghost use Rattle.rohc_links.specs.Limits.{counted};
-ghost use Rattle.rohc_station.specs.Counting.{CountsAnswer, one_if};
+ghost use Rattle.rohc_station.specs.Counting.{CountsAnswer, one_if, with_failed_sends};
 
 use indexmap::IndexMap;
 use rohc_concentrator::Answer;
@@ -20,8 +20,12 @@ pub struct LinkCounters {
 }
 
 impl LinkCounters {
+    ghost use Rattle.rohc_station.specs.Counting.{IsUncounted};
+
     /// Nothing is counted yet.
-    pub fn new() -> LinkCounters {
+    pub fn new() -> LinkCounters
+        ensures { IsUncounted result }
+    {
         LinkCounters {
             answers: Counts::new(),
             failed_sends: 0,
@@ -30,7 +34,7 @@ impl LinkCounters {
 }
 
 /// The counts of a station, over all links.
-#[derive(Clone, Copy, Default)]
+#[derive(Clone, Copy)]
 pub struct StationCounters {
     /// Datagrams that were taken.
     pub datagrams: u64,
@@ -42,6 +46,17 @@ impl StationCounters {
     ghost use Rattle.std.specs.Prelude.{◌≡◌};
     ghost use Rattle.rohc_station.specs.Counting.{with_datagram};
 
+    /// Nothing is counted yet.
+    pub(crate) fn new() -> StationCounters
+        ensures datagrams { result.datagrams ≡ 0 }
+        ensures bad { result.bad_datagrams ≡ 0 }
+    {
+        StationCounters {
+            datagrams: 0,
+            bad_datagrams: 0,
+        }
+    }
+
     /// Counts a datagram.
     pub(crate) fn add(&mut self, is_bad: bool)
         ensures { self.new ≡ with_datagram self.old is_bad }
@@ -50,6 +65,16 @@ impl StationCounters {
             datagrams: self.datagrams.saturating_add(1),
             bad_datagrams: counted_if(self.bad_datagrams, is_bad),
         };
+    }
+}
+
+/// Counts sends of a link that failed, if the link has counts.
+pub(crate) fn count_failed_sends(counters: &mut IndexMap<u16, LinkCounters>, link: u16, failed: u64)
+    ensures own { get nat_eq counters.new link ≡ option_map (with_failed_sends failed) (get nat_eq counters.old link) }
+    ensures others { (l : ℕ) → l ≢ link → get nat_eq counters.new l ≡ get nat_eq counters.old l }
+{
+    if let Some(counts) = counters.get_mut(&link) {
+        counts.failed_sends = counts.failed_sends.saturating_add(failed);
     }
 }
 

@@ -3,11 +3,12 @@
 #![tactic(auto)]
 
 pub mod counters;
+pub mod laws;
 pub mod lists;
 pub mod metrics;
 pub mod reload;
 pub mod request;
-mod sending;
+pub mod sending;
 pub mod station;
 pub mod timed;
 
@@ -16,6 +17,7 @@ pub use lists::{write_calls, write_contexts};
 pub use metrics::{GatewayFigures, write_metrics};
 pub use reload::{ReloadFault, ReloadReport};
 pub use request::{Asked, Request, RequestFault, read_request, request_of};
+pub use sending::Taken;
 pub use station::Station;
 pub use timed::{Timed, timed_datagram};
 

@@ -6,7 +6,7 @@ ghost use Rattle.rohc_serve.specs.Outgoing.{outgoing_of, sends_of, refused_for};
 ghost use Rattle.rohc_serve.specs.Datagram.{place_of, ports_of};
 
 use rohc_concentrator::{Answer, LinkSetting};
-use rohc_context::Outcome;
+use rohc_context::{Outcome, Refusal};
 use rohc_frame::Elements;
 use rohc_links::{Links, Ports};
 use rohc_serve::Sends;
@@ -29,6 +29,38 @@ pub(crate) fn ports_of(links: &Links, link: u16) -> Option<Ports>
     Some(links.ports()[place])
 }
 
+/// What came of a datagram.
+#[derive(Debug, Drop)]
+pub struct Taken<'a> {
+    /// What is to be sent for it.
+    pub sends: Sends<'a>,
+    /// Why its packet was refused, if it was. A datagram that is too short or turned away has none: its packet wasn't read.
+    pub refusal: Option<Refusal>,
+}
+
+ghost use Rattle.rohc_station.specs.Told.{refusal_of, refusal_in, told_of, told_unread, told_for};
+
+/// The refusal of an outcome, if it is one.
+fn refusal_of(outcome: Outcome) -> Option<Refusal>
+    ensures { result ≡ refusal_of outcome }
+{
+    match outcome {
+        Outcome::Refused(refusal) => Some(refusal),
+        Outcome::Delivered | Outcome::Stored => None,
+    }
+}
+
+/// Why a packet was refused, if it was.
+fn refusal_in(answer: &Answer<'_>) -> Option<Refusal>
+    ensures { result ≡ refusal_in (report_of answer.now) }
+{
+    match answer {
+        Answer::Arrived { reply, .. } => refusal_of(reply.outcome),
+        Answer::OnlyFront { .. } => None,
+        Answer::Refused(refusal) => Some(*refusal),
+    }
+}
+
 /// Whether an outcome is a refusal.
 fn is_refusal(outcome: Outcome) -> bool
     ensures { result ≡ is_refusal outcome }
@@ -40,7 +72,7 @@ fn is_refusal(outcome: Outcome) -> bool
 }
 
 /// Nothing is to be sent, since the datagram was refused.
-pub(crate) fn refused<'a>(ports: Option<Ports>) -> Sends<'a>
+fn refused<'a>(ports: Option<Ports>) -> Sends<'a>
     ensures { outgoing_of result ≡ refused_for ports }
 {
     Sends {
@@ -53,7 +85,7 @@ pub(crate) fn refused<'a>(ports: Option<Ports>) -> Sends<'a>
 }
 
 /// What is to be sent for an answer, to the ports of its link.
-pub(crate) fn sends_of<'a>(ports: Option<Ports>, answer: Answer<'a>) -> Sends<'a>
+fn sends_of<'a>(ports: Option<Ports>, answer: Answer<'a>) -> Sends<'a>
     ensures { outgoing_of result ≡ sends_of ports (report_of answer.entry) }
 {
     match answer {
@@ -70,5 +102,26 @@ pub(crate) fn sends_of<'a>(ports: Option<Ports>, answer: Answer<'a>) -> Sends<'a
             ..refused(ports)
         },
         Answer::Refused(_) => refused(ports),
+    }
+}
+
+/// A datagram was refused, and its packet wasn't read.
+pub(crate) fn unread<'a>() -> Taken<'a>
+    ensures { told_of result ≡ told_unread }
+{
+    Taken {
+        sends: refused(None),
+        refusal: None,
+    }
+}
+
+/// What came of a datagram, by the answer to its packet and the ports of its link.
+pub(crate) fn answered<'a>(ports: Option<Ports>, answer: Answer<'a>) -> Taken<'a>
+    ensures { told_of result ≡ told_for ports (report_of answer.entry) }
+{
+    let refusal = refusal_in(&answer);
+    Taken {
+        sends: sends_of(ports, answer),
+        refusal,
     }
 }

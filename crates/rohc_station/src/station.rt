@@ -3,16 +3,15 @@
 ghost use Rattle.std.specs.Prelude.{◌≡◌, Some, None, IfSome, IfNone};
 ghost use Rattle.rohc_serve.specs.Datagram.{named_link, datagram_packet};
 
-use crate::counters::{LinkCounters, StationCounters, count_answer};
-use crate::reload::setting_of;
-use crate::sending::{ports_of, refused, sends_of};
+use crate::counters::{LinkCounters, StationCounters, count_answer, count_failed_sends};
+use crate::reload::{counters_for, setting_of};
+use crate::sending::{Taken, answered, ports_of, unread};
 use crate::timed::timed_datagram;
 use indexmap::IndexMap;
 use rohc_concentrator::{Concentrator, LinkSetting, NoLink};
 use rohc_frame::cut;
 use rohc_links::Links;
 use rohc_saved::{SaveFault, save};
-use rohc_serve::Sends;
 use std::alloc::{AllocError, Global};
 use std::io::Write;
 
@@ -72,7 +71,18 @@ fn begins_call(concentrator: &Concentrator, link: u16, packet: &[u8]) -> bool
     }
 }
 
-ghost use Rattle.rohc_concentrator.specs.Tables.{setting_at};
+/// How many records a link has.
+fn context_count(concentrator: &Concentrator, link: u16) -> usize
+    ensures { result ≡ length (identifiers_at concentrator.now link) }
+{
+    match concentrator.tables().get(&link) {
+        Some(records) => records.contexts.len(),
+        None => 0,
+    }
+}
+
+ghost use Rattle.std.specs.Prelude.{length};
+ghost use Rattle.rohc_concentrator.specs.Tables.{setting_at, identifiers_at};
 ghost use Rattle.rohc_concentrator.specs.Bears.{borne, cid_in, header_on};
 ghost use Rattle.rohc_station.specs.Taking.{begins_call, call_in};
 
@@ -87,15 +97,19 @@ fn call_on(concentrator: &Concentrator, link: u16, packet: &[u8]) -> Option<(u16
 }
 
 impl Station {
-    ghost use Rattle.std.specs.Prelude.{◌≡◌, ◌≢◌, ◌↔◌, ℕ, None, IsErr, OnOk, IfOk, IfErr};
+    ghost use Rattle.std.specs.Prelude.{◌≡◌, ◌↔◌, ℕ, None, IsErr, IfOk, IfErr};
     ghost use Rattle.rohc_concentrator.specs.Tables.{setting_at};
+    ghost use Rattle.rohc_concentrator.specs.Leaving.{HaveGone};
+    ghost use Rattle.rohc_concentrator.specs.Setup.{entry_of};
     ghost use Rattle.rohc_saved.specs.Form.{saved_form};
     ghost use Rattle.rohc_saved.specs.Output.{IsWhole, SaveFails};
-    ghost use Rattle.rohc_station.specs.Reload.{IsUntouched, IsReset};
     ghost use Rattle.rohc_serve.specs.Outgoing.{outgoing_of};
     ghost use Rattle.rohc_serve.specs.Datagram.{named_link, datagram_packet, Answers};
     ghost use Rattle.rohc_station.specs.Timed.{timed_in};
-    ghost use Rattle.rohc_station.specs.Taking.{call_in, timed_call_in, TakesPacket, TakesKnownPacket, TakesDatagram, TakesKnown, TakesTimed, TakesTimedKnown, IsRefusedUnread};
+    ghost use Rattle.rohc_station.specs.Told.{told_of};
+    ghost use Rattle.rohc_station.specs.Counting.{KeepsCounts};
+    ghost use Rattle.rohc_station.specs.Reset.{Forgets};
+    ghost use Rattle.rohc_station.specs.Taking.{counters_at, dated, begins_call, call_in, timed_call_in, TakesPacket, TakesUnless, Takes, TakesKnown, IsRefusedUnread, FailsSends};
 
     /// A station of this concentrator and these links, with nothing counted. The error is lack of memory.
     pub fn new(
@@ -105,16 +119,16 @@ impl Station {
     ) -> Result<Station, AllocError>
         ensures concentrator { IfOk result (λ station. station.concentrator ≡ concentrator) }
         ensures links { IfOk result (λ station. station.links ≡ links) }
+        ensures counters { IfOk result (λ station. (l : ℕ) → KeepsCounts None (entry_of l links.settings) (counters_at station l)) }
+        ensures datagrams { IfOk result (λ station. station.totals.datagrams ≡ 0) }
+        ensures bad { IfOk result (λ station. station.totals.bad_datagrams ≡ 0) }
     {
-        let mut counters = IndexMap::new(alloc);
-        for setting in links.settings() {
-            counters.insert(setting.link, LinkCounters::new())?;
-        }
+        let counters = counters_for(alloc, &IndexMap::new(alloc), links.settings())?;
         Ok(Station {
             concentrator,
             links,
             counters,
-            totals: StationCounters::default(),
+            totals: StationCounters::new(),
         })
     }
 
@@ -153,64 +167,70 @@ impl Station {
     /// Forgets the records of a link, or that of one CID of it, and no other. Returns how many went. The
     /// error is `NoLink`; then nothing changes.
     pub fn reset(&mut self, link: u16, cid: Option<u16>) -> Result<usize, NoLink>
-        ensures others { (l : ℕ) → l ≢ link → IsUntouched self.old.concentrator self.new.concentrator l }
-        ensures own { OnOk result (IsReset self.old.concentrator self.new.concentrator link cid) }
+        ensures forgets { Forgets self.old self.new link cid }
         ensures absent { IsErr result ↔ (setting_at self.old.concentrator link ≡ None) }
-        ensures stays { IfErr result (λ e. IsUntouched self.old.concentrator self.new.concentrator link) }
-        ensures counters { self.new.counters ≡ self.old.counters }
+        ensures gone { IfOk result (λ count. HaveGone count self.old.concentrator self.new.concentrator link) }
     {
         match cid {
             Some(cid) => self.concentrator.forget(link, cid),
             None => {
-                let count = match self.concentrator.tables().get(&link) {
-                    Some(records) => records.contexts.len(),
-                    None => 0,
-                };
+                let count = context_count(&self.concentrator, link);
                 self.concentrator.reset(link)?;
                 Ok(count)
             }
         }
     }
 
-    /// Counts sends that failed, for the link whose number begins a datagram of either form.
+    /// Counts sends that failed, for the link whose number begins a datagram of either form. The count stays at
+    /// the greatest `u64`.
     pub fn add_failed_sends(&mut self, datagram: &[u8], failed: u64)
-        ensures { self.new.concentrator ≡ self.old.concentrator }
+        ensures { FailsSends self.old self.new (named_link datagram.now) failed }
     {
         if let Some((link, _)) = named_link(datagram) {
-            if let Some(counts) = self.counters.get_mut(&link) {
-                counts.failed_sends = counts.failed_sends.saturating_add(failed);
-            }
+            count_failed_sends(&mut self.counters, link, failed);
         }
     }
 
     /// Takes a packet of a link that arrived at this moment.
-    fn take_packet<'a>(&mut self, link: u16, moment: u64, packet: &'a [u8]) -> Sends<'a>
-        ensures { TakesPacket self.old self.new link moment packet.entry.now (outgoing_of result) }
+    fn take_packet<'a>(&mut self, link: u16, moment: u64, packet: &'a [u8]) -> Taken<'a>
+        ensures { TakesPacket self.old self.new link moment packet.entry.now (told_of result) }
     {
         let answer = self.concentrator.arrive(link, moment, packet);
         count_answer(&mut self.counters, link, &answer);
         let ports = ports_of(&self.links, link);
         self.totals.add(ports.is_none());
-        sends_of(ports, answer)
+        answered(ports, answer)
     }
 
-    /// Refuses a datagram that is too short.
-    fn refuse<'a>(&mut self) -> Sends<'a>
-        ensures { IsRefusedUnread self.old self.new (outgoing_of result) }
+    /// Refuses a datagram that is too short, or turned away.
+    fn refuse<'a>(&mut self) -> Taken<'a>
+        ensures { IsRefusedUnread self.old self.new (told_of result) }
     {
         self.totals.add(true);
-        refused(None)
+        unread()
+    }
+
+    /// Takes a packet of a link, unless it would begin a call.
+    fn take_known_packet<'a>(&mut self, link: u16, moment: u64, packet: &'a [u8]) -> Taken<'a>
+        ensures { TakesUnless (begins_call self.old.concentrator link packet.entry.now) self.old self.new
+            (record { link = link; moment = moment; packet = packet.entry.now }) (told_of result) }
+    {
+        if begins_call(&self.concentrator, link, packet) {
+            self.refuse()
+        } else {
+            self.take_packet(link, moment, packet)
+        }
     }
 
     /// Takes a datagram that arrived at this moment, in milliseconds: a link's number in two octets, most
-    /// significant octet first, and a packet. Returns what is to be sent for it.
+    /// significant octet first, and a packet. Returns what came of it.
     ///
     /// The payload and the relayed feedback in the result are borrowed from `datagram`. A datagram of fewer
     /// than two octets, or of a link that isn't there, is refused. Its answer is that of
     /// `rohc_serve::answer_datagram`.
-    pub fn take<'a>(&mut self, moment: u64, datagram: &'a [u8]) -> Sends<'a>
-        ensures answer { Answers self.old.links self.old.concentrator moment datagram.entry.now (outgoing_of result) self.new.concentrator }
-        ensures taken { TakesDatagram self.old self.new moment (named_link datagram.entry.now) (datagram_packet datagram.entry.now) (outgoing_of result) }
+    pub fn take<'a>(&mut self, moment: u64, datagram: &'a [u8]) -> Taken<'a>
+        ensures answer { Answers self.old.links self.old.concentrator moment datagram.entry.now (outgoing_of result.sends) self.new.concentrator }
+        ensures taken { Takes self.old self.new (dated moment datagram.entry.now) (told_of result) }
     {
         match named_link(datagram) {
             Some((link, packet)) => self.take_packet(link, moment, packet),
@@ -220,11 +240,32 @@ impl Station {
 
     /// Takes a timed datagram (`timed_datagram`), as `take` does at the moment that stands in it. One of
     /// fewer than ten octets is refused.
-    pub fn take_timed<'a>(&mut self, datagram: &'a [u8]) -> Sends<'a>
-        ensures { TakesTimed self.old self.new (timed_in datagram.entry.now) (outgoing_of result) }
+    pub fn take_timed<'a>(&mut self, datagram: &'a [u8]) -> Taken<'a>
+        ensures { Takes self.old self.new (timed_in datagram.entry.now) (told_of result) }
     {
         match timed_datagram(datagram) {
             Some(timed) => self.take_packet(timed.link, timed.moment, timed.packet),
+            None => self.refuse(),
+        }
+    }
+
+    /// Takes a datagram as `take` does, but refuses one that would begin a call: whose packet bears a CID
+    /// that has no record. Calls that stand go on.
+    pub fn take_known<'a>(&mut self, moment: u64, datagram: &'a [u8]) -> Taken<'a>
+        ensures { TakesKnown self.old self.new (dated moment datagram.entry.now) (told_of result) }
+    {
+        match named_link(datagram) {
+            Some((link, packet)) => self.take_known_packet(link, moment, packet),
+            None => self.refuse(),
+        }
+    }
+
+    /// Takes a timed datagram as `take_timed` does, but refuses one that would begin a call.
+    pub fn take_timed_known<'a>(&mut self, datagram: &'a [u8]) -> Taken<'a>
+        ensures { TakesKnown self.old self.new (timed_in datagram.entry.now) (told_of result) }
+    {
+        match timed_datagram(datagram) {
+            Some(timed) => self.take_known_packet(timed.link, timed.moment, timed.packet),
             None => self.refuse(),
         }
     }
@@ -246,38 +287,6 @@ impl Station {
         match timed_datagram(datagram) {
             Some(timed) => call_on(&self.concentrator, timed.link, timed.packet),
             None => None,
-        }
-    }
-
-    /// Takes a packet of a link, unless it would begin a call.
-    fn take_known_packet<'a>(&mut self, link: u16, moment: u64, packet: &'a [u8]) -> Sends<'a>
-        ensures { TakesKnownPacket self.old self.new link moment packet.entry.now (outgoing_of result) }
-    {
-        if begins_call(&self.concentrator, link, packet) {
-            self.refuse()
-        } else {
-            self.take_packet(link, moment, packet)
-        }
-    }
-
-    /// Takes a datagram as `take` does, but refuses one that would begin a call: whose packet bears a CID
-    /// that has no record. Calls that stand go on.
-    pub fn take_known<'a>(&mut self, moment: u64, datagram: &'a [u8]) -> Sends<'a>
-        ensures { TakesKnown self.old self.new moment (named_link datagram.entry.now) (datagram_packet datagram.entry.now) (outgoing_of result) }
-    {
-        match named_link(datagram) {
-            Some((link, packet)) => self.take_known_packet(link, moment, packet),
-            None => self.refuse(),
-        }
-    }
-
-    /// Takes a timed datagram as `take_timed` does, but refuses one that would begin a call.
-    pub fn take_timed_known<'a>(&mut self, datagram: &'a [u8]) -> Sends<'a>
-        ensures { TakesTimedKnown self.old self.new (timed_in datagram.entry.now) (outgoing_of result) }
-    {
-        match timed_datagram(datagram) {
-            Some(timed) => self.take_known_packet(timed.link, timed.moment, timed.packet),
-            None => self.refuse(),
         }
     }
 }

@@ -7,6 +7,7 @@ use crate::request::{Asked, Request, RequestFault, read_request};
 use crate::station::Station;
 use crate::timed::timed_datagram;
 use rohc_concentrator::Concentrator;
+use rohc_context::Refusal;
 use rohc_links::{Links, read_links};
 use rohc_saved::restore;
 use std::alloc::Global;
@@ -83,8 +84,10 @@ fn reads_requests(rt: HostRuntime) {
 #[test]
 fn takes_and_reloads(rt: HostRuntime) {
     let mut station = station(&rt, 4, 5);
-    let sends = station.take(1000, WHOLE_IR);
+    let taken = station.take(1000, WHOLE_IR);
+    let sends = taken.sends;
     assert!(rt; sends.ports.is_some() && sends.packet.is_some() && sends.feedback.is_some());
+    assert!(rt; taken.refusal.is_none());
     let report = station
         .reload(rt.alloc(), links(&rt, 4, 6))
         .expect(&rt, "it works");
@@ -96,9 +99,9 @@ fn takes_and_reloads(rt: HostRuntime) {
     };
     assert!(rt; report == wanted);
     assert!(rt; station.concentrator().has_context(4, 0));
-    assert!(rt; station.take(1000, &[0, 5, 1]).ports.is_none());
+    assert!(rt; station.take(1000, &[0, 5, 1]).refusal == Some(Refusal::NoLink));
     assert!(rt; station.totals().datagrams == 2 && station.totals().bad_datagrams == 1);
-    assert!(rt; station.take_known(1000, &[0, 6, 0xfd, 0x01]).refused);
+    assert!(rt; station.take_known(1000, &[0, 6, 0xfd, 0x01]).sends.refused);
     assert!(rt; station.reset(4, Some(0)).expect(&rt, "it works") == 1);
 }
 
