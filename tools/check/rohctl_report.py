@@ -252,7 +252,7 @@ def check_capture(trial: Trial) -> None:
 
 def memory_of(trial: Trial, given: Path) -> int:
     """The most memory of a report, in kilobytes."""
-    words = [trial.top / PROGRAM, "report", "--links", trial.top / PLAIN_LINKS, given, "-o", os.devnull]
+    words: list[str | Path] = [trial.top / PROGRAM, "report", "--links", trial.top / PLAIN_LINKS, given, "-o", os.devnull]
     with subprocess.Popen(words) as process:
         _, _, used = os.wait4(process.pid, 0)
         process.returncode = 0
