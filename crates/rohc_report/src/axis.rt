@@ -67,3 +67,12 @@ pub(crate) fn hit_of(cell: usize) -> usize
 {
     x_of(cell).saturating_sub(CELL_WIDTH).min(WIDTH - HIT_WIDTH)
 }
+
+/// How wide so many cells are from this one on, up to the end of the picture.
+pub(crate) fn width_of(cell: usize, count: usize) -> usize
+    requires { cell < CELLS }
+    ensures exact { cell + count ≤ CELLS → result ≡ count * CELL_WIDTH }
+    ensures within { cell * CELL_WIDTH + result ≤ WIDTH }
+{
+    count.min(CELLS - cell) * CELL_WIDTH
+}

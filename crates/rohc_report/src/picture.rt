@@ -1,6 +1,6 @@
 //! The time line of a call as a picture in SVG.
 
-use crate::axis::{CELL_WIDTH, CELLS, HIT_WIDTH, hit_of, x_of};
+use crate::axis::{CELLS, HIT_WIDTH, hit_of, width_of, x_of};
 use crate::became::Became;
 use crate::drawn::{Cell, Drawn, Told};
 use crate::lanes::Lane;
@@ -16,8 +16,9 @@ fn write_mark<W: Write>(
     base: u32,
     height: u32,
 ) -> io::Result<()> {
-    let x = x_of(cell.min(CELLS - 1));
-    let width = count.saturating_mul(CELL_WIDTH);
+    let cell = cell.min(CELLS - 1);
+    let x = x_of(cell);
+    let width = width_of(cell, count);
     write!(out, "M{x} {base}v-{height}h{width}v{height}z")
 }
 
