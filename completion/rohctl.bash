@@ -5,7 +5,7 @@ _rohctl() {
     local word=${COMP_WORDS[COMP_CWORD]} options='' asking='status stop save reload drain reset contexts calls watch'
     COMPREPLY=()
     if [ "$COMP_CWORD" -eq 1 ]; then
-        mapfile -t COMPREPLY < <(compgen -W "totals links trace explain diff plan decompress script spread verify $asking" -- "$word")
+        mapfile -t COMPREPLY < <(compgen -W "totals links trace explain diff plan decompress script report spread verify $asking" -- "$word")
         return
     fi
     case ${COMP_WORDS[1]} in
@@ -17,6 +17,7 @@ _rohctl() {
     decompress) options='--links --link --vlan --port --padded --pcapng --stats --feedback' ;;
     plan) options='--damage --packet-ms --window --calls --split --links --json' ;;
     script) options='--link --vlan --port --from --other --lines --back --pcapng' ;;
+    report) options='--links --link --vlan --port --output' ;;
     status | stop | save | reload | drain | watch) options='--control' ;;
     spread) options='--hosts --nginx --out' ;;
     verify) options='--root' ;;

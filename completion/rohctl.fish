@@ -1,13 +1,13 @@
 # Completion of rohctl's words in fish.
 set -l asking status stop save reload drain reset contexts calls watch
-set -l commands totals links trace explain diff plan decompress script spread verify $asking
+set -l commands totals links trace explain diff plan decompress script report spread verify $asking
 complete -c rohctl -f -n "not __fish_seen_subcommand_from $commands" -a "$commands"
-complete -c rohctl -F -n "__fish_seen_subcommand_from totals links trace explain diff decompress script spread verify"
+complete -c rohctl -F -n "__fish_seen_subcommand_from totals links trace explain diff decompress script report spread verify"
 complete -c rohctl -l json -n "__fish_seen_subcommand_from totals links explain diff plan" -d 'Write JSON, one object a line'
 complete -c rohctl -l prometheus -n "__fish_seen_subcommand_from totals" -d 'Write the text format of Prometheus'
 complete -c rohctl -l follow -n "__fish_seen_subcommand_from totals" -d 'Draw the table again while lines come'
 complete -c rohctl -l new -n "__fish_seen_subcommand_from links" -d 'Write a links file to start from'
-complete -c rohctl -l links -r -F -n "__fish_seen_subcommand_from trace explain plan decompress" -d 'The links file'
+complete -c rohctl -l links -r -F -n "__fish_seen_subcommand_from trace explain plan decompress report" -d 'The links file'
 complete -c rohctl -l damage -x -n "__fish_seen_subcommand_from plan" -d 'How many of 100 headers are damaged'
 complete -c rohctl -l packet-ms -x -n "__fish_seen_subcommand_from plan" -d 'The packet time'
 complete -c rohctl -l window -x -n "__fish_seen_subcommand_from plan" -d 'A window, K/N'
@@ -18,13 +18,13 @@ complete -c rohctl -l nginx -n "__fish_seen_subcommand_from spread" -d 'Write a 
 complete -c rohctl -l out -r -F -n "__fish_seen_subcommand_from spread" -d 'The folder for the links files'
 complete -c rohctl -l root -r -F -n "__fish_seen_subcommand_from verify" -d 'Where the paths of the list begin'
 complete -c rohctl -l control -r -F -n "__fish_seen_subcommand_from $asking" -d 'The control socket of the gateway'
-complete -c rohctl -l link -x -n "__fish_seen_subcommand_from explain decompress script reset contexts calls" -d 'The number of a link'
+complete -c rohctl -l link -x -n "__fish_seen_subcommand_from explain decompress script report reset contexts calls" -d 'The number of a link'
 complete -c rohctl -l cid -x -n "__fish_seen_subcommand_from reset" -d 'The CID of a context'
 complete -c rohctl -l brief -n "__fish_seen_subcommand_from explain" -d 'Write a line a packet'
 complete -c rohctl -l line -x -n "__fish_seen_subcommand_from explain" -d 'The packet in this line'
 complete -c rohctl -l call -x -n "__fish_seen_subcommand_from explain" -d 'The packets of a call, LINK/CID'
-complete -c rohctl -l vlan -x -n "__fish_seen_subcommand_from decompress script" -d 'The links of VLANs, N=L'
-complete -c rohctl -l port -x -n "__fish_seen_subcommand_from decompress script" -d 'The links of UDP ports, N or N=L'
+complete -c rohctl -l vlan -x -n "__fish_seen_subcommand_from decompress script report" -d 'The links of VLANs, N=L'
+complete -c rohctl -l port -x -n "__fish_seen_subcommand_from decompress script report" -d 'The links of UDP ports, N or N=L'
 complete -c rohctl -l padded -n "__fish_seen_subcommand_from decompress" -d 'End a packet at its IPv4 total length'
 complete -c rohctl -l pcapng -n "__fish_seen_subcommand_from decompress script" -d 'Write pcapng'
 complete -c rohctl -l stats -n "__fish_seen_subcommand_from decompress" -d 'Tell counts'
@@ -33,3 +33,4 @@ complete -c rohctl -l from -x -n "__fish_seen_subcommand_from script" -d 'Only p
 complete -c rohctl -l other -r -F -n "__fish_seen_subcommand_from script" -d 'Write what others sent too'
 complete -c rohctl -l lines -r -F -n "__fish_seen_subcommand_from script" -d 'Write the frame of each line'
 complete -c rohctl -l back -n "__fish_seen_subcommand_from script" -d 'Turn a script into a capture'
+complete -c rohctl -s o -l output -r -F -n "__fish_seen_subcommand_from report" -d 'The page that is written'

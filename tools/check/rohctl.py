@@ -14,6 +14,7 @@ import rohctl_diff
 import rohctl_explain
 import rohctl_links
 import rohctl_plan
+import rohctl_report
 import rohctl_spread
 from installation import COMPLETE
 from program import Call, Ended, run
@@ -61,7 +62,7 @@ HOSTILE = b"\x1b[31m\n1 0 ip \x00\n\xff\xfe refused Check\n1 0 refused \"}\n" + 
 # What bash completes, and behind which words.
 COMPLETIONS = (
     (
-        "calls contexts decompress diff drain explain links plan reload reset save script spread status stop totals trace verify"
+        "calls contexts decompress diff drain explain links plan reload report reset save script spread status stop totals trace verify"
         " watch",
         ("",),
     ),
@@ -71,6 +72,7 @@ COMPLETIONS = (
     ("--follow --json --prometheus", ("totals", "--")),
     ("--back --from --lines --link --other --pcapng --port --vlan", ("script", "--")),
     ("--feedback --link --links --padded --pcapng --port --stats --vlan", ("decompress", "--")),
+    ("--link --links --output --port --vlan", ("report", "--")),
     ("--links", ("trace", "--l")),
     ("--line --link --links", ("explain", "--li")),
     ("links.toml", ("trace", "--links", "li")),
@@ -312,7 +314,7 @@ def check_site(trial: Trial) -> None:
 
 def check_ends(trial: Trial) -> None:
     """The statuses of wrong words and files; help and version."""
-    for words in (("--help",), ("--version",), ("totals", "--help"), ("trace", "--help"), ("links", "--help"), ("diff", "--help"), ("plan", "--help"), ("spread", "--help"), ("explain", "--help"), ("decompress", "--help"),
+    for words in (("--help",), ("--version",), ("totals", "--help"), ("trace", "--help"), ("links", "--help"), ("diff", "--help"), ("plan", "--help"), ("spread", "--help"), ("explain", "--help"), ("decompress", "--help"), ("report", "--help"),
                   ("status", "--help"), ("reset", "--help")):
         ended = call(trial, *words)
         trial.demand(ended.status == 0 and ended.text != "", f"rohctl {words}: {ended.end()}", ended.call)
@@ -332,5 +334,5 @@ def check(trial: Trial) -> None:
     """All of it, on the program that the gate left."""
     for part in (check_totals, check_json, check_metrics, check_hostile, check_trace, check_whole, check_colour, check_follow, check_progress, check_completion, check_site, check_ends,
                  rohctl_explain.check, rohctl_links.check, rohctl_diff.check, rohctl_plan.check, rohctl_spread.check,
-                 rohctl_capture.check):
+                 rohctl_capture.check, rohctl_report.check):
         part(trial)

@@ -30,6 +30,17 @@ ABBREVIATION = re.compile(r"[A-Z]{2}")
 MOST_REQUESTS = 1000
 # A refusal's sentence, and behind it what usually causes it, with a section of an RFC or a document of this repository.
 TELLING = re.compile(r"^answer: refused (\w+): (.*)\nusual cause: .* \((?:RFC \d+ [\d.]+|docs/\w+\.md[^()]*|man [\w.-]+)\)$", re.MULTILINE)
+# A call of a worked example that falls twice: k1 = 2 of n1 = 3 failures, then k2 = 2 of n2 = 3, and behind that a
+# STATIC-NACK at 70 and one at 1070, static_nack_ms being 1000. The IR has SN 1 and arrives at 0.
+FALLING = (
+    ("20 11ac", "20 ms after the last accepted packet, SN 2; 2 failed checks in a row lead to Static Context"),
+    ("50 11ac", "50 ms after the last accepted packet, SN 2; 1 failed check leads to Static Context"),
+    ("60 d4c33fad", "60 ms after the last accepted packet, SN 2; 2 failed checks in a row lead to No Context"),
+    ("70 d4c33fad", "70 ms after the last accepted packet, SN 2; 1 failed check leads to No Context"),
+    ("80 11ac", "80 ms after the last accepted packet, an IR alone; no STATIC-NACK for 990 ms"),
+    ("1070 11ac", "1070 ms after the last accepted packet, an IR alone; a STATIC-NACK may be sent now"),
+    ("2000 11ac", "2000 ms after the last accepted packet, an IR alone; no STATIC-NACK for 70 ms"),
+)
 HOSTILE = b"\x1b[2J\narrive 1 0 \x1b[31m\narrive 1 0 fc00b745aa\x07\narrive 1 0 fc00b745aa\n\xff\n"
 
 
@@ -82,7 +93,7 @@ def numbers_stand(row: dict, octets: bytes) -> bool:
 
 
 def check_scripts(trial: Trial) -> None:
-    """The answers and the places of all packets of all scripts."""
+    """The answers, the places and what was expected of all packets of all scripts."""
     for script, links in scripts(trial):
         ended = explain(trial, "--json", "--links", links, script)
         rows = [json.loads(line) for line in ended.text.splitlines()]
@@ -92,6 +103,7 @@ def check_scripts(trial: Trial) -> None:
             digits = lines[row["line"] - 1].split()[-1].decode()
             octets = b"" if digits == "-" else bytes.fromhex(digits)
             trial.demand(numbers_stand(row, octets), f"{script.name}: line {row['line']}: a field in another place", ended.call)
+            trial.demand(as_expected(row), f"{script.name}: line {row['line']}: not as was expected", ended.call)
 
 
 def sentences(top: Path) -> dict[str, str]:
@@ -136,9 +148,32 @@ def check_sentences(trial: Trial) -> None:
         trial.same(f"the sentence of {name}", sentence, found.get(name, "isn't told"))
 
 
+def as_expected(row: dict) -> bool:
+    """Whether what became of a packet is what was told before it: when its context falls, when a STATIC-NACK is due."""
+    before, after, expected = row["before"], row["after"], row["expected"]
+    if expected is None or not expected["counts"]:
+        return expected is None or row["format"] == "IR" or row.get("refusal") not in ("Check", "StateTooLow")
+    if row.get("refusal") == "Check" and "falls_to" in expected:
+        return after["state"] == (expected["falls_to"] if expected["falls_after"] == 1 else before["state"])
+    if row.get("refusal") == "StateTooLow" and "static_nack_in" in expected:
+        return (expected["static_nack_in"] == 0) == (row["feedback"] > 0)
+    return True
+
+
+def check_expected(trial: Trial) -> None:
+    """What is told of the state before a packet, worked out by hand for a call that falls."""
+    first = (trial.top / "examples/worked/two-calls-and-noise.script").read_text().splitlines()[0]
+    script = "\n".join([first, *(f"arrive 1 {packet}" for packet, _ in FALLING)])
+    links = trial.top / "examples/worked/links-1.toml"
+    ended = explain(trial, "--links", links, given=script.encode())
+    found = re.findall(r"^expected: (.*)$", ended.text, re.MULTILINE)
+    trial.same("what is expected", "\n".join(wanted for _, wanted in FALLING), "\n".join(found), ended.call)
+
+
 def check(trial: Trial) -> None:
     """All scripts, a brief telling, one line, one call, given packets, and hostile lines."""
     check_scripts(trial)
+    check_expected(trial)
     check_sentences(trial)
     brief = explain(trial, "--brief", "--links", LINKS, PLAIN)
     trial.same("the brief telling", BRIEF, brief.text, brief.call)

@@ -29,7 +29,7 @@ pub struct Decompress<'a> {
 }
 
 /// The ending for a capture that can't be read on.
-pub(crate) fn capture_end(fault: CaptureFault) -> Ending {
+pub fn capture_end(fault: CaptureFault) -> Ending {
     match fault.kind {
         FaultKind::NoMemory => Ending::Memory,
         FaultKind::Read => Ending::Read,

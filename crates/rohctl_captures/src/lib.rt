@@ -7,6 +7,6 @@ mod rules;
 mod script;
 mod sender;
 
-pub use bulk::{Decompress, run_decompress};
-pub use rules::RuleWords;
+pub use bulk::{Decompress, capture_end, run_decompress};
+pub use rules::{RuleWords, RulesFault, rules_of};
 pub use script::{Script, run_script};

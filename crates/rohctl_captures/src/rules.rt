@@ -55,7 +55,7 @@ fn rule_of(naming: Naming, text: &str) -> Option<Rule> {
 
 /// Why there are no rules.
 #[derive(Clone, Copy, Debug, PartialEq, Eq)]
-pub(crate) enum RulesFault {
+pub enum RulesFault {
     /// A number can't be read, or no rule is asked for.
     Words,
     /// There is no memory.
@@ -64,7 +64,7 @@ pub(crate) enum RulesFault {
 
 impl RulesFault {
     /// The ending for words without good rules, or for lack of memory.
-    pub(crate) fn ending(self) -> Ending {
+    pub fn ending(self) -> Ending {
         match self {
             RulesFault::Words => Ending::CommandLine,
             RulesFault::Memory => Ending::Memory,
@@ -89,7 +89,7 @@ fn add_rules(rules: &mut Vec<Rule>, naming: Naming, text: Option<&str>) -> Resul
 }
 
 /// The rules that are asked for: those of VLANs, of ports, and of the link that has all others.
-pub(crate) fn rules_of(alloc: Global, asked: &RuleWords<'_>) -> Result<Vec<Rule>, RulesFault> {
+pub fn rules_of(alloc: Global, asked: &RuleWords<'_>) -> Result<Vec<Rule>, RulesFault> {
     let mut rules = Vec::new(alloc);
     add_rules(&mut rules, Naming::Vlan, asked.vlan)?;
     add_rules(&mut rules, Naming::Port, asked.port)?;

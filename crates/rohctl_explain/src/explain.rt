@@ -2,8 +2,8 @@
 
 use crate::asked::{Asked, Source, Telling, Which};
 use crate::explain_json::write_object;
-use crate::explain_packet::{Explained, Got, explain_packet};
-use crate::explain_text::{write_brief, write_whole};
+use crate::explain_text::{Place, write_brief, write_whole};
+use crate::packet::{Explained, Got, explain_packet};
 use rohc_concentrator::Concentrator;
 use rohctl_ground::{
     Ending, Line, Screen, Stop, Taker, Told, concentrator_of, open_source, read_packets,
@@ -43,7 +43,7 @@ impl<W: Write + Drop> Run<W> {
         }
         let out = &mut self.out;
         let written = match self.telling {
-            Telling::Whole => write_whole(out, line, explained),
+            Telling::Whole => write_whole(out, Place::Line(line), explained),
             Telling::Brief => write_brief(out, line, explained),
             Telling::Json => write_object(out, line, explained),
         };

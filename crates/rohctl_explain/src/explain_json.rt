@@ -1,7 +1,8 @@
 //! A packet, explained as a JSON object. Every text in it is a name of ours.
 
-use crate::explain_packet::{Explained, Got, View};
-use crate::explain_text::{answer_name, failures, format_name, profile_name, state_name};
+use crate::expected::{Ahead, Expected, expected_of, failures};
+use crate::explain_text::{answer_name, format_name, profile_name, state_name};
+use crate::packet::{Explained, Got, View};
 use rohc_explain::PacketFields;
 use rohc_tries::{Told, cause_of};
 use std::io;
@@ -61,6 +62,28 @@ fn write_view<W: Write>(
     write!(out, "}}")
 }
 
+/// Writes what is expected of the context before the packet.
+fn write_expected<W: Write>(out: &mut W, explained: &Explained) -> io::Result<()> {
+    let Some(Expected { age, sn, ahead }) = expected_of(explained) else {
+        return write!(out, ",\"expected\":null");
+    };
+    let counts = ahead != Ahead::Expired;
+    write!(out, ",\"expected\":{{\"age\":{age},\"counts\":{counts}")?;
+    if let Some(sn) = sn {
+        write!(out, ",\"sn\":{sn}")?;
+    }
+    match ahead {
+        Ahead::Falls { to, after } => write!(
+            out,
+            ",\"falls_to\":\"{}\",\"falls_after\":{after}",
+            state_name(to)
+        )?,
+        Ahead::StaticNack { wait } => write!(out, ",\"static_nack_in\":{wait}")?,
+        Ahead::Expired | Ahead::Nothing | Ahead::Silent => {}
+    }
+    write!(out, "}}")
+}
+
 /// Writes the tries.
 fn write_tries<W: Write>(out: &mut W, tries: &[Told; 3]) -> io::Result<()> {
     write!(out, ",\"tries\":[")?;
@@ -97,7 +120,11 @@ fn write_answer<W: Write>(out: &mut W, explained: &Explained) -> io::Result<()> 
         )?,
         Got::Stored | Got::OnlyFront => {}
     }
-    write!(out, ",\"feedback\":{}", explained.feedback)
+    let feedback = match &explained.feedback {
+        Some(element) => element.len(),
+        None => 0,
+    };
+    write!(out, ",\"feedback\":{feedback}")
 }
 
 /// Writes a packet as an object.
@@ -120,6 +147,7 @@ pub(crate) fn write_object<W: Write>(
         write_fields(out, told)?;
     }
     write_view(out, "before", explained, explained.before.as_ref())?;
+    write_expected(out, explained)?;
     if let Some(tries) = &explained.tries {
         write_tries(out, tries)?;
     }

@@ -1,7 +1,8 @@
 //! A packet, explained for a reader.
 
-use crate::explain_packet::{Explained, Got, View};
-use rohc_context::{ContextState, Profile, Window};
+use crate::expected::{Ahead, Expected, expected_of, failures};
+use crate::packet::{Explained, Got, View};
+use rohc_context::{ContextState, Profile, Settings};
 use rohc_explain::{Field, PacketKind};
 use rohc_forms::FormKind;
 use rohc_tries::{Against, NotMade, Told, cause_of};
@@ -52,16 +53,6 @@ pub(crate) fn profile_name(profile: Profile) -> &'static str {
         Profile::Uncompressed => "0x0000",
         Profile::Rtp => "0x0001",
     }
-}
-
-/// How many of the last `n` outcomes are failures.
-pub(crate) fn failures(window: &Window, n: u8) -> u32 {
-    let newest = if n >= 64 {
-        window.word
-    } else {
-        window.word % (1u64 << n)
-    };
-    newest.count_ones()
 }
 
 /// Writes the bits of a field.
@@ -125,6 +116,43 @@ fn write_view<W: Write>(
             )?;
         }
     }
+    writeln!(out, "")
+}
+
+/// Writes what lies ahead of a context.
+fn write_ahead<W: Write>(out: &mut W, ahead: Ahead, settings: &Settings) -> io::Result<()> {
+    match ahead {
+        Ahead::Expired => write!(out, "; it counts as none after {} ms", settings.idle_ms),
+        Ahead::Nothing => Ok(()),
+        Ahead::Falls { to, after: 1 } => {
+            write!(out, "; 1 failed check leads to {}", state_name(to))
+        }
+        Ahead::Falls { to, after } => write!(
+            out,
+            "; {after} failed checks in a row lead to {}",
+            state_name(to)
+        ),
+        Ahead::StaticNack { wait: 0 } => write!(out, "; a STATIC-NACK may be sent now"),
+        Ahead::StaticNack { wait } => write!(out, "; no STATIC-NACK for {wait} ms"),
+        Ahead::Silent => write!(out, "; in U mode nothing is sent"),
+    }
+}
+
+/// Writes what is expected of the context before the packet.
+fn write_expected<W: Write>(out: &mut W, explained: &Explained) -> io::Result<()> {
+    let (Some(settings), Some(Expected { age, sn, ahead })) = (
+        &explained.settings,
+        expected_of(explained),
+    ) else {
+        return Ok(());
+    };
+    write!(out, "expected: {age} ms after the last accepted packet, ")?;
+    match (ahead, sn) {
+        (Ahead::Expired, _) => write!(out, "an IR alone")?,
+        (_, Some(sn)) => write!(out, "SN {sn}")?,
+        (_, None) => write!(out, "{}", taken_by(explained.before.as_ref()))?,
+    }
+    write_ahead(out, ahead, settings)?;
     writeln!(out, "")
 }
 
@@ -193,17 +221,30 @@ fn write_answer<W: Write>(out: &mut W, explained: &Explained) -> io::Result<()> 
             writeln!(out, "usual cause: {} ({})", cause.usual, cause.section)?;
         }
     }
-    if explained.feedback > 0 {
-        writeln!(out, "feedback: {} octets", explained.feedback)?;
+    if let Some(element) = &explained.feedback {
+        writeln!(out, "feedback: {} octets", element.len())?;
     }
     Ok(())
 }
 
+/// Where a packet stands.
+#[derive(Clone, Copy, Debug, PartialEq, Eq)]
+pub enum Place {
+    /// In this line of a script.
+    Line(u64),
+    /// In this frame of a capture.
+    Frame(u64),
+}
+
 /// Writes where a packet stands.
-fn write_head<W: Write>(out: &mut W, line: u64, explained: &Explained) -> io::Result<()> {
+fn write_head<W: Write>(out: &mut W, at: Place, explained: &Explained) -> io::Result<()> {
+    match at {
+        Place::Line(number) => write!(out, "line {number}")?,
+        Place::Frame(number) => write!(out, "frame {number}")?,
+    }
     write!(
         out,
-        "line {line}: link {} at {}, {} octets",
+        ": link {} at {}, {} octets",
         explained.link, explained.moment, explained.octets
     )?;
     if let Some(cid) = explained.cid {
@@ -213,12 +254,8 @@ fn write_head<W: Write>(out: &mut W, line: u64, explained: &Explained) -> io::Re
 }
 
 /// Writes all that is known of a packet.
-pub(crate) fn write_whole<W: Write>(
-    out: &mut W,
-    line: u64,
-    explained: &Explained,
-) -> io::Result<()> {
-    write_head(out, line, explained)?;
+pub fn write_whole<W: Write>(out: &mut W, at: Place, explained: &Explained) -> io::Result<()> {
+    write_head(out, at, explained)?;
     if let Some(told) = &explained.told {
         for field in &told.fields {
             write_field(out, field)?;
@@ -230,6 +267,7 @@ pub(crate) fn write_whole<W: Write>(
         }
     }
     write_view(out, "before", explained, explained.before.as_ref())?;
+    write_expected(out, explained)?;
     if let Some(tries) = &explained.tries {
         for (place, told) in tries.iter().enumerate() {
             write_try(out, place.saturating_add(1), told)?;

@@ -2,10 +2,13 @@
 #![tactic(auto)]
 
 mod asked;
+mod expected;
 mod explain;
 mod explain_json;
-mod explain_packet;
 mod explain_text;
+mod packet;
 
 pub use asked::{Asked, Source, Telling, Which};
 pub use explain::run_explain;
+pub use explain_text::{Place, write_whole};
+pub use packet::{Explained, Got, View, explain_packet};

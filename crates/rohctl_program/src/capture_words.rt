@@ -7,7 +7,10 @@ use rohctl_captures::{Decompress, RuleWords, Script};
 use std::alloc::{AllocError, Global};
 
 /// With the options that say which link a frame belongs to.
-fn with_rules<'a>(alloc: Global, command: Command<'a>) -> Result<Command<'a>, AllocError> {
+pub(crate) fn with_rules<'a>(
+    alloc: Global,
+    command: Command<'a>,
+) -> Result<Command<'a>, AllocError> {
     command
         .arg(valued(
             alloc,
@@ -30,7 +33,7 @@ fn with_rules<'a>(alloc: Global, command: Command<'a>) -> Result<Command<'a>, Al
 }
 
 /// The options that say which link a frame belongs to.
-fn rules_of<'a>(options: &ArgMatches<'a>) -> RuleWords<'a> {
+pub(crate) fn rules_of<'a>(options: &ArgMatches<'a>) -> RuleWords<'a> {
     RuleWords {
         link: options.get_str("link"),
         vlan: options.get_str("vlan"),

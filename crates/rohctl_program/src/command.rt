@@ -4,6 +4,7 @@ use crate::capture_words::{decompress_of, decompress_words, script_of, script_wo
 use crate::control::Wish;
 use crate::explain_words::{explain_of, explain_words};
 use crate::options::{flag, valued};
+use crate::report_words::{report_of, report_words};
 use clap::error::ErrorKind;
 use clap::{Arg, ArgMatches, Command};
 use rohctl_answers::{Asked as Totals, Form};
@@ -11,6 +12,7 @@ use rohctl_captures::{Decompress, Script};
 use rohctl_explain::Asked;
 use rohctl_ground::Ending;
 use rohctl_links::{Plan, Spread};
+use rohctl_report::Asked as Report;
 use std::alloc::{AllocError, Global};
 
 /// The most processes over which links are spread.
@@ -42,6 +44,8 @@ pub(crate) enum Request<'a> {
     Script(Script<'a>),
     /// Explain packets.
     Explain(Asked<'a>),
+    /// Write a page that shows what became of each call.
+    Report(Report<'a>),
     /// Write the rules that bring each datagram to the process of its link.
     Spread(Spread<'a>),
     /// Compare files with a list of their digests.
@@ -311,6 +315,7 @@ fn command<'a>(alloc: Global) -> Result<Command<'a>, AllocError> {
         .subcommand(plan_words(alloc)?)?
         .subcommand(decompress_words(alloc)?)?
         .subcommand(script_words(alloc)?)?
+        .subcommand(report_words(alloc)?)?
         .subcommand(spread_words(alloc)?)?
         .subcommand(verify(alloc)?)?;
     with_gateway(alloc, command)
@@ -386,6 +391,7 @@ fn asked_for<'a>(matches: &ArgMatches<'a>) -> Option<Request<'a>> {
         ("plan", options) => Some(Request::Plan(plan_of(options)?)),
         ("script", options) => Some(Request::Script(script_of(options)?)),
         ("decompress", options) => Some(Request::Decompress(decompress_of(options)?)),
+        ("report", options) => Some(Request::Report(report_of(options)?)),
         ("trace", options) => Some(Request::Trace {
             links: options.get_str("links")?,
             script: options.get_str("SCRIPT")?,

@@ -9,6 +9,7 @@ mod control;
 mod explain_words;
 mod options;
 mod program;
+mod report_words;
 mod verify;
 
 pub use program::run;

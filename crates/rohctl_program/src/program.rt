@@ -8,6 +8,7 @@ use rohctl_captures::{run_decompress, run_script};
 use rohctl_explain::run_explain;
 use rohctl_ground::{Ending, Screen};
 use rohctl_links::{run_links, run_new, run_plan, run_spread};
+use rohctl_report::run_report;
 use std::net::Net;
 use std::rt::Files;
 use std::time::Clock;
@@ -41,6 +42,7 @@ where
         Request::Decompress(asked) => run_decompress(rt, &asked, screen),
         Request::Script(asked) => run_script(rt, &asked, screen),
         Request::Explain(asked) => run_explain(rt, &asked, screen),
+        Request::Report(asked) => run_report(rt, &asked, screen),
         Request::Spread(spread) => run_spread(rt, spread),
         Request::Verify { list, root } => run_verify(rt, list, root),
         Request::Control { control, wish } => run_control(rt, control, wish),

@@ -1,10 +1,13 @@
 //! One packet, explained: what is derived beside the step, compared with the step's answer.
 
+use arrayvec::ArrayVec;
 use rohc_concentrator::{Answer, Concentrator};
-use rohc_context::{Context, ContextState, Outcome, Profile, Refusal, Settings, Window};
-use rohc_explain::{FieldName, PacketFields, Terms, packet_fields};
+use rohc_context::{
+    Context, ContextState, Delivered, Outcome, Profile, Refusal, Reply, Settings, Window,
+};
+use rohc_explain::{FieldName, PacketFields, PacketKind, Terms, packet_fields};
 use rohc_forms::{Form, FormKind, read_form};
-use rohc_frame::{CidKind, Forward, HeadKind, cut};
+use rohc_frame::{CidKind, Elements, Forward, HeadKind, cut};
 use rohc_header::LONGEST_PAYLOAD;
 use rohc_tries::{Reference, Situation, Standing, Told, standing_of, tries_of};
 use rohctl_ground::Stop;
@@ -12,19 +15,21 @@ use std::alloc::Global;
 
 /// What is told of a context before a packet or after it.
 #[derive(Clone, Copy, Debug)]
-pub(crate) struct View {
-    pub(crate) profile: Profile,
-    pub(crate) state: ContextState,
+pub struct View {
+    pub profile: Profile,
+    pub state: ContextState,
     /// The time of the last accepted arrival.
-    pub(crate) accepted: u64,
-    pub(crate) windows: Option<(Window, Window)>,
+    pub accepted: u64,
+    pub windows: Option<(Window, Window)>,
     /// The SN of the last accepted header, if the context keeps it.
-    pub(crate) sn: Option<u16>,
+    pub sn: Option<u16>,
+    /// In No Context, the time of the last STATIC-NACK.
+    pub nacked: Option<u64>,
 }
 
 /// The answer to a packet, in a word.
 #[derive(Clone, Copy, Debug, PartialEq, Eq)]
-pub(crate) enum Got {
+pub enum Got {
     /// A packet of so many octets was delivered.
     Delivered(usize),
     Stored,
@@ -35,21 +40,53 @@ pub(crate) enum Got {
 
 /// A packet, explained.
 #[derive(Debug, Drop)]
-pub(crate) struct Explained {
-    pub(crate) link: u16,
-    pub(crate) cid: Option<u16>,
-    pub(crate) moment: u64,
-    pub(crate) octets: usize,
+pub struct Explained {
+    pub link: u16,
+    pub cid: Option<u16>,
+    pub moment: u64,
+    pub octets: usize,
     /// The fields, if there is such a link.
-    pub(crate) told: Option<PacketFields>,
+    pub told: Option<PacketFields>,
     /// The settings of the CID.
-    pub(crate) settings: Option<Settings>,
-    pub(crate) before: Option<View>,
-    pub(crate) tries: Option<[Told; 3]>,
-    pub(crate) got: Got,
-    /// How many octets of feedback the compressor gets.
-    pub(crate) feedback: usize,
-    pub(crate) after: Option<View>,
+    pub settings: Option<Settings>,
+    pub before: Option<View>,
+    pub tries: Option<[Told; 3]>,
+    pub got: Got,
+    /// The SN of the header that was delivered, if it is one of RTP.
+    pub sn: Option<u16>,
+    /// The feedback that the compressor gets.
+    pub feedback: Option<ArrayVec<u8, 8>>,
+    /// How many feedback elements the packet has for this side's compressor.
+    pub relayed: u64,
+    pub after: Option<View>,
+}
+
+impl Explained {
+    /// The try that fits, from 0 on, if tries were made. It is compared with the answer.
+    pub fn fitting(&self) -> Option<usize> {
+        let tries = self.tries.as_ref()?;
+        tries.iter().position(|told| fits(told))
+    }
+
+    /// Whether the packet is an IR.
+    pub fn is_ir(&self) -> bool {
+        match &self.told {
+            Some(told) => told.kind == PacketKind::Ir,
+            None => false,
+        }
+    }
+
+    /// The SN of the last header that was accepted before, if a context that counts keeps it.
+    pub fn sn_before(&self) -> Option<u16> {
+        let (Some(view), Some(settings)) = (&self.before, &self.settings) else {
+            return None;
+        };
+        if counts_after(settings, self.moment.saturating_sub(view.accepted)) {
+            view.sn
+        } else {
+            None
+        }
+    }
 }
 
 /// What is known before the step.
@@ -71,15 +108,30 @@ fn reference_in(standing: Option<Standing>) -> Option<Reference> {
     }
 }
 
+/// The time of the last STATIC-NACK, in No Context.
+fn nacked_in(standing: Option<Standing>) -> Option<u64> {
+    match standing {
+        Some(Standing::NoContext { nacked }) => Some(nacked),
+        Some(Standing::Plain | Standing::Static { .. } | Standing::Full { .. }) | None => None,
+    }
+}
+
 /// What is told of a context.
 fn view_of(context: &Context) -> View {
+    let standing = standing_of(context);
     View {
         profile: context.profile(),
         state: context.state(),
         accepted: context.accepted(),
         windows: context.windows().copied(),
-        sn: reference_in(standing_of(context)).map(|reference| reference.moving.sn),
+        sn: reference_in(standing).map(|reference| reference.moving.sn),
+        nacked: nacked_in(standing),
     }
+}
+
+/// Whether a record counts so many milliseconds after its last accepted packet (docs/FORMATS.md, *States*).
+pub(crate) fn counts_after(settings: &Settings, passed: u64) -> bool {
+    settings.idle_ms == 0 || passed < u64::from(settings.idle_ms)
 }
 
 /// What is known of a link and a packet before the step, if there is such a link.
@@ -181,8 +233,7 @@ fn tries_in(known: &Known<'_>, form: &Form<'_>, moment: u64) -> Option<[Told; 3]
         return None;
     };
     let passed = moment.saturating_sub(context.accepted());
-    let counts = settings.idle_ms == 0 || passed < u64::from(settings.idle_ms);
-    if !counts || form.payload.len() > LONGEST_PAYLOAD {
+    if !counts_after(settings, passed) || form.payload.len() > LONGEST_PAYLOAD {
         return None;
     }
     let (fixed, reference, previous, is_full) = match &known.standing {
@@ -212,6 +263,14 @@ fn tries_in(known: &Known<'_>, form: &Form<'_>, moment: u64) -> Option<[Told; 3]
     tries_of(&situation, form)
 }
 
+/// Whether a try fits.
+fn fits(told: &Told) -> bool {
+    match &told.result {
+        Ok(meant) => meant.fits(),
+        Err(_) => false,
+    }
+}
+
 /// The header of the first try that fits.
 fn accepted(tries: &[Told; 3]) -> Option<[u8; 40]> {
     for told in tries {
@@ -236,31 +295,57 @@ fn lead_to(tries: &[Told; 3], answer: &Answer<'_>) -> bool {
     }
 }
 
-/// The answer in a word, and how many octets of feedback the compressor gets.
-fn got_of(answer: &Answer<'_>) -> (Got, usize) {
-    match answer {
-        Answer::Refused(refusal) => (Got::Refused(*refusal), 0),
-        Answer::OnlyFront { .. } => (Got::OnlyFront, 0),
-        Answer::Arrived { reply, .. } => {
-            let got = match (reply.outcome, &reply.packet) {
-                (Outcome::Refused(refusal), _) => Got::Refused(refusal),
-                (_, Some(packet)) => {
-                    Got::Delivered(packet.head.len().saturating_add(packet.payload.len()))
-                }
-                (_, None) => Got::Stored,
-            };
-            let feedback = match &reply.feedback {
-                Some(element) => element.len(),
-                None => 0,
-            };
-            (got, feedback)
+/// What became of a packet by its context's reply, in a word.
+fn got_of(reply: &Reply<'_>) -> Got {
+    match (reply.outcome, &reply.packet) {
+        (Outcome::Refused(refusal), _) => Got::Refused(refusal),
+        (_, Some(packet)) => {
+            Got::Delivered(packet.head.len().saturating_add(packet.payload.len()))
+        }
+        (_, None) => Got::Stored,
+    }
+}
+
+/// The SN of a rebuilt header, which has 40 octets if it is one of RTP (docs/FORMATS.md).
+fn sn_in(packet: &Delivered<'_>) -> Option<u16> {
+    let head = packet.head.as_slice();
+    if head.len() < 40 {
+        return None;
+    }
+    Some(u16::from_be_bytes([head[30], head[31]]))
+}
+
+/// How many elements there are.
+fn count_of(elements: Elements<'_>) -> u64 {
+    let mut count = 0u64;
+    for _ in elements {
+        count = count.saturating_add(1);
+    }
+    count
+}
+
+impl Explained {
+    /// Adds the answer.
+    fn take_answer(&mut self, answer: Answer<'_>) {
+        match answer {
+            Answer::Refused(refusal) => self.got = Got::Refused(refusal),
+            Answer::OnlyFront { relayed } => self.relayed = count_of(relayed),
+            Answer::Arrived { reply, relayed, .. } => {
+                self.relayed = count_of(relayed);
+                self.got = got_of(&reply);
+                self.sn = match &reply.packet {
+                    Some(packet) => sn_in(packet),
+                    None => None,
+                };
+                self.feedback = reply.feedback;
+            }
         }
     }
 }
 
 /// Runs a packet, and tells what there is of it. A stop `Differs` means that what is derived beside the step isn't
 /// what the step answered.
-pub(crate) fn explain_packet(
+pub fn explain_packet(
     alloc: Global,
     concentrator: &mut Concentrator,
     link: u16,
@@ -277,7 +362,9 @@ pub(crate) fn explain_packet(
         before: None,
         tries: None,
         got: Got::OnlyFront,
-        feedback: 0,
+        sn: None,
+        feedback: None,
+        relayed: 0,
         after: None,
     };
     if let Some(known) = known_of(concentrator, link, octets) {
@@ -289,9 +376,7 @@ pub(crate) fn explain_packet(
             return Err(Stop::Differs);
         }
     }
-    let (got, feedback) = got_of(&answer);
-    explained.got = got;
-    explained.feedback = feedback;
+    explained.take_answer(answer);
     if let Some(cid) = explained.cid {
         if let Some(records) = concentrator.tables().get(&link) {
             explained.after = records.contexts.get(&cid).map(|context| view_of(context));

@@ -1,0 +1,16 @@
+//! What is asked of `report`.
+
+use rohctl_captures::RuleWords;
+
+/// What is asked of `report`.
+#[derive(Clone, Copy, Debug)]
+pub struct Asked<'a> {
+    /// The links file.
+    pub links: &'a str,
+    /// The script or the capture; `-` is standard input.
+    pub input: &'a str,
+    /// The page that is written; `-` is standard output.
+    pub output: &'a str,
+    /// Which link a frame of a capture belongs to.
+    pub rules: RuleWords<'a>,
+}
