@@ -61,7 +61,7 @@ LAW_LINE = re.compile(r"|(?: |--).*|use Rattle\.[\w.]+\.\{[^{}]*\}|unfolding [\w
 
 def are_all_of(names: str, may: Callable[[str], bool]) -> bool:
     """Whether a list has names, and each is one that may be used."""
-    found = re.sub(",+\\Z", "", names).split(",")
+    found = re.sub(r",+\s*\Z", "", names).split(",")
     return all(WORD.fullmatch(name.strip()) and may(name.strip()) for name in found)
 
 
