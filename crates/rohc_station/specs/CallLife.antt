@@ -1,5 +1,5 @@
--- A station's whole life, and what one call sees of it: a CID of a link. Words: bears; SeesCall; told_to; AreAlikeFor;
--- CallLife.
+-- A station's whole life, and what one call sees of it: a CID of a link. Words: bears; SeesCall; told_to;
+-- AreAlikeFor; CallLife.
 use Rattle.std.specs.Prelude.{◌≡◌, ◌⊎◌, ℕ, List, [], ◌∷◌, ◌++◌, Bool, true, false, ◌==◌, ◌&&◌, if◌then◌else◌, Option, Some, None}
 use Rattle.std.specs.List.{AllByRecursion}
 use Rattle.rohc_concentrator.specs.declared.setting.LinkSetting.{LinkSetting}
@@ -34,8 +34,9 @@ abbrev pub is_forgotten : ℕ → ℕ → ℕ → Option ℕ → Bool
 is_forgotten l c link None = link == l
 is_forgotten l c link (Some cid) = link == l && cid == c
 
--- What a call sees of turns, from its link's setting and ports on: packets that bear its CID, resets, and files that say
--- another thing of its link. No other call's packets are events of it, and no failed sends.
+-- What a call sees of turns, from its link's setting and ports on: packets that bear its CID, resets, and
+-- files that say another thing of its link. No other call's packets are events of it, and no failed
+-- sends.
 abbrev pub SeesCall : ℕ → ℕ → Option LinkSetting → Option Ports → List StationTurn → List LinkEvent → Type 0
 SeesCall l c setting ports [] seen = seen ≡ []
 SeesCall l c setting ports (Took read told ∷ turns) seen =
@@ -82,9 +83,9 @@ pub record AreAlikeFor (l c : ℕ) (a b : Station) : Type 0 where
   pub same_record : record_at a.concentrator l c ≡ record_at b.concentrator l c
   pub ports : ports_of l a.links ≡ ports_of l b.links
 
--- Isolation for a call, over a station's whole life. Let a call see the same in two lives that begin alike for it,
--- whatever comes under other CIDs and other links, and whatever files say of other links. Then the same is told of its
--- packets, and both lives end alike for it, lack of memory aside.
+-- Isolation for a call, over a station's whole life. Let a call see the same in two lives that begin
+-- alike for it, whatever comes under other CIDs and other links, and whatever files say of other links.
+-- Then the same is told of its packets, and both lives end alike for it, lack of memory aside.
 abbrev pub CallLife : Type 0
 CallLife = (l c : ℕ) (a b : Life) (seen : List LinkEvent) → AreAlikeFor l c a.before b.before →
     IsLife a → IsLife b → SeesLifeOf l c a seen → SeesLifeOf l c b seen →

@@ -36,8 +36,8 @@ CountsAnswer report (Some before) (Some after) =
 abbrev pub with_failed_sends : ℕ → LinkCounters → LinkCounters
 with_failed_sends failed c = record c { failed_sends = counted c.failed_sends failed }
 
--- The counts of a link, by its entry in a file that is taken: it keeps those that it has, and begins with none.
--- A link that isn't in the file has no counts.
+-- The counts of a link, by its entry in a file that is taken: it keeps those that it has, and begins with
+-- none. A link that isn't in the file has no counts.
 abbrev pub KeepsCounts : Option LinkCounters → Option LinkSetting → Option LinkCounters → Type 0
 KeepsCounts before None after = after ≡ None
 KeepsCounts (Some before) (Some s) after = after ≡ Some before

@@ -1,5 +1,5 @@
--- A station's whole life, and what one link sees of it. Words: StationTurn, TakesTurn; Life, IsLife; LinkEvent, Sees;
--- told_on; CountsAlike, AreAlikeOn; IsFit; HadMemory; WholeLife.
+-- A station's whole life, and what one link sees of it. Words: StationTurn, TakesTurn; Life, IsLife;
+-- LinkEvent, Sees; told_on; CountsAlike, AreAlikeOn; IsFit; HadMemory; WholeLife.
 use Rattle.std.specs.Prelude.{◌≡◌, ◌≢◌, ◌⊎◌, ◌<◌, ◌^◌, ℕ, List, [], ◌∷◌, ◌++◌, All, Bool, true, false, ◌==◌, if◌then◌else◌, Option, Some, None, slice_index, ⊤}
 use Rattle.std.specs.List.{AllByRecursion}
 use Rattle.rohc_frame.specs.Laws.{IsOctet}
@@ -21,9 +21,9 @@ use Rattle.rohc_station.specs.Taking.{counters_at, Takes, TakesKnown, FailsSends
 use Rattle.rohc_station.specs.Reload.{Reloads, ReloadStays}
 use Rattle.rohc_station.specs.Reset.{Forgets}
 
--- One call of a station, with what it told. A datagram was taken, as it was read, or was taken while no call is begun;
--- records of a link were forgotten, or that of one CID; the links of a file were taken, or not, for a fault; so many
--- sends failed for a datagram of a link.
+-- One call of a station, with what it told. A datagram was taken, as it was read, or was taken while no
+-- call is begun; records of a link were forgotten, or that of one CID; the links of a file were taken, or
+-- not, for a fault; so many sends failed for a datagram of a link.
 pub data StationTurn : Type 0 where
   Took : Option TimedPacket → Told → StationTurn
   TookKnown : Option TimedPacket → Told → StationTurn
@@ -55,8 +55,9 @@ TakesTurns old (turn ∷ turns) new = (mid : Station) × TakesTurn old turn mid 
 abbrev pub IsLife : Life → Type 0
 IsLife life = TakesTurns life.before life.turns life.after
 
--- What a link sees. A packet of it comes at a moment, to be taken or, while no call is begun, if its CID is known; its
--- records are forgotten, or one; a file has this setting and these ports for it, or none; sends of it failed.
+-- What a link sees. A packet of it comes at a moment, to be taken or, while no call is begun, if its CID
+-- is known; its records are forgotten, or one; a file has this setting and these ports for it, or none;
+-- sends of it failed.
 pub data LinkEvent : Type 0 where
   Comes : Bool → ℕ → List ℕ → LinkEvent
   Forget : Option ℕ → LinkEvent
@@ -77,8 +78,9 @@ pub record SaysTheSame (l : ℕ) (links : Lists) (setting : Option LinkSetting) 
   pub setting_stays : entry_of l links.settings ≡ setting
   pub ports_stay : ports_of l links ≡ ports
 
--- What a link sees of turns, from its setting and its ports on. A file that says the same of it is no event of it, also
--- if there was no memory for others; nothing is said of a link that it may have been lacking for.
+-- What a link sees of turns, from its setting and its ports on. A file that says the same of it is no
+-- event of it, also if there was no memory for others; nothing is said of a link that it may have been
+-- lacking for.
 abbrev pub Sees : ℕ → Option LinkSetting → Option Ports → List StationTurn → List LinkEvent → Type 0
 Sees l setting ports [] seen = seen ≡ []
 Sees l setting ports (Took read told ∷ turns) seen =
@@ -158,9 +160,9 @@ IsFit (Fail failed) = ⊤
 abbrev pub HadMemory : List Told → Type 0
 HadMemory tolds = AllByRecursion (λ (told : Told). told.refusal ≢ Some refusals.NoMemory) tolds
 
--- Isolation for a station's whole life. Let a link see the same in two lives that begin alike on it, whatever comes
--- under other links and whatever files say of them. Then the same is told of its packets, and both lives end alike on
--- it, lack of memory aside.
+-- Isolation for a station's whole life. Let a link see the same in two lives that begin alike on it,
+-- whatever comes under other links and whatever files say of them. Then the same is told of its packets,
+-- and both lives end alike on it, lack of memory aside.
 abbrev pub WholeLife : Type 0
 WholeLife = (l : ℕ) (a b : Life) (seen : List LinkEvent) → AreAlikeOn l a.before b.before →
     IsLife a → IsLife b → SeesLife l a seen → SeesLife l b seen →

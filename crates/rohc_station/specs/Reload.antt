@@ -1,5 +1,6 @@
--- Links that are taken anew. Words: IsUntouched; HasNoRecords; HasSurvivors; IsBrought to its setting in the file;
--- AreThose, IsAdded, IsChanged, IsRemoved, Tells; Reloads; IsReloadFault, IsPartly, ReloadStays.
+-- Links that are taken anew. Words: IsUntouched; HasNoRecords; HasSurvivors; IsBrought to its setting in
+-- the file; AreThose, IsAdded, IsChanged, IsRemoved, Tells; Reloads; IsReloadFault, IsPartly,
+-- ReloadStays.
 use Rattle.std.specs.Prelude.{◌≡◌, ◌≢◌, ◌⊎◌, ℕ, ◌+◌, ◌-◌, List, [], length, filter, sum_by, is_some, nat_eq, Bool, true, Option, Some, None, ⊤}
 use Rattle.std.specs.List.{IsDistinct, list_any}
 use Rattle.rohc_concentrator.specs.declared.concentrator.Concentrator.{Concentrator}
@@ -34,8 +35,9 @@ pub record HasSurvivors (old new : Concentrator) (link : ℕ) (before after : Li
   pub order : identifiers_at new link ≡
       filter (λ cid. is_some (left_of (survives before after) cid (record_at old link cid))) (identifiers_at old link)
 
--- What becomes of a link's records, by its setting before and its setting in the file. A link that isn't in both has
--- none. With the same setting it keeps all of them, and with another those that survive the change.
+-- What becomes of a link's records, by its setting before and its setting in the file. A link that isn't
+-- in both has none. With the same setting it keeps all of them, and with another those that survive the
+-- change.
 abbrev pub HasItsRecords : Concentrator → Concentrator → ℕ → Option LinkSetting → Option LinkSetting → Type 0
 HasItsRecords old new link None None = HasNoRecords new link
 HasItsRecords old new link None (Some after) = HasNoRecords new link

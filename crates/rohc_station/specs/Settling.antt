@@ -1,4 +1,5 @@
--- One link after another is brought to its setting in the file. Words: StandsAs; gone_in, IsStep, with_step; Settles.
+-- One link after another is brought to its setting in the file. Words: StandsAs; gone_in, IsStep,
+-- with_step; Settles.
 use Rattle.std.specs.Prelude.{◌≡◌, ◌≢◌, ◌⊎◌, ◌↔◌, ℕ, ◌+◌, length, Bool, IsTrue, Option, Some, None}
 use Rattle.rohc_concentrator.specs.declared.concentrator.Concentrator.{Concentrator}
 use Rattle.rohc_concentrator.specs.declared.setting.LinkSetting.{LinkSetting}

@@ -1,5 +1,6 @@
--- What a station does with a datagram. Words: counters_at a link; TakesPacket; IsRefusedUnread; dated; Takes;
--- begins_call; call_in, timed_call_in; TakesUnless, TakesKnownPacket, TakesKnown; CountsFailedSends, FailsSends.
+-- What a station does with a datagram. Words: counters_at a link; TakesPacket; IsRefusedUnread; dated;
+-- Takes; begins_call; call_in, timed_call_in; TakesUnless, TakesKnownPacket, TakesKnown;
+-- CountsFailedSends, FailsSends.
 use Rattle.std.specs.Prelude.{◌≡◌, ◌≢◌, ℕ, List, Option, Some, None, nat_eq, not, is_some, Bool, true, false}
 use Rattle.std.specs.Option.{option_map}
 use Rattle.indexmap.specs.IndexMap.{get}
