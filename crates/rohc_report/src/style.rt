@@ -2,7 +2,7 @@
 
 /// What the page may load: nothing. Only this style is allowed, by its digest.
 pub(crate) const POLICY: &str =
-    "default-src 'none'; style-src 'sha256-VQ1ydGnRnM81dCh1+t+ny55XPv6rs7RbfzqOGeNh6pg='; base-uri 'none'; form-action 'none'";
+    "default-src 'none'; style-src 'sha256-ayeyBMs7k03JwRApAgdSDix+8br35S+zpLu6EwfvkuI='; base-uri 'none'; form-action 'none'";
 
 /// The style.
 pub(crate) const STYLE: &str = "
@@ -34,7 +34,7 @@ table { border-collapse: collapse; width: 100%; font-size: .875rem; }
 th, td { padding: .3rem .65rem; text-align: right; white-space: nowrap; border-bottom: 1px solid var(--line); }
 thead th { background: var(--box); color: var(--quiet); font-weight: 600; }
 tbody tr:last-child > * { border-bottom: 0; } tbody tr.sum > * { border-top: 2px solid var(--line); font-weight: 600; }
-th[scope=row], .text { text-align: left; } th[scope=row] { font-weight: 600; } td.text { white-space: normal; min-width: 14rem; }
+th[scope=row], .text { text-align: left; } th[scope=row] { font-weight: 600; } #refusals td.text { white-space: normal; min-width: 14rem; }
 tr.silent th, tr.silent .now { color: var(--check); }
 ul.legend { display: flex; flex-wrap: wrap; gap: .25rem 1.25rem; list-style: none; padding: 0; margin: .75rem 0; font-size: .8125rem; }
 .legend li { display: flex; align-items: center; gap: .4rem; } .legend svg { width: 12px; height: 12px; flex: none; }

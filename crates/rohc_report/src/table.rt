@@ -9,8 +9,8 @@ use rohc_counts::Counts;
 use std::io;
 use std::io::Write;
 
-/// The columns behind the call.
-const COLUMNS: [&str; 12] = [
+/// The columns of numbers behind the call.
+const COLUMNS: [&str; 11] = [
     "Packets",
     "Delivered",
     "Repaired",
@@ -22,7 +22,6 @@ const COLUMNS: [&str; 12] = [
     "STATIC-NACK",
     "Silent",
     "Since",
-    "Last refusal",
 ];
 
 /// The greatest power of 1,000 up to a number, or 1.
@@ -145,7 +144,10 @@ pub(crate) fn write_table<W: Write>(
     for column in COLUMNS {
         write!(out, "<th scope=\"col\">{column}</th>")?;
     }
-    writeln!(out, "</tr></thead>\n<tbody>")?;
+    writeln!(
+        out,
+        "<th scope=\"col\" class=\"text\">Last refusal</th></tr></thead>\n<tbody>"
+    )?;
     for (place, row) in rows.iter().enumerate() {
         write_row(out, row, place < drawn)?;
     }
