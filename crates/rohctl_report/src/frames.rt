@@ -1,8 +1,7 @@
 //! The packets of an input, one after another.
 
-use crate::held::Held;
+use crate::held::{Held, open_file};
 use rohc_capture::{Capture, CaptureFault, Rule, packet_in};
-use rohctl_captures::capture_end;
 use rohctl_ground::{Ending, Line, Screen, Stop, Taker, Told, read_script};
 use std::alloc::Global;
 use std::io::Read;
@@ -59,12 +58,17 @@ fn take_source<S: Read + Drop, T: Taker>(
     mut source: S,
     rules: Option<&[Rule]>,
     taker: &mut T,
-) -> Result<Rest, Ending> {
+) -> Result<Rest, Stop> {
     if let Some(rules) = rules {
-        let mut capture = Capture::new(alloc, source).map_err(|fault| capture_end(fault))?;
-        return take_frames(&mut capture, rules, taker).map_err(|stop| stop.ending());
+        return match Capture::new(alloc, source) {
+            Ok(mut capture) => take_frames(&mut capture, rules, taker),
+            Err(fault) => Ok(Rest {
+                left_out: 0,
+                fault: Some(fault),
+            }),
+        };
     }
-    read_script(alloc, &mut source, taker).map_err(|stop| stop.ending())?;
+    read_script(alloc, &mut source, taker)?;
     Ok(Rest {
         left_out: 0,
         fault: None,
@@ -82,6 +86,12 @@ pub(crate) fn take_all<R, T: Taker>(
 where
     R: Files + Eprint + AllocGlobal,
 {
-    let source = Told::new(rt, held.open(rt)?, screen.error);
-    take_source(rt.alloc(), source, rules, taker)
+    let taken = match held {
+        Held::File(path) => {
+            let source = Told::new(rt, open_file(rt, path)?, screen.error);
+            take_source(rt.alloc(), source, rules, taker)
+        }
+        Held::Input(octets) => take_source(rt.alloc(), octets.as_slice(), rules, taker),
+    };
+    taken.map_err(|stop| stop.ending())
 }

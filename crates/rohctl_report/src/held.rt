@@ -1,6 +1,6 @@
 //! What is read twice: a file, or standard input, which is kept.
 
-use rohctl_ground::{Ending, Source};
+use rohctl_ground::Ending;
 use std::alloc::Global;
 use std::io::Read;
 use std::rt::Files;
@@ -50,6 +50,13 @@ where
     }
 }
 
+/// Whether these are the first octets of a capture.
+fn is_front(octets: &[u8]) -> bool {
+    MAGICS
+        .iter()
+        .any(|magic| octets.starts_with(magic.as_slice()))
+}
+
 /// Whether a reader begins as a capture does.
 fn begins_as_capture<S: Read>(source: &mut S) -> Result<bool, Ending> {
     let mut front = [0u8; 4];
@@ -64,27 +71,23 @@ fn begins_as_capture<S: Read>(source: &mut S) -> Result<bool, Ending> {
             Err(_) => return Err(Ending::Read),
         }
     }
-    Ok(count >= 4 && MAGICS.iter().any(|magic| *magic == front))
+    Ok(count >= 4 && is_front(front.as_slice()))
+}
+
+/// Opens a file at its beginning.
+pub(crate) fn open_file<R: Files>(rt: &R, path: &str) -> Result<R::File, Ending> {
+    fs::open(rt, path).map_err(|_| Ending::Read)
 }
 
 impl Held<'_> {
-    /// Opens the input at its beginning.
-    pub(crate) fn open<'s, R: Files>(
-        &'s self,
-        rt: &R,
-    ) -> Result<Source<R::File, &'s [u8]>, Ending> {
-        match self {
-            Held::File(path) => match fs::open(rt, *path) {
-                Ok(file) => Ok(Source::File(file)),
-                Err(_) => Err(Ending::Read),
-            },
-            Held::Input(octets) => Ok(Source::Input(octets.as_slice())),
-        }
-    }
-
     /// Whether the input is a capture, by its first octets.
     pub(crate) fn is_capture<R: Files>(&self, rt: &R) -> Result<bool, Ending> {
-        let mut source = self.open(rt)?;
-        begins_as_capture(&mut source)
+        match self {
+            Held::File(path) => {
+                let mut file = open_file(rt, path)?;
+                begins_as_capture(&mut file)
+            }
+            Held::Input(octets) => Ok(is_front(octets.as_slice())),
+        }
     }
 }
