@@ -38,6 +38,7 @@ pub fn octet<E: Copy>(cursor: &mut Cursor<'_>, short: E) -> Result<u8, E>
 /// Takes the next two octets as a number, most significant octet first. Returns the error `short` if fewer than
 /// two are left.
 #[tactic(auto, unfolding(crate::specs::Reading::next_word))]
+#[inline(always)]
 pub fn word<E: Copy>(cursor: &mut Cursor<'_>, short: E) -> Result<u16, E>
     ensures reads { Reads result cursor.new (next_word short cursor.old) }
     ensures shorter { length cursor.new ≤ length cursor.old }

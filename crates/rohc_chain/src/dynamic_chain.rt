@@ -13,6 +13,7 @@ use rohc_header::Dynamic;
 
 /// Reads the dynamic chain of IPv4. The low five bits of its flags are ignored.
 #[tactic(auto, unfolding(crate::specs::Chains::ip_dynamic_at))]
+#[inline(always)]
 fn ip_dynamic(cursor: &mut Cursor<'_>) -> Result<IpDynamic, ChainRefusal>
     ensures reads { Reads result cursor.new (read ip_dynamic_at cursor.old) }
     ensures shorter { length cursor.new ≤ length cursor.old }
@@ -37,6 +38,7 @@ fn ip_dynamic(cursor: &mut Cursor<'_>) -> Result<IpDynamic, ChainRefusal>
 
 /// Reads TS_STRIDE if the flag TSS announces it, and else returns the stride that is kept.
 #[tactic(auto, unfolding(crate::specs::Chains::stride_at))]
+#[inline(always)]
 fn stride(
     kept: Option<u32>,
     flags: u8,
@@ -56,6 +58,7 @@ fn stride(
 
 /// Reads TIME_STRIDE if the flag TIS announces it, and drops it.
 #[tactic(auto, unfolding(crate::specs::Chains::behind_time_stride))]
+#[inline(always)]
 fn skip_time_stride(flags: u8, cursor: &mut Cursor<'_>) -> Result<(), ChainRefusal>
     ensures reads { Reads result cursor.new (read (behind_time_stride flags) cursor.old) }
     ensures shorter { length cursor.new ≤ length cursor.old }
@@ -69,6 +72,7 @@ fn skip_time_stride(flags: u8, cursor: &mut Cursor<'_>) -> Result<(), ChainRefus
 /// Reads the octet of flags if RX announces it, for the flag X and the stride, and else returns
 /// those that are kept. Modes 0, 1 and 2 have no effect.
 #[tactic(auto, unfolding(crate::specs::Chains::flags_at))]
+#[inline(always)]
 fn flags(kept: Kept, present: bool, cursor: &mut Cursor<'_>) -> Result<Kept, ChainRefusal>
     ensures reads { Reads result cursor.new (read (flags_at kept present) cursor.old) }
     ensures shorter { length cursor.new ≤ length cursor.old }
@@ -90,6 +94,7 @@ fn flags(kept: Kept, present: bool, cursor: &mut Cursor<'_>) -> Result<Kept, Cha
 
 /// Reads the dynamic chain of RTP.
 #[tactic(auto, unfolding(crate::specs::Chains::rtp_dynamic_at))]
+#[inline(always)]
 fn rtp_dynamic(kept: Kept, cursor: &mut Cursor<'_>) -> Result<RtpDynamic, ChainRefusal>
     ensures reads { Reads result cursor.new (read (rtp_dynamic_at kept) cursor.old) }
     ensures shorter { length cursor.new ≤ length cursor.old }
@@ -122,6 +127,7 @@ fn rtp_dynamic(kept: Kept, cursor: &mut Cursor<'_>) -> Result<RtpDynamic, ChainR
 
 /// Reads the dynamic chains of IPv4, UDP and RTP.
 #[tactic(auto, unfolding(crate::specs::Chains::dynamic_at))]
+#[inline(always)]
 pub(crate) fn dynamic_chain(kept: Kept, cursor: &mut Cursor<'_>) -> Result<Dynamic, ChainRefusal>
     ensures reads { Reads result cursor.new (read (dynamic_at kept) cursor.old) }
     ensures shorter { length cursor.new ≤ length cursor.old }

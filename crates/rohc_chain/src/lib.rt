@@ -1,5 +1,6 @@
 //! IR and IR-DYN packets, with their static and dynamic chains (RFC 3095 5.7.7 and 5.10). No function
-//! allocates memory; payloads are borrowed from the packet.
+//! allocates memory; payloads are borrowed from the packet. The readers of the chains are inlined, so that the fields of an
+//! IR stay in registers.
 #![tactic(auto)]
 
 mod cover;

@@ -10,6 +10,7 @@ use crate::refusal::ChainRefusal;
 use rohc_bits::{Cursor, reading};
 
 /// Takes the next octet.
+#[inline(always)]
 pub(crate) fn octet(cursor: &mut Cursor<'_>) -> Result<u8, ChainRefusal>
     ensures reads { Reads result cursor.new (octet_at cursor.old) }
     ensures shorter { length cursor.new ≤ length cursor.old }
@@ -18,6 +19,7 @@ pub(crate) fn octet(cursor: &mut Cursor<'_>) -> Result<u8, ChainRefusal>
 }
 
 /// Takes the next two octets as a number, most significant octet first.
+#[inline(always)]
 pub(crate) fn word(cursor: &mut Cursor<'_>) -> Result<u16, ChainRefusal>
     ensures reads { Reads result cursor.new (word_at cursor.old) }
     ensures shorter { length cursor.new ≤ length cursor.old }
@@ -27,6 +29,7 @@ pub(crate) fn word(cursor: &mut Cursor<'_>) -> Result<u16, ChainRefusal>
 
 /// Takes the next four octets as they are.
 #[tactic(auto, unfolding(crate::specs::Octets::four_octets_at))]
+#[inline(always)]
 pub(crate) fn four_octets(cursor: &mut Cursor<'_>) -> Result<[u8; 4], ChainRefusal>
     ensures reads { Reads result cursor.new (read four_octets_at cursor.old) }
     ensures shorter { length cursor.new ≤ length cursor.old }
@@ -40,6 +43,7 @@ pub(crate) fn four_octets(cursor: &mut Cursor<'_>) -> Result<[u8; 4], ChainRefus
 
 /// Takes the next four octets as a number, most significant octet first.
 #[tactic(auto, unfolding(crate::specs::Octets::quad_at))]
+#[inline(always)]
 pub(crate) fn quad(cursor: &mut Cursor<'_>) -> Result<u32, ChainRefusal>
     ensures reads { Reads result cursor.new (read quad_at cursor.old) }
     ensures shorter { length cursor.new ≤ length cursor.old }
@@ -51,6 +55,7 @@ pub(crate) fn quad(cursor: &mut Cursor<'_>) -> Result<u32, ChainRefusal>
 
 /// Takes the next self-describing value (RFC 3095 4.5.6).
 #[tactic(auto, unfolding(crate::specs::Octets::value_at))]
+#[inline(always)]
 pub(crate) fn value(cursor: &mut Cursor<'_>) -> Result<u32, ChainRefusal>
     ensures reads { Reads result cursor.new (read value_at cursor.old) }
     ensures shorter { length cursor.new ≤ length cursor.old }
@@ -59,6 +64,7 @@ pub(crate) fn value(cursor: &mut Cursor<'_>) -> Result<u32, ChainRefusal>
 }
 
 /// Whether the bit at `place` is set. Place 0 is the least significant bit; `place` is below 8.
+#[inline(always)]
 pub(crate) fn is_set(octet: u8, place: u8) -> bool
     requires { place < 8 }
     ensures { result ≡ bit place octet }

@@ -17,6 +17,7 @@ const UDP: u8 = 17;
 /// Reads the static chain of IPv4, and returns the source and the destination address. The low four
 /// bits of the version octet are ignored.
 #[tactic(auto, unfolding(crate::specs::Chains::ip_static_at))]
+#[inline(always)]
 fn ip_static(cursor: &mut Cursor<'_>) -> Result<([u8; 4], [u8; 4]), ChainRefusal>
     ensures reads { Reads result cursor.new (read ip_static_at cursor.old) }
     ensures shorter { length cursor.new ≤ length cursor.old }
@@ -36,6 +37,7 @@ fn ip_static(cursor: &mut Cursor<'_>) -> Result<([u8; 4], [u8; 4]), ChainRefusal
 
 /// Reads the static chains of IPv4, UDP and RTP.
 #[tactic(auto, unfolding(crate::specs::Chains::static_at))]
+#[inline(always)]
 pub(crate) fn static_chain(cursor: &mut Cursor<'_>) -> Result<Static, ChainRefusal>
     ensures reads { Reads result cursor.new (read static_at cursor.old) }
     ensures shorter { length cursor.new ≤ length cursor.old }

@@ -24,6 +24,7 @@ impl FullContext {
     /// ACK if the settings send feedback.
     ///
     /// The payload is at most 65,495 octets.
+    #[inline(always)]
     pub(crate) fn begin<'a>(
         settings: &Settings,
         forward: &Forward<'a>,

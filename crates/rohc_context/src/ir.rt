@@ -64,6 +64,7 @@ fn static_windows(counting: Option<State>) -> (Window, Window)
 /// is a record and it counts.
 ///
 /// `forward` is the header of an IR.
+#[inline(always)]
 pub(crate) fn renewal<'a>(
     settings: &Settings,
     forward: &Forward<'a>,

@@ -3,6 +3,6 @@ pub mod CountLemmas
 pub mod SaysLemmas
 pub mod ShownLemmas
 pub mod ShortLemmas
-pub mod UnextendedLemmas
+pub mod AtOnceLemmas
 pub mod GoodLemmas
 pub mod FormLemmas

@@ -11,6 +11,7 @@ use crate::parts::Fields;
 use rohc_bits::Bits;
 
 /// `more` appended to the bits that were read before, if any were.
+#[inline(always)]
 fn behind(said: Option<Bits>, more: Bits) -> Option<Bits>
     ensures { option_map low_bits result ≡ and_bits (option_map low_bits said) (low_bits more) }
 {
@@ -22,6 +23,7 @@ fn behind(said: Option<Bits>, more: Bits) -> Option<Bits>
 
 impl Fields {
     /// These fields with more bits appended to the sequence number.
+    #[inline(always)]
     pub(crate) fn and_sn(self, more: Bits) -> Fields
         ensures { said_by result ≡ and_said Sn (low_bits more) (said_by self) }
     {
@@ -30,6 +32,7 @@ impl Fields {
     }
 
     /// These fields with more bits appended to the timestamp.
+    #[inline(always)]
     pub(crate) fn and_ts(self, more: Bits) -> Fields
         ensures { said_by result ≡ and_said Ts (low_bits more) (said_by self) }
     {
@@ -38,6 +41,7 @@ impl Fields {
     }
 
     /// These fields with more bits appended to the Identification's offset.
+    #[inline(always)]
     pub(crate) fn and_id(self, more: Bits) -> Fields
         ensures { said_by result ≡ and_said Id (low_bits more) (said_by self) }
     {
@@ -46,6 +50,7 @@ impl Fields {
     }
 
     /// These fields with the +T bits of an extension appended.
+    #[inline(always)]
     pub(crate) fn and_plus(self, kind: FormKind, more: Bits) -> Fields
         ensures { said_by result ≡ and_said (plus kind) (low_bits more) (said_by self) }
     {
@@ -56,6 +61,7 @@ impl Fields {
     }
 
     /// These fields with the -T bits of an extension appended.
+    #[inline(always)]
     pub(crate) fn and_minus(self, kind: FormKind, more: Bits) -> Fields
         ensures { said_by result ≡ and_said (minus kind) (low_bits more) (said_by self) }
     {

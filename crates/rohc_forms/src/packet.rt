@@ -18,6 +18,7 @@ use rohc_bits::reading::is_set;
 use rohc_bits::{Bits, Cursor};
 
 /// These fields with those of an extension 0, whose one octet is `first`, appended.
+#[inline(always)]
 fn extension_0(kind: FormKind, first: u8, fields: Fields) -> Fields
     ensures { said_by result ≡ under (layout_0 kind) first (said_by fields) }
 {
@@ -30,7 +31,8 @@ fn extension_0(kind: FormKind, first: u8, fields: Fields) -> Fields
 /// These fields with those of an extension 0, 1 or 2 appended: bits of SN and of +T in its first octet,
 /// eight more bits of +T in an extension 2, and eight bits of -T in extensions 1 and 2.
 #[tactic(auto, unfolding(crate::specs::Packets::short_extension_at))]
-fn short_extension(
+#[inline(always)]
+pub(crate) fn short_extension(
     kind: FormKind,
     first: u8,
     fields: Fields,

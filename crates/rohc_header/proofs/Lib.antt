@@ -1,3 +1,4 @@
+pub mod Octets
 pub mod InARow
 pub mod Split
 pub mod SevenOctets

@@ -7,7 +7,7 @@ use Rattle.rohc_context.specs.Tries.{full_tries}
 use Rattle.rohc_context.specs.Update.{said_under}
 use Rattle.rohc_context.proofs.UpdateLemmas.{judged}
 use Rattle.rohc_context.proofs.AtOnceLemmas.{accepted}
-use Rattle.rohc_context.proofs.state.FullContext.take_unextended.Goals as goal
+use Rattle.rohc_context.proofs.state.FullContext.take_at_once.Goals as goal
 
 pub returns-clause-taken : goal.returns-clause-taken
 returns-clause-taken c = λ fits.
