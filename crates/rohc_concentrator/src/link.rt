@@ -155,7 +155,6 @@ fn take_at<'a>(
 
 /// Takes an arrival for a CID: its record takes one step, or a first IR makes it. The answer overwrites what
 /// `reply` held.
-#[inline(never)]
 fn arrive_at<'a>(
     records: &mut LinkRecords,
     moment: u64,
@@ -179,7 +178,7 @@ fn arrive_at<'a>(
         settings.mode = mode;
     }
     let (_, context) = records.contexts.pair_mut(place);
-    context.arrive_into(&settings, moment, forward, reply);
+    context.step(&settings, moment, forward, reply);
 }
 
 /// The place of a CID's record among those of the link, if it has one.

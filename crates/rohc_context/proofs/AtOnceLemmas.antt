@@ -65,14 +65,14 @@ follows fixed r c moving octets window none unmarked means =
     (ap (λ m. record { moving = m; carries_sum = r.carries_sum }) numbers) (previous_is r moving) refl
 
 -- A record that counts, in Full Context, takes it as its step.
-pub lone_at_once : (s : Settings) (m : ℕ) (h : Header) (before : ℕ) (st : State) (fixed : Static) (reference : Reference) (previous : Option Reference) (window : List Bool)
+pub lone_unextended : (s : Settings) (m : ℕ) (h : Header) (before : ℕ) (st : State) (fixed : Static) (reference : Reference) (previous : Option Reference) (window : List Bool)
     (a : Acceptance) (response : Response) (left : State) → st ≡ FullContext fixed reference previous window → h.kind ≡ Other
     → counts s m (record { accepted = before; state = st }) ≡ true
     → Judges fixed (full_tries s (m - before) reference previous) (said_under h reference) (Ok a)
     → response ≡ delivered a.header.octets a.content.payload None → left ≡ updated fixed reference window a
     → LoneStep (Some (record { accepted = before; state = st })) s m h response (Some (record { accepted = m; state = left }))
 unfolding LoneStep
-lone_at_once s m h before st fixed reference previous window a response left e kind counting judges f g =
+lone_unextended s m h before st fixed reference previous window a response left e kind counting judges f g =
     let next : Option Record = Some (record { accepted = m; state = left }) in
     let full : Record = record { accepted = before; state = FullContext fixed reference previous window } in
     let taken : Turn s m h Other (Some full) (Some full) response next = (Ok a, judges, delivers_silently s m h full (updated fixed reference window) a response left f g) in

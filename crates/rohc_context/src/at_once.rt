@@ -1,4 +1,4 @@
-//! A short path for most packets of a call: a Normal packet of profile 0x0000, and a packet without an extension 3 that
+//! A short path for most packets of a call: a Normal packet of profile 0x0000, and a packet without an extension that
 //! fits by the first try. It leads to the same as the path for any packet of kind Other, with less work.
 
 use crate::record::Context;
@@ -25,7 +25,7 @@ impl Context {
     ghost use Rattle.rohc_context.specs.Step.{LoneStep};
     ghost use Rattle.rohc_context.specs.AtOnce.{NeedsStep};
 
-    /// Takes a packet at once and returns true, if the record counts: in Full Context a packet without an extension 3 that
+    /// Takes a packet at once and returns true, if the record counts: in Full Context a packet without an extension that
     /// fits by the first try, and in profile 0x0000 a Normal packet, if `which` includes it. This is the step of `arrive`
     /// under any settings with this `idle_ms`. Otherwise it returns false: then the context stays as it was, what `reply`
     /// holds means nothing, and `step` takes the arrival.
@@ -51,7 +51,7 @@ impl Context {
         }
         match &mut self.state {
             State::Full(context) => {
-                if !context.take_at_once(forward, reply) {
+                if !context.take_unextended(forward, reply) {
                     return false;
                 }
             }

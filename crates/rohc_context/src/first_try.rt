@@ -7,7 +7,7 @@ use crate::reply::{Delivered, Outcome, Reply};
 use crate::state::FullContext;
 use crate::tries::check_of;
 use arrayvec::ArrayVec;
-use rohc_forms::{Form, FormKind, read_at_once};
+use rohc_forms::{Form, FormKind, read_at_once, read_unextended};
 use rohc_frame::Forward;
 use rohc_header::{Dynamic, LONGEST_PAYLOAD, put_header};
 
@@ -118,6 +118,33 @@ impl FullContext {
     {
         let kept = &self.reference;
         let Some(form) = read_at_once(forward, kept.moving.rnd, kept.carries_sum) else {
+            return false;
+        };
+        if form.payload.len() > LONGEST_PAYLOAD {
+            return false;
+        }
+        self.take_first(&form, reply)
+    }
+
+    /// Takes a packet without an extension that fits by the first try, and returns true. For any other packet it
+    /// returns false: then the context stays as it was, and what `reply` holds means nothing.
+    #[inline(always)]
+    pub(crate) fn take_unextended<'a>(
+        &mut self,
+        forward: &Forward<'a>,
+        reply: &mut Reply<'a>,
+    ) -> bool
+        ensures taken { result ≡ true → (a : Acceptance)
+            × ((s : Set) (passed : ℕ) → Judges self.old.fixed (full_tries s passed (reference_of self.old.reference) (previous_of self.old))
+            (said_under (header_of forward.now) (reference_of self.old.reference)) (Ok a))
+            × (response_of reply.new ≡ delivered a.header.octets a.content.payload None)
+            × (state_of (Level self.new) ≡ updated self.old.fixed (reference_of self.old.reference) (outcomes self.old.windows.0) a) }
+        ensures missed { result ≡ false → (is_extended (header_of forward.now) self.old.reference.moving.rnd ≡ true)
+            ⊎ MissesFirst self.old.fixed (reference_of self.old.reference) (said_under (header_of forward.now) (reference_of self.old.reference)) }
+        ensures stays { result ≡ false → self.new ≡ self.old }
+    {
+        let kept = &self.reference;
+        let Some(form) = read_unextended(forward, kept.moving.rnd, kept.carries_sum) else {
             return false;
         };
         if form.payload.len() > LONGEST_PAYLOAD {

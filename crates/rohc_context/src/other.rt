@@ -93,6 +93,34 @@ impl FullContext {
             (said_under (header_of forward.now) (reference_of self.old.reference)) (Err e)) }
         ensures stays { IfErr result (λ e. self.new ≡ self.old) }
     {
+        if self.take_at_once(forward, reply) {
+            return Ok(());
+        }
+        self.update_by_tries(settings, passed, forward, reply)
+    }
+
+    /// Takes a packet as `update` does, by all tries in their order, and writes the rebuilt
+    /// packet into the reply. If it returns a fault, this context stays as it was, and what `reply` holds means
+    /// nothing.
+    fn update_by_tries<'a>(
+        &mut self,
+        settings: &Settings,
+        passed: u64,
+        forward: &Forward<'a>,
+        reply: &mut Reply<'a>,
+    ) -> Result<(), Fault>
+        requires kind { IsOther forward.now.kind }
+        requires good { AreGood settings.now }
+        ensures taken { IfOk result (λ _. (a : Acceptance)
+            × Judges self.old.fixed (full_tries settings.now passed (reference_of self.old.reference) (previous_of self.old))
+            (said_under (header_of forward.now) (reference_of self.old.reference)) (Ok a)
+            × (response_of reply.new ≡ delivered a.header.octets a.content.payload None)
+            × (state_of (Level self.new) ≡ updated self.old.fixed (reference_of self.old.reference) (outcomes self.old.windows.0) a)) }
+        ensures fault { IfErr result (λ e.
+            Judges self.old.fixed (full_tries settings.now passed (reference_of self.old.reference) (previous_of self.old))
+            (said_under (header_of forward.now) (reference_of self.old.reference)) (Err e)) }
+        ensures stays { IfErr result (λ e. self.new ≡ self.old) }
+    {
         let form = read(forward, &self.reference)?;
         if form.values.is_some() {
             let accepted = self.accepted(settings, passed, &form);

@@ -79,31 +79,14 @@ impl Context {
         ensures { LoneStep (Some (record_of self.old)) settings.now moment (header_of forward.now) (response_of result) (Some (record_of self.new)) }
     {
         let mut reply = Reply::refused(Refusal::NoContext);
-        self.arrive_into(settings, moment, forward, &mut reply);
+        if !self.take_at_once(AtOnce::Any, settings.idle_ms, moment, forward, &mut reply) {
+            self.step(settings, moment, forward, &mut reply);
+        }
         reply
     }
 
-    /// Takes an arrival of any kind as `arrive` does, and writes the answer over what `reply` held.
-    ///
-    /// The settings are good. `moment` is the arrival time in milliseconds.
-    #[inline(always)]
-    pub fn arrive_into<'a>(
-        &mut self,
-        settings: &Settings,
-        moment: u64,
-        forward: &Forward<'a>,
-        reply: &mut Reply<'a>,
-    )
-        requires good { AreGood settings.now }
-        ensures { LoneStep (Some (record_of self.old)) settings.now moment (header_of forward.now) (response_of reply.new) (Some (record_of self.new)) }
-    {
-        if !self.take_at_once(AtOnce::Any, settings.idle_ms, moment, forward, reply) {
-            self.step(settings, moment, forward, reply);
-        }
-    }
-
-    /// Takes an arrival of any kind, and writes the answer over what `reply` held: the whole step, for what isn't taken at
-    /// once. It isn't inlined, and neither are its parts, so that those that are taken need no stack space for a second reply.
+    /// Takes an arrival of any kind as `arrive` does, and writes the answer over what `reply` held: for a caller that has
+    /// tried `take_at_once` itself. It isn't inlined, so that its callers keep no stack space for a second reply.
     ///
     /// The settings are good. `moment` is the arrival time in milliseconds.
     #[inline(never)]
@@ -241,7 +224,6 @@ impl Context {
 
     /// Takes a packet of kind Other, and writes the answer into the reply. The record counts.
     #[tactic(auto, unfolding(crate::specs::Record::record_of))]
-    #[inline(never)]
     fn update<'a>(
         &mut self,
         settings: &Settings,

@@ -6,3 +6,4 @@ pub mod ShortLemmas
 pub mod AtOnceLemmas
 pub mod GoodLemmas
 pub mod FormLemmas
+pub mod UnextendedLemmas

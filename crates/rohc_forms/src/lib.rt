@@ -15,8 +15,10 @@ mod parts;
 mod place;
 mod reading;
 mod refusal;
+mod unextended;
 
 pub use at_once::read_at_once;
 pub use form::{Form, FormKind, IdBits, Values};
 pub use reading::read_form;
 pub use refusal::FormRefusal;
+pub use unextended::read_unextended;

@@ -1,4 +1,3 @@
-pub mod Octets
 pub mod InARow
 pub mod Split
 pub mod SevenOctets

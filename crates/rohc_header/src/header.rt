@@ -6,7 +6,7 @@ ghost use Rattle.rohc_header.specs.Original.{IsOriginal, longest_payload};
 ghost use Rattle.rohc_header.specs.Polynomial.{coefficients};
 ghost use Rattle.rohc_header.specs.Check.{all_ones, header_check, static_octets, dynamic_octets};
 
-use crate::parts::header_octets;
+use crate::parts::{Octets, put_ip, put_rtp, put_udp};
 use crate::polynomial::Polynomial::{self, Seven, Three};
 use crate::{Dynamic, Static, field};
 use arrayvec::ArrayVec;
@@ -33,7 +33,9 @@ impl Header {
         if payload_len > LONGEST_PAYLOAD {
             return None;
         }
-        let octets = header_octets(fixed, moving, payload_len as u16);
+        let mut octets = Octets::new();
+        put_header(&mut octets, fixed, moving, payload_len as u16);
+        let octets = octets.into_inner().unwrap();
         Some(Header { octets })
     }
 
@@ -102,7 +104,12 @@ pub fn put_header(octets: &mut ArrayVec<u8, 40>, fixed: &Static, moving: &Dynami
     requires narrow { moving.now.payload_type < 128 }
     ensures { IsOriginal fixed.now moving.now payload_len octets.new.items }
 {
-    *octets = ArrayVec::from(header_octets(fixed, moving, payload_len));
+    // Copied first, so that the compiler knows that they don't overlap the octets.
+    let (fixed, moving) = (*fixed, *moving);
+    octets.clear();
+    put_ip(octets, &fixed, &moving, payload_len);
+    put_udp(octets, &fixed, &moving, payload_len);
+    put_rtp(octets, &fixed, &moving);
 }
 
 /// The 3-bit check of a header's 40 octets, from the register `reg` after its static octets (RFC 3095 5.9.2).

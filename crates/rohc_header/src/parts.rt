@@ -1,47 +1,26 @@
-//! The octets of a header (RFC 791 3.1, RFC 768, RFC 3550 5.1).
+//! The parts of a header. Each function appends one to the octets that are there.
 
-ghost use Rattle.std.specs.Prelude.{◌≡◌, ◌<◌, ◌≤◌, sum};
+ghost use Rattle.std.specs.Prelude.{◌≡◌, ◌+◌, ◌<◌, ◌≤◌, ◌++◌, length, sum};
 ghost use Rattle.rohc_checks.specs.Sum.{words};
-ghost use Rattle.rohc_header.specs.Original.{IsOriginal, flag as flag_octet, longest_payload, ip_sum};
+ghost use Rattle.rohc_header.specs.Original.{flag as flag_octet, word as word_octets, quad as quad_octets, longest_payload, ip_front, ip_part, ip_sum, addresses, udp_part, rtp_part};
 
 use crate::{Dynamic, Static};
+use arrayvec::ArrayVec;
 use rohc_checks::sum_of_total;
 
-/// The octets of the IPv4 (RFC 791 3.1), UDP (RFC 768) and RTP header (RFC 3550 5.1) of a packet with these fields and
-/// `payload_len` octets of payload. `payload_len` is at most 65,495, and the payload type is below 128.
+/// The octets of a header, as far as they have been written.
+pub(crate) type Octets = ArrayVec<u8, 40>;
+
+/// Appends the IPv4 header (RFC 791 3.1).
 #[inline(always)]
-pub(crate) fn header_octets(fixed: &Static, moving: &Dynamic, payload_len: u16) -> [u8; 40]
+pub(crate) fn put_ip(octets: &mut Octets, fixed: &Static, moving: &Dynamic, payload_len: u16)
+    requires room { length octets.old.items + 20 ≤ 40 }
     requires fits { payload_len ≤ longest_payload }
-    requires narrow { moving.now.payload_type < 128 }
-    ensures { IsOriginal fixed.now moving.now payload_len result }
+    ensures { octets.new.items ≡ octets.old.items ++ ip_part fixed.now moving.now payload_len (ip_sum fixed.now moving.now payload_len) }
 {
-    let (source, destination) = (fixed.source, fixed.destination);
-    let total_length = (40 + payload_len).to_be_bytes();
-    let id = moving.id.to_be_bytes();
-    let ip_sum = checksum(fixed, moving, payload_len).to_be_bytes();
-    let source_port = fixed.source_port.to_be_bytes();
-    let destination_port = fixed.destination_port.to_be_bytes();
-    let udp_length = (20 + payload_len).to_be_bytes();
-    let udp_sum = moving.udp_sum.to_be_bytes();
-    let version = 0x80 + flag(moving.padding, 0x20) + flag(moving.extension, 0x10);
-    let marked_type = flag(moving.marker, 0x80) + moving.payload_type;
-    let sn = moving.sn.to_be_bytes();
-    let ts = moving.ts.to_be_bytes();
-    let ssrc = fixed.ssrc.to_be_bytes();
-    #[rattlefmt::skip]
-    let octets = [
-        0x45, moving.tos, total_length[0], total_length[1],
-        id[0], id[1], flag(moving.df, 0x40), 0x00,
-        moving.ttl, 17, ip_sum[0], ip_sum[1],
-        source[0], source[1], source[2], source[3],
-        destination[0], destination[1], destination[2], destination[3],
-        source_port[0], source_port[1], destination_port[0], destination_port[1],
-        udp_length[0], udp_length[1], udp_sum[0], udp_sum[1],
-        version, marked_type, sn[0], sn[1],
-        ts[0], ts[1], ts[2], ts[3],
-        ssrc[0], ssrc[1], ssrc[2], ssrc[3],
-    ];
-    octets
+    put_ip_front(octets, moving, payload_len);
+    put_word(octets, checksum(fixed, moving, payload_len));
+    put_addresses(octets, fixed);
 }
 
 /// The IPv4 checksum, computed from the header's nine other words as numbers; no octet is read
@@ -72,9 +51,83 @@ fn two_words(address: &[u8; 4]) -> u32
         + u32::from_be_bytes([0, 0, address[2], address[3]])
 }
 
+/// Appends the IPv4 header up to its checksum.
+#[inline(always)]
+fn put_ip_front(octets: &mut Octets, moving: &Dynamic, payload_len: u16)
+    requires room { length octets.old.items + 10 ≤ 40 }
+    requires fits { payload_len ≤ longest_payload }
+    ensures { octets.new.items ≡ octets.old.items ++ ip_front moving.now payload_len }
+{
+    put(octets, &[0x45, moving.tos]);
+    put_word(octets, 40 + payload_len);
+    put_word(octets, moving.id);
+    put(octets, &[flag(moving.df, 0x40), 0x00, moving.ttl, 17]);
+}
+
+/// Appends the two addresses, which follow the IPv4 checksum.
+#[inline(always)]
+fn put_addresses(octets: &mut Octets, fixed: &Static)
+    requires { length octets.old.items + 8 ≤ 40 }
+    ensures { octets.new.items ≡ octets.old.items ++ addresses fixed.now }
+{
+    // Copied first, so that the compiler knows that they don't overlap the octets.
+    let (source, destination) = (fixed.source, fixed.destination);
+    put(octets, &source);
+    put(octets, &destination);
+}
+
+/// Appends the UDP header (RFC 768).
+#[inline(always)]
+pub(crate) fn put_udp(octets: &mut Octets, fixed: &Static, moving: &Dynamic, payload_len: u16)
+    requires room { length octets.old.items + 8 ≤ 40 }
+    requires fits { payload_len ≤ longest_payload }
+    ensures { octets.new.items ≡ octets.old.items ++ udp_part fixed.now moving.now payload_len }
+{
+    put_word(octets, fixed.source_port);
+    put_word(octets, fixed.destination_port);
+    put_word(octets, 20 + payload_len);
+    put_word(octets, moving.udp_sum);
+}
+
+/// Appends the RTP header (RFC 3550 5.1).
+#[inline(always)]
+pub(crate) fn put_rtp(octets: &mut Octets, fixed: &Static, moving: &Dynamic)
+    requires room { length octets.old.items + 12 ≤ 40 }
+    requires narrow { moving.now.payload_type < 128 }
+    ensures { octets.new.items ≡ octets.old.items ++ rtp_part fixed.now moving.now }
+{
+    let first = 0x80 + flag(moving.padding, 0x20) + flag(moving.extension, 0x10);
+    let second = flag(moving.marker, 0x80) + moving.payload_type;
+    put(octets, &[first, second]);
+    put_word(octets, moving.sn);
+    put_quad(octets, moving.ts);
+    put_quad(octets, fixed.ssrc);
+}
+
 /// `value` if the flag is set, else 0.
 fn flag(set: bool, value: u8) -> u8
     ensures { result ≡ flag_octet set value }
 {
     if set { value } else { 0x00 }
+}
+
+fn put_word(octets: &mut Octets, word: u16)
+    requires { length octets.old.items + 2 ≤ 40 }
+    ensures { octets.new.items ≡ octets.old.items ++ word_octets word }
+{
+    put(octets, &word.to_be_bytes());
+}
+
+fn put_quad(octets: &mut Octets, quad: u32)
+    requires { length octets.old.items + 4 ≤ 40 }
+    ensures { octets.new.items ≡ octets.old.items ++ quad_octets quad }
+{
+    put(octets, &quad.to_be_bytes());
+}
+
+fn put(octets: &mut Octets, more: &[u8])
+    requires { length octets.old.items + length more.now ≤ 40 }
+    ensures { octets.new.items ≡ octets.old.items ++ more.now }
+{
+    octets.try_extend_from_slice(more).unwrap();
 }

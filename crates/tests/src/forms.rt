@@ -1,6 +1,6 @@
 //! The RND in force, reading without extensions, a large CID, and a long payload: what no row of test data can ask.
 
-use rohc_forms::{Form, FormKind, FormRefusal, read_at_once, read_form};
+use rohc_forms::{Form, FormKind, FormRefusal, read_at_once, read_form, read_unextended};
 use rohc_frame::{CidKind, HeadKind, cut, plain_header};
 
 // The content of a packet on a link of this CID kind, for a context with this RND and a stride, whose packets carry the
@@ -61,17 +61,17 @@ fn rnd_in_force(rt: HostRuntime) {
     assert!(rt; has_rnd(&[0x25, 0x56, 0x78, 0xaf], false, false));
 }
 
-// The content of a packet that is read at once.
-fn read_at_once_in(packet: &[u8], rnd: bool, udp_sum: bool) -> Option<Form<'_>> {
+// The content of a packet that is read without extensions.
+fn unextended_in(packet: &[u8], rnd: bool, udp_sum: bool) -> Option<Form<'_>> {
     let forward = plain_header(CidKind::Small, 15, packet)?;
-    read_at_once(&forward, rnd, udp_sum)
+    read_unextended(&forward, rnd, udp_sum)
 }
 
-// Whether a packet is read at once as any packet is read, but not without the last octet of its header, which has this
-// many octets.
+// Whether a packet is read without extensions as it is with them, but not without the last octet of its header, which
+// has this many octets.
 fn is_read_alike(packet: &[u8], header: usize, rnd: bool, udp_sum: bool) -> bool {
     let (Some(form), Some(said)) = (
-        read_at_once_in(packet, rnd, udp_sum),
+        unextended_in(packet, rnd, udp_sum),
         form_in(packet, rnd, udp_sum),
     ) else {
         return false;
@@ -79,12 +79,12 @@ fn is_read_alike(packet: &[u8], header: usize, rnd: bool, udp_sum: bool) -> bool
     1 <= header
         && header <= packet.len()
         && say_the_same(&form, &said)
-        && read_at_once_in(&packet[..header - 1], rnd, udp_sum).is_none()
+        && unextended_in(&packet[..header - 1], rnd, udp_sum).is_none()
 }
 
-// Packets of each format without an extension, and of extensions 0 to 2, each with the octets of its header, its RND, and
-// whether it carries the UDP checksum.
-const AT_ONCE: [(&[u8], usize, bool, bool); 10] = [
+// Packets of each format without an extension, each with the octets of its header, its RND, and whether it carries the
+// UDP checksum.
+const UNEXTENDED: [(&[u8], usize, bool, bool); 7] = [
     (&[0x10, 0xac], 1, false, false),
     (&[0x10, 0x12, 0x34, 0xca, 0xfe], 5, true, true),
     (&[0x84, 0x1f, 0xad], 2, false, false),
@@ -92,23 +92,53 @@ const AT_ONCE: [(&[u8], usize, bool, bool); 10] = [
     (&[0x94, 0xaf, 0x00, 0x11], 4, true, false),
     (&[0xd4, 0xc3, 0x3e, 0xad], 3, false, false),
     (&[0xc0, 0x0c, 0x7a], 3, false, false),
-    (&[0xc5, 0x12, 0x85, 0x2b, 0x77], 4, false, false),
-    (&[0xc5, 0x92, 0x85, 0x6b, 0x3c, 0x77], 5, false, false),
+];
+
+#[test]
+fn packets_without_an_extension(rt: HostRuntime) {
+    for (packet, header, rnd, udp_sum) in UNEXTENDED {
+        assert!(rt; is_read_alike(packet, header, rnd, udp_sum));
+    }
+    let extended: [u8; 6] = [0x80, 0x95, 0xc2, 0x84, 0xb8, 0xac];
+    assert!(rt; unextended_in(&extended, false, false).is_none());
+}
+
+// The content of a packet that is read at once.
+fn at_once_in(packet: &[u8], rnd: bool) -> Option<Form<'_>> {
+    let forward = plain_header(CidKind::Small, 15, packet)?;
+    read_at_once(&forward, rnd, false)
+}
+
+// Whether a packet is read at once as any packet is, but not without the last octet of its header, which has this many
+// octets.
+fn is_read_at_once(packet: &[u8], header: usize, rnd: bool) -> bool {
+    let (Some(form), Some(said)) = (at_once_in(packet, rnd), form_in(packet, rnd, false)) else {
+        return false;
+    };
+    1 <= header
+        && header <= packet.len()
+        && say_the_same(&form, &said)
+        && at_once_in(&packet[..header - 1], rnd).is_none()
+}
+
+// UOR-2 with an extension 0, 1 and 2, each with the octets of its header and its RND.
+const EXTENDED: [(&[u8], usize, bool); 3] = [
+    (&[0xc5, 0x12, 0x85, 0x2b, 0x77], 4, false),
+    (&[0xc5, 0x92, 0x85, 0x6b, 0x3c, 0x77], 5, false),
     (
         &[0xc5, 0x12, 0x85, 0xab, 0x01, 0x3c, 0xaa, 0xbb, 0x77],
         8,
         true,
-        false,
     ),
 ];
 
 #[test]
 fn packets_without_an_extension_3(rt: HostRuntime) {
-    for (packet, header, rnd, udp_sum) in AT_ONCE {
-        assert!(rt; is_read_alike(packet, header, rnd, udp_sum));
+    for (packet, header, rnd) in EXTENDED {
+        assert!(rt; is_read_at_once(packet, header, rnd));
     }
-    let extended: [u8; 6] = [0x80, 0x95, 0xc2, 0x84, 0xb8, 0xac];
-    assert!(rt; read_at_once_in(&extended, false, false).is_none());
+    assert!(rt; at_once_in(&[0xd4, 0xc3, 0x3e, 0xad], false).is_some());
+    assert!(rt; at_once_in(&[0x80, 0x95, 0xc2, 0x84, 0xb8, 0xac], false).is_none());
 }
 
 // UOR-2-TS jump under a large CID, which follows the first octet.

@@ -11,21 +11,21 @@ pub returns-clause-own : goal.returns-clause-own
 returns-clause-own c =
     let s = c.in-Some.ensures.there in
     let lent = c.pair_mut-context.ensures in
-    let written = own_written c.args.records.now.contexts c.in-Some.place c.args.forward.now.cid s.value c.arrive_into.new.self lent.unique s.entry in
+    let written = own_written c.args.records.now.contexts c.in-Some.place c.args.forward.now.cid s.value c.step.new.self lent.unique s.entry in
     let same = same_value _ _ _ _ _ s.entry lent.value in
     let settings : c.match-mode_in.settings ≡ settings_of c.args.records.now.setting c.args.forward.now.cid
     = elim c.match-mode_in.branch [ in-Some-mode_in w ↦ search rules | in_default-mode_in w ↦ search rules ] in
-    rw (s.found, written, same) (inl (rw settings at c.arrive_into.ensures))
+    rw (s.found, written, same) (inl (rw settings at c.step.ensures))
 
 pub returns-clause-others : goal.returns-clause-others
 returns-clause-others c = λ other is.
     let s = c.in-Some.ensures.there in
-    ap (option_map record_of) (others_kept c.args.records.now.contexts c.in-Some.place c.args.forward.now.cid s.value c.arrive_into.new.self c.pair_mut-context.ensures.unique s.entry other is)
+    ap (option_map record_of) (others_kept c.args.records.now.contexts c.in-Some.place c.args.forward.now.cid s.value c.step.new.self c.pair_mut-context.ensures.unique s.entry other is)
 
 pub returns-clause-order : goal.returns-clause-order
 returns-clause-order c =
     let s = c.in-Some.ensures.there in
-    rw s.found (keys-with_value_at c.args.records.now.contexts c.in-Some.place c.arrive_into.new.self)
+    rw s.found (keys-with_value_at c.args.records.now.contexts c.in-Some.place c.step.new.self)
 
 pub returns-clause-setting : goal.returns-clause-setting
 returns-clause-setting c = refl

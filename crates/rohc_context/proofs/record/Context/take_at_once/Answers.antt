@@ -4,9 +4,9 @@ use Rattle.rohc_context.specs.Record.{reference_of, previous_of, record_of, stat
 use Rattle.rohc_context.specs.declared.state.State.TheVariants.{Full}
 use Rattle.rohc_context.specs.Response.{response_of}
 use Rattle.rohc_context.specs.Window.{outcomes}
-use Rattle.rohc_context.proofs.AtOnceLemmas.{lone_at_once, lone_normal}
+use Rattle.rohc_context.proofs.AtOnceLemmas.{lone_unextended, lone_normal}
 use Rattle.rohc_context.proofs.record.Context.take_at_once.Goals as goal
-use Rattle.rohc_context.proofs.record.Context.take_at_once.Goals.{in-Full+else-not-take_at_once, in-Plain+else-eq}
+use Rattle.rohc_context.proofs.record.Context.take_at_once.Goals.{in-Full+else-not-take_unextended, in-Plain+else-eq}
 
 pub returns-clause-taken : goal.returns-clause-taken
 unfolding record_of
@@ -14,12 +14,12 @@ returns-clause-taken c = λ test s is.
     let before = state_of c.args.self.now.state in
     let header = header_of c.args.forward.now in
     elim c.match-self.branch [
-      | in-Full+else-not-take_at_once w ↦
+      | in-Full+else-not-take_unextended w ↦
           let context = w.in-Full.context in
-          let taken = w.take_at_once.ensures.taken w.if-not-take_at_once.false in
-          rw (w.self-is, w.reply-is) (lone_at_once s c.args.moment header c.args.self.now.accepted before
+          let taken = w.take_unextended.ensures.taken w.if-not-take_unextended.false in
+          rw (w.self-is, w.reply-is) (lone_unextended s c.args.moment header c.args.self.now.accepted before
           context.fixed (reference_of context.reference) (previous_of context) (outcomes context.windows.0) taken.0
-          (response_of w.take_at_once.new.reply) (state_of (Full w.take_at_once.new.self))
+          (response_of w.take_unextended.new.reply) (state_of (Full w.take_unextended.new.self))
           (ap state_of w.in-Full.is) (search rules) (rw is (sym c.if-not-counts.ensures))
           (taken.1 s (c.args.moment - c.args.self.now.accepted)) taken.2 taken.3)
       | in-Plain+else-eq w ↦
