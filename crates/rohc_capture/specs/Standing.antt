@@ -40,10 +40,11 @@ ReadsOn s (Ok (Some r)) frame kind place rest =
 ReadsOn s (Ok None) frame kind place rest = IsNext s (Ok None)
 ReadsOn s (Err fault) frame kind place rest = fault.kind ≢ Read → IsNext s (Err fault)
 
--- what was found, with the fault's place
-abbrev pub at_place : ℕ → Result (Option Record) FaultKind → Result (Option Record) CaptureFault
-at_place place (Ok r) = Ok r
-at_place place (Err kind) = Err (record { kind = kind; place = place })
+-- whether a record was found, with the record that was set, or with the fault's place
+abbrev pub at_place : ℕ → Record → Result Bool FaultKind → Result (Option Record) CaptureFault
+at_place place r (Ok true) = Ok (Some r)
+at_place place r (Ok false) = Ok None
+at_place place r (Err kind) = Err (record { kind = kind; place = place })
 
 -- the first record, or the first block, lies whole in these octets
 abbrev pub has_record : Option RecordHead → List ℕ → Bool

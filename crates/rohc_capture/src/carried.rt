@@ -30,6 +30,7 @@ pub struct Carried<'a> {
 
 /// What a frame of this link type carries. The link types are those of `network_in`.
 #[tactic(auto, unfolding(crate::specs::Carried::carried_in))]
+#[inline(always)]
 pub fn carried_in(link_type: u16, frame: &[u8]) -> Result<Carried<'_>, FrameFault>
     ensures { result_map_both load_of (λ e. e) result ≡ carried_in link_type frame.now }
 {

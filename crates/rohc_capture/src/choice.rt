@@ -49,6 +49,7 @@ fn by_rule<'a>(rule: Rule, carried: &Carried<'a>) -> Option<(u16, &'a [u8])>
 
 /// The link that a frame belongs to, and the packet that it carries, by the first rule that speaks of it; `None` if no
 /// rule does, or if a datagram has no room for the link's number.
+#[inline(always)]
 pub fn choose<'a>(rules: &[Rule], carried: &Carried<'a>) -> Option<(u16, &'a [u8])>
     ensures { option_map (λ c. (c.0, c.1.now)) result ≡ chosen rules.now (load_of carried.now) }
 {
@@ -65,6 +66,7 @@ pub fn choose<'a>(rules: &[Rule], carried: &Carried<'a>) -> Option<(u16, &'a [u8
 ///
 /// The errors are `NotWhole`, if not all its octets are there, and those of `carried_in`.
 #[tactic(auto, unfolding(crate::specs::Choice::packet_in))]
+#[inline(always)]
 pub fn packet_in<'a>(
     rules: &[Rule],
     link_type: u16,

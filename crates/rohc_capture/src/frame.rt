@@ -208,6 +208,7 @@ fn ppp(frame: &[u8]) -> Result<Network<'_>, FrameFault>
 ///
 /// The errors are those of `FrameFault` up to `Tags`.
 #[tactic(auto, unfolding(crate::specs::Frame::network_in))]
+#[inline(always)]
 pub fn network_in(link_type: u16, frame: &[u8]) -> Result<Network<'_>, FrameFault>
     ensures { result_map_both inside_of (λ e. e) result ≡ network_in link_type frame.now }
 {

@@ -72,15 +72,13 @@ enum Block {
     End,
     /// It has no packet.
     Other,
-    /// It has a packet.
-    Packet(Record),
+    /// It has a packet, whose record was set.
+    Packet,
 }
 
 /// A frame of a capture.
 #[derive(Clone, Copy, Debug, PartialEq, Eq)]
 pub struct Record {
-    /// The link type, as captures number them.
-    pub link_type: u16,
     /// When the frame was captured, in nanoseconds since 1970. A packet without a time has that of the record before.
     pub nanos: u64,
     /// How many octets the frame had.
@@ -89,7 +87,18 @@ pub struct Record {
     pub interface: u32,
     /// Where the record begins: the octets of the capture before it.
     pub place: u64,
+    /// The link type, as captures number them.
+    pub link_type: u16,
 }
+
+/// The record before the first.
+const NO_RECORD: Record = Record {
+    nanos: 0,
+    original: 0,
+    interface: 0,
+    place: 0,
+    link_type: 0,
+};
 
 /// A capture that is read from `R`.
 #[derive(Drop)]
@@ -98,6 +107,8 @@ pub struct Capture<R> {
     kind: Kind,
     interfaces: Vec<Interface>,
     span: Span,
+    /// The record that was read last. It stays here, so that no call passes it on.
+    record: Record,
     /// Where the record or the block begins that is being read.
     place: u64,
     /// The moment of the last record.
@@ -152,12 +163,14 @@ impl<R: Read> Capture<R> {
             kind: Kind::Unknown,
             interfaces: Vec::new(alloc),
             span: NOTHING,
+            record: NO_RECORD,
             place: 0,
             nanos: 0,
         })
     }
 
     /// Reads the next record; `None` at the end. After a fault nothing is known of what follows.
+    #[inline(always)]
     pub fn next(&mut self) -> Result<Option<Record>, CaptureFault>
         ensures { IfSome (rest_of R.remaining self.old) (λ text.
             ReadsOn (standing self.old.kind (place_of self.old) text) result
@@ -167,7 +180,8 @@ impl<R: Read> Capture<R> {
         self.span = NOTHING;
         self.place = self.window.place();
         match self.next_of_kind() {
-            Ok(record) => Ok(record),
+            Ok(true) => Ok(Some(self.record)),
+            Ok(false) => Ok(None),
             Err(kind) => Err(CaptureFault {
                 kind,
                 place: self.place,
@@ -211,27 +225,41 @@ impl<R: Read> Capture<R> {
         }
     }
 
-    /// Reads the next record by the capture's kind, which the first octets say.
-    fn next_of_kind(&mut self) -> Result<Option<Record>, FaultKind>
+    /// Reads the next record by the capture's kind, which the first octets say. Returns whether there is one.
+    #[inline(always)]
+    fn next_of_kind(&mut self) -> Result<bool, FaultKind>
         requires { self.old.place ≡ self.old.window.place }
         ensures { IfSome (text_in R.remaining self.old.window) (λ text.
-            ReadsOn (standing self.old.kind self.old.place text) (at_place self.new.place result)
+            ReadsOn (standing self.old.kind self.old.place text) (at_place self.new.place self.new.record result)
             (frame_of self.new) self.new.kind (place_of self.new) (rest_of R.remaining self.new)) }
     {
         match self.kind {
-            Kind::Unknown => match self.begin() {
-                Ok(()) => self.next_begun(),
-                Err(kind) => Err(kind),
-            },
+            Kind::Unknown => self.first(),
             _ => self.next_begun(),
         }
     }
 
+    /// Reads the first record of a capture.
+    #[cold]
+    #[inline(never)]
+    fn first(&mut self) -> Result<bool, FaultKind>
+        requires { self.old.place ≡ self.old.window.place }
+        ensures { IfSome (text_in R.remaining self.old.window) (λ text.
+            ReadsOn (standing kinds.Unknown self.old.place text) (at_place self.new.place self.new.record result)
+            (frame_of self.new) self.new.kind (place_of self.new) (rest_of R.remaining self.new)) }
+    {
+        match self.begin() {
+            Ok(()) => self.next_begun(),
+            Err(kind) => Err(kind),
+        }
+    }
+
     /// Reads the next record of a capture whose kind is known.
-    fn next_begun(&mut self) -> Result<Option<Record>, FaultKind>
+    #[inline(always)]
+    fn next_begun(&mut self) -> Result<bool, FaultKind>
         requires { self.old.place ≡ self.old.window.place }
         ensures next { IsBegun self.old.kind → IfSome (text_in R.remaining self.old.window) (λ text.
-            ReadsOn (standing self.old.kind self.old.place text) (at_place self.new.place result)
+            ReadsOn (standing self.old.kind self.old.place text) (at_place self.new.place self.new.record result)
             (frame_of self.new) self.new.kind (place_of self.new) (rest_of R.remaining self.new)) }
     {
         match self.kind {
@@ -267,17 +295,18 @@ impl<R: Read> Capture<R> {
     }
 
     /// Reads the next record of a capture of pcap.
-    fn next_in_pcap(&mut self, head: PcapHead) -> Result<Option<Record>, FaultKind>
+    #[inline(always)]
+    fn next_in_pcap(&mut self, head: PcapHead) -> Result<bool, FaultKind>
         requires { self.old.place ≡ self.old.window.place }
         ensures next { IfSome (text_in R.remaining self.old.window) (λ text.
-            ReadsOn (standing (kinds.Pcap head) self.old.place text) (at_place self.old.place result)
+            ReadsOn (standing (kinds.Pcap head) self.old.place text) (at_place self.old.place self.new.record result)
             (frame_of self.new) (kinds.Pcap head) (place_of self.new) (rest_of R.remaining self.new)) }
         ensures kind { self.new.kind ≡ self.old.kind }
         ensures place { self.new.place ≡ self.old.place }
     {
         if !self.window.need(RECORD_HEAD)? {
             return match self.window.ahead() {
-                [] => Ok(None),
+                [] => Ok(false),
                 _ => Err(FaultKind::CutOff),
             };
         }
@@ -297,25 +326,26 @@ impl<R: Read> Capture<R> {
             captured,
             all,
         };
-        Ok(Some(Record {
-            link_type: head.link_type,
+        self.record = Record {
             nanos: record.nanos,
             original: record.original,
             interface: 0,
             place: self.place,
-        }))
+            link_type: head.link_type,
+        };
+        Ok(true)
     }
 
     /// Reads blocks up to the next with a packet.
-    fn next_in_blocks(&mut self, order: ByteOrder) -> Result<Option<Record>, FaultKind>
+    fn next_in_blocks(&mut self, order: ByteOrder) -> Result<bool, FaultKind>
         ensures known { StaysKnown (R.remaining self.old.window.reader) (R.remaining self.new.window.reader) }
     {
         let mut order = order;
         for _ in 0..u64::MAX {
             let block = self.next_block(order)?;
             match block {
-                Block::End => return Ok(None),
-                Block::Packet(record) => return Ok(Some(record)),
+                Block::End => return Ok(false),
+                Block::Packet => return Ok(true),
                 Block::Other => {}
             }
             let _ = self.window.pass(self.span.all);
@@ -503,12 +533,13 @@ impl<R: Read> Capture<R> {
         if let Some(ticks) = head.ticks {
             self.nanos = nanos_of(ticks, interface.resolution);
         }
-        Ok(Block::Packet(Record {
-            link_type: interface.link_type,
+        self.record = Record {
             nanos: self.nanos,
             original: head.original,
             interface: head.interface,
             place: self.place,
-        }))
+            link_type: interface.link_type,
+        };
+        Ok(Block::Packet)
     }
 }

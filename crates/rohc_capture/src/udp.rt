@@ -70,6 +70,7 @@ fn form_in(udp: &[u8]) -> Result<Datagram<'_>, FrameFault>
 ///
 /// The errors are `Short` and those of `FrameFault` from `IpHeader` on. No checksum is looked at.
 #[tactic(auto, unfolding(crate::specs::Udp::datagram_in))]
+#[inline(always)]
 pub fn datagram_in(packet: &[u8]) -> Result<Datagram<'_>, FrameFault>
     ensures { result_map_both form_of (λ e. e) result ≡ datagram_in packet.now }
 {

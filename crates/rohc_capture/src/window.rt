@@ -109,8 +109,27 @@ impl<R: Read> Window<R> {
         }
     }
 
-    /// Reads until at least `count` octets are ahead, and returns whether there are so many.
+    /// Sees to it that at least `count` octets are ahead, and returns whether there are so many.
+    #[inline(always)]
     pub(crate) fn need(&mut self, count: usize) -> Result<bool, FaultKind>
+        requires { count ≤ LONGEST }
+        ensures text { Keeps (text_in R.remaining self.old) (text_in R.remaining self.new) }
+        ensures place { self.new.place ≡ self.old.place }
+        ensures known { StaysKnown (R.remaining self.old.reader) (R.remaining self.new.reader) }
+        ensures enough { IfOk result (λ enough. enough ≡ true → count ≤ length (ahead_of self.new)) }
+        ensures few { IfOk result (λ enough. enough ≡ false → (length (ahead_of self.new) < count) × IsAtEnd (R.remaining self.new.reader)) }
+        ensures fault { IfErr result (λ kind. kind ≡ faults.Read) }
+    {
+        if count <= self.end - self.start {
+            return Ok(true);
+        }
+        self.read_until(count)
+    }
+
+    /// Reads until at least `count` octets are ahead, and returns whether there are so many.
+    #[cold]
+    #[inline(never)]
+    fn read_until(&mut self, count: usize) -> Result<bool, FaultKind>
         requires { count ≤ LONGEST }
         ensures text { Keeps (text_in R.remaining self.old) (text_in R.remaining self.new) }
         ensures place { self.new.place ≡ self.old.place }
@@ -131,6 +150,7 @@ impl<R: Read> Window<R> {
     }
 
     /// Passes `count` octets, or all that are ahead if they are fewer. Returns how many.
+    #[inline(always)]
     pub(crate) fn pass(&mut self, count: usize) -> usize
         ensures passed { result ≡ min count (length (ahead_of self.old)) }
         ensures ahead { ahead_of self.new ≡ drop count (ahead_of self.old) }

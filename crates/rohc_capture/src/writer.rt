@@ -5,8 +5,7 @@ ghost use Rattle.std.specs.Io.KnownBytes.{Appends};
 ghost use Rattle.rohc_capture.specs.Written.{quad, missing, pcap_head, section_head, interface_head, pcap_record, pcapng_front, pcapng_back, pcapng_record, head_of, frame_record};
 
 use arrayvec::ArrayVec;
-use std::io;
-use std::io::{Error, ErrorKind, Write};
+use std::io::Write;
 
 /// The form of a capture that is written.
 #[derive(Clone, Copy, Debug, PartialEq, Eq)]
@@ -17,18 +16,26 @@ pub enum Format {
     Pcapng,
 }
 
-/// The octets before a packet, or before the first record.
-type Head = ArrayVec<u8, 64>;
+/// Why a capture isn't written on.
+#[derive(Clone, Copy, Debug, PartialEq, Eq)]
+pub enum WriteFault {
+    /// The packet is longer than 262,144 octets. Nothing of it was written.
+    TooLong,
+    /// In pcap, its time lies after 2106. Nothing of it was written.
+    TooLate,
+    /// A write failed. A part may have been written.
+    Failed,
+}
 
-/// The longest first part of a packet that is written together with the head of its record, in octets.
-const LONGEST_FRONT: usize = 48;
+/// The octets before a packet, or before the first record.
+type Head = ArrayVec<u8, 32>;
 
 /// The longest packet that is written, in octets.
 const LONGEST_PACKET: usize = 262_144;
 
 /// Appends octets.
 fn put_all(head: &mut Head, octets: &[u8])
-    requires { length head.old.items + length octets.now ≤ 64 }
+    requires { length head.old.items + length octets.now ≤ 32 }
     ensures { head.new.items ≡ head.old.items ++ octets.now }
 {
     head.try_extend_from_slice(octets).unwrap();
@@ -36,7 +43,7 @@ fn put_all(head: &mut Head, octets: &[u8])
 
 /// Appends a number.
 fn put(head: &mut Head, number: u32)
-    requires { length head.old.items + 4 ≤ 64 }
+    requires { length head.old.items + 4 ≤ 32 }
     ensures { head.new.items ≡ head.old.items ++ quad number }
 {
     put_all(head, &number.to_be_bytes());
@@ -50,34 +57,47 @@ fn missing(size: u32) -> u32
 }
 
 /// The length of a packet in two parts. The error is a packet that is too long to be written.
-fn size_of(front: &[u8], rest: &[u8]) -> io::Result<u32>
+fn size_of(front: &[u8], rest: &[u8]) -> Result<u32, WriteFault>
     ensures size { IfOk result (λ size. size ≡ length (front.now ++ rest.now)) }
     ensures room { IfOk result (λ size. size ≤ LONGEST_PACKET) }
 {
     if front.len() > LONGEST_PACKET || rest.len() > LONGEST_PACKET - front.len() {
-        return Err(Error::from(ErrorKind::InvalidInput));
+        return Err(WriteFault::TooLong);
     }
     Ok((front.len() + rest.len()) as u32)
 }
 
+/// Writes one part.
+#[inline(always)]
+fn write_one<W: Write>(writer: &mut W, part: &[u8]) -> Result<(), WriteFault>
+    ensures { OnOk result (Appends (W.contents writer.old) (W.contents writer.new) part.now) }
+{
+    match writer.write_all(part) {
+        Ok(()) => Ok(()),
+        Err(_) => Err(WriteFault::Failed),
+    }
+}
+
 /// Writes two parts.
-fn write_two<W: Write>(writer: &mut W, first: &[u8], second: &[u8]) -> io::Result<()>
+#[inline(always)]
+fn write_two<W: Write>(writer: &mut W, first: &[u8], second: &[u8]) -> Result<(), WriteFault>
     ensures { OnOk result (Appends (W.contents writer.old) (W.contents writer.new) (first.now ++ second.now)) }
 {
-    writer.write_all(first)?;
-    writer.write_all(second)
+    write_one(writer, first)?;
+    write_one(writer, second)
 }
 
 /// Writes three parts.
+#[inline(always)]
 fn write_three<W: Write>(
     writer: &mut W,
     first: &[u8],
     second: &[u8],
     third: &[u8],
-) -> io::Result<()>
+) -> Result<(), WriteFault>
     ensures { OnOk result (Appends (W.contents writer.old) (W.contents writer.new) (first.now ++ second.now ++ third.now)) }
 {
-    writer.write_all(first)?;
+    write_one(writer, first)?;
     write_two(writer, second, third)
 }
 
@@ -87,11 +107,11 @@ fn write_behind<W: Write>(
     front: &[u8],
     rest: &[u8],
     behind: &[u8],
-) -> io::Result<()>
+) -> Result<(), WriteFault>
     ensures { OnOk result (Appends (W.contents writer.old) (W.contents writer.new) ((front.now ++ rest.now) ++ behind.now)) }
 {
     write_two(writer, front, rest)?;
-    writer.write_all(behind)
+    write_one(writer, behind)
 }
 
 /// Writes what stands before a frame, the frame in two parts, and what stands behind it.
@@ -101,10 +121,10 @@ fn write_frame<W: Write>(
     front: &[u8],
     rest: &[u8],
     behind: &[u8],
-) -> io::Result<()>
+) -> Result<(), WriteFault>
     ensures { OnOk result (Appends (W.contents writer.old) (W.contents writer.new) (before.now ++ (front.now ++ rest.now) ++ behind.now)) }
 {
-    writer.write_all(before)?;
+    write_one(writer, before)?;
     write_behind(writer, front, rest, behind)
 }
 
@@ -121,20 +141,21 @@ fn pcap_front(second: u32, nano: u32, size: u32) -> Head
 }
 
 /// Writes a record of pcap. Its time must lie before 2106.
-fn write_pcap<W: Write>(writer: &mut W, nanos: u64, front: &[u8], rest: &[u8]) -> io::Result<()>
+fn write_pcap<W: Write>(
+    writer: &mut W,
+    nanos: u64,
+    front: &[u8],
+    rest: &[u8],
+) -> Result<(), WriteFault>
     ensures { OnOk result (Appends (W.contents writer.old) (W.contents writer.new) (pcap_record nanos (front.now ++ rest.now))) }
 {
     let size = size_of(front, rest)?;
     let Ok(second) = u32::try_from(nanos / 1_000_000_000) else {
-        return Err(Error::from(ErrorKind::InvalidInput));
+        return Err(WriteFault::TooLate);
     };
     let nano = (nanos % 1_000_000_000) as u32;
-    let mut head = pcap_front(second, nano, size);
-    if front.len() > LONGEST_FRONT {
-        return write_three(writer, head.as_slice(), front, rest);
-    }
-    put_all(&mut head, front);
-    write_two(writer, head.as_slice(), rest)
+    let head = pcap_front(second, nano, size);
+    write_three(writer, head.as_slice(), front, rest)
 }
 
 /// What stands before a frame in its block of pcapng.
@@ -167,7 +188,12 @@ fn pcapng_back(size: u32) -> Head
 }
 
 /// Writes a packet's block of pcapng.
-fn write_pcapng<W: Write>(writer: &mut W, nanos: u64, front: &[u8], rest: &[u8]) -> io::Result<()>
+fn write_pcapng<W: Write>(
+    writer: &mut W,
+    nanos: u64,
+    front: &[u8],
+    rest: &[u8],
+) -> Result<(), WriteFault>
     ensures { OnOk result (Appends (W.contents writer.old) (W.contents writer.new) (pcapng_record nanos (front.now ++ rest.now))) }
 {
     let size = size_of(front, rest)?;
@@ -224,11 +250,15 @@ fn interface_head(link_type: u16) -> Head
 }
 
 /// Writes the head of a capture whose frames have this link type, as captures number them: 101 for raw IP.
-pub fn write_head<W: Write>(writer: &mut W, format: Format, link_type: u16) -> io::Result<()>
+pub fn write_head<W: Write>(
+    writer: &mut W,
+    format: Format,
+    link_type: u16,
+) -> Result<(), WriteFault>
     ensures { OnOk result (Appends (W.contents writer.old) (W.contents writer.new) (head_of format link_type)) }
 {
     match format {
-        Format::Pcap => writer.write_all(pcap_head(link_type).as_slice()),
+        Format::Pcap => write_one(writer, pcap_head(link_type).as_slice()),
         Format::Pcapng => {
             let section = section_head();
             let interface = interface_head(link_type);
@@ -238,16 +268,13 @@ pub fn write_head<W: Write>(writer: &mut W, format: Format, link_type: u16) -> i
 }
 
 /// Writes a frame in two parts, with its time in nanoseconds since 1970.
-///
-/// The error `InvalidInput` is a packet longer than 262,144 octets or, in pcap, a time after 2106; then nothing was
-/// written. Any other is the writer's.
 pub fn write_record<W: Write>(
     writer: &mut W,
     format: Format,
     nanos: u64,
     front: &[u8],
     rest: &[u8],
-) -> io::Result<()>
+) -> Result<(), WriteFault>
     ensures { OnOk result (Appends (W.contents writer.old) (W.contents writer.new) (frame_record format nanos (front.now ++ rest.now))) }
 {
     match format {

@@ -2,9 +2,10 @@
 
 use crate::rules::{RuleWords, rules_of};
 use rohc_capture::{Capture, CaptureFault, FaultKind, Format};
+use rohc_concentrator::Concentrator;
 use rohc_decompress::{Bulk, BulkFault, Tally, begin, decompress};
 use rohctl_ground::{Ending, Screen, Target, Told, concentrator_of, make_target, open_source};
-use std::io::Write;
+use std::io::{Read, Write};
 use std::rt::Files;
 
 /// What is asked of `decompress`.
@@ -46,6 +47,19 @@ pub(crate) fn ran_end(ran: Result<(), BulkFault>, flushed: bool) -> Result<Endin
     }
 }
 
+/// Writes the heads of both captures, and runs the one that is read.
+fn run_into<S: Read, W: Write, V: Write>(
+    links: &mut Concentrator,
+    bulk: &Bulk<'_>,
+    capture: &mut Capture<S>,
+    packets: &mut W,
+    feedback: &mut V,
+    tally: &mut Tally,
+) -> Result<(), BulkFault> {
+    begin(bulk.format, packets, feedback)?;
+    decompress(links, bulk, capture, packets, feedback, tally)
+}
+
 /// Runs a capture, and writes what is delivered.
 pub fn run_decompress<R>(rt: &R, asked: &Decompress<'_>, screen: Screen) -> Result<Ending, Ending>
 where
@@ -66,17 +80,26 @@ where
         None => Target::Nothing,
     };
     let mut tally = Tally::default();
-    let mut ran = begin(asked.format, &mut packets, &mut feedback);
-    if ran.is_ok() {
-        ran = decompress(
+    // The writer's kind is told here, once, and not at each write.
+    let ran = match &mut packets {
+        Target::File(file) => run_into(
             &mut links,
             &bulk,
             &mut capture,
-            &mut packets,
+            file,
             &mut feedback,
             &mut tally,
-        );
-    }
+        ),
+        Target::Output(output) => run_into(
+            &mut links,
+            &bulk,
+            &mut capture,
+            output,
+            &mut feedback,
+            &mut tally,
+        ),
+        Target::Nothing => Ok(()),
+    };
     let flushed = packets.flush().is_ok() && feedback.flush().is_ok();
     if asked.stats && eprintln!(rt; "{tally}").is_err() {
         return Err(Ending::Write);

@@ -1,7 +1,7 @@
 use Rattle.std.proofs.Common.{◌≡◌}
 use Rattle.std.specs.Io.KnownBytes.{Keeps}
 use Rattle.rohc_capture.specs.Window.{text_in}
-use Rattle.rohc_capture.proofs.window.Window.need.Given as goal
+use Rattle.rohc_capture.proofs.window.Window.read_until.Given as goal
 
 -- what was read stands behind what was ahead
 abbrev pub invariant-loop : goal.invariant-loop
