@@ -76,6 +76,17 @@ enum polorowan_not_restored {
     POLOROWAN_LONG = 14         /**< Octets follow the digest. */
 };
 
+/** What polorowan_restore_link() returns, beside POLOROWAN_NOT_SAVED to POLOROWAN_LONG of enum polorowan_not_restored. */
+enum polorowan_restored_link {
+    POLOROWAN_RESTORED = 0,              /**< The link holds its contexts again. */
+    POLOROWAN_RESTORED_NONE = 1,         /**< There is no concentrator. */
+    POLOROWAN_RESTORED_NO_LINK = 2,      /**< There is no such link. */
+    POLOROWAN_RESTORED_HAS_CONTEXTS = 3, /**< The link holds a context. */
+    POLOROWAN_RESTORED_OTHER_LINK = 4,   /**< The octets aren't those of this link alone. */
+    POLOROWAN_RESTORED_OTHER_KIND = 5,   /**< The link was saved with the other CID kind. */
+    POLOROWAN_RESTORED_NO_MEMORY = 6     /**< There is no memory. */
+};
+
 /** What polorowan_arrive() returns. */
 enum polorowan_arrived {
     POLOROWAN_ARRIVED = 0,      /**< The packet was taken, and the answer stands in the buffers. */
@@ -426,6 +437,25 @@ uint8_t polorowan_save(const polorowan_gateway *gateway, uint64_t moment, uint8_
 /** Writes one link in the same form, as polorowan_save() writes all. */
 uint8_t polorowan_save_link(const polorowan_gateway *gateway, uint16_t link, uint64_t moment, uint8_t *octets, size_t room,
                             size_t *count);
+
+/**
+ * Puts the contexts of one link back while the gateway runs, and changes nothing else. The link is there, and holds no
+ * context: polorowan_add_link() or polorowan_reset() comes before. Contexts above its greatest CID are left out.
+ *
+ * The first fault is returned: POLOROWAN_RESTORED_NO_LINK, POLOROWAN_RESTORED_HAS_CONTEXTS, those of the octets,
+ * POLOROWAN_RESTORED_OTHER_LINK, POLOROWAN_RESTORED_OTHER_KIND. POLOROWAN_RESTORED_NO_MEMORY may come before the last three.
+ *
+ * @param gateway the gateway
+ * @param link the link's number
+ * @param octets what polorowan_save_link() wrote
+ * @param octets_count how many octets these are
+ * @param restored gets what was taken and left out
+ * @param place is set to the place of the octet at fault, counted from 0; else to 0
+ * @return 0, or one of enum polorowan_restored_link or enum polorowan_not_restored; at all but 0 the gateway and @p restored
+ * stay as they were
+ */
+uint8_t polorowan_restore_link(polorowan_gateway *gateway, uint16_t link, const uint8_t *octets, size_t octets_count,
+                               struct polorowan_restored *restored, size_t *place);
 
 /** The name of a refusal, one of enum polorowan_refusal, or NULL if there is none of this number. It stays. */
 const char *polorowan_name_of(uint8_t refusal);

@@ -70,7 +70,7 @@ struct answer {
     }
 };
 
-/** Why no gateway was made, and the place of the link or octet at fault, as polorowan_open() and polorowan_open_saved() say. */
+/** Why no gateway was made, or no link restored, and the place of the link or octet at fault, as polorowan.h says. */
 struct fault {
     std::uint8_t number = POLOROWAN_MADE;
     std::size_t place = 0;
@@ -127,6 +127,21 @@ public:
     /** Adds a link behind the others, without a context. @return one of enum polorowan_linked */
     std::uint8_t add_link(const polorowan_link &link) noexcept {
         return state_ ? polorowan_add_link(state_->raw, &link) : std::uint8_t{POLOROWAN_LINKED_NONE};
+    }
+
+    /**
+     * Puts the contexts of one link, which holds none, back from what save_link() gave. False at a fault, and then nothing
+     * changes; its number is as of polorowan_restore_link().
+     */
+    bool restore_link(std::uint16_t link, octets saved, polorowan_restored *told = nullptr, fault *why = nullptr) noexcept {
+        fault found;
+        polorowan_restored restored{};
+        found.number = state_ ? polorowan_restore_link(state_->raw, link, saved.data(), saved.size(), &restored, &found.place)
+                              : std::uint8_t{POLOROWAN_RESTORED_NONE};
+        if (why) *why = found;
+        if (found.number != POLOROWAN_RESTORED) return false;
+        if (told) *told = restored;
+        return true;
     }
 
     /** Changes the setting of the link of this number. @return one of enum polorowan_linked */
@@ -187,6 +202,18 @@ public:
         if (!state_ || polorowan_save(state_->raw, moment, &none, 0, &count) != POLOROWAN_SAVED_NO_ROOM) return std::nullopt;
         std::vector<std::uint8_t> saved(count);
         if (polorowan_save(state_->raw, moment, saved.data(), saved.size(), &count) != POLOROWAN_SAVED) return std::nullopt;
+        return saved;
+    }
+
+    /** One link in the same form. None without memory, or if there is no such link. */
+    [[nodiscard]] std::optional<std::vector<std::uint8_t>> save_link(std::uint16_t link, std::uint64_t moment) const {
+        std::uint8_t none = 0;
+        std::size_t count = 0;
+        if (!state_ || polorowan_save_link(state_->raw, link, moment, &none, 0, &count) != POLOROWAN_SAVED_NO_ROOM)
+            return std::nullopt;
+        std::vector<std::uint8_t> saved(count);
+        if (polorowan_save_link(state_->raw, link, moment, saved.data(), saved.size(), &count) != POLOROWAN_SAVED)
+            return std::nullopt;
         return saved;
     }
 

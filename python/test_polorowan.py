@@ -32,6 +32,7 @@ from polorowan import (  # noqa: E402
     Link,
     NoLink,
     Range,
+    RestoreError,
     SavedError,
     SetupError,
     State,
@@ -241,6 +242,27 @@ class Calls(unittest.TestCase):
             self.assertEqual((caught.exception.status, caught.exception.place), (status, place))
         with self.assertRaises(SetupError):
             Concentrator.restored([], octets)
+
+    def test_one_link_restored(self) -> None:
+        with Concentrator([Link(1), Link(2)]) as here, Concentrator([Link(2), Link(1)]) as there:
+            here.arrive(1, 3, self.IR)
+            octets = here.save_link(1, 5)
+            with self.assertRaises(RestoreError) as full:
+                here.restore_link(1, octets)
+            with self.assertRaises(RestoreError) as other:
+                there.restore_link(2, octets)
+            self.assertEqual((full.exception.status, other.exception.status), (3, 4))
+            there.arrive(2, 4, self.IR)
+            with self.assertRaises(NoLink):
+                there.restore_link(3, octets)
+            with self.assertRaises(SavedError) as cut:
+                there.restore_link(1, octets[:-1])
+            self.assertEqual((cut.exception.status, cut.exception.place), (9, len(octets) - 1))
+            told = there.restore_link(1, octets)
+            self.assertEqual((told.moment, told.links, told.contexts), (5, 1, 1))
+            self.assertEqual(there.save_link(1, 5), octets)
+            self.assertTrue(there.has_context(2, 0))
+            self.assertEqual(there.arrive(1, 9, b"\x45\xab").packet, b"\x45\xab")
 
     def test_no_copy(self) -> None:
         with Concentrator([Link(1)]) as concentrator:

@@ -333,6 +333,31 @@ static void saved_and_restored(void) {
     polorowan_free(&other);
 }
 
+/* While requests for memory are refused, a link that isn't restored stays empty, and another link stays as it was. */
+static void one_link_restored(void) {
+    struct polorowan_link links[2] = {link_of(1), link_of(2)};
+    struct polorowan_gateway g = gateway_of(links, 2), none = {0};
+    struct polorowan_restored told = {.links = 0x77};
+    size_t count = 0, place = 7;
+    uint8_t octets[256];
+    CHECK(polorowan_restore_link(&none, 1, octets, 1, &told, &place) == POLOROWAN_RESTORED_NONE && place == 7);
+    CHECK(arrives(&g, 3, PLAIN_IR, 5, POLOROWAN_DELIVERED));
+    CHECK(polorowan_save_link(&g, 1, 5, octets, sizeof octets, &count) == POLOROWAN_SAVED);
+    CHECK(polorowan_remove_link(&g, 1, &place) == POLOROWAN_FORGOT && polorowan_add_link(&g, &links[0]) == POLOROWAN_LINKED);
+    CHECK(arrive(&g, 2, PLAIN_IR, 5).status == POLOROWAN_ARRIVED);
+    unsigned long request = 1;
+    for (;; request++) {
+        refused = request;
+        uint8_t made = polorowan_restore_link(&g, 1, octets, count, &told, &place);
+        if (refused != 0) break;
+        CHECK(made == POLOROWAN_RESTORED_NO_MEMORY && place == 0 && !polorowan_has_context(&g, 1, 0) && told.links == 0x77);
+    }
+    refused = 0;
+    CHECK(request > 3 && told.links == 1 && told.contexts == 1 && polorowan_has_context(&g, 2, 0));
+    CHECK(is_context(&g, 0, 0, 0x0000, POLOROWAN_FULL_CONTEXT, 3));
+    polorowan_free(&g);
+}
+
 int main(void) {
     without_a_concentrator();
     freed_twice();
@@ -344,6 +369,7 @@ int main(void) {
     names();
     want_of_memory();
     saved_and_restored();
+    one_link_restored();
     puts(failed ? "calls at the edges: NOT as wanted" : "calls at the edges as wanted");
     return failed != 0;
 }

@@ -71,7 +71,12 @@ int main() {
     must(other->add_link(link(2)) == POLOROWAN_LINKED && other->change_link(link(3)) == POLOROWAN_LINKED_NO_LINK, "links");
     must(other->remove_link(2) == 0u && !other->remove_link(2) && other->has_context(1, 0), "a link that is removed");
     must(other->forget(1, 1) == 0u && other->forget_expired(1, 5) == 0u && !other->has_expired(1, 0, 5), "forgetting");
+    const auto alone = other->save_link(1, 6);
+    must(alone && !other->save_link(2, 6), "a link that is saved");
+    must(!other->restore_link(1, *alone, &told, &why) && why.number == POLOROWAN_RESTORED_HAS_CONTEXTS, "a link that is full");
     must(other->reset(1) && !other->has_context(1, 0) && !other->reset(2), "reset");
+    must(other->restore_link(1, *alone, &told) && told.moment == 6 && told.contexts == 1, "a link that is restored");
+    must(other->has_context(1, 0), "a restored context");
     std::puts("library_cpp: as wanted");
     return 0;
 }

@@ -218,6 +218,42 @@ static void one_link_is_saved(void) {
     polorowan_close(g);
 }
 
+/* One link goes to another gateway that runs, beside a link that stays; and each fault changes nothing. */
+static void one_link_is_restored(void) {
+    struct polorowan_link links[2] = {link_of(2), link_of(1)}, large = link_of(1);
+    polorowan_gateway *g = with_two_contexts(), *other = opened(links, 2);
+    struct polorowan_restored told;
+    uint8_t octets[256], again[256];
+    size_t count = 0, length = 0, place = 7;
+    CHECK(polorowan_save_link(g, 1, 60, octets, sizeof octets, &count) == POLOROWAN_SAVED);
+    CHECK(arrives(other, 2, 0, IR_0, 5));
+    memset(&told, 0x77, sizeof told);
+    CHECK(polorowan_restore_link(other, 3, octets, count, &told, &place) == POLOROWAN_RESTORED_NO_LINK && place == 0);
+    CHECK(polorowan_restore_link(other, 2, octets, count, &told, &place) == POLOROWAN_RESTORED_HAS_CONTEXTS && place == 0);
+    CHECK(polorowan_restore_link(other, 1, octets, count - 1, &told, &place) == POLOROWAN_SHORT && place == count - 1);
+    CHECK(polorowan_restore_link(other, 1, NULL, 0, &told, &place) == POLOROWAN_NOT_SAVED && place == 0);
+    octets[10] = 2;
+    CHECK(polorowan_restore_link(other, 1, octets, count, &told, &place) == POLOROWAN_VERSION && place == 9);
+    octets[10] = 1;
+    large.large = true;
+    CHECK(polorowan_change_link(other, &large, &length) == POLOROWAN_LINKED);
+    CHECK(polorowan_restore_link(other, 1, octets, count, &told, &place) == POLOROWAN_RESTORED_OTHER_KIND && place == 0);
+    CHECK(polorowan_change_link(other, &links[1], &length) == POLOROWAN_LINKED);
+    CHECK(told.contexts == 0x7777777777777777 && are(other, false, false));
+    CHECK(polorowan_restore_link(other, 1, octets, count, &told, &place) == POLOROWAN_RESTORED && place == 0);
+    CHECK(told.moment == 60 && told.links == 1 && told.contexts == 2 && told.high_contexts == 0 && are(other, true, true));
+    CHECK(polorowan_save_link(other, 1, 60, again, sizeof again, &length) == POLOROWAN_SAVED && length == count);
+    CHECK(memcmp(again, octets, count) == 0 && polorowan_has_context(other, 2, 0) && arrives(other, 1, 70, "\x45\xab", 2));
+    CHECK(polorowan_reset(other, 2) == POLOROWAN_FORGOT);
+    CHECK(polorowan_restore_link(other, 2, octets, count, &told, &place) == POLOROWAN_RESTORED_OTHER_LINK);
+    links[1].max_cid = 0;
+    CHECK(polorowan_reset(other, 1) == POLOROWAN_FORGOT && polorowan_change_link(other, &links[1], &length) == POLOROWAN_LINKED);
+    CHECK(polorowan_restore_link(other, 1, octets, count, &told, &place) == POLOROWAN_RESTORED);
+    CHECK(told.contexts == 1 && told.high_contexts == 1 && are(other, true, false));
+    polorowan_close(other);
+    polorowan_close(g);
+}
+
 static void refusals_are_told(void) {
     uint8_t name[POLOROWAN_NAME_ROOM];
     for (unsigned i = 0; i < 256; i++) {
@@ -339,6 +375,7 @@ int main(int count, char **words) {
         answers_are_counted();
         bad_answers_are_not_counted();
         one_link_is_saved();
+        one_link_is_restored();
         refusals_are_told();
         many_are_as_single_ones();
         many_need_room();

@@ -20,7 +20,16 @@ from itertools import islice
 from typing import NamedTuple, NoReturn, TypeVar
 
 from . import _library
-from ._errors import NOT_RESTORED, Closed, Error, NoLink, SavedError, SetupError
+from ._errors import (
+    NOT_RESTORED,
+    NOT_RESTORED_LINK,
+    Closed,
+    Error,
+    NoLink,
+    RestoreError,
+    SavedError,
+    SetupError,
+)
 
 T = TypeVar("T")
 
@@ -36,6 +45,7 @@ __all__ = [
     "Link",
     "NoLink",
     "Range",
+    "RestoreError",
     "Restored",
     "SavedError",
     "SetupError",
@@ -213,7 +223,7 @@ class Concentrator:
         status, place, told = _library.restore(new._room.gateway, raw, memoryview(octets).tobytes())
         if status != 0:
             raise SavedError(status, place) if status in NOT_RESTORED else SetupError(status, place)
-        return new, Restored(*(getattr(told, name) for name, _ in told._fields_))
+        return new, _restored(told)
 
     def save(self, moment: int) -> bytes:
         """All that is kept, as octets (docs/FORMATS.md). The moment is of the clock of the arrivals, in milliseconds."""
@@ -234,6 +244,24 @@ class Concentrator:
         if status != 0:
             raise MemoryError
         return octets
+
+    def restore_link(self, link: int, octets: bytes | bytearray | memoryview) -> Restored:
+        """Puts the contexts of one link, which holds none, back from what `save_link` gave. Nothing else changes.
+
+        The error is `NoLink`, `RestoreError` or `SavedError`; then nothing changes.
+        """
+        number, saved = _within(link, 16), memoryview(octets).tobytes()
+        with self._room as room:
+            status, place, told = _library.restore_link(room.gateway, number, saved)
+        if status == _library.NO_RESTORED_LINK:
+            raise NoLink(link)
+        if status in NOT_RESTORED_LINK:
+            raise RestoreError(status)
+        if status in NOT_RESTORED:
+            raise SavedError(status, place)
+        if status != 0:
+            raise MemoryError
+        return _restored(told)
 
     def arrive(
         self, link: int, moment: int, octets: bytes | bytearray | memoryview, counts: Counts | None = None
@@ -373,6 +401,11 @@ def _standing(at: Callable[[int], T | None]) -> Iterator[T]:
     while (found := at(place)) is not None:
         yield found
         place += 1
+
+
+def _restored(told: _library.Restored) -> Restored:
+    """What is told by a struct of C."""
+    return Restored(*(getattr(told, name) for name, _ in told._fields_))
 
 
 def _gone(link: int, status: int, count: int) -> int:

@@ -20,6 +20,11 @@ NOT_RESTORED = {
     13: "another digest",
     14: "octets behind the end",
 }
+NOT_RESTORED_LINK = {
+    3: "the link holds a context",
+    4: "the octets of another link, or of several",
+    5: "saved with the other CID kind",
+}
 
 
 class Error(Exception):
@@ -43,6 +48,14 @@ class SavedError(Error, ValueError):
         super().__init__(f"{NOT_RESTORED.get(status, status)}, at octet {place}")
         self.status = status
         self.place = place
+
+
+class RestoreError(Error, ValueError):
+    """One link isn't restored. `status` is one of enum polorowan_restored_link."""
+
+    def __init__(self, status: int) -> None:
+        super().__init__(f"{NOT_RESTORED_LINK.get(status, status)}")
+        self.status = status
 
 
 class NoLink(Error, KeyError):

@@ -19,6 +19,7 @@ MANY = 1024
 NO_ROOM = 2
 NO_LINK = 7
 NO_SAVED_LINK = 4
+NO_RESTORED_LINK = 2
 
 # `struct polorowan_packet` and `struct polorowan_arrival`, as the module struct writes and reads them.
 PACKET = "H6xQQQ"
@@ -133,6 +134,10 @@ def _functions() -> ctypes.PyDLL:
             c_uint8,
             [POINTER(Gateway), c_uint16, c_uint64, octets, c_size_t, POINTER(c_size_t)],
         ),
+        "polorowan_restore_link": (
+            c_uint8,
+            [POINTER(Gateway), c_uint16, octets, c_size_t, POINTER(Restored), POINTER(c_size_t)],
+        ),
         "polorowan_reset": (c_uint8, [POINTER(Gateway), c_uint16]),
         "polorowan_has_context": (c_bool, [POINTER(Gateway), c_uint16, c_uint16]),
         "polorowan_link_at": (c_bool, [POINTER(Gateway), c_size_t, POINTER(c_uint16)]),
@@ -163,6 +168,15 @@ def restore(gateway: Gateway, links: list[Link], octets: bytes) -> tuple[int, in
     array = (Link * max(len(links), 1))(*links)
     status = _functions().polorowan_restore(
         byref(gateway), array, len(links), octets, len(octets), byref(restored), byref(place)
+    )
+    return status, place.value, restored
+
+
+def restore_link(gateway: Gateway, link: int, octets: bytes) -> tuple[int, int, Restored]:
+    """Restores one link. Returns the status, the place of the fault, and what was restored."""
+    place, restored = c_size_t(), Restored()
+    status = _functions().polorowan_restore_link(
+        byref(gateway), link, octets, len(octets), byref(restored), byref(place)
     )
     return status, place.value, restored
 

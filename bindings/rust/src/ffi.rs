@@ -136,6 +136,22 @@ extern "C" {
         room: usize,
         count: *mut usize,
     ) -> u8;
+    pub(crate) fn polorowan_save_link(
+        gateway: *const Gateway,
+        link: u16,
+        moment: u64,
+        octets: *mut u8,
+        room: usize,
+        count: *mut usize,
+    ) -> u8;
+    pub(crate) fn polorowan_restore_link(
+        gateway: *mut Gateway,
+        link: u16,
+        octets: *const u8,
+        octets_count: usize,
+        restored: *mut Restored,
+        place: *mut usize,
+    ) -> u8;
     pub(crate) fn polorowan_name_of(refusal: u8) -> *const c_char;
     pub(crate) fn polorowan_text_of(refusal: u8) -> *const c_char;
 }

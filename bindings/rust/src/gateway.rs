@@ -38,24 +38,76 @@ impl fmt::Display for SavedError {
     fn fmt(&self, f: &mut fmt::Formatter<'_>) -> fmt::Result {
         match self {
             SavedError::Setup(error) => error.fmt(f),
-            SavedError::Octets { fault, place } => {
-                let what = match fault {
-                    7 => "these aren't saved calls",
-                    8 => "they are of another version",
-                    9 => "they end too soon",
-                    10 => "a value of a link is bad",
-                    11 => "a value of a context is bad",
-                    12 => "a link or a CID comes twice, or a CID is above the greatest of its link",
-                    13 => "the digest isn't that of the octets",
-                    _ => "octets follow the digest",
-                };
-                write!(f, "{what} (octet {place})")
-            }
+            SavedError::Octets { fault, place } => write!(f, "{} (octet {place})", octets_fault(*fault)),
         }
     }
 }
 
 impl std::error::Error for SavedError {}
+
+/// What a fault of octets means.
+fn octets_fault(fault: u8) -> &'static str {
+    match fault {
+        7 => "these aren't saved calls",
+        8 => "they are of another version",
+        9 => "they end too soon",
+        10 => "a value of a link is bad",
+        11 => "a value of a context is bad",
+        12 => "a link or a CID comes twice, or a CID is above the greatest of its link",
+        13 => "the digest isn't that of the octets",
+        _ => "octets follow the digest",
+    }
+}
+
+/// Why one link isn't restored.
+#[derive(Clone, Copy, Debug, PartialEq, Eq)]
+pub enum RestoreError {
+    /// There is no such link.
+    NoLink,
+    /// The link holds a context.
+    HasContexts,
+    /// The octets aren't those of this link alone.
+    OtherLink,
+    /// The link was saved with the other CID kind.
+    OtherKind,
+    /// There is no memory.
+    NoMemory,
+    /// A fault of the octets: its number in `enum polorowan_not_restored`, and its place.
+    Octets {
+        /// The number.
+        fault: u8,
+        /// The place of the octet, from 0.
+        place: usize,
+    },
+}
+
+impl RestoreError {
+    fn of(fault: u8, place: usize) -> RestoreError {
+        match fault {
+            2 => RestoreError::NoLink,
+            3 => RestoreError::HasContexts,
+            4 => RestoreError::OtherLink,
+            5 => RestoreError::OtherKind,
+            ffi::NO_MEMORY => RestoreError::NoMemory,
+            _ => RestoreError::Octets { fault, place },
+        }
+    }
+}
+
+impl fmt::Display for RestoreError {
+    fn fmt(&self, f: &mut fmt::Formatter<'_>) -> fmt::Result {
+        f.write_str(match self {
+            RestoreError::NoLink => "there is no such link",
+            RestoreError::HasContexts => "the link holds a context",
+            RestoreError::OtherLink => "the octets aren't those of this link alone",
+            RestoreError::OtherKind => "the link was saved with the other CID kind",
+            RestoreError::NoMemory => "there is no memory",
+            RestoreError::Octets { fault, place } => return write!(f, "{} (octet {place})", octets_fault(*fault)),
+        })
+    }
+}
+
+impl std::error::Error for RestoreError {}
 
 /// What was restored, and what was left out.
 #[derive(Clone, Copy, Debug, Default, PartialEq, Eq)]
@@ -285,6 +337,24 @@ impl Gateway {
         }
     }
 
+    /// Puts the contexts of one link, which holds none, back from what [`Gateway::save_link`] gave. Nothing else changes.
+    ///
+    /// # Errors
+    ///
+    /// The first fault. Then nothing changes.
+    pub fn restore_link(&mut self, link: u16, octets: &[u8]) -> Result<Restored, RestoreError> {
+        let (mut place, mut told) = (0, ffi::Restored::default());
+        // SAFETY: the gateway is a good one, and the octets are as many as is said.
+        let fault = unsafe {
+            let (at, count) = (octets.as_ptr(), octets.len());
+            ffi::polorowan_restore_link(self.raw.as_ptr(), link, at, count, &mut told, &mut place)
+        };
+        match fault {
+            0 => Ok(Restored::of(&told)),
+            _ => Err(RestoreError::of(fault, place)),
+        }
+    }
+
     /// Removes a link with its contexts. Returns how many went.
     ///
     /// # Errors
@@ -377,20 +447,33 @@ impl Gateway {
     /// None, if there is no memory.
     #[must_use]
     pub fn save(&self, moment: u64) -> Option<Vec<u8>> {
-        let (mut octets, mut count) = (vec![0u8; 1], 0);
-        loop {
-            // SAFETY: the buffer is as long as is said, and the gateway isn't written.
-            let status = unsafe {
-                ffi::polorowan_save(self.raw.as_ptr(), moment, octets.as_mut_ptr(), octets.len(), &mut count)
-            };
-            match status {
-                0 => {
-                    octets.truncate(count);
-                    return Some(octets);
-                }
-                2 if octets.len() < count => octets.resize(count, 0),
-                _ => return None,
+        // SAFETY: the buffer is as long as is said, and the gateway isn't written.
+        saved(|octets, count| unsafe {
+            ffi::polorowan_save(self.raw.as_ptr(), moment, octets.as_mut_ptr(), octets.len(), count)
+        })
+    }
+
+    /// One link in the same form. None, if there is no such link, or no memory.
+    #[must_use]
+    pub fn save_link(&self, link: u16, moment: u64) -> Option<Vec<u8>> {
+        // SAFETY: the buffer is as long as is said, and the gateway isn't written.
+        saved(|octets, count| unsafe {
+            ffi::polorowan_save_link(self.raw.as_ptr(), link, moment, octets.as_mut_ptr(), octets.len(), count)
+        })
+    }
+}
+
+/// What a call saves into a buffer that is long enough; it tells how many octets it needs.
+fn saved(mut save: impl FnMut(&mut [u8], &mut usize) -> u8) -> Option<Vec<u8>> {
+    let (mut octets, mut count) = (vec![0u8; 1], 0);
+    loop {
+        match save(&mut octets, &mut count) {
+            0 => {
+                octets.truncate(count);
+                return Some(octets);
             }
+            2 if octets.len() < count => octets.resize(count, 0),
+            _ => return None,
         }
     }
 }

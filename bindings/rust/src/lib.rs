@@ -23,7 +23,7 @@ mod settings;
 
 pub use answer::{Answer, Context, Outcome, Refusal, State};
 pub use counts::{Counts, Word};
-pub use gateway::{Gateway, LinkError, NoLink, Restored, SavedError};
+pub use gateway::{Gateway, LinkError, NoLink, RestoreError, Restored, SavedError};
 pub use settings::{Link, Mode, Range, SetupError, SetupFault};
 
 /// The version of the library, and the digests of the sources and of the logic that it was proved in.

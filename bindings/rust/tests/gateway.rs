@@ -1,6 +1,7 @@
 //! The worked examples of docs/EXAMPLES.md through this layer, and its own errors.
 
-use polorowan::{Counts, Gateway, Link, NoLink, Outcome, Range, SavedError, SetupError, SetupFault, State, Word};
+use polorowan::{Counts, Gateway, Link, NoLink, Outcome, Range, RestoreError, SavedError, SetupError};
+use polorowan::{SetupFault, State, Word};
 use std::fmt::Write as _;
 use std::path::{Path, PathBuf};
 
@@ -169,6 +170,23 @@ fn links_that_come_and_go() {
     assert_eq!((gateway.remove_link(7), gateway.remove_link(7)), (Ok(0), Err(NoLink)));
     let unknown = Link::new(7);
     assert_eq!(gateway.change_link(&unknown), Err(polorowan::LinkError::NoLink));
+}
+
+#[test]
+fn one_link_that_goes_to_another_gateway() {
+    let (mut here, mut there) =
+        (Gateway::new(&links()).expect("good links"), Gateway::new(&links()).expect("good links"));
+    here.arrive(1, 0, &octets("fc00b745aa"));
+    let saved = here.save_link(1, 5).expect("memory");
+    assert_eq!(here.save_link(3, 5), None);
+    assert_eq!(here.restore_link(1, &saved), Err(RestoreError::HasContexts));
+    assert_eq!(there.restore_link(2, &saved), Err(RestoreError::OtherLink));
+    let cut = there.restore_link(1, &saved[..20]).unwrap_err();
+    assert_eq!(cut, RestoreError::Octets { fault: 9, place: 20 });
+    assert_eq!(cut.to_string(), "they end too soon (octet 20)");
+    let told = there.restore_link(1, &saved).expect("good octets");
+    assert_eq!((told.moment, told.links, told.contexts), (5, 1, 1));
+    assert_eq!(there.arrive(1, 9, &octets("4501")).packet, Some(octets("4501").as_slice()));
 }
 
 #[test]

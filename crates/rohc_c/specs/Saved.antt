@@ -1,6 +1,6 @@
 -- Saving and restoring as C calls them. Words: IsStored, TooShort; IsLinkStored, IsLinkTooLong, IsSavedAs; told; fault_of_saved; IsBack, IsNotBack;
--- not_back_number, not_back_place.
-use Rattle.std.specs.Prelude.{◌≡◌, ℕ, ◌<◌, List, length, All, Some, None, Ok, ◌⊎◌}
+-- not_back_number, not_back_place; IsLinkBack, IsNotLinkBack, link_back_number, link_back_place.
+use Rattle.std.specs.Prelude.{◌≡◌, ℕ, ◌<◌, List, length, max, All, Some, None, Ok, ◌⊎◌}
 use Rattle.rohc_concentrator.specs.declared.concentrator.Concentrator.{Concentrator}
 use Rattle.rohc_concentrator.specs.declared.setup.SetupFault.TheVariants as setup
 use Rattle.rohc_concentrator.specs.Setup.{AreFine, entry_of}
@@ -9,6 +9,9 @@ use Rattle.rohc_concentrator.specs.Tables.{setting_at}
 use Rattle.rohc_saved.specs.Form.{Form, saved_form, saved_link}
 use Rattle.rohc_saved.specs.Reading.{restored}
 use Rattle.rohc_saved.specs.Restoring.{Restores, IsToldOfForm, IsRefusal}
+use Rattle.rohc_saved.specs.LinkRestoring.{RestoresLink, LinkFaultIn}
+use Rattle.rohc_saved.specs.declared.fault.LinkFault.{LinkFault}
+use Rattle.rohc_saved.specs.declared.fault.LinkFault.TheVariants as link_faults
 use Rattle.rohc_saved.specs.declared.restored.Restored.{Restored}
 use Rattle.rohc_saved.specs.declared.fault.SavedFault.{SavedFault}
 use Rattle.rohc_saved.specs.declared.fault.SavedFault.TheVariants as saved
@@ -121,3 +124,34 @@ not_back_place (BadContext place) = place
 not_back_place (BadOrder place) = place
 not_back_place (Digest place) = place
 not_back_place (Long place) = place
+
+-- an empty link now holds what the octets spell of it, nothing else changes, and what is told of it
+pub record IsLinkBack (link : ℕ) (octets : List ℕ) (r : RohcRestored) (old new : Concentrator) : Type 0 where
+  pub tally : Restored
+  pub restores : RestoresLink old link octets tally new
+  pub shown : r ≡ told tally
+
+-- the status of each fault of one link; those of octets are 7 and above
+abbrev pub link_back_number : LinkFault → ℕ
+link_back_number link_faults.NoLink = 2
+link_back_number link_faults.HasContexts = 3
+link_back_number link_faults.OtherLink = 4
+link_back_number link_faults.OtherKind = 5
+link_back_number link_faults.NoMemory = 6
+link_back_number (link_faults.Octets fault) = max 6 (not_back_number (fault_of_saved fault))
+
+-- the place of the octet at fault, counted from 0; else 0
+abbrev pub link_back_place : LinkFault → ℕ
+link_back_place link_faults.NoLink = 0
+link_back_place link_faults.HasContexts = 0
+link_back_place link_faults.OtherLink = 0
+link_back_place link_faults.OtherKind = 0
+link_back_place link_faults.NoMemory = 0
+link_back_place (link_faults.Octets fault) = not_back_place (fault_of_saved fault)
+
+-- why one link isn't restored: the first fault, its status and its place
+pub record IsNotLinkBack (k : Concentrator) (link : ℕ) (octets : List ℕ) (status place : ℕ) : Type 0 where
+  pub fault : LinkFault
+  pub first : LinkFaultIn k link octets fault
+  pub number : status ≡ link_back_number fault
+  pub at : place ≡ link_back_place fault

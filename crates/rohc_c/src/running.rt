@@ -1,4 +1,4 @@
-//! The functions that C calls to change links and to forget contexts while a gateway runs.
+//! The functions that C calls to change links, to restore one, and to forget contexts while a gateway runs.
 
 ghost use Rattle.std.specs.Prelude.{◌≡◌, ◌≢◌, ◌↔◌, Some, None, true, false, IfSome, OnSome};
 ghost use Rattle.rohc_concentrator.specs.Tables.{setting_at, identifiers_at, KeepsSettings, KeepsAll};
@@ -6,11 +6,14 @@ ghost use Rattle.rohc_concentrator.specs.Leaving.{Leaves, HaveGone, is_other, co
 ghost use Rattle.rohc_concentrator.specs.Links.{AddsLink, RemovesLink, ChangesLink};
 ghost use Rattle.rohc_c.specs.Settings.{setting_of};
 ghost use Rattle.rohc_c.specs.Changing.{Changes, IsAddFault, IsChangeFault, link_fault_number};
+ghost use Rattle.rohc_c.specs.Saved.{IsLinkBack, IsNotLinkBack};
 ghost use Rattle.rohc_c.specs.declared.changing.LinkFault.{LinkFault};
 
 use crate::changing::{add_link, change_link};
 use crate::gateway::Gateway;
 use crate::link::RohcLink;
+use crate::saved::{RohcRestored, link_back_number, link_back_place, tell};
+use rohc_saved::restore_link;
 use std::alloc::Global;
 
 /// Adds a link behind the others, without a context.
@@ -90,6 +93,46 @@ pub extern "C" fn polorowan_change_link(
             0
         }
         Err(fault) => fault.number(),
+    }
+}
+
+/// Puts the contexts of a link that holds none back from what `polorowan_save_link` wrote, and changes nothing else.
+/// Contexts above the link's greatest CID are left out; `restored` counts them.
+///
+/// Returns 0 if that is done, 1 if there is no concentrator, or else the first fault: 2 if there is no such link, 3 if it
+/// holds a context, 7 to 14 as of `polorowan_restore`, 4 if the octets aren't those of this link alone, 5 if it was saved
+/// with the other CID kind; or 6 for lack of memory. At all but 0 nothing changes. `place` is set to the place of the octet
+/// at fault, counted from 0, or to 0; at 1 it stays.
+#[unsafe(no_mangle)]
+pub extern "C" fn polorowan_restore_link(
+    alloc: Global,
+    gateway: &mut Gateway,
+    link: u16,
+    octets: &[u8],
+    restored: &mut RohcRestored,
+    place: &mut usize,
+) -> u8
+    ensures back { result ≡ 0 → Changes (record { old = gateway.old.handle.concentrator; new = gateway.new.handle.concentrator })
+        (IsLinkBack link octets.now restored.new) × (place.new ≡ 0) }
+    ensures absent { (result ≡ 1) ↔ (gateway.old.handle.concentrator ≡ None) }
+    ensures fault { result ≢ 0 → IfSome gateway.old.handle.concentrator (λ k. IsNotLinkBack k link octets.now result place.new) }
+    ensures stays { result ≢ 0 → result ≢ 1 → Changes (record { old = gateway.old.handle.concentrator; new = gateway.new.handle.concentrator }) KeepsAll }
+    ensures kept { result ≡ 1 → (gateway.new ≡ gateway.old) × (place.new ≡ place.old) }
+    ensures untold { result ≢ 0 → restored.new ≡ restored.old }
+{
+    if !gateway.live {
+        return 1;
+    }
+    match restore_link(alloc, gateway.handle.lend(), link, octets) {
+        Ok(told) => {
+            *restored = tell(told);
+            *place = 0;
+            0
+        }
+        Err(fault) => {
+            *place = link_back_place(fault);
+            link_back_number(fault)
+        }
     }
 }
 

@@ -1,14 +1,14 @@
 //! Saving and restoring, as C calls them (docs/FORMATS.md).
 
-ghost use Rattle.std.specs.Prelude.{◌≡◌, ◌<◌, length, true, false, IfOk, IfErr, IfSome};
+ghost use Rattle.std.specs.Prelude.{◌≡◌, ◌<◌, ◌≤◌, length, true, false, IfOk, IfErr, IfSome};
 ghost use Rattle.rohc_saved.specs.Form.{saved_form};
 ghost use Rattle.rohc_c.specs.Written.{StandsIn};
-ghost use Rattle.rohc_c.specs.Saved.{IsSavedAs, IsBack, IsNotBack, told};
+ghost use Rattle.rohc_c.specs.Saved.{IsSavedAs, IsBack, IsNotBack, told, link_back_number, link_back_place};
 
 use crate::link::{RohcLink, link_settings};
 use crate::setup::{NewFault, judge};
 use rohc_concentrator::{Concentrator, SetupFault};
-use rohc_saved::{Restored, SaveFault, SavedFault, restore, save, save_link};
+use rohc_saved::{LinkFault, Restored, SaveFault, SavedFault, restore, save, save_link};
 use std::alloc::Global;
 
 /// What was restored: `struct polorowan_restored` of include/polorowan.h. Each count stays at the greatest number of 64 bits.
@@ -32,7 +32,7 @@ pub struct RohcRestored {
 }
 
 /// What was restored, for C.
-fn tell(restored: Restored) -> RohcRestored
+pub(crate) fn tell(restored: Restored) -> RohcRestored
     ensures { result ≡ told restored }
 {
     RohcRestored {
@@ -123,6 +123,35 @@ impl BackFault {
             SavedFault::Digest { place } => BackFault::Digest { place },
             SavedFault::Long { place } => BackFault::Long { place },
         }
+    }
+}
+
+/// The status that C gets if one link isn't restored. That of octets is 7 or more.
+pub(crate) fn link_back_number(fault: LinkFault) -> u8
+    ensures number { result ≡ link_back_number fault }
+    ensures some { 2 ≤ result }
+{
+    match fault {
+        LinkFault::NoLink => 2,
+        LinkFault::HasContexts => 3,
+        LinkFault::OtherLink => 4,
+        LinkFault::OtherKind => 5,
+        LinkFault::NoMemory => 6,
+        LinkFault::Octets(fault) => BackFault::of(fault).number().max(6),
+    }
+}
+
+/// The place of the octet at fault if one link isn't restored, counted from 0; else 0.
+pub(crate) fn link_back_place(fault: LinkFault) -> usize
+    ensures { result ≡ link_back_place fault }
+{
+    match fault {
+        LinkFault::Octets(fault) => BackFault::of(fault).place(),
+        LinkFault::NoLink
+        | LinkFault::HasContexts
+        | LinkFault::OtherLink
+        | LinkFault::OtherKind
+        | LinkFault::NoMemory => 0,
     }
 }
 

@@ -4,6 +4,7 @@ pub mod LinkTexts
 pub mod MapLemmas
 pub mod ReadingLemmas
 pub mod RestoringLemmas
+pub mod LinkLemmas
 pub mod KeptLemmas
 pub mod BackLemmas
 pub mod SpellsLemmas
@@ -12,3 +13,4 @@ pub mod SoundLemmas
 pub mod RestartLemmas
 pub mod FormOrder
 pub mod RestoredSound
+pub mod LinkLaws

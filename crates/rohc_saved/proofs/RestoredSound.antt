@@ -16,9 +16,9 @@ use Rattle.rohc_saved.proofs.Distinct.{distinct_none}
 use Rattle.rohc_saved.proofs.FormOrder.{firsts, HasApart, AreApart, form_order}
 
 -- what is listed of a link is good: apart, and within the greatest of its setting
-record AreTaken (setting : Option LinkSetting) (contexts : List (ℕ × Record)) : Type 0 where
-  apart : IsDistinct nat_eq (firsts contexts)
-  within : (s : LinkSetting) → setting ≡ Some s → All (λ cid. cid ≤ s.settings.max_cid) (firsts contexts)
+pub record AreTaken (setting : Option LinkSetting) (contexts : List (ℕ × Record)) : Type 0 where
+  pub apart : IsDistinct nat_eq (firsts contexts)
+  pub within : (s : LinkSetting) → setting ≡ Some s → All (λ cid. cid ≤ s.settings.max_cid) (firsts contexts)
 
 none_taken : (setting : Option LinkSetting) → AreTaken setting []
 none_taken setting = record { apart = distinct_none; within = λ s e. All-nil (λ cid. cid ≤ s.settings.max_cid) }
@@ -33,7 +33,7 @@ within_up_to greatest (c ∷ cs) = by (within_up_to greatest cs) (nat_le c.0 gre
     by rest false e = rest
 
 -- what is taken of one link
-link_taken : (setting : Option LinkSetting) (l : ℕ × Link) → HasApart l → AreTaken setting (taken_of setting l.1)
+pub link_taken : (setting : Option LinkSetting) (l : ℕ × Link) → HasApart l → AreTaken setting (taken_of setting l.1)
 link_taken None l apart = none_taken None
 link_taken (Some s) l apart = by (is_same s.settings.size l.1.size)
   where

@@ -95,7 +95,7 @@ same_size Small = refl
 same_size Large = refl
 
 -- what stands for a link, if it is in the settings
-abbrev if_there : Option LinkSetting → List (ℕ × Record) → List (ℕ × Record)
+abbrev pub if_there : Option LinkSetting → List (ℕ × Record) → List (ℕ × Record)
 if_there None contexts = []
 if_there (Some s) contexts = contexts
 
@@ -129,7 +129,7 @@ greatest_few : (size : CidKind) → greatest_cid size ≤ 16383
 greatest_few Small = omega arith
 greatest_few Large = omega arith
 
-good_of : (k : Concentrator) (s : LinkSetting) → IsInOrder k → setting_at k s.link ≡ Some s → s.link < 65536 → IsGoodSetting s → IsGoodLink (saved_link_of k s)
+pub good_of : (k : Concentrator) (s : LinkSetting) → IsInOrder k → setting_at k s.link ≡ Some s → s.link < 65536 → IsGoodSetting s → IsGoodLink (saved_link_of k s)
 good_of k s sound at number good =
     let (r, e) = there (get nat_eq k.links s.link) s at in
     let is = is_link k s.link r e in
@@ -187,7 +187,7 @@ module _ (k : Concentrator) (sound : IsInOrder k) where
       }
 
   -- of a link all is taken
-  takes_all : (s : LinkSetting) → entry_of s.link (settings_in_order k) ≡ Some s → IsGoodLink (saved_link_of k s) → taken_of (entry_of s.link (settings_in_order k)) (saved_link_of k s).1 ≡ contexts_of k s.link
+  pub takes_all : (s : LinkSetting) → entry_of s.link (settings_in_order k) ≡ Some s → IsGoodLink (saved_link_of k s) → taken_of (entry_of s.link (settings_in_order k)) (saved_link_of k s).1 ≡ contexts_of k s.link
   takes_all s entry good =
       ap (λ o. taken_of o (saved_link_of k s).1) entry
       ∙ ap (λ b. up_to (if b then Some s.settings.max_cid else None) (contexts_of k s.link)) (same_size s.settings.size)
@@ -224,7 +224,7 @@ module _ (k : Concentrator) (sound : IsInOrder k) where
           (λ i. first i ++ rest_part) ∙ rest ∙ sym (ap (λ b. if_there (if b then Some s else entry_of l ss) (contexts_of k l)) e)
 
   -- each link holds what is saved of it
-  holds_own : (l : ℕ) → IsHeldAt k l (if_there (entry_of l (settings_in_order k)) (contexts_of k l))
+  pub holds_own : (l : ℕ) → IsHeldAt k l (if_there (entry_of l (settings_in_order k)) (contexts_of k l))
   holds_own l = by (get nat_eq k.links l) refl
     where
       by : (o : Option LinkRecords) → get nat_eq k.links l ≡ o → IsHeldAt k l (if_there (entry_of l (settings_in_order k)) (contexts_of k l))

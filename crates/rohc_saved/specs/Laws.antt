@@ -1,6 +1,7 @@
 -- Laws of saved concentrators. Words: IsGoodLink, IsGoodForm; FormIsSpelled, IsReadBack; IsInOrder;
--- ComesBack; IsMadeSound, StaysSound, IsKeptSound, IsRestoredSound; GoesOnRestored, CutByRestart.
-use Rattle.std.specs.Prelude.{◌≡◌, ◌++◌, ◌<◌, ◌≤◌, ◌^◌, ℕ, List, map, length, filter, nat_eq, All, Option, Some, None, Ok}
+-- ComesBack, LinkComesBack; IsMadeSound, StaysSound, IsKeptSound, IsRestoredSound, IsLinkRestoredSound;
+-- GoesOnRestored, CutByRestart.
+use Rattle.std.specs.Prelude.{◌≡◌, ◌++◌, ◌<◌, ◌≤◌, ◌^◌, ℕ, List, [], ◌∷◌, map, length, filter, nat_eq, All, Option, Some, None, Ok}
 use Rattle.std.specs.List.{AllByRecursion, IsDistinct}
 use Rattle.rohc_bits.specs.Bits.{IsOctet}
 use Rattle.rohc_frame.specs.Header.{greatest_cid}
@@ -15,9 +16,11 @@ use Rattle.rohc_concentrator.specs.Events.{Event, RunsEvents}
 use Rattle.rohc_concentrator.specs.LoneRun.{unmarked}
 use Rattle.rohc_concentrator.specs.Isolation.{EventRun, own_events, own_replies, is_rich}
 use Rattle.rohc_concentrator.specs.Laws.{IsFit}
-use Rattle.rohc_saved.specs.Form.{Link, Form, form_text, signed, form_of, saved_form}
+use Rattle.rohc_saved.specs.Form.{Link, Form, form_text, signed, saved_link_of, form_of, saved_form, saved_link}
 use Rattle.rohc_saved.specs.Reading.{restored}
 use Rattle.rohc_saved.specs.Restoring.{Restores}
+use Rattle.rohc_saved.specs.LinkRestoring.{RestoresLink}
+use Rattle.rohc_saved.specs.declared.restored.Restored.{Restored}
 
 -- a CID within the greatest, and a good record
 pub record IsGoodContext (greatest : ℕ) (c : ℕ × Record) : Type 0 where
@@ -66,9 +69,20 @@ ComesBack = (k : Concentrator) (moment : ℕ) → IsInOrder k → moment < 2 ^ 6
     × ((form : Form) (new : Concentrator) → restored (saved_form moment k) ≡ Ok form →
     Restores (settings_in_order k) form new → KeepsAll k new)
 
+-- What is saved of one link of a sound concentrator is read. Once restored where the link has the same setting,
+-- the link has the same records, in the same order.
+abbrev pub LinkComesBack : Type 0
+LinkComesBack = (k : Concentrator) (moment : ℕ) (s : LinkSetting) → IsInOrder k → moment < 2 ^ 64 →
+    setting_at k s.link ≡ Some s →
+    (restored (saved_link moment k s) ≡ Ok (record { moment = moment; links = saved_link_of k s ∷ [] }))
+    × ((old new : Concentrator) (told : Restored) → setting_at old s.link ≡ Some s →
+    RestoresLink old s.link (saved_link moment k s) told new →
+    ((cid : ℕ) → record_at new s.link cid ≡ record_at k s.link cid)
+    × (identifiers_at new s.link ≡ identifiers_at k s.link))
+
 -- Concentrators are sound: one that was made from settings whose numbers have 16 bits; one after fit events,
--- if it was sound before; one that keeps all that a sound one keeps; and one that was restored, also under
--- other settings.
+-- if it was sound before; one that keeps all that a sound one keeps; one that was restored, also under other
+-- settings; and one of which a link was restored, if it was sound before.
 abbrev pub IsMadeSound : Type 0
 IsMadeSound = (settings : List LinkSetting) (k : Concentrator) → AreFine settings →
     All (λ (s : LinkSetting). s.link < 65536) settings → settings_in_order k ≡ settings →
@@ -87,6 +101,10 @@ abbrev pub IsRestoredSound : Type 0
 IsRestoredSound = (settings : List LinkSetting) (text : List ℕ) (form : Form) (k : Concentrator) →
     AreFine settings → All (λ (s : LinkSetting). s.link < 65536) settings → restored text ≡ Ok form →
     Restores settings form k → IsInOrder k
+
+abbrev pub IsLinkRestoredSound : Type 0
+IsLinkRestoredSound = (old new : Concentrator) (link : ℕ) (text : List ℕ) (told : Restored) →
+    RestoresLink old link text told new → IsInOrder old → IsInOrder new
 
 -- A concentrator is saved at a cut of a run, and another, restored from it under the same settings, goes on.
 -- Its events for a CID are those that came behind the cut.

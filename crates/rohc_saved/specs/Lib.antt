@@ -3,4 +3,5 @@ pub mod Output
 pub mod Reading
 pub mod Read
 pub mod Restoring
+pub mod LinkRestoring
 pub mod Laws

@@ -73,3 +73,27 @@ pub enum SavedFault {
     #[error("no memory")]
     NoMemory,
 }
+
+/// Why one link isn't restored: the first of these that holds, in this order, but for `NoMemory`, which comes only if a
+/// request for memory was refused.
+#[derive(Clone, Copy, Debug, PartialEq, Eq, Error)]
+pub enum LinkFault {
+    /// The link isn't there.
+    #[error("the link isn't there")]
+    NoLink,
+    /// The link holds a context.
+    #[error("the link holds a context")]
+    HasContexts,
+    /// The octets are refused.
+    #[error("{0}")]
+    Octets(SavedFault),
+    /// The octets aren't those of this link alone.
+    #[error("the octets aren't those of this link alone")]
+    OtherLink,
+    /// The link was saved with the other CID kind.
+    #[error("the link was saved with the other CID kind")]
+    OtherKind,
+    /// There is no memory.
+    #[error("no memory")]
+    NoMemory,
+}

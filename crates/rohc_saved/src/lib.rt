@@ -5,6 +5,7 @@ mod context_reading;
 pub mod fault;
 mod form;
 pub mod laws;
+pub mod link_restoring;
 mod output;
 mod part;
 mod reading;
@@ -12,7 +13,8 @@ pub mod restored;
 pub mod restoring;
 pub mod saving;
 
-pub use fault::{SaveFault, SavedFault};
+pub use fault::{LinkFault, SaveFault, SavedFault};
+pub use link_restoring::restore_link;
 pub use restored::Restored;
 pub use restoring::restore;
 pub use saving::{save, save_link};

@@ -5,6 +5,7 @@ ghost use Rattle.rohc_context.specs.Record.{record_of};
 ghost use Rattle.rohc_concentrator.specs.Tables.{setting_at, KeepsSettings};
 ghost use Rattle.rohc_saved.specs.Form.{Form, contexts_in};
 ghost use Rattle.rohc_saved.specs.Read.{link_in, links_in, form_in};
+ghost use Rattle.rohc_saved.specs.LinkRestoring.{KeepsElsewhere};
 ghost use Rattle.rohc_saved.specs.Restoring.{is_same, limit_of, up_to, taken_of, own, AddsContexts, TellsOne, AddsUp, IsToldOfForm, Restores, IsRefusal};
 ghost use Rattle.rohc_saved.specs.Reading.{restored};
 ghost use Rattle.rohc_saved.specs.Output.{counted};
@@ -33,7 +34,7 @@ fn is_same(a: CidKind, b: CidKind) -> bool
 }
 
 /// The greatest CID up to which contexts of a link are taken under its setting, or `None` if the link is left out.
-fn limit_under(setting: &LinkSetting, link: &SavedLink) -> Option<u16>
+pub(crate) fn limit_under(setting: &LinkSetting, link: &SavedLink) -> Option<u16>
     ensures { result ≡ limit_of (Some setting.now) (link_in link.now) }
 {
     if is_same(setting.settings.size, link.size) {
@@ -54,7 +55,7 @@ fn limit(concentrator: &Concentrator, number: u16, link: &SavedLink) -> Option<u
 }
 
 /// Puts a context of a link into a concentrator, if its CID is at most the greatest.
-#[tactic(auto, using(crate::proofs::RestoringLemmas::adds_none))]
+#[tactic(auto, using(crate::proofs::RestoringLemmas::adds_none, crate::proofs::LinkLemmas::elsewhere_none, crate::proofs::LinkLemmas::elsewhere_put, crate::proofs::LinkLemmas::elsewhere_all))]
 fn put_context(
     concentrator: &mut Concentrator,
     number: u16,
@@ -65,6 +66,7 @@ fn put_context(
     ensures adds { OnOk result (AddsContexts concentrator.old concentrator.new
         (own number (up_to (Some greatest) ((cid, record_of context) ∷ [])))) }
     ensures settings { OnOk result (KeepsSettings concentrator.old concentrator.new) }
+    ensures elsewhere { KeepsElsewhere concentrator.old number concentrator.new }
     ensures poor { IfErr result (λ e. e ≡ SavedFault.NoMemory) }
 {
     if cid > greatest {
@@ -78,7 +80,8 @@ fn put_context(
 }
 
 /// Puts contexts of a link into a concentrator, up to the greatest CID.
-fn put_contexts(
+#[tactic(auto, using(crate::proofs::LinkLemmas::elsewhere_none, crate::proofs::LinkLemmas::elsewhere_more))]
+pub(crate) fn put_contexts(
     concentrator: &mut Concentrator,
     number: u16,
     greatest: u16,
@@ -87,6 +90,7 @@ fn put_contexts(
     ensures adds { OnOk result (AddsContexts concentrator.old concentrator.new
         (own number (up_to (Some greatest) (contexts_in contexts.now)))) }
     ensures settings { OnOk result (KeepsSettings concentrator.old concentrator.new) }
+    ensures elsewhere { KeepsElsewhere concentrator.old number concentrator.new }
     ensures poor { IfErr result (λ e. e ≡ SavedFault.NoMemory) }
 {
     for (cid, context) in contexts {
@@ -195,7 +199,7 @@ fn tally_at(concentrator: &Concentrator, number: u16, link: &SavedLink) -> Resto
 }
 
 /// Tells what is taken of a form, and what is left out.
-fn tell(concentrator: &Concentrator, form: &SavedForm) -> Restored
+pub(crate) fn tell(concentrator: &Concentrator, form: &SavedForm) -> Restored
     ensures { IsToldOfForm (setting_at concentrator.now) (form_in form.now) result }
 {
     let mut told = Restored {

@@ -1,6 +1,6 @@
 //! A saved file that must be read for ever, its faults, other settings, and writers that fail.
 
-use crate::{Restored, SaveFault, SavedFault, restore, save, save_link};
+use crate::{LinkFault, Restored, SaveFault, SavedFault, restore, restore_link, save, save_link};
 use arrayvec::ArrayVec;
 use rohc_concentrator::{Concentrator, LinkSetting, SetupFault};
 use rohc_context::{ContextState, Mode, Settings};
@@ -307,4 +307,57 @@ fn a_failed_write_tells_what_was_written(rt: HostRuntime) {
         );
         assert_eq!(rt; Some(writer.text.as_slice()), SAVED.get(..length as usize));
     }
+}
+
+// A concentrator with SAVED's link behind another, which has a context of CID 0.
+fn beside_another(rt: &impl Abort, alloc: Global) -> Concentrator {
+    let settings = [link(2, CidKind::Small, 15), link(1, CidKind::Small, 15)];
+    let mut concentrator = Concentrator::new(alloc, &settings).expect(rt, "a concentrator");
+    concentrator.arrive(2, 0, WHOLE_IR);
+    concentrator
+}
+
+#[test]
+fn one_link_comes_back_beside_another(rt: HostRuntime) {
+    let mut concentrator = beside_another(&rt, rt.alloc());
+    assert_eq!(rt;
+        restore_link(rt.alloc(), &mut concentrator, 1, &SAVED),
+        Ok(WHOLE)
+    );
+    assert!(rt; concentrator.has_context(2, 0));
+    let mut writer = writer(rt.alloc(), 100);
+    assert_eq!(rt;
+        save_link(&concentrator, 1, WHOLE.moment, &mut writer),
+        Ok(122)
+    );
+    assert_eq!(rt; writer.text.as_slice(), &SAVED[..]);
+}
+
+#[test]
+fn one_link_has_its_faults_in_order(rt: HostRuntime) {
+    let mut concentrator = beside_another(&rt, rt.alloc());
+    let Some(cut) = SAVED.get(..20) else {
+        panic!(rt; "no such place");
+    };
+    for (number, octets, fault) in [
+        (3, cut, LinkFault::NoLink),
+        (2, cut, LinkFault::HasContexts),
+        (1, cut, LinkFault::Octets(SavedFault::Short { place: 20 })),
+    ] {
+        assert_eq!(rt;
+            restore_link(rt.alloc(), &mut concentrator, number, octets),
+            Err(fault)
+        );
+    }
+    assert!(rt; concentrator.reset(2).is_ok());
+    assert_eq!(rt;
+        restore_link(rt.alloc(), &mut concentrator, 2, &SAVED),
+        Err(LinkFault::OtherLink)
+    );
+    assert!(rt; concentrator.change_link(link(1, CidKind::Large, 0)).is_ok());
+    assert_eq!(rt;
+        restore_link(rt.alloc(), &mut concentrator, 1, &SAVED),
+        Err(LinkFault::OtherKind)
+    );
+    assert!(rt; !concentrator.has_context(1, 0));
 }

@@ -1,4 +1,5 @@
 use Rattle.rohc_saved.proofs.RestartLemmas.{made_sound, stays_sound, kept_sound}
+use Rattle.rohc_saved.proofs.LinkLaws.{link_restored_sound}
 use Rattle.rohc_saved.proofs.RestoredSound.{restored_sound}
 use Rattle.rohc_saved.proofs.laws.sound.Goals as goal
 
@@ -13,3 +14,6 @@ returns-clause-kept c = kept_sound
 
 pub returns-clause-restored : goal.returns-clause-restored
 returns-clause-restored c = restored_sound
+
+pub returns-clause-link : goal.returns-clause-link
+returns-clause-link c = link_restored_sound

@@ -1,11 +1,21 @@
-use Rattle.std.proofs.Common.{◌≡◌, ◌∷◌, ◌++◌, ◌∙◌, ℕ, List, [], Some, map, ap, sym, subst, append-nil}
+use Rattle.std.proofs.Common.{rules, refl, ◌≡◌, ◌∷◌, ◌++◌, ◌∙◌, ℕ, List, [], Some, map, ap, sym, subst, append-nil}
 use Rattle.rohc_context.specs.Record.{Record, record_of}
 use Rattle.rohc_context.specs.declared.record.Context.{Context}
 use Rattle.rohc_saved.specs.Form.{contexts_in}
 use Rattle.rohc_saved.specs.Restoring.{own, up_to, AddsContexts}
 use Rattle.rohc_saved.proofs.FormLemmas.{parts_more}
-use Rattle.rohc_saved.proofs.RestoringLemmas.{own_adds, settings_more}
+use Rattle.rohc_saved.proofs.RestoringLemmas.{adds_none, adds_as, own_none, own_adds, settings_more}
+use Rattle.rohc_saved.proofs.LinkLemmas.{elsewhere_none, elsewhere_more}
 use Rattle.rohc_saved.proofs.restoring.put_contexts.Goals as goal
+
+pub loop-cid-init : goal.loop-cid-init
+loop-cid-init c = record {
+  done = [];
+  parts = search rules;
+  adds = adds_as c.args.concentrator.now c.args.concentrator.now (λ link. []) (own c.args.number []) (own_none c.args.number) (adds_none c.args.concentrator.now);
+  settings = record { each = λ link. refl; in_order = refl };
+  elsewhere = elsewhere_none c.args.concentrator.now c.args.number;
+}
 
 pub loop-cid-preserved : goal.loop-cid-preserved
 loop-cid-preserved c =
@@ -18,6 +28,7 @@ loop-cid-preserved c =
           own_adds c.args.concentrator.now c.loop-cid.concentrator c.put_context.new.concentrator c.args.number (Some c.args.greatest) c.loop-cid.invariant.done one
           c.loop-cid.invariant.adds c.in_ok-put_context.ensures.adds;
       settings = settings_more c.args.concentrator.now c.loop-cid.concentrator c.put_context.new.concentrator c.loop-cid.invariant.settings c.in_ok-put_context.ensures.settings;
+      elsewhere = elsewhere_more c.args.concentrator.now c.loop-cid.concentrator c.put_context.new.concentrator c.args.number c.loop-cid.invariant.elsewhere c.put_context.ensures.elsewhere;
     }
 
 pub returns-clause-adds : goal.returns-clause-adds
