@@ -131,7 +131,7 @@ pub record IsLinkBack (link : ℕ) (octets : List ℕ) (r : RohcRestored) (old n
   pub restores : RestoresLink old link octets tally new
   pub shown : r ≡ told tally
 
--- the status of each fault of one link; those of octets are 7 and above
+-- the status of each fault of one link; that of octets is at least 6, and 7 or more unless it were one of settings
 abbrev pub link_back_number : LinkFault → ℕ
 link_back_number link_faults.NoLink = 2
 link_back_number link_faults.HasContexts = 3

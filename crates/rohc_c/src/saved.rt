@@ -126,7 +126,8 @@ impl BackFault {
     }
 }
 
-/// The status that C gets if one link isn't restored. That of octets is 7 or more.
+/// The status that C gets if one link isn't restored. That of octets is 7 or more, since reading them finds no fault of
+/// settings; no clause says so.
 pub(crate) fn link_back_number(fault: LinkFault) -> u8
     ensures number { result ≡ link_back_number fault }
     ensures some { 2 ≤ result }

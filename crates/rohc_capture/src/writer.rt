@@ -249,7 +249,8 @@ fn interface_head(link_type: u16) -> Head
     head
 }
 
-/// Writes the head of a capture whose frames have this link type, as captures number them: 101 for raw IP.
+/// Writes the head of a capture whose frames have this link type, as captures number them: 101 for raw IP. The error is
+/// `Failed`.
 pub fn write_head<W: Write>(
     writer: &mut W,
     format: Format,
@@ -267,7 +268,7 @@ pub fn write_head<W: Write>(
     }
 }
 
-/// Writes a frame in two parts, with its time in nanoseconds since 1970.
+/// Writes a frame in two parts, with its time in nanoseconds since 1970. The errors are those of `WriteFault`.
 pub fn write_record<W: Write>(
     writer: &mut W,
     format: Format,

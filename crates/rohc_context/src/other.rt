@@ -99,9 +99,7 @@ impl FullContext {
         self.update_by_tries(settings, passed, forward, reply)
     }
 
-    /// Takes a packet as `update` does, by all tries in their order, and writes the rebuilt
-    /// packet into the reply. If it returns a fault, this context stays as it was, and what `reply` holds means
-    /// nothing.
+    /// Takes a packet as `update` does, by all tries in their order.
     fn update_by_tries<'a>(
         &mut self,
         settings: &Settings,
