@@ -1,9 +1,8 @@
 """Wrong bodies that the prover must refuse, and edits of definitions that it must refuse.
 
 A wrong body is an edit of code. It stands in crates/CRATE/must-fail, where the gate tries it, or in must-fail-more, and
-it is named FUNCTION.what.edit by the function that it changes. An edit of a definition is named WORD.what.edit by the
-word that it changes. It stands in crates/CRATE/statements, or in must-fail as statement.WORD.what.edit if the gate
-tries it, since the gate reads no other folder.
+it is named FUNCTION.what.edit by the function that it changes. An edit of a definition stands in
+crates/CRATE/statements, and is named WORD.what.edit by the word that it changes.
 """
 
 import re
@@ -22,7 +21,7 @@ from trial import Trial
 TOP = Path(__file__).resolve().parent.parent.parent
 GATE, MORE, STATEMENTS = "must-fail", "must-fail-more", "statements"
 FOLDERS = (GATE, MORE, STATEMENTS)
-NAME = re.compile(r"(statement\.)?(\w+)\.([a-z0-9_]+)\.edit")
+NAME = re.compile(r"(\w+)\.[a-z0-9_]+\.edit")
 
 
 @dataclass(frozen=True)
@@ -67,12 +66,12 @@ class Edit:
         """Why it may not have its name, if it may not."""
         is_statement = any(path.startswith("specs/") for path in self.paths)
         parts = NAME.fullmatch(self.file.name)
-        if not parts or bool(parts[1]) != (is_statement and self.file.parent.name == GATE):
-            return f"a name isn't {'[statement.]WORD' if is_statement else 'FUNCTION'}.what.edit"
-        if is_statement != (bool(parts[1]) or self.file.parent.name == STATEMENTS):
+        if not parts:
+            return f"a name isn't {'WORD' if is_statement else 'FUNCTION'}.what.edit"
+        if is_statement != (self.file.parent.name == STATEMENTS):
             return "an edit of code stands among those of definitions, or the reverse"
-        stands = parts[2] in names_of(self.crate, is_statement)
-        return "" if stands else f"{parts[2]} stands nowhere in its crate's {'definitions' if is_statement else 'code'}"
+        stands = parts[1] in names_of(self.crate, is_statement)
+        return "" if stands else f"{parts[1]} stands nowhere in its crate's {'definitions' if is_statement else 'code'}"
 
 
 @cache
@@ -100,7 +99,7 @@ def is_crate(top: Path, word: str) -> bool:
 
 def twice(found: list[Edit]) -> Iterator[str]:
     """The names that more than one edit has."""
-    counts = Counter(edit.file.name.removeprefix("statement.") for edit in found)
+    counts = Counter(edit.file.name for edit in found)
     yield from (name for name, count in counts.items() if count > 1)
 
 

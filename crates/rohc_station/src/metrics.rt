@@ -209,7 +209,7 @@ fn write_totals<W: Write>(
         ),
         (
             "polorowan_bad_datagrams_total",
-            "Datagrams that are too short or of no link.",
+            "Datagrams that are too short, of no link, or turned away.",
             totals.bad_datagrams,
         ),
         (
