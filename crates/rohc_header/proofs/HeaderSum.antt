@@ -6,6 +6,10 @@ use Rattle.rohc_checks.specs.Sum.{words}
 cons : (x : ℕ) (xs : List ℕ) → sum (x ∷ xs) ≡ x + sum xs
 cons x xs = sum_by-cons (λ y. y) x xs
 
+-- the turns of 65,535 by which 256 times two words with their octets exchanged differ from the words
+abbrev pub turns : List ℕ → ℕ
+turns octets = get_or octets 1 0 + get_or octets 2 0 * 256 + get_or octets 3 0 * 65537
+
 -- an address has two words
 pub two : (l : List ℕ) → length l ≡ 4 → get_or l 0 0 * 256 + get_or l 1 0 + (get_or l 2 0 * 256 + get_or l 3 0) ≡ sum (words l)
 unfolding words

@@ -104,12 +104,10 @@ pub fn put_header(octets: &mut ArrayVec<u8, 40>, fixed: &Static, moving: &Dynami
     requires narrow { moving.now.payload_type < 128 }
     ensures { IsOriginal fixed.now moving.now payload_len octets.new.items }
 {
-    // Copied first, so that the compiler knows that they don't overlap the octets.
-    let (fixed, moving) = (*fixed, *moving);
     octets.clear();
-    put_ip(octets, &fixed, &moving, payload_len);
-    put_udp(octets, &fixed, &moving, payload_len);
-    put_rtp(octets, &fixed, &moving);
+    put_ip(octets, fixed, moving, payload_len);
+    put_udp(octets, fixed, moving, payload_len);
+    put_rtp(octets, fixed, moving);
 }
 
 /// The 3-bit check of a header's 40 octets, from the register `reg` after its static octets (RFC 3095 5.9.2).

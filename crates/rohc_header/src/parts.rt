@@ -1,12 +1,12 @@
 //! The parts of a header. Each function appends one to the octets that are there.
 
-ghost use Rattle.std.specs.Prelude.{◌≡◌, ◌+◌, ◌<◌, ◌≤◌, ◌++◌, length, sum};
+ghost use Rattle.std.specs.Prelude.{◌≡◌, ◌+◌, ◌*◌, ◌%◌, ◌^◌, ◌<◌, ◌≤◌, ◌++◌, length, get_or, sum};
 ghost use Rattle.rohc_checks.specs.Sum.{words};
 ghost use Rattle.rohc_header.specs.Original.{flag as flag_octet, word as word_octets, quad as quad_octets, longest_payload, ip_front, ip_part, ip_sum, addresses, udp_part, rtp_part};
 
 use crate::{Dynamic, Static};
 use arrayvec::ArrayVec;
-use rohc_checks::sum_of_total;
+use rohc_checks::sum_of_exchanged;
 
 /// The octets of a header, as far as they have been written.
 pub(crate) type Octets = ArrayVec<u8, 40>;
@@ -23,32 +23,37 @@ pub(crate) fn put_ip(octets: &mut Octets, fixed: &Static, moving: &Dynamic, payl
     put_addresses(octets, fixed);
 }
 
-/// The IPv4 checksum, computed from the header's nine other words as numbers; no octet is read
-/// back.
+/// The IPv4 checksum, computed from the header's nine other words as numbers; no octet is read back. They are taken
+/// with their octets exchanged, as the processor reads them, and two at once where both are at hand.
 #[inline(always)]
 fn checksum(fixed: &Static, moving: &Dynamic, payload_len: u16) -> u16
     requires { payload_len ≤ longest_payload }
     ensures { result ≡ ip_sum fixed.now moving.now payload_len }
 {
-    let total = 0x4500
-        + u32::from(moving.tos)
-        + u32::from(40 + payload_len)
-        + u32::from(moving.id)
-        + u32::from(flag(moving.df, 0x40)) * 256
-        + u32::from(moving.ttl) * 256
-        + 17
-        + two_words(&fixed.source)
-        + two_words(&fixed.destination);
-    sum_of_total(total)
+    let total = 0x45
+        + u64::from(moving.tos) * 256
+        + exchanged(40 + payload_len)
+        + exchanged(moving.id)
+        + two_exchanged(&[flag(moving.df, 0x40), 0x00, moving.ttl, 17])
+        + two_exchanged(&fixed.source)
+        + two_exchanged(&fixed.destination);
+    sum_of_exchanged(total)
 }
 
-/// The sum of the two 16-bit words of an address.
-fn two_words(address: &[u8; 4]) -> u32
-    ensures total { result ≡ sum (words address.now) }
-    ensures few { result ≤ 131070 }
+/// A word with its octets exchanged.
+fn exchanged(word: u16) -> u64
+    ensures rest { result * 256 ≡ word + word % 256 * 65535 }
+    ensures few { result < 2 ^ 16 }
 {
-    u32::from_be_bytes([0, 0, address[0], address[1]])
-        + u32::from_be_bytes([0, 0, address[2], address[3]])
+    u64::from(u16::from_le_bytes(word.to_be_bytes()))
+}
+
+/// Two words with their octets exchanged, the second above the first.
+fn two_exchanged(octets: &[u8; 4]) -> u64
+    ensures rest { result * 256 ≡ sum (words octets.now) + (get_or octets.now 1 0 + get_or octets.now 2 0 * 256 + get_or octets.now 3 0 * 65537) * 65535 }
+    ensures few { result < 2 ^ 32 }
+{
+    u64::from(u32::from_le_bytes(*octets))
 }
 
 /// Appends the IPv4 header up to its checksum.

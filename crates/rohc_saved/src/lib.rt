@@ -18,6 +18,3 @@ pub use link_restoring::restore_link;
 pub use restored::Restored;
 pub use restoring::restore;
 pub use saving::{save, save_link};
-
-#[cfg(test)]
-mod tests;

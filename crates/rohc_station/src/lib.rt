@@ -20,6 +20,3 @@ pub use request::{Asked, Request, RequestFault, read_request, request_of};
 pub use sending::Taken;
 pub use station::Station;
 pub use timed::{Timed, timed_datagram};
-
-#[cfg(test)]
-mod tests;

@@ -1,5 +1,4 @@
-//! The tests of all crates: of the parts what no row of test data can say, of contexts, the concentrator, links files,
-//! replays, the server and the program.
+//! The tests of the parts, what no row of test data can say, of contexts and of the concentrator.
 //!
 //! They stand apart from these crates, so that each of those is proved once, and not again with its tests.
 #![tactic(auto)]
@@ -23,14 +22,6 @@ mod frame;
 #[cfg(test)]
 mod header;
 #[cfg(test)]
-mod links;
-#[cfg(test)]
-mod program;
-#[cfg(test)]
-mod replay;
-#[cfg(test)]
 mod saved;
-#[cfg(test)]
-mod serve;
 #[cfg(test)]
 mod together;

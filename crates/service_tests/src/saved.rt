@@ -1,17 +1,16 @@
 //! A saved file that must be read for ever, its faults, other settings, and writers that fail.
 
-use crate::{LinkFault, Restored, SaveFault, SavedFault, restore, restore_link, save, save_link};
+use crate::examples::WHOLE_IR;
 use arrayvec::ArrayVec;
 use rohc_concentrator::{Concentrator, LinkSetting, SetupFault};
 use rohc_context::{ContextState, Mode, Settings};
 use rohc_frame::CidKind;
+use rohc_saved::{
+    LinkFault, Restored, SaveFault, SavedFault, restore, restore_link, save, save_link,
+};
 use std::alloc::{AllocError, Global};
 use std::io::{self, Error, ErrorKind, Write};
 use std::process::Abort;
-
-// The IR of example *whole IR* of docs/EXAMPLES.md.
-const WHOLE_IR: &[u8] =
-    b"\xfd\x01\x2b\x40\x11\x0a\x00\x00\x01\x0a\x00\x00\x02\x13\x88\x13\x8a\x00\x00\x00\x01\x00\x40\x00\x01\x20\x00\x00\x00\x90\x00\x00\x01\x00\x00\x00\xa0\x00\x09\x80\xa0\xab";
 
 // What is saved at 0102030405060709 of link 1 with CID 0, after that IR at 0102030405060708: written by hand from
 // docs/FORMATS.md. The last 32 octets are what Python's hashlib.sha256 gives for those before them.

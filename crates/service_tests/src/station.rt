@@ -1,20 +1,18 @@
 //! A station on its happy path.
 
-use crate::lists::{write_calls, write_contexts};
-use crate::metrics::{GatewayFigures, write_metrics};
-use crate::reload::ReloadReport;
-use crate::request::{Asked, Request, RequestFault, read_request};
-use crate::station::Station;
-use crate::timed::timed_datagram;
 use rohc_concentrator::Concentrator;
 use rohc_context::Refusal;
 use rohc_links::{Links, read_links};
 use rohc_saved::restore;
+use rohc_station::{
+    Asked, GatewayFigures, ReloadReport, Request, RequestFault, Station, read_request,
+    timed_datagram, write_calls, write_contexts, write_metrics,
+};
 use std::alloc::Global;
 use std::process::Abort;
 
 // A datagram of link 4 with the IR of example *whole IR* of docs/EXAMPLES.md.
-const WHOLE_IR: &[u8] =
+const DATAGRAM: &[u8] =
     b"\x00\x04\xfd\x01\x2b\x40\x11\x0a\x00\x00\x01\x0a\x00\x00\x02\x13\x88\x13\x8a\x00\x00\x00\x01\x00\x40\x00\x01\x20\x00\x00\x00\x90\x00\x00\x01\x00\x00\x00\xa0\x00\x09\x80\xa0\xab";
 
 // An entry of a links file behind its number.
@@ -84,7 +82,7 @@ fn reads_requests(rt: HostRuntime) {
 #[test]
 fn takes_and_reloads(rt: HostRuntime) {
     let mut station = station(&rt, 4, 5);
-    let taken = station.take(1000, WHOLE_IR);
+    let taken = station.take(1000, DATAGRAM);
     let sends = taken.sends;
     assert!(rt; sends.ports.is_some() && sends.packet.is_some() && sends.feedback.is_some());
     assert!(rt; taken.refusal.is_none());
@@ -108,7 +106,7 @@ fn takes_and_reloads(rt: HostRuntime) {
 #[test]
 fn saves_and_writes(rt: HostRuntime) {
     let mut station = station(&rt, 4, 5);
-    let _ = station.take(1000, WHOLE_IR);
+    let _ = station.take(1000, DATAGRAM);
     let mut saved = Vec::new(rt.alloc());
     station.save(2000, &mut saved).expect(&rt, "it works");
     let (concentrator, told) = restore(
