@@ -77,7 +77,7 @@ with Concentrator([Link(1)]) as concentrator:
 VERSIONS = (
     ("python/pyproject.toml", r'^version = "([^"]*)"$'),
     ("bindings/rust/Cargo.toml", r'^version = "([^"]*)"$'),
-    ("crates/rohctl_program/src/command.rt", r'\.version\("([^"]*)"\)'),
+    ("crates/rohctl_words/src/words.rt", r'\.version\("([^"]*)"\)'),
     ("CHANGELOG.md", r"^## ([0-9.]+)\b"),
 )
 

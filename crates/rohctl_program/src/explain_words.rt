@@ -1,39 +1,7 @@
-//! The words of the subcommand `explain`.
+//! What is asked of `explain`.
 
-use crate::options::{flag, valued};
-use clap::{Arg, ArgMatches, Command};
+use clap::ArgMatches;
 use rohctl_explain::{Asked, Source, Telling, Which};
-use std::alloc::{AllocError, Global};
-
-/// The subcommand `explain`.
-pub(crate) fn explain_words<'a>(alloc: Global) -> Result<Command<'a>, AllocError> {
-    Command::new(alloc, "explain")
-        .about(
-            "Tell of each packet its fields, its context, its tries, its answer and the usual cause",
-        )
-        .arg(valued(alloc, "links", "FILE", "The links file").required(true))?
-        .arg(
-            Arg::new(alloc, "SCRIPT")
-                .help("The script, - for standard input; with --link packets in hexadecimal digits")
-                .default_value("-"),
-        )?
-        .arg(valued(alloc, "line", "N", "Tell the packet in this line").conflicts_with("call")?)?
-        .arg(valued(
-            alloc,
-            "call",
-            "L/C",
-            "Tell the packets of this link and CID",
-        ))?
-        .arg(valued(
-            alloc,
-            "link",
-            "L",
-            "The link of the packets whose octets are given",
-        )
-        .conflicts_with("line")?)?
-        .arg(flag(alloc, "brief", "Write a line a packet"))?
-        .arg(flag(alloc, "json", "Write JSON, one object a line").conflicts_with("brief")?)
-}
 
 /// The packets that are told, if the words can be read.
 fn which_of(options: &ArgMatches<'_>) -> Option<Which> {

@@ -7,7 +7,6 @@ mod capture_words;
 mod command;
 mod control;
 mod explain_words;
-mod options;
 mod program;
 mod report_words;
 mod verify;
