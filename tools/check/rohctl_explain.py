@@ -41,6 +41,8 @@ FALLING = (
     ("1070 11ac", "1070 ms after the last accepted packet, an IR alone; a STATIC-NACK may be sent now"),
     ("2000 11ac", "2000 ms after the last accepted packet, an IR alone; no STATIC-NACK for 70 ms"),
 )
+# A context of profile 0x0000 that has expired as its second packet comes, by the link's idle_ms of 5,000.
+EXPIRED = b"arrive 4 0 fc00b745aa\narrive 4 5000 45aa\n"
 HOSTILE = b"\x1b[2J\narrive 1 0 \x1b[31m\narrive 1 0 fc00b745aa\x07\narrive 1 0 fc00b745aa\n\xff\n"
 
 
@@ -183,6 +185,8 @@ def check(trial: Trial) -> None:
     trial.demand(line.text.endswith("taken next: every packet\n\n"), f"what is taken next in Full Context: {line.text[-60:]!r}", line.call)
     last = explain(trial, "--links", LINKS, "--line", "6", PLAIN)
     trial.demand(last.text.endswith("taken next: an IR alone\n\n"), f"what is taken next without a context: {last.text[-60:]!r}", last.call)
+    expired = explain(trial, "--links", trial.top / "examples/worked/links-2.toml", given=EXPIRED)
+    trial.demand(expired.text.endswith("taken next: an IR alone\n\n"), f"what is taken next by an expired context: {expired.text[-60:]!r}", expired.call)
     call = explain(trial, "--brief", "--links", LINKS, "--call", "1/0", PLAIN)
     trial.demand(call.text.count("\n") == 4, "not the four packets of the call", call.call)
     given = explain(trial, "--brief", "--links", LINKS, "--link", "1", "fc00b745aa,45ab")

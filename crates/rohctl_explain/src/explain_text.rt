@@ -1,7 +1,7 @@
 //! A packet, explained for a reader.
 
 use crate::expected::{Ahead, Expected, expected_of, failures};
-use crate::packet::{Explained, Got, View};
+use crate::packet::{Explained, Got, View, counts_after};
 use rohc_context::{ContextState, Profile, Settings};
 use rohc_explain::{Field, PacketKind};
 use rohc_forms::FormKind;
@@ -156,7 +156,7 @@ fn write_expected<W: Write>(out: &mut W, explained: &Explained) -> io::Result<()
     writeln!(out, "")
 }
 
-/// What a context takes, until it expires (docs/FORMATS.md, *States*). In Static Context an SN is kept with a reference.
+/// What a context takes that counts (docs/FORMATS.md, *States*). In Static Context an SN is kept with a reference.
 fn taken_by(view: Option<&View>) -> &'static str {
     let Some(view) = view else {
         return "an IR alone";
@@ -166,6 +166,18 @@ fn taken_by(view: Option<&View>) -> &'static str {
         ContextState::StaticContext if view.sn.is_some() => "an IR, an IR-DYN or a UOR-2",
         ContextState::StaticContext => "an IR or an IR-DYN",
         ContextState::NoContext => "an IR alone",
+    }
+}
+
+/// What is taken after the packet: an IR alone if the context has expired.
+fn taken_next(explained: &Explained) -> &'static str {
+    let (Some(view), Some(settings)) = (&explained.after, &explained.settings) else {
+        return taken_by(None);
+    };
+    if counts_after(settings, explained.moment.saturating_sub(view.accepted)) {
+        taken_by(Some(view))
+    } else {
+        taken_by(None)
     }
 }
 
@@ -275,7 +287,7 @@ pub fn write_whole<W: Write>(out: &mut W, at: Place, explained: &Explained) -> i
     }
     write_answer(out, explained)?;
     write_view(out, "after", explained, explained.after.as_ref())?;
-    writeln!(out, "taken next: {}", taken_by(explained.after.as_ref()))?;
+    writeln!(out, "taken next: {}", taken_next(explained))?;
     writeln!(out, "")
 }
 
