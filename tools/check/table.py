@@ -12,7 +12,7 @@ HEAD = """\
 
 For auditors, and for whoever changes something and asks which checks to run.
 
-`bin/check --table` writes this from tools/check/registry.py. `bin/check --list` says what each check shows, and
+`bin/check --table` prints this from tools/check/registry.py. `bin/check --list` says what each check shows, and
 `bin/check NAME` runs it. Promises are all those of docs/PROMISES.md; keys, faults, statuses and refusals those of the
 manual pages. What `gate` proves is in docs/PROOFS.md.
 """
