@@ -156,6 +156,9 @@ def page(rohctl: Path) -> str:
 <h2>The promises</h2>
 <ol>
 {items("The promises", r"[0-9][.]")}</ol>
+<h2>What is not proved</h2>
+<ul>
+{items("What is not proved", "-")}</ul>
 <h2>Three programs</h2>
 <ul>
 {items("Three programs", "-")}</ul>
