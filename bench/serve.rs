@@ -9,7 +9,7 @@
 
 use std::env;
 use std::fs;
-use std::io::{ErrorKind, Result};
+use std::io::{Error, ErrorKind, Result};
 use std::net::{Ipv4Addr, UdpSocket};
 use std::os::fd::AsRawFd;
 use std::path::PathBuf;
@@ -54,6 +54,11 @@ unsafe extern "C" {
     fn epoll_wait(epoll: i32, events: *mut Event, most: i32, milliseconds: i32) -> i32;
 }
 
+/// What a call of the system returned, or its error.
+fn called(answer: i32) -> Result<i32> {
+    if answer < 0 { Err(Error::last_os_error()) } else { Ok(answer) }
+}
+
 /// The plain echo that waits by epoll, as a program with several sockets does.
 fn polled_echo(port: u16, count: u32, deliver: u16) -> Result<()> {
     let socket = UdpSocket::bind((Ipv4Addr::LOCALHOST, port))?;
@@ -62,11 +67,11 @@ fn polled_echo(port: u16, count: u32, deliver: u16) -> Result<()> {
     let mut buffer = vec![0; 65_537];
     let mut event = Event { events: INPUT, data: 0 };
     // SAFETY: the event outlives each call, and there is room for one.
-    let epoll = unsafe { epoll_create1(0) };
-    unsafe { epoll_ctl(epoll, ADD, socket.as_raw_fd(), &raw mut event) };
+    let epoll = called(unsafe { epoll_create1(0) })?;
+    called(unsafe { epoll_ctl(epoll, ADD, socket.as_raw_fd(), &raw mut event) })?;
     let mut left = count;
     while left > 0 {
-        unsafe { epoll_wait(epoll, &raw mut event, 1, -1) };
+        called(unsafe { epoll_wait(epoll, &raw mut event, 1, -1) })?;
         loop {
             match socket.recv_from(&mut buffer) {
                 Ok((size, _)) => {
