@@ -1,6 +1,6 @@
 //! Writing a capture.
 
-ghost use Rattle.std.specs.Prelude.{◌≡◌, ◌≤◌, ◌<◌, ◌+◌, ◌/◌, ◌%◌, ◌++◌, length, take, [], ◌∷◌, OnOk, IfOk};
+ghost use Rattle.std.specs.Prelude.{◌≡◌, ◌≤◌, ◌<◌, ◌+◌, ◌/◌, ◌%◌, ◌++◌, ◌^◌, ◌↔◌, ◌≢◌, length, take, [], ◌∷◌, OnOk, IfOk, IfErr, Err};
 ghost use Rattle.std.specs.Io.KnownBytes.{Appends};
 ghost use Rattle.rohc_capture.specs.Written.{quad, missing, pcap_head, section_head, interface_head, pcap_record, pcapng_front, pcapng_back, pcapng_record, head_of, frame_record};
 
@@ -60,6 +60,7 @@ fn missing(size: u32) -> u32
 fn size_of(front: &[u8], rest: &[u8]) -> Result<u32, WriteFault>
     ensures size { IfOk result (λ size. size ≡ length (front.now ++ rest.now)) }
     ensures room { IfOk result (λ size. size ≤ LONGEST_PACKET) }
+    ensures long { IfErr result (λ e. (e ≡ WriteFault.TooLong) × (LONGEST_PACKET < length (front.now ++ rest.now))) }
 {
     if front.len() > LONGEST_PACKET || rest.len() > LONGEST_PACKET - front.len() {
         return Err(WriteFault::TooLong);
@@ -70,7 +71,8 @@ fn size_of(front: &[u8], rest: &[u8]) -> Result<u32, WriteFault>
 /// Writes one part.
 #[inline(always)]
 fn write_one<W: Write>(writer: &mut W, part: &[u8]) -> Result<(), WriteFault>
-    ensures { OnOk result (Appends (W.contents writer.old) (W.contents writer.new) part.now) }
+    ensures written { OnOk result (Appends (W.contents writer.old) (W.contents writer.new) part.now) }
+    ensures failed { IfErr result (λ e. e ≡ WriteFault.Failed) }
 {
     match writer.write_all(part) {
         Ok(()) => Ok(()),
@@ -81,7 +83,8 @@ fn write_one<W: Write>(writer: &mut W, part: &[u8]) -> Result<(), WriteFault>
 /// Writes two parts.
 #[inline(always)]
 fn write_two<W: Write>(writer: &mut W, first: &[u8], second: &[u8]) -> Result<(), WriteFault>
-    ensures { OnOk result (Appends (W.contents writer.old) (W.contents writer.new) (first.now ++ second.now)) }
+    ensures written { OnOk result (Appends (W.contents writer.old) (W.contents writer.new) (first.now ++ second.now)) }
+    ensures failed { IfErr result (λ e. e ≡ WriteFault.Failed) }
 {
     write_one(writer, first)?;
     write_one(writer, second)
@@ -95,7 +98,8 @@ fn write_three<W: Write>(
     second: &[u8],
     third: &[u8],
 ) -> Result<(), WriteFault>
-    ensures { OnOk result (Appends (W.contents writer.old) (W.contents writer.new) (first.now ++ second.now ++ third.now)) }
+    ensures written { OnOk result (Appends (W.contents writer.old) (W.contents writer.new) (first.now ++ second.now ++ third.now)) }
+    ensures failed { IfErr result (λ e. e ≡ WriteFault.Failed) }
 {
     write_one(writer, first)?;
     write_two(writer, second, third)
@@ -108,7 +112,8 @@ fn write_behind<W: Write>(
     rest: &[u8],
     behind: &[u8],
 ) -> Result<(), WriteFault>
-    ensures { OnOk result (Appends (W.contents writer.old) (W.contents writer.new) ((front.now ++ rest.now) ++ behind.now)) }
+    ensures written { OnOk result (Appends (W.contents writer.old) (W.contents writer.new) ((front.now ++ rest.now) ++ behind.now)) }
+    ensures failed { IfErr result (λ e. e ≡ WriteFault.Failed) }
 {
     write_two(writer, front, rest)?;
     write_one(writer, behind)
@@ -122,7 +127,8 @@ fn write_frame<W: Write>(
     rest: &[u8],
     behind: &[u8],
 ) -> Result<(), WriteFault>
-    ensures { OnOk result (Appends (W.contents writer.old) (W.contents writer.new) (before.now ++ (front.now ++ rest.now) ++ behind.now)) }
+    ensures written { OnOk result (Appends (W.contents writer.old) (W.contents writer.new) (before.now ++ (front.now ++ rest.now) ++ behind.now)) }
+    ensures failed { IfErr result (λ e. e ≡ WriteFault.Failed) }
 {
     write_one(writer, before)?;
     write_behind(writer, front, rest, behind)
@@ -147,7 +153,10 @@ fn write_pcap<W: Write>(
     front: &[u8],
     rest: &[u8],
 ) -> Result<(), WriteFault>
-    ensures { OnOk result (Appends (W.contents writer.old) (W.contents writer.new) (pcap_record nanos (front.now ++ rest.now))) }
+    ensures written { OnOk result (Appends (W.contents writer.old) (W.contents writer.new) (pcap_record nanos (front.now ++ rest.now))) }
+    ensures long { (result ≡ Err WriteFault.TooLong) ↔ (LONGEST_PACKET < length (front.now ++ rest.now)) }
+    ensures late { (result ≡ Err WriteFault.TooLate) ↔ ((length (front.now ++ rest.now) ≤ LONGEST_PACKET) × (2 ^ 32 ≤ nanos / 1000000000)) }
+    ensures stays { IfErr result (λ e. e ≢ WriteFault.Failed → writer.new ≡ writer.old) }
 {
     let size = size_of(front, rest)?;
     let Ok(second) = u32::try_from(nanos / 1_000_000_000) else {
@@ -194,7 +203,10 @@ fn write_pcapng<W: Write>(
     front: &[u8],
     rest: &[u8],
 ) -> Result<(), WriteFault>
-    ensures { OnOk result (Appends (W.contents writer.old) (W.contents writer.new) (pcapng_record nanos (front.now ++ rest.now))) }
+    ensures written { OnOk result (Appends (W.contents writer.old) (W.contents writer.new) (pcapng_record nanos (front.now ++ rest.now))) }
+    ensures long { (result ≡ Err WriteFault.TooLong) ↔ (LONGEST_PACKET < length (front.now ++ rest.now)) }
+    ensures never_late { result ≢ Err WriteFault.TooLate }
+    ensures stays { IfErr result (λ e. e ≢ WriteFault.Failed → writer.new ≡ writer.old) }
 {
     let size = size_of(front, rest)?;
     let before = pcapng_front(nanos, size);
@@ -256,7 +268,8 @@ pub fn write_head<W: Write>(
     format: Format,
     link_type: u16,
 ) -> Result<(), WriteFault>
-    ensures { OnOk result (Appends (W.contents writer.old) (W.contents writer.new) (head_of format link_type)) }
+    ensures written { OnOk result (Appends (W.contents writer.old) (W.contents writer.new) (head_of format link_type)) }
+    ensures failed { IfErr result (λ e. e ≡ WriteFault.Failed) }
 {
     match format {
         Format::Pcap => write_one(writer, pcap_head(link_type).as_slice()),
@@ -276,7 +289,11 @@ pub fn write_record<W: Write>(
     front: &[u8],
     rest: &[u8],
 ) -> Result<(), WriteFault>
-    ensures { OnOk result (Appends (W.contents writer.old) (W.contents writer.new) (frame_record format nanos (front.now ++ rest.now))) }
+    ensures written { OnOk result (Appends (W.contents writer.old) (W.contents writer.new) (frame_record format nanos (front.now ++ rest.now))) }
+    ensures long { (result ≡ Err WriteFault.TooLong) ↔ (LONGEST_PACKET < length (front.now ++ rest.now)) }
+    ensures late { (result ≡ Err WriteFault.TooLate)
+        ↔ ((format ≡ Format.Pcap) × (length (front.now ++ rest.now) ≤ LONGEST_PACKET) × (2 ^ 32 ≤ nanos / 1000000000)) }
+    ensures stays { IfErr result (λ e. e ≢ WriteFault.Failed → writer.new ≡ writer.old) }
 {
     match format {
         Format::Pcap => write_pcap(writer, nanos, front, rest),

@@ -1,9 +1,10 @@
 -- A word and a length, and the outcomes that they stand for.
-use Rattle.std.proofs.Common.{◌≡◌, ℕ, zero, suc, ◌+◌, ◌*◌, ◌/◌, ◌%◌, ◌^◌, ◌<◌, ◌≤◌, Bool, true, false, List, [], ◌∷◌, take, refl, sym, ap, subst, ◌∙◌, arith, count_ones, add-one, cond, zero-add, ⊎_elim}
+use Rattle.std.proofs.Common.{◌≡◌, ℕ, zero, suc, ◌+◌, ◌*◌, ◌/◌, ◌%◌, ◌^◌, ◌<◌, ◌≤◌, Bool, true, false, List, [], ◌∷◌, take, refl, sym, ap, subst, ◌∙◌, arith, count_ones, add-one, cond, zero-add, ⊎_elim, nat_lt}
 use Rattle.std.specs.Prelude.{◌==◌, count_by, min}
 use lib.Count.{ones, ones_step}
 use mir.Val.{bool_byte}
 use Rattle.std.proofs.lemmas.Bool.{cases_lt, eq-eqb, ne_eqb}
+use Rattle.std.proofs.lemmas.Bool.Decides.{nat_tests}
 use Rattle.std.proofs.lemmas.Nat.{pow_pos, mod-pow-add, mod_below}
 use Rattle.std.proofs.lemmas.List.{take_all}
 use Rattle.std.proofs.lemmas.List.Recursion.{is_count_by}
@@ -49,6 +50,9 @@ pushed_full : (w : ℕ) (b : Bool) → bits 64 ((w * 2) % 2 ^ 64 + bool_byte b) 
 pushed_full w b =
     let e : (w * 2) % 2 ^ 64 + bool_byte b ≡ (w % 2 ^ 63) * 2 + bool_byte b = omega (arith, mod-pow-add (w * 2) 63 1) in
     rw e (bits-cons 63 (w % 2 ^ 63) b ∙ ap (λ bs. b ∷ bs) (bits-mod 63 w ∙ sym (take-bits 63 64 w (omega arith))))
+
+pub longer : (l x : ℕ) → l ≤ 64 → x ≡ bool_byte (nat_lt l 64) → l + x ≡ min (l + 1) 64
+longer l x few is = grind (arith, nat_tests)
 
 room : (l w : ℕ) → l < 64 → w < 2 ^ l → w * 2 < 2 ^ 64
 room l w short small = omega (arith, pow_mono {i = suc l} {j = 64} (omega arith), pow-suc 2 l)

@@ -33,7 +33,7 @@ impl Window {
         ensures { outcomes self.new ≡ and_outcome failure (outcomes self.old) }
     {
         self.word = (self.word << 1) + u64::from(failure);
-        self.length = (self.length + 1).min(64);
+        self.length += u8::from(self.length < 64);
     }
 
     /// This window with one more outcome.

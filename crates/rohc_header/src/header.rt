@@ -104,10 +104,13 @@ pub fn put_header(octets: &mut ArrayVec<u8, 40>, fixed: &Static, moving: &Dynami
     requires narrow { moving.now.payload_type < 128 }
     ensures { IsOriginal fixed.now moving.now payload_len octets.new.items }
 {
-    octets.clear();
-    put_ip(octets, fixed, moving, payload_len);
-    put_udp(octets, fixed, moving, payload_len);
-    put_rtp(octets, fixed, moving);
+    // Copied first, so that the compiler knows that the fields don't overlap the octets.
+    let fixed = *fixed;
+    // Made anew, so that the compiler knows that nothing stands there.
+    *octets = Octets::new();
+    put_ip(octets, &fixed, moving, payload_len);
+    put_udp(octets, &fixed, moving, payload_len);
+    put_rtp(octets, &fixed, moving);
 }
 
 /// The 3-bit check of a header's 40 octets, from the register `reg` after its static octets (RFC 3095 5.9.2).

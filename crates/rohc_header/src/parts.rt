@@ -75,10 +75,8 @@ fn put_addresses(octets: &mut Octets, fixed: &Static)
     requires { length octets.old.items + 8 ≤ 40 }
     ensures { octets.new.items ≡ octets.old.items ++ addresses fixed.now }
 {
-    // Copied first, so that the compiler knows that they don't overlap the octets.
-    let (source, destination) = (fixed.source, fixed.destination);
-    put(octets, &source);
-    put(octets, &destination);
+    put(octets, &fixed.source);
+    put(octets, &fixed.destination);
 }
 
 /// Appends the UDP header (RFC 768).

@@ -1,4 +1,4 @@
-use Rattle.std.proofs.Common.{length, take, drop, ◌-◌, ◌+◌, arith, ◌∙◌}
+use Rattle.std.proofs.Common.{length, drop, ◌-◌, ◌+◌, arith, ◌∙◌}
 use Rattle.std.proofs.lemmas.List.{length-drop, length-take-le}
 use Rattle.std.proofs.lemmas.Slice.{drop-put_mid}
 use Rattle.rohc_bits.proofs.place.put_behind.Goals as goal
