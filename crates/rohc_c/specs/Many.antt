@@ -30,8 +30,8 @@ are_within [] most room = true
 are_within (p ∷ ps) most room =
     nat_le (p.at + p.count) most && nat_le (needed p.count) room && are_within ps most (room - needed p.count)
 
--- there are at most 1,024 packets, and as many structs at least; each packet lies within the octets, and there
--- is room for all answers
+-- there are at most 1,024 packets, and as many structs at least; each packet lies within the octets, and
+-- there is room for all answers
 pub record HasRoomForMany (packets : List RohcPacket) (octets room : List ℕ) (answers : List RohcArrival) :
     Type 0 where
   pub few : length packets ≤ 1024

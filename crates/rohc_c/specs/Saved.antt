@@ -1,5 +1,6 @@
--- Saving and restoring as C calls them. Words: IsStored, TooShort; IsLinkStored, IsLinkTooLong, IsSavedAs; told; fault_of_saved; IsBack, IsNotBack;
--- not_back_number, not_back_place; IsLinkBack, IsNotLinkBack, link_back_number, link_back_place.
+-- Saving and restoring as C calls them. Words: IsStored, TooShort; IsLinkStored, IsLinkTooLong, IsSavedAs;
+-- told; fault_of_saved; IsBack, IsNotBack; not_back_number, not_back_place; IsLinkBack, IsNotLinkBack,
+-- link_back_number, link_back_place.
 use Rattle.std.specs.Prelude.{◌≡◌, ℕ, ◌<◌, List, length, max, All, Some, None, Ok, ◌⊎◌}
 use Rattle.rohc_concentrator.specs.declared.concentrator.Concentrator.{Concentrator}
 use Rattle.rohc_concentrator.specs.declared.setup.SetupFault.TheVariants as setup
@@ -131,7 +132,8 @@ pub record IsLinkBack (link : ℕ) (octets : List ℕ) (r : RohcRestored) (old n
   pub restores : RestoresLink old link octets tally new
   pub shown : r ≡ told tally
 
--- the status of each fault of one link; that of octets is at least 6, and 7 or more unless it were one of settings
+-- the status of each fault of one link; that of octets is at least 6, and 7 or more unless it were one of
+-- settings
 abbrev pub link_back_number : LinkFault → ℕ
 link_back_number link_faults.NoLink = 2
 link_back_number link_faults.HasContexts = 3

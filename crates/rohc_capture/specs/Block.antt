@@ -10,8 +10,8 @@ abbrev pub order_of : ℕ → Option ByteOrder
 order_of magic =
     if magic == 0x1a2b3c4d then Some Big else if magic == 0x4d3c2b1a then Some Little else None
 
--- the head of a packet's block: its interface, its time in two halves, how many octets were captured, and how many
--- there were
+-- the head of a packet's block: its interface, its time in two halves, how many octets were captured, and how
+-- many there were
 unfoldable pub enhanced_in : ByteOrder → List ℕ → Option PacketHead
 enhanced_in order text = do
   (interface, text) ← long_at order text
@@ -19,7 +19,12 @@ enhanced_in order text = do
   (low, text) ← long_at order text
   (captured, text) ← long_at order text
   (original, text) ← long_at order text
-  Some (record { interface = interface; ticks = Some (high * 2 ^ 32 + low); captured = captured; original = original })
+  Some (record {
+    interface = interface;
+    ticks = Some (high * 2 ^ 32 + low);
+    captured = captured;
+    original = original;
+  })
 
 -- the same of the obsolete block: the interface has two octets, and how many frames were lost follows it
 unfoldable pub obsolete_in : ByteOrder → List ℕ → Option PacketHead
@@ -30,7 +35,12 @@ obsolete_in order text = do
   (low, text) ← long_at order text
   (captured, text) ← long_at order text
   (original, text) ← long_at order text
-  Some (record { interface = interface; ticks = Some (high * 2 ^ 32 + low); captured = captured; original = original })
+  Some (record {
+    interface = interface;
+    ticks = Some (high * 2 ^ 32 + low);
+    captured = captured;
+    original = original;
+  })
 
 -- how many octets were captured, at most so many if that isn't 0
 abbrev pub at_most : ℕ → ℕ → ℕ

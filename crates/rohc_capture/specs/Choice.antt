@@ -47,7 +47,8 @@ abbrev pub chosen : List Rule → Load → Option (ℕ × List ℕ)
 chosen [] load = None
 chosen (rule ∷ more) load = first_of (by_rule rule load.vlan load.carrier load.octets) (chosen more load)
 
--- the link and the packet of a frame, by its link type and how many octets it had: none if no rule speaks of it
+-- the link and the packet of a frame, by its link type and how many octets it had: none if no rule speaks of
+-- it
 unfoldable pub packet_in : List Rule → ℕ → ℕ → List ℕ → Result (Option (ℕ × List ℕ)) FrameFault
 packet_in rules link original frame = do
   frame ← given (nat_le original (length frame)) NotWhole frame

@@ -1,5 +1,5 @@
--- A frame of a capture, down to the network layer. Words: protocol_of, ppp_protocol; is_tag; Inside, inside_of;
--- untagged; ethernet, cooked, second_cooked, ppp, network_in.
+-- A frame of a capture, down to the network layer. Words: protocol_of, ppp_protocol; is_tag; Inside,
+-- inside_of; untagged; ethernet, cooked, second_cooked, ppp, network_in.
 use Rattle.std.specs.Prelude.{ℕ, zero, suc, ◌+◌, ◌*◌, ◌%◌, List, length, take, nat_le, ◌==◌, ◌&&◌, ◌||◌, Bool, Option, Some, None, Result, Ok, Err, if◌then◌else◌}
 use Rattle.rohc_capture.specs.declared.fault.FrameFault.{FrameFault}
 use Rattle.rohc_capture.specs.declared.fault.FrameFault.TheVariants as faults
@@ -33,8 +33,8 @@ inside vlan protocol octets = record { vlan = vlan; protocol = protocol; octets 
 abbrev pub inside_of : Network → Inside
 inside_of n = inside n.vlan n.protocol n.octets.now
 
--- A frame with a length where others have their EtherType (IEEE 802.3): after the octets AA AA 03 00 00 00 the
--- EtherType follows. The length says where padding begins.
+-- A frame with a length where others have their EtherType (IEEE 802.3): after the octets AA AA 03 00 00 00
+-- the EtherType follows. The length says where padding begins.
 unfoldable pub measured : Option ℕ → ℕ → List ℕ → Result Inside FrameFault
 measured vlan count text = do
   text ← given (nat_le count (length text)) faults.Short (take count text)
@@ -42,11 +42,14 @@ measured vlan count text = do
   (control, text) ← word_at text
   (organisation, text) ← word_at text
   (kind, text) ← word_at text
-  Ok (inside vlan (if (service == 0xaaaa) && (control == 0x0300) && (organisation == 0) then protocol_of kind else Other) text)
+  Ok (inside vlan
+    (if (service == 0xaaaa) && (control == 0x0300) && (organisation == 0) then protocol_of kind else Other)
+    text)
 
 -- what follows an EtherType or a length
 unfoldable pub typed : Option ℕ → ℕ → List ℕ → Result Inside FrameFault
-typed vlan kind text = if nat_le kind 1500 then measured vlan kind text else Ok (inside vlan (protocol_of kind) text)
+typed vlan kind text =
+    if nat_le kind 1500 then measured vlan kind text else Ok (inside vlan (protocol_of kind) text)
 
 -- an EtherType and what follows it, behind VLAN tags: with it at most n EtherTypes
 unfoldable pub untagged : ℕ → Option ℕ → List ℕ → Result Inside FrameFault

@@ -1,4 +1,5 @@
--- Numbers in the octets of a capture. Words: two_at, four_at; short_at, long_at, by the order of their octets.
+-- Numbers in the octets of a capture. Words: two_at, four_at; short_at, long_at, by the order of their
+-- octets.
 use Rattle.std.specs.Prelude.{ℕ, ◌+◌, ◌*◌, List, [], ◌∷◌, Option, Some, None}
 use Rattle.rohc_capture.specs.declared.number.ByteOrder.{ByteOrder}
 use Rattle.rohc_capture.specs.declared.number.ByteOrder.TheVariants.{Big, Little}

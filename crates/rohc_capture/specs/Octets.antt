@@ -33,4 +33,5 @@ after count text = given (nat_le count (length text)) Short (drop count text)
 
 -- the octets from one place up to another
 unfoldable pub cut : ℕ → ℕ → FrameFault → List ℕ → Result (List ℕ) FrameFault
-cut start end fault text = given (nat_le start end && nat_le end (length text)) fault (drop start (take end text))
+cut start end fault text =
+    given (nat_le start end && nat_le end (length text)) fault (drop start (take end text))

@@ -15,8 +15,8 @@ magic_of magic =
     else if magic == 0x4d3cb2a1 then Some (Little, true)
     else None
 
--- the head of a file: a magic number, the version, a time zone and its accuracy, which are 0, the longest frame, and
--- the link type in the low half of the last number
+-- the head of a file: a magic number, the version, a time zone and its accuracy, which are 0, the longest
+-- frame, and the link type in the low half of the last number
 unfoldable pub file_in : List ℕ → Option PcapHead
 file_in text = do
   (magic, text) ← long_at Big text

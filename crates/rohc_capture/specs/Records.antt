@@ -1,4 +1,5 @@
--- The records of a capture. Words: Entry, Standing; longest; next_in_pcap, next_in_file; is_section; IsNext; Leads; Holds.
+-- The records of a capture. Words: Entry, Standing; longest; next_in_pcap, next_in_file; is_section; IsNext;
+-- Leads; Holds.
 use Rattle.std.specs.Prelude.{◌≡◌, ℕ, ◌+◌, List, [], ◌∷◌, length, take, drop, nat_le, ◌==◌, Bool, true, false, Option, Some, None, Result, Ok, Err}
 use Rattle.rohc_capture.specs.declared.fault.FaultKind.{FaultKind}
 use Rattle.rohc_capture.specs.declared.fault.FaultKind.TheVariants.{NotACapture, CutOff, TooLong}
@@ -12,8 +13,8 @@ use Rattle.rohc_capture.specs.Number.{long_at}
 use Rattle.rohc_capture.specs.Pcap.{file_in, record_in}
 use Rattle.rohc_capture.specs.Window.{counted}
 
--- a record: the octets of a frame that were captured, the frame's link type, its time in nanoseconds since 1970, how
--- many octets it had, and how many octets of the capture stand before the record
+-- a record: the octets of a frame that were captured, the frame's link type, its time in nanoseconds since
+-- 1970, how many octets it had, and how many octets of the capture stand before the record
 pub record Entry : Type 0 where
   pub link_type : ℕ
   pub nanos : ℕ
@@ -68,7 +69,8 @@ record_at head place text = do
 
 -- the record that was read at a place, or the fault there
 abbrev pub placed : PcapHead → ℕ → Result (Entry × List ℕ) FaultKind → Next
-placed head place (Ok (e, rest)) = Ok (Some (e, standing (Pcap head) (counted place (16 + length e.frame)) rest))
+placed head place (Ok (e, rest)) =
+    Ok (Some (e, standing (Pcap head) (counted place (16 + length e.frame)) rest))
 placed head place (Err kind) = Err (record { kind = kind; place = place })
 
 -- what comes next in a capture of pcap behind its head: a record, if anything follows

@@ -1,5 +1,5 @@
--- Where a capture that is read stands. Words: frame_of, rest_of, place_of; entry_of; at_place; is_whole; ReadsOn;
--- IsBegun, BeginsAs.
+-- Where a capture that is read stands. Words: frame_of, rest_of, place_of; entry_of; at_place; is_whole;
+-- ReadsOn; IsBegun, BeginsAs.
 use Rattle.std.specs.Prelude.{◌≡◌, ◌≢◌, ℕ, ◌+◌, List, length, take, drop, min, nat_le, ◌&&◌, Bool, true, false, Option, Some, None, Result, Ok, Err}
 use Rattle.std.specs.Io.KnownBytes.{prepend_known}
 use Rattle.rohc_capture.specs.declared.fault.FaultKind.{FaultKind}
@@ -32,9 +32,10 @@ abbrev pub entry_of : Record → List ℕ → Entry
 entry_of r frame =
     record { link_type = r.link_type; nanos = r.nanos; original = r.original; frame = frame; place = r.place }
 
--- What a call that reads on gives: the next record, and where the capture then stands; the end; or a fault. A failed
--- read says nothing more.
-abbrev pub ReadsOn : Standing → Result (Option Record) CaptureFault → List ℕ → Kind → ℕ → Option (List ℕ) → Type 0
+-- What a call that reads on gives: the next record, and where the capture then stands; the end; or a fault. A
+-- failed read says nothing more.
+abbrev pub ReadsOn : Standing → Result (Option Record) CaptureFault → List ℕ → Kind → ℕ →
+    Option (List ℕ) → Type 0
 ReadsOn s (Ok (Some r)) frame kind place rest =
     (text : List ℕ) × (rest ≡ Some text) × IsNext s (Ok (Some (entry_of r frame, standing kind place text)))
 ReadsOn s (Ok None) frame kind place rest = IsNext s (Ok None)
@@ -72,4 +73,5 @@ BeginsAs place text (Ok nothing) Unknown after rest = ⊥
 BeginsAs place text (Ok nothing) (Pcap head) after rest =
     (head_at text ≡ Ok head) × (after ≡ counted place 24) × (rest ≡ Some (drop 24 text))
 BeginsAs place text (Ok nothing) (Pcapng order) after rest = (is_section text ≡ true) × (rest ≡ Some text)
-BeginsAs place text (Err kind) now after rest = kind ≢ Read → is_section text ≡ false → head_at text ≡ Err kind
+BeginsAs place text (Err kind) now after rest =
+    kind ≢ Read → is_section text ≡ false → head_at text ≡ Err kind

@@ -1,5 +1,5 @@
--- A window onto a reader. Words: ahead_of, what was read and not yet passed; text_in, that and what the reader still has;
--- StaysKnown; counted, which stays at the greatest u64.
+-- A window onto a reader. Words: ahead_of, what was read and not yet passed; text_in, that and what the
+-- reader still has; StaysKnown; counted, which stays at the greatest u64.
 use Rattle.std.specs.Prelude.{ℕ, ◌+◌, ◌-◌, ◌^◌, ◌≡◌, min, List, Option, true}
 use Rattle.std.specs.Option.{is_some}
 use Rattle.std.specs.List.{slice_range}

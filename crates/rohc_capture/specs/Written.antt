@@ -15,7 +15,8 @@ quad n = pair (n / 65536) ++ pair (n % 65536)
 abbrev pub missing : ℕ → ℕ
 missing size = (4 - size % 4) % 4
 
--- the head of a file of pcap: times in nanoseconds, version 2.4, frames up to 262,144 octets, and the link type
+-- the head of a file of pcap: times in nanoseconds, version 2.4, frames up to 262,144 octets, and the link
+-- type
 abbrev pub pcap_head : ℕ → List ℕ
 pcap_head link = quad 0xa1b23c4d ++ quad 0x00020004 ++ quad 0 ++ quad 0 ++ quad 262144 ++ quad link
 
@@ -26,21 +27,23 @@ pcap_front nanos size = quad (nanos / 1000000000) ++ quad (nanos % 1000000000) +
 abbrev pub pcap_record : ℕ → List ℕ → List ℕ
 pcap_record nanos frame = pcap_front nanos (length frame) ++ frame
 
--- the head of a file of pcapng: a section of version 1.0 with no length, and an interface of this link type with
--- frames up to 262,144 octets and times in units of 10^-9 seconds
+-- the head of a file of pcapng: a section of version 1.0 with no length, and an interface of this link type
+-- with frames up to 262,144 octets and times in units of 10^-9 seconds
 unfoldable pub section_head : List ℕ
 section_head =
-    quad 0x0a0d0d0a ++ quad 28 ++ quad 0x1a2b3c4d ++ quad 0x00010000 ++ quad 0xffffffff ++ quad 0xffffffff ++ quad 28
+    quad 0x0a0d0d0a ++ quad 28 ++ quad 0x1a2b3c4d ++ quad 0x00010000
+    ++ quad 0xffffffff ++ quad 0xffffffff ++ quad 28
 
 unfoldable pub interface_head : ℕ → List ℕ
 interface_head link =
-    quad 1 ++ quad 32 ++ quad (link * 65536) ++ quad 262144 ++ quad 0x00090001 ++ quad 0x09000000 ++ quad 0 ++ quad 32
+    quad 1 ++ quad 32 ++ quad (link * 65536) ++ quad 262144
+    ++ quad 0x00090001 ++ quad 0x09000000 ++ quad 0 ++ quad 32
 
 abbrev pub pcapng_head : ℕ → List ℕ
 pcapng_head link = section_head ++ interface_head link
 
--- an enhanced packet block of the first interface: its length, its time in two halves, the frame's length twice, the
--- frame, zeros up to a multiple of four, and the block's length again
+-- an enhanced packet block of the first interface: its length, its time in two halves, the frame's length
+-- twice, the frame, zeros up to a multiple of four, and the block's length again
 abbrev pub block_length : ℕ → ℕ
 block_length size = 32 + size + missing size
 

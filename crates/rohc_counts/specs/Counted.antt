@@ -67,9 +67,10 @@ abbrev pub front_count : Option ℕ → ℕ
 front_count None = 1
 front_count (Some outcome) = 0
 
--- counts, with an answer of these parts more: the outcome's number, or none for padding and feedback alone; the kind
--- of the feedback for the compressor; and how many elements are for this side's
-pub record HasParts (outcome : Option ℕ) (word : Option Word) (relayed : ℕ) (before after : Counts) : Type 0 where
+-- counts, with an answer of these parts more: the outcome's number, or none for padding and feedback alone;
+-- the kind of the feedback for the compressor; and how many elements are for this side's
+pub record HasParts (outcome : Option ℕ) (word : Option Word) (relayed : ℕ) (before after : Counts) :
+    Type 0 where
   pub outcomes : MoreAt 32 outcome before.outcomes after.outcomes
   pub words : MoreAt 4 (number_of_word word) before.words after.words
   pub fronts_counted : after.fronts ≡ counted before.fronts (front_count outcome)

@@ -63,8 +63,8 @@ pub record How : Type 0 where
 abbrev pub how : Bulk → How
 how bulk = record { rules = bulk.rules.now; format = bulk.format; padded = bulk.padded }
 
--- The arrivals in these records come one after another, each at its time. What the concentrator answers is written, and
--- nothing else.
+-- The arrivals in these records come one after another, each at its time. What the concentrator answers is
+-- written, and nothing else.
 pub record Runs (how : How) (es : List Entry) (old new : Work) : Type 0 where
   pub turns : List Turn
   pub arrivals : map (λ (t : Turn). t.arrival) turns ≡ arrivals_in how.rules es
@@ -77,9 +77,10 @@ abbrev pub event_run : {how : How} {es : List Entry} {old new : Work} → Runs h
 event_run {how} {es} {old} {new} r =
     record { before = old.concentrator; after = new.concentrator; turns = map event_of r.turns }
 
--- A capture is run to its end: its records are these, where its octets are known. Each CID of each link gets the answers
--- of one context run alone.
-pub record Decompresses (how : How) (s : Option Standing) (ending : Result Unit CaptureFault) (old new : Work) : Type 0 where
+-- A capture is run to its end: its records are these, where its octets are known. Each CID of each link gets
+-- the answers of one context run alone.
+pub record Decompresses (how : How) (s : Option Standing) (ending : Result Unit CaptureFault)
+    (old new : Work) : Type 0 where
   pub records : List Entry
   pub held : IfSome s (λ (s : Standing). Holds s records ending)
   pub run : Runs how records old new
@@ -92,7 +93,9 @@ pub record Breaks (how : How) (s : Option Standing) (old new : Work) : Type 0 wh
   pub run : Runs how records old new
   pub isolated : IsIsolatedRun (event_run run)
 
--- What a fault leaves: all before a fault of the capture was run and written. Of a failed write nothing is said.
+-- What a fault leaves: all before a fault of the capture was run and written. Of a failed write nothing is
+-- said.
 abbrev pub Stops : How → Option Standing → BulkFault → Work → Work → Type 0
-Stops how s (Capture fault) old new = (fault.kind ≢ Read → Decompresses how s (Err fault) old new) × Breaks how s old new
+Stops how s (Capture fault) old new =
+    (fault.kind ≢ Read → Decompresses how s (Err fault) old new) × Breaks how s old new
 Stops how s Write old new = Unit {0}

@@ -1,5 +1,5 @@
--- What a run over a capture writes. Words: delivered_packet; packet_text, feedback_text; packet_of, feedback_of;
--- TakesPacket.
+-- What a run over a capture writes. Words: delivered_packet; packet_text, feedback_text; packet_of,
+-- feedback_of; TakesPacket.
 use Rattle.std.specs.Prelude.{ℕ, ◌/◌, ◌%◌, List, [], ◌∷◌, ◌++◌, Bool, Option, Some, None}
 use Rattle.std.specs.Io.KnownBytes.{Appends}
 use Rattle.rohc_context.specs.declared.reply.Delivered.{Delivered}
@@ -19,7 +19,8 @@ abbrev pub packet_text : Format → Bool → ℕ → Option Packet → List ℕ
 packet_text format padded nanos None = []
 packet_text format padded nanos (Some p) = frame_record format nanos (p.head ++ shown padded p.head p.payload)
 
--- an Ethernet header with the EtherType of ROHC, to 02:00:00:00:00:00, from 02:00:00:00 with the link's number behind
+-- an Ethernet header with the EtherType of ROHC, to 02:00:00:00:00:00, from 02:00:00:00 with the link's
+-- number behind
 abbrev pub feedback_header : ℕ → List ℕ
 feedback_header link =
     2 ∷ 0 ∷ 0 ∷ 0 ∷ 0 ∷ 0 ∷ 2 ∷ 0 ∷ 0 ∷ 0 ∷ link / 256 ∷ link % 256 ∷ 0x22 ∷ 0xf1 ∷ []
@@ -50,8 +51,10 @@ abbrev pub work : Concentrator → Option (List ℕ) → Option (List ℕ) → W
 work concentrator packets feedback =
     record { concentrator = concentrator; packets = packets; feedback = feedback }
 
--- a packet arrives on its link at its moment in milliseconds, and what the answer says is written with its nanosecond
-pub record TakesPacket (format : Format) (padded : Bool) (link nanos : ℕ) (packet : List ℕ) (old new : Work) : Type 0 where
+-- a packet arrives on its link at its moment in milliseconds, and what the answer says is written with its
+-- nanosecond
+pub record TakesPacket (format : Format) (padded : Bool) (link nanos : ℕ) (packet : List ℕ)
+    (old new : Work) : Type 0 where
   pub report : Report
   pub arrives : Arrives old.concentrator link (nanos / 1000000) packet report new.concentrator
   pub packets : Appends old.packets new.packets (packet_text format padded nanos (packet_of report))

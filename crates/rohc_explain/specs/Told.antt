@@ -11,8 +11,8 @@ number_at octets first count = number (take count (drop first (bits_of octets)))
 abbrev pub StandsInPlace : List ℕ → Field → Type 0
 StandsInPlace octets f = f.value ≡ number_at octets f.first f.count
 
--- the first field begins at this bit, each other one where the one before it ends, and the last ends at that bit:
--- no bit between the two is in no field, or in two
+-- the first field begins at this bit, each other one where the one before it ends, and the last ends at that
+-- bit: no bit between the two is in no field, or in two
 abbrev pub are_in_turn : ℕ → List Field → ℕ → Bool
 are_in_turn first [] behind = first == behind
 are_in_turn first (f ∷ more) behind = (f.first == first) && are_in_turn (first + f.count) more behind

@@ -65,7 +65,8 @@ is_number n (Some other) = other == n
 -- the place of the first of the entries with this number, counted on from a place
 abbrev pub place_from : ℕ → ℕ → List (Option ℕ) → Option ℕ
 place_from place n [] = None
-place_from place n (other ∷ others) = if is_number n other then Some place else place_from (place + 1) n others
+place_from place n (other ∷ others) =
+    if is_number n other then Some place else place_from (place + 1) n others
 
 -- the first of the entries, counted from 1, with this number
 abbrev pub earlier : Option ℕ → List (Option ℕ) → Option ℕ

@@ -27,4 +27,5 @@ pub record AreFileFaults (ms : Members) (faults : FileFaults) : Type 0 where
   pub version_is : faults.version ≡ is_none (version_of ms)
   pub unknown : map (λ s. s.now) faults.unknown.items ≡ names_beside (codes "version" ∷ codes "link" ∷ []) ms
   pub link_is : faults.link ≡ is_none (entries ms)
-  pub each : AreEntriesOf (unwrap_or (version_of ms) Two) [] 1 (unwrap_or (entries ms) []) faults.entries.items
+  pub each :
+      AreEntriesOf (unwrap_or (version_of ms) Two) [] 1 (unwrap_or (entries ms) []) faults.entries.items

@@ -26,7 +26,8 @@ is_within _ s = true
 -- the keys whose values have limits
 abbrev pub limited_keys : List Key
 limited_keys =
-    key.MaxCid ∷ key.K1 ∷ key.N1 ∷ key.K2 ∷ key.N2 ∷ key.PacketMs ∷ key.StaticNackMs ∷ key.IdleMs ∷ key.Range ∷ []
+    key.MaxCid ∷ key.K1 ∷ key.N1 ∷ key.K2 ∷ key.N2 ∷ key.PacketMs ∷ key.StaticNackMs ∷ key.IdleMs
+    ∷ key.Range ∷ []
 
 -- the keys whose values are outside their limits
 abbrev pub keys_beyond : LinkSetting → List Key

@@ -1,4 +1,5 @@
--- The last n - 1 outcomes in a window, as digits in base 2, 1 for a failure. Words: is_filled; outcomes_after.
+-- The last n - 1 outcomes in a window, as digits in base 2, 1 for a failure. Words: is_filled;
+-- outcomes_after.
 use Rattle.std.specs.Prelude.{ℕ, ◌+◌, ◌*◌, ◌-◌, ◌%◌, ◌^◌, Bool, nat_le, count_ones, if◌then◌else◌}
 
 -- with one failure more, k of the last n outcomes are failures

@@ -1,14 +1,21 @@
 //! Links spread over processes.
 
-/// The place of the first of the least numbers.
-pub fn least_share(shares: &[u64]) -> Option<usize> {
-    let mut least: Option<(usize, u64)> = None;
-    for (place, share) in shares.iter().enumerate() {
-        least = match least {
-            Some((first, few)) if few <= *share => Some((first, few)),
-            _ => Some((place, *share)),
-        };
+ghost use Rattle.std.specs.Prelude.{◌≡◌, ◌↔◌, [], length, None, IfSome};
+ghost use Rattle.rohc_plan.specs.Split.{IsFirstLeast};
+
+/// The place of the first of the least numbers; `None` if there are no numbers.
+pub fn least_share(shares: &[u64]) -> Option<usize>
+    ensures none { (result ≡ None) ↔ (shares.now ≡ []) }
+    ensures first { IfSome result (λ place. IsFirstLeast shares.now (length shares.now) place) }
+{
+    if shares.is_empty() {
+        return None;
     }
-    let (place, _) = least?;
-    Some(place)
+    let mut least = 0;
+    for place in 1..shares.len() {
+        if shares[place] < shares[least] {
+            least = place;
+        }
+    }
+    Some(least)
 }

@@ -4,8 +4,8 @@ use Rattle.rohc_context.specs.Refusal.{number_of}
 use Rattle.rohc_report.specs.declared.became.Became.{Became}
 use Rattle.rohc_report.specs.declared.became.Became.TheVariants.{Delivered, Late, Repaired, Stored, Front, Refused}
 
--- the number of its outcome, as answers are counted: 0 for a packet that was delivered, 31 for a context without one,
--- else the refusal's; none for padding and feedback alone
+-- the number of its outcome, as answers are counted: 0 for a packet that was delivered, 31 for a context
+-- without one, else the refusal's; none for padding and feedback alone
 abbrev pub outcome_of : Became → Option ℕ
 outcome_of Delivered = Some 0
 outcome_of Late = Some 0

@@ -1,4 +1,5 @@
--- A text as a page has it. Words: digit_of, piece_of, escaped; is_plain, is_entity, is_piece; IsTame; StaysText.
+-- A text as a page has it. Words: digit_of, piece_of, escaped; is_plain, is_entity, is_piece; IsTame;
+-- StaysText.
 use Rattle.std.specs.Prelude.{◌≡◌, ℕ, ◌+◌, ◌/◌, ◌%◌, List, [], ◌∷◌, Bool, true, false, not, ◌&&◌, ◌||◌, ◌==◌, nat_le, nat_lt, if◌then◌else◌, codes}
 use Rattle.std.specs.List.{flat_map, list_all}
 
@@ -15,7 +16,8 @@ piece_of c =
     else (if c == 34 then codes "&quot;"
     else (if c == 39 then codes "&#39;"
     else (if c == 10 then codes "&#10;"
-    else (if nat_le 32 c && nat_lt c 127 then c ∷ [] else 92 ∷ 120 ∷ digit_of (c / 16 % 16) ∷ digit_of (c % 16) ∷ []))))))
+    else (if nat_le 32 c && nat_lt c 127 then c ∷ []
+    else 92 ∷ 120 ∷ digit_of (c / 16 % 16) ∷ digit_of (c % 16) ∷ []))))))
 
 -- what stands for a text
 abbrev pub escaped : List ℕ → List ℕ
@@ -24,7 +26,8 @@ escaped octets = flat_map piece_of octets
 -- a printable character of ASCII that means nothing to a page: none of & < > " '
 abbrev pub is_plain : ℕ → Bool
 is_plain c =
-    (nat_le 32 c && nat_lt c 127) && (not (c == 38) && (not (c == 60) && (not (c == 62) && (not (c == 34) && not (c == 39)))))
+    (nat_le 32 c && nat_lt c 127)
+    && (not (c == 38) && (not (c == 60) && (not (c == 62) && (not (c == 34) && not (c == 39)))))
 
 -- the two texts are the same
 abbrev pub same : List ℕ → List ℕ → Bool
@@ -43,8 +46,8 @@ is_entity text =
 abbrev pub is_piece : List ℕ → Bool
 is_piece text = is_entity text || list_all is_plain text
 
--- A text that stays text in a page: nothing but plain characters and our entities. So it has no < > " ' and no control
--- character, and each & begins an entity.
+-- A text that stays text in a page: nothing but plain characters and our entities. So it has no < > " ' and
+-- no control character, and each & begins an entity.
 pub record IsTame (text : List ℕ) : Type 0 where
   pub pieces : List (List ℕ)
   pub joined : text ≡ flat_map (λ piece. piece) pieces

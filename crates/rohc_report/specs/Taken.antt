@@ -35,13 +35,15 @@ pub record Advances (cid : ℕ) (became : Became) (feedback : Option (List ℕ))
   pub repaired : after.repaired ≡ counted before.repaired (repaired_count became)
 
 -- the same, where it may have no packet so far
-abbrev pub AdvancesFrom : (cid : ℕ) → Became → Option (List ℕ) → (relayed : ℕ) → Option CallTotals → CallTotals → Type 0
+abbrev pub AdvancesFrom : (cid : ℕ) → Became → Option (List ℕ) → (relayed : ℕ) →
+    Option CallTotals → CallTotals → Type 0
 AdvancesFrom cid became feedback relayed (Some t) new = Advances cid became feedback relayed t new
 AdvancesFrom cid became feedback relayed None new =
     (t : CallTotals) × IsEmpty t × Advances cid became feedback relayed t new
 
 -- a call gets its first packet, or one more
-abbrev pub StepsTo : (cid : ℕ) → Became → Option (List ℕ) → (relayed : ℕ) → (old new : Option CallTotals) → Type 0
+abbrev pub StepsTo : (cid : ℕ) → Became → Option (List ℕ) → (relayed : ℕ) →
+    (old new : Option CallTotals) → Type 0
 StepsTo cid became feedback relayed old None = ⊥
 StepsTo cid became feedback relayed old (Some new) = AdvancesFrom cid became feedback relayed old new
 

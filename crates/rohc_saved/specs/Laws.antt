@@ -69,8 +69,8 @@ ComesBack = (k : Concentrator) (moment : ℕ) → IsInOrder k → moment < 2 ^ 6
     × ((form : Form) (new : Concentrator) → restored (saved_form moment k) ≡ Ok form →
     Restores (settings_in_order k) form new → KeepsAll k new)
 
--- What is saved of one link of a sound concentrator is read. Once restored where the link has the same setting,
--- the link has the same records, in the same order.
+-- What is saved of one link of a sound concentrator is read. Once restored where the link has the same
+-- setting, the link has the same records, in the same order.
 abbrev pub LinkComesBack : Type 0
 LinkComesBack = (k : Concentrator) (moment : ℕ) (s : LinkSetting) → IsInOrder k → moment < 2 ^ 64 →
     setting_at k s.link ≡ Some s →

@@ -1,5 +1,5 @@
--- One link of a running concentrator, restored from what was saved of it. Words: IsReady, SpellsLink; RestoresLink;
--- LinkFaultIn; KeepsElsewhere.
+-- One link of a running concentrator, restored from what was saved of it. Words: IsReady, SpellsLink;
+-- RestoresLink; LinkFaultIn; KeepsElsewhere.
 use Rattle.std.specs.Prelude.{◌≡◌, ◌≢◌, ℕ, List, [], ◌∷◌, true, false, Some, None, Ok, Err}
 use Rattle.rohc_concentrator.specs.declared.concentrator.Concentrator.{Concentrator}
 use Rattle.rohc_concentrator.specs.declared.setting.LinkSetting.{LinkSetting}
@@ -27,7 +27,8 @@ pub record SpellsLink (octets : List ℕ) (link : ℕ) (form : Form) (saved : Li
   pub spelled : restored octets ≡ Ok form
   pub alone : form.links ≡ (link, saved) ∷ []
 
--- An empty link now holds what was saved of it, up to its greatest CID, and nothing else changes. This is told.
+-- An empty link now holds what was saved of it, up to its greatest CID, and nothing else changes. This is
+-- told.
 pub record RestoresLink (old : Concentrator) (link : ℕ) (octets : List ℕ) (told : Restored)
     (new : Concentrator) : Type 0 where
   pub setting : LinkSetting

@@ -40,17 +40,21 @@ is_forgotten l c link (Some cid) = link == l && cid == c
 abbrev pub SeesCall : ℕ → ℕ → Option LinkSetting → Option Ports → List StationTurn → List LinkEvent → Type 0
 SeesCall l c setting ports [] seen = seen ≡ []
 SeesCall l c setting ports (Took read told ∷ turns) seen =
-    (rest : List LinkEvent) × (seen ≡ packet_to l c setting false read ++ rest) × SeesCall l c setting ports turns rest
+    (rest : List LinkEvent) × (seen ≡ packet_to l c setting false read ++ rest)
+    × SeesCall l c setting ports turns rest
 SeesCall l c setting ports (TookKnown read told ∷ turns) seen =
-    (rest : List LinkEvent) × (seen ≡ packet_to l c setting true read ++ rest) × SeesCall l c setting ports turns rest
+    (rest : List LinkEvent) × (seen ≡ packet_to l c setting true read ++ rest)
+    × SeesCall l c setting ports turns rest
 SeesCall l c setting ports (Forgot link cid ∷ turns) seen =
-    (rest : List LinkEvent) × (seen ≡ (if is_forgotten l c link cid then Forget (Some c) ∷ [] else []) ++ rest)
+    (rest : List LinkEvent)
+    × (seen ≡ (if is_forgotten l c link cid then Forget (Some c) ∷ [] else []) ++ rest)
     × SeesCall l c setting ports turns rest
 SeesCall l c setting ports (TookLinks links report ∷ turns) seen =
     (SaysTheSame l links setting ports × SeesCall l c setting ports turns seen)
     ⊎ ((rest : List LinkEvent) × (seen ≡ Says (entry_of l links.settings) (ports_of l links) ∷ rest)
     × SeesCall l c (entry_of l links.settings) (ports_of l links) turns rest)
-SeesCall l c setting ports (RefusedLinks links (Settings fault) ∷ turns) seen = SeesCall l c setting ports turns seen
+SeesCall l c setting ports (RefusedLinks links (Settings fault) ∷ turns) seen =
+    SeesCall l c setting ports turns seen
 SeesCall l c setting ports (RefusedLinks links NoMemory ∷ turns) seen =
     SaysTheSame l links setting ports × SeesCall l c setting ports turns seen
 SeesCall l c setting ports (FailedSends link failed ∷ turns) seen = SeesCall l c setting ports turns seen
@@ -68,7 +72,8 @@ told_of_call l c setting (Some t) told = if is_of_call l c setting t then told �
 abbrev pub told_to : ℕ → ℕ → Option LinkSetting → List StationTurn → List Told
 told_to l c setting [] = []
 told_to l c setting (Took read told ∷ turns) = told_of_call l c setting read told ++ told_to l c setting turns
-told_to l c setting (TookKnown read told ∷ turns) = told_of_call l c setting read told ++ told_to l c setting turns
+told_to l c setting (TookKnown read told ∷ turns) =
+    told_of_call l c setting read told ++ told_to l c setting turns
 told_to l c setting (Forgot link cid ∷ turns) = told_to l c setting turns
 told_to l c setting (TookLinks links report ∷ turns) = told_to l c (entry_of l links.settings) turns
 told_to l c setting (RefusedLinks links fault ∷ turns) = told_to l c setting turns

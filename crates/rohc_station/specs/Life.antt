@@ -74,7 +74,8 @@ fail_on l None failed = []
 fail_on l (Some link) failed = if link == l then Fail failed ∷ [] else []
 
 -- a file has the same setting and the same ports for the link
-pub record SaysTheSame (l : ℕ) (links : Lists) (setting : Option LinkSetting) (ports : Option Ports) : Type 0 where
+pub record SaysTheSame (l : ℕ) (links : Lists) (setting : Option LinkSetting) (ports : Option Ports) :
+    Type 0 where
   pub setting_stays : entry_of l links.settings ≡ setting
   pub ports_stay : ports_of l links ≡ ports
 

@@ -31,9 +31,11 @@ pub record HasNoRecords (k : Concentrator) (link : ℕ) : Type 0 where
 
 -- of a link's records those are left that survive the change of its setting, in their order
 pub record HasSurvivors (old new : Concentrator) (link : ℕ) (before after : LinkSetting) : Type 0 where
-  pub records : (cid : ℕ) → record_at new link cid ≡ left_of (survives before after) cid (record_at old link cid)
+  pub records : (cid : ℕ) →
+      record_at new link cid ≡ left_of (survives before after) cid (record_at old link cid)
   pub order : identifiers_at new link ≡
-      filter (λ cid. is_some (left_of (survives before after) cid (record_at old link cid))) (identifiers_at old link)
+      filter (λ cid. is_some (left_of (survives before after) cid (record_at old link cid)))
+        (identifiers_at old link)
 
 -- What becomes of a link's records, by its setting before and its setting in the file. A link that isn't
 -- in both has none. With the same setting it keeps all of them, and with another those that survive the
@@ -43,7 +45,8 @@ HasItsRecords old new link None None = HasNoRecords new link
 HasItsRecords old new link None (Some after) = HasNoRecords new link
 HasItsRecords old new link (Some before) None = HasNoRecords new link
 HasItsRecords old new link (Some before) (Some after) =
-    ((before ≡ after) × IsUntouched old new link) ⊎ ((before ≢ after) × HasSurvivors old new link before after)
+    ((before ≡ after) × IsUntouched old new link)
+    ⊎ ((before ≢ after) × HasSurvivors old new link before after)
 
 -- a link has this setting, which the file says of it, or isn't there, if the file has none
 pub record IsBrought (old new : Concentrator) (link : ℕ) (wanted : Option LinkSetting) : Type 0 where

@@ -18,7 +18,9 @@ below number = if nat_lt number 65536 then Some number else None
 abbrev pub number_behind : ℕ → List ℕ → Option ℕ
 number_behind before [] = Some before
 number_behind before (octet ∷ octets) =
-    option_and_then (λ digit. option_and_then (λ number. number_behind number octets) (below (before * 10 + digit))) (digit_of octet)
+    option_and_then
+      (λ digit. option_and_then (λ number. number_behind number octets) (below (before * 10 + digit)))
+      (digit_of octet)
 
 -- the number that one or more digits spell
 abbrev pub number_in : List ℕ → Option ℕ

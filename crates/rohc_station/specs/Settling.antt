@@ -33,12 +33,14 @@ IsStep (Some before) (Some after) step =
 abbrev pub with_step : ReloadReport → Step → ReloadReport
 with_step r Kept = r
 with_step r Added = record r { added = counted r.added 1 }
-with_step r (Changed gone) = record r { changed = counted r.changed 1; contexts_gone = counted r.contexts_gone gone }
-with_step r (Removed gone) = record r { removed = counted r.removed 1; contexts_gone = counted r.contexts_gone gone }
+with_step r (Changed gone) =
+    record r { changed = counted r.changed 1; contexts_gone = counted r.contexts_gone gone }
+with_step r (Removed gone) =
+    record r { removed = counted r.removed 1; contexts_gone = counted r.contexts_gone gone }
 
 -- a link is brought to its setting in the file, and every other link is left as it is
-pub record Settles (old : Concentrator) (wanted : Option LinkSetting) (link : ℕ) (step : Step) (new : Concentrator) :
-    Type 0 where
+pub record Settles (old : Concentrator) (wanted : Option LinkSetting) (link : ℕ) (step : Step)
+    (new : Concentrator) : Type 0 where
   pub own : IsBrought old new link wanted
   pub others : (l : ℕ) → l ≢ link → IsUntouched old new l
   pub kind : IsStep (setting_at old link) wanted step

@@ -11,6 +11,7 @@ use Rattle.rohc_forms.specs.Kinds.{is_uor2}
 abbrev pub HasSn : (reference shift : ℕ) (bits : LowBits) (sn : ℕ) → Type 0
 HasSn reference shift bits sn = (steps : ℤ) × AgreesInSn reference shift bits sn steps
 
--- the check of a header that a packet of this format carries: 3 bits, or 7 in a UOR-2 (RFC 3095 5.7.1 to 5.7.4)
+-- the check of a header that a packet of this format carries: 3 bits, or 7 in a UOR-2 (RFC 3095 5.7.1 to
+-- 5.7.4)
 abbrev pub check_in : FormKind → List ℕ → ℕ
 check_in kind octets = if not (is_uor2 kind) then header_check poly3 octets else header_check poly7 octets

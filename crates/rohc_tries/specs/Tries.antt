@@ -1,5 +1,5 @@
--- Which tries a packet gets, in their order. Words: Plan; wrapped, wrongly_accepted, planned; fits_in; Made, made;
--- AreMade; IsTold.
+-- Which tries a packet gets, in their order. Words: Plan; wrapped, wrongly_accepted, planned; fits_in; Made,
+-- made; AreMade; IsTold.
 use Rattle.std.specs.Prelude.{◌≡◌, ℕ, ◌*◌, ◌^◌, List, [], ◌∷◌, ◌++◌, Bool, true, false, ◌&&◌, nat_le, nat_eq, if◌then◌else◌, Result, Ok, Err, is_ok}
 use Rattle.rohc_tries.specs.declared.tries.Against.{Against}
 use Rattle.rohc_tries.specs.declared.tries.Against.TheVariants as against
@@ -15,10 +15,11 @@ pub record Plan : Type 0 where
 abbrev pub plan : Against → ℕ → Plan
 plan a shift = record { against = a; shift = shift }
 
--- The SN bits, k of them, may have wrapped around once if packet_ms * 2^k milliseconds or more have passed since the
--- last accepted arrival (RFC 3095 5.3.2.2.4).
+-- The SN bits, k of them, may have wrapped around once if packet_ms * 2^k milliseconds or more have passed
+-- since the last accepted arrival (RFC 3095 5.3.2.2.4).
 abbrev pub wrapped : (packet_ms passed k : ℕ) → List Plan
-wrapped packet_ms passed k = if nat_le (packet_ms * 2 ^ k) passed then plan against.Reference (2 ^ k) ∷ [] else []
+wrapped packet_ms passed k =
+    if nat_le (packet_ms * 2 ^ k) passed then plan against.Reference (2 ^ k) ∷ [] else []
 
 -- the last packet may have been accepted wrongly, if there is a header before it (RFC 3095 5.3.2.2.5)
 abbrev pub wrongly_accepted : (has_previous : Bool) → List Plan
@@ -55,7 +56,8 @@ abbrev pub AreMade : List Plan → List Made → Type 0
 AreMade [] tries = tries ≡ []
 AreMade (p ∷ plans) [] = ⊥
 AreMade (p ∷ plans) (t ∷ tries) =
-    (t.against ≡ p.against) × (t.shift ≡ p.shift) × (t.fits ≡ true → tries ≡ []) × (t.fits ≡ false → AreMade plans tries)
+    (t.against ≡ p.against) × (t.shift ≡ p.shift) × (t.fits ≡ true → tries ≡ [])
+    × (t.fits ≡ false → AreMade plans tries)
 
 -- a try of this plan, and whether it was made
 abbrev pub IsTold : Told → Against → ℕ → Bool → Type 0

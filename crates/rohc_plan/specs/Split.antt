@@ -1,0 +1,8 @@
+-- The first of the least numbers. Words: IsFirstLeast.
+use Rattle.std.specs.Prelude.{ℕ, List, get_or, ◌<◌, ◌≤◌}
+
+-- Among so many numbers from the front, the first of the least stands at this place.
+pub record IsFirstLeast (numbers : List ℕ) (count place : ℕ) : Type 0 where
+  pub within : place < count
+  pub least : (other : ℕ) → other < count → get_or numbers place 0 ≤ get_or numbers other 0
+  pub first : (other : ℕ) → other < place → get_or numbers place 0 < get_or numbers other 0
