@@ -1,5 +1,4 @@
-//! The tests of what stands on the concentrator: links files, replays, the server, saved contexts, the gateway's station
-//! and the program.
+//! The tests of what stands on the concentrator: links files, replays, the server and the program.
 //!
 //! They stand apart from these crates, so that each of those is proved once, and not again with its tests.
 #![tactic(auto)]
@@ -13,8 +12,4 @@ mod program;
 #[cfg(test)]
 mod replay;
 #[cfg(test)]
-mod saved;
-#[cfg(test)]
 mod serve;
-#[cfg(test)]
-mod station;

@@ -1,5 +1,6 @@
 //! A station on its happy path.
 
+use crate::examples::DATAGRAM;
 use rohc_concentrator::Concentrator;
 use rohc_context::Refusal;
 use rohc_links::{Links, read_links};
@@ -10,10 +11,6 @@ use rohc_station::{
 };
 use std::alloc::Global;
 use std::process::Abort;
-
-// A datagram of link 4 with the IR of example *whole IR* of docs/EXAMPLES.md.
-const DATAGRAM: &[u8] =
-    b"\x00\x04\xfd\x01\x2b\x40\x11\x0a\x00\x00\x01\x0a\x00\x00\x02\x13\x88\x13\x8a\x00\x00\x00\x01\x00\x40\x00\x01\x20\x00\x00\x00\x90\x00\x00\x01\x00\x00\x00\xa0\x00\x09\x80\xa0\xab";
 
 // An entry of a links file behind its number.
 const REST: &str =

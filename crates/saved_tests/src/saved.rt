@@ -1,6 +1,6 @@
 //! A saved file that must be read for ever, its faults, other settings, and writers that fail.
 
-use crate::examples::WHOLE_IR;
+use crate::examples::whole_ir;
 use arrayvec::ArrayVec;
 use rohc_concentrator::{Concentrator, LinkSetting, SetupFault};
 use rohc_context::{ContextState, Mode, Settings};
@@ -130,7 +130,7 @@ fn a_concentrator_is_saved_as_documented(rt: HostRuntime) {
     let Ok(mut concentrator) = Concentrator::new(rt.alloc(), &settings) else {
         panic!(rt; "no concentrator");
     };
-    concentrator.arrive(1, 0x0102_0304_0506_0708, WHOLE_IR);
+    concentrator.arrive(1, 0x0102_0304_0506_0708, whole_ir());
     let mut writer = writer(rt.alloc(), 100);
     assert_eq!(rt;
         save_link(&concentrator, 2, WHOLE.moment, &mut writer),
@@ -202,7 +202,7 @@ fn faults_have_their_places(rt: HostRuntime) {
     );
 }
 
-// Packets that lead a call of WHOLE_IR from Full to Static and to No Context, as in the tests of saved contexts.
+// Packets that lead a call of that IR from Full to Static and to No Context, as in the tests of saved contexts.
 const CALL: [&[u8]; 6] = [
     b"\x10\xac",
     b"\x11\xac",
@@ -217,7 +217,7 @@ const CALL: [&[u8]; 6] = [
 fn of_each_state(rt: &impl Abort, alloc: Global, settings: &[LinkSetting]) -> Concentrator {
     let mut concentrator = Concentrator::new(alloc, settings).expect(rt, "a concentrator");
     for (number, packets) in [(1, 1), (2, 3), (3, 6)] {
-        concentrator.arrive(number, 0, WHOLE_IR);
+        concentrator.arrive(number, 0, whole_ir());
         for packet in CALL.iter().take(packets) {
             concentrator.arrive(number, 0, packet);
         }
@@ -312,7 +312,7 @@ fn a_failed_write_tells_what_was_written(rt: HostRuntime) {
 fn beside_another(rt: &impl Abort, alloc: Global) -> Concentrator {
     let settings = [link(2, CidKind::Small, 15), link(1, CidKind::Small, 15)];
     let mut concentrator = Concentrator::new(alloc, &settings).expect(rt, "a concentrator");
-    concentrator.arrive(2, 0, WHOLE_IR);
+    concentrator.arrive(2, 0, whole_ir());
     concentrator
 }
 
