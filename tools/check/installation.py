@@ -124,6 +124,8 @@ def check_installed(tree: Tree) -> None:
         (trial.top / GATEWAY, tree.prefix / "bin/rohc-gateway"),
         (trial.top / "completion/rohc-gateway.bash", share / "bash-completion/completions/rohc-gateway"),
         (trial.top / "man/rohc-gateway.1", share / "man/man1/rohc-gateway.1"),
+        (trial.top / "deploy/link.js", share / "doc/rohc-gateway/link.js"),
+        (trial.top / "deploy/loopback.nft", share / "doc/rohc-gateway/loopback.nft"),
         (trial.file, tree.prefix / "bin/rohcd"),
         (trial.top / "man/rohcd.1", share / "man/man1/rohcd.1"),
         (trial.top / "man/rohc-links.5", share / "man/man5/rohc-links.5"),
