@@ -43,8 +43,8 @@ measured vlan count text = do
   (organisation, text) ← word_at text
   (kind, text) ← word_at text
   Ok (inside vlan
-    (if (service == 0xaaaa) && (control == 0x0300) && (organisation == 0) then protocol_of kind else Other)
-    text)
+      (if (service == 0xaaaa) && (control == 0x0300) && (organisation == 0) then protocol_of kind else Other)
+      text)
 
 -- what follows an EtherType or a length
 unfoldable pub typed : Option ℕ → ℕ → List ℕ → Result Inside FrameFault

@@ -35,7 +35,7 @@ pub record HasSurvivors (old new : Concentrator) (link : ℕ) (before after : Li
       record_at new link cid ≡ left_of (survives before after) cid (record_at old link cid)
   pub order : identifiers_at new link ≡
       filter (λ cid. is_some (left_of (survives before after) cid (record_at old link cid)))
-        (identifiers_at old link)
+      (identifiers_at old link)
 
 -- What becomes of a link's records, by its setting before and its setting in the file. A link that isn't
 -- in both has none. With the same setting it keeps all of them, and with another those that survive the

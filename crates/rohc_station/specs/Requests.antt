@@ -19,8 +19,8 @@ abbrev pub number_behind : ℕ → List ℕ → Option ℕ
 number_behind before [] = Some before
 number_behind before (octet ∷ octets) =
     option_and_then
-      (λ digit. option_and_then (λ number. number_behind number octets) (below (before * 10 + digit)))
-      (digit_of octet)
+    (λ digit. option_and_then (λ number. number_behind number octets) (below (before * 10 + digit)))
+    (digit_of octet)
 
 -- the number that one or more digits spell
 abbrev pub number_in : List ℕ → Option ℕ

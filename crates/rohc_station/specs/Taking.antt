@@ -44,7 +44,7 @@ pub record IsRefusedUnread (old new : Station) (told : Told) : Type 0 where
 abbrev pub dated : ℕ → List ℕ → Option TimedPacket
 dated moment octets =
     option_map (λ link. record { link = link; moment = moment; packet = datagram_packet octets })
-      (named_link octets)
+    (named_link octets)
 
 -- a datagram is taken, as it was read: a packet with its link and its moment, if it could be read
 abbrev pub Takes : Station → Station → Option TimedPacket → Told → Type 0
