@@ -36,7 +36,7 @@ table ip polorowan {
     }
 }
 """
-ADDRESSES = "        udp dport 7000 ip daddr set @th,64,16 map { 1 : 127.0.0.1, 2 : 10.0.0.2 }\n"
+ADDRESSES = "        udp dport 7000 ip daddr set @th,64,16 map {{ 1 : 127.0.0.1, 2 : {address} }}\n"
 
 # A text of HOSTS, what stands in its place, and the line that is told.
 FAULTS = (
@@ -138,8 +138,11 @@ def check(trial: Trial) -> None:
     told = spread(trial, HOSTS)
     trial.same("the table", TABLE, told.text, told.call)
     check_tools(trial, trial.write("spread/table.nft", told.text))
-    other = spread(trial, HOSTS.replace('name = "b"', 'name = "b"\naddress = "10.0.0.2"'))
-    trial.same("the table with an address", TABLE.replace(" drop\n", f" drop\n{ADDRESSES}"), other.text, other.call)
+    # An address that is given is set, even that of this host: datagrams may come from elsewhere.
+    for address in ("10.0.0.2", "127.0.0.1"):
+        other = spread(trial, HOSTS.replace('name = "b"', f'name = "b"\naddress = "{address}"'))
+        wanted = TABLE.replace(" drop\n", f" drop\n{ADDRESSES.format(address=address)}")
+        trial.same(f"the table with the address {address}", wanted, other.text, other.call)
     for old, new, wanted in FAULTS:
         told = spread(trial, HOSTS.replace(old, new))
         fits = told.status == 1 and told.text == f"{wanted}\n"

@@ -1,14 +1,14 @@
 -- One count more is one answer more.
-use Rattle.std.proofs.Common.{◌≡◌, ℕ, zero, suc, ◌+◌, ◌-◌, ◌^◌, ◌<◌, ◌≤◌, List, true, false, ◌==◌, min, Some, None, slice_index, eqb-true, eq-eqb, ne_eqb, inl, inr, arith, refl, rules, sym}
+use Rattle.std.proofs.Common.{◌≡◌, ℕ, zero, suc, ◌+◌, ◌-◌, ◌^◌, ◌<◌, ◌≤◌, true, false, ◌==◌, Some, None, slice_index, eqb-true, eq-eqb, ne_eqb, inl, inr, arith, refl, rules, sym}
 use Rattle.std.proofs.lemmas.Bool.{cases_eq}
 use Rattle.rohc_context.specs.Refusal.{number_of}
 use Rattle.rohc_context.specs.declared.refusal.Refusal.{Refusal}
 use Rattle.rohc_context.specs.declared.reply.Outcome.{Outcome}
 use Rattle.rohc_context.specs.declared.reply.Outcome.TheVariants.{Delivered, Stored}
 use Rattle.rohc_context.specs.declared.reply.Outcome.TheVariants as outcomes
-use Rattle.rohc_concentrator.specs.Report.{Report, Arrived, OnlyFront, Refused}
+use Rattle.rohc_concentrator.specs.Report.{Arrived, OnlyFront, Refused}
 use Rattle.rohc_counts.specs.declared.counts.Counts.{Counts}
-use Rattle.rohc_counts.specs.Counted.{IsCounted, MoreAt, counted, counted_at, outcome_number}
+use Rattle.rohc_counts.specs.Counted.{MoreAt, counted, counted_at, outcome_number}
 use Rattle.rohc_counts.specs.Laws.{sum_below, answers_in, CountsAnswers}
 
 same_below : (m : ℕ) (f g : ℕ → ℕ) → ((k : ℕ) → k < m → g k ≡ f k) → sum_below m g ≡ sum_below m f

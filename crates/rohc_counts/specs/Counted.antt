@@ -1,13 +1,12 @@
 -- Counts, with one answer more. Words: stored_number, outcome_number, word_number; counted;
 -- IsElement, IsFed; is_number; OutcomeCounted, FeedbackCounted; IsCounted.
-use Rattle.std.specs.Prelude.{◌≡◌, ℕ, ◌+◌, ◌-◌, ◌^◌, ◌<◌, ◌⊎◌, List, [], length, Bool, true, false, ◌==◌, if◌then◌else◌, Option, Some, None, min, slice_index}
+use Rattle.std.specs.Prelude.{◌≡◌, ℕ, ◌+◌, ◌-◌, ◌^◌, ◌<◌, List, length, Bool, false, ◌==◌, if◌then◌else◌, Option, Some, None, min, slice_index}
 use Rattle.rohc_frame.specs.declared.header.CidKind.{CidKind}
 use Rattle.rohc_feedback.specs.Element.{IsMeaning, octets_of_meaning}
 use Rattle.rohc_feedback.specs.declared.meaning.Reading.{Reading}
 use Rattle.rohc_feedback.specs.declared.meaning.Word.{Word}
 use Rattle.rohc_feedback.specs.declared.meaning.Word.TheVariants.{Ack, Nack, StaticNack, Plain}
 use Rattle.rohc_context.specs.Refusal.{number_of}
-use Rattle.rohc_context.specs.Response.{Response}
 use Rattle.rohc_context.specs.declared.reply.Outcome.{Outcome}
 use Rattle.rohc_context.specs.declared.reply.Outcome.TheVariants.{Delivered, Stored}
 use Rattle.rohc_context.specs.declared.reply.Outcome.TheVariants as outcomes

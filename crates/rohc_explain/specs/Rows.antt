@@ -1,6 +1,6 @@
 -- The fields of the base octets, with the names under which they are told, cut behind the first octet: there
 -- the octets of a large CID stand (RFC 3095 5.2.6). Words: row_of, front_row, row_behind.
-use Rattle.std.specs.Prelude.{ℕ, ◌-◌, ◌+◌, List, [], ◌∷◌, map, ◌==◌, nat_le, if◌then◌else◌}
+use Rattle.std.specs.Prelude.{ℕ, ◌-◌, List, [], ◌∷◌, map, ◌==◌, nat_le, if◌then◌else◌}
 use Rattle.rohc_explain.specs.declared.field.FieldName.{FieldName}
 use Rattle.rohc_explain.specs.declared.field.FieldName.TheVariants as names
 use Rattle.rohc_forms.specs.declared.form.FormKind.{FormKind}

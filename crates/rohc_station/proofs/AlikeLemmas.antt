@@ -1,13 +1,10 @@
 -- Two stations that are alike on a link stay so if the link sees the same.
-use Rattle.std.proofs.Common.{◌≡◌, ◌≢◌, ℕ, ◌<◌, ◌^◌, List, [], ◌∷◌, ◌++◌, All, ◌⊎◌, inl, inr, ⊎_elim, Bool, true, false, nat_eq, Option, Some, None, Result, Ok, Err, refl, sym, ap, subst, ◌∙◌}
+use Rattle.std.proofs.Common.{◌≡◌, ◌≢◌, ℕ, ◌<◌, ◌^◌, List, [], ◌∷◌, ◌++◌, All, ◌⊎◌, inl, inr, ⊎_elim, Bool, true, false, nat_eq, Option, Some, None, refl, sym, ap, subst, ◌∙◌}
 use Rattle.std.specs.Prelude.{slice_index, length}
 use Rattle.std.specs.Option.{option_map}
 use Rattle.std.proofs.lemmas.Bool.{cases_eq}
-use Rattle.rohc_frame.specs.Header.{Header}
 use Rattle.rohc_frame.specs.Laws.{IsOctet}
-use Rattle.rohc_frame.specs.Reading.{Reading}
 use Rattle.rohc_frame.specs.Parts.{parts_of}
-use Rattle.rohc_context.specs.Record.{Record}
 use Rattle.rohc_context.specs.declared.refusal.Refusal.TheVariants as refusals
 use Rattle.rohc_context.specs.declared.reply.Outcome.{Outcome}
 use Rattle.rohc_context.specs.declared.reply.Outcome.TheVariants as outcomes
@@ -30,11 +27,11 @@ use Rattle.rohc_station.specs.declared.counters.LinkCounters.{LinkCounters}
 use Rattle.rohc_station.specs.declared.station.Station.{Station}
 use Rattle.rohc_station.specs.Timed.{TimedPacket}
 use Rattle.rohc_station.specs.Told.{Told, refusal_of, refusal_in, told_for}
-use Rattle.rohc_station.specs.Counting.{CountsAnswer, with_failed_sends, IsUncounted, KeepsCounts}
+use Rattle.rohc_station.specs.Counting.{CountsAnswer, with_failed_sends, KeepsCounts}
 use Rattle.rohc_station.specs.Taking.{counters_at, TakesPacket, TakesUnless, IsRefusedUnread, CountsFailedSends, begins_call, is_unknown}
-use Rattle.rohc_station.specs.Reload.{IsUntouched, HasItsRecords, IsBrought}
+use Rattle.rohc_station.specs.Reload.{HasItsRecords, IsBrought}
 use Rattle.rohc_station.specs.Reset.{HasReset, Forgets}
-use Rattle.rohc_station.specs.Life.{CountsAlike, AreCountsAlike, IsCountedIfThere, AreAlikeOn, HadMemory}
+use Rattle.rohc_station.specs.Life.{AreCountsAlike, IsCountedIfThere, AreAlikeOn, HadMemory}
 use Rattle.std.specs.List.{AllByRecursion}
 
 -- ---- Counts

@@ -1,5 +1,5 @@
 -- What a call sees of a life, as a chain of its own events.
-use Rattle.std.proofs.Common.{◌≡◌, ◌≢◌, ℕ, ◌<◌, ◌^◌, List, [], ◌∷◌, ◌++◌, All, ◌⊎◌, inl, inr, ⊎_elim, Bool, true, false, not, ◌==◌, ◌&&◌, if◌then◌else◌, nat_eq, Option, Some, None, refl, sym, ap, subst, ◌∙◌, eq-eqb, ne_eqb, eqb-true}
+use Rattle.std.proofs.Common.{◌≡◌, ◌≢◌, ℕ, ◌<◌, ◌^◌, List, [], ◌∷◌, ◌++◌, All, ◌⊎◌, inl, inr, ⊎_elim, Bool, true, false, not, ◌==◌, ◌&&◌, if◌then◌else◌, Option, Some, None, refl, sym, ap, subst, ◌∙◌, eq-eqb, ne_eqb, eqb-true}
 use Rattle.std.specs.Prelude.{is_some}
 use Rattle.std.specs.List.{AllByRecursion}
 use Rattle.std.proofs.lemmas.Bool.{cases_eq}
@@ -12,8 +12,7 @@ use Rattle.rohc_concentrator.specs.Tables.{setting_at, record_at}
 use Rattle.rohc_concentrator.specs.Setup.{entry_of}
 use Rattle.rohc_concentrator.specs.Bears.{borne}
 use Rattle.rohc_concentrator.specs.Leaving.{left_of, survives, is_other}
-use Rattle.rohc_concentrator.specs.Events.{Arrives}
-use Rattle.rohc_concentrator.specs.Report.{Report, wants_memory}
+use Rattle.rohc_concentrator.specs.Report.{wants_memory}
 use Rattle.rohc_concentrator.specs.Laws.{Agree}
 use Rattle.rohc_concentrator.proofs.WorldLemmas.{two_worlds}
 use Rattle.rohc_links.specs.declared.ports.Ports.{Ports}
@@ -23,10 +22,10 @@ use Rattle.rohc_station.specs.declared.station.Station.{Station}
 use Rattle.rohc_station.specs.declared.reload.ReloadFault.TheVariants.{Settings, NoMemory}
 use Rattle.rohc_station.specs.Timed.{TimedPacket}
 use Rattle.rohc_station.specs.Told.{Told, told_for}
-use Rattle.rohc_station.specs.Taking.{TakesPacket, TakesUnless, IsRefusedUnread, CountsFailedSends, Takes, TakesKnown, FailsSends, begins_call, is_unknown}
-use Rattle.rohc_station.specs.Reload.{IsUntouched, HasItsRecords, IsBrought, Reloads, ReloadStays, IsPartly}
-use Rattle.rohc_station.specs.Reset.{HasReset, Forgets}
-use Rattle.rohc_station.specs.Life.{StationTurn, Took, TookKnown, Forgot, TookLinks, RefusedLinks, FailedSends, TakesTurn, TakesTurns, LinkEvent, Comes, Forget, Says, Fail, SaysTheSame, IsFit, HadMemory}
+use Rattle.rohc_station.specs.Taking.{TakesPacket, TakesUnless, IsRefusedUnread, Takes, TakesKnown, FailsSends, begins_call, is_unknown}
+use Rattle.rohc_station.specs.Reload.{IsUntouched, HasItsRecords, IsBrought, IsPartly}
+use Rattle.rohc_station.specs.Reset.{Forgets}
+use Rattle.rohc_station.specs.Life.{StationTurn, Took, TookKnown, Forgot, TookLinks, RefusedLinks, FailedSends, TakesTurns, LinkEvent, Comes, Forget, Says, Fail, SaysTheSame, IsFit, HadMemory}
 use Rattle.rohc_station.specs.CallLife.{is_cid, is_of_call, packet_to, is_forgotten, SeesCall, told_of_call, told_to, AreAlikeFor, CallLife}
 use Rattle.rohc_station.proofs.KeepLemmas.{absent_has_none}
 use Rattle.rohc_station.proofs.AlikeLemmas.{rich_report, all_front, all_back, one_rich}

@@ -1,12 +1,12 @@
 -- What a link keeps while links are brought to their settings, one after the other.
-use Rattle.std.proofs.Common.{◌≡◌, ◌≢◌, ℕ, [], ◌⊎◌, inl, inr, Option, Some, None, refl, sym, ap, subst, ◌∙◌, nat_eq, unwrap_or}
+use Rattle.std.proofs.Common.{◌≡◌, ℕ, [], inl, inr, Option, Some, None, refl, ap, subst, ◌∙◌, nat_eq, unwrap_or}
 use Rattle.std.specs.Prelude.{filter, is_some}
 use Rattle.std.specs.Option.{option_map, option_and_then}
 use Rattle.indexmap.specs.IndexMap.{get, keys}
 use Rattle.rohc_concentrator.specs.declared.concentrator.Concentrator.{Concentrator}
 use Rattle.rohc_concentrator.specs.declared.records.LinkRecords.{LinkRecords}
 use Rattle.rohc_concentrator.specs.declared.setting.LinkSetting.{LinkSetting}
-use Rattle.rohc_concentrator.specs.Tables.{setting_at, record_in, record_at, identifiers_at}
+use Rattle.rohc_concentrator.specs.Tables.{setting_at, record_in}
 use Rattle.rohc_concentrator.specs.Leaving.{left_of, survives}
 use Rattle.rohc_station.specs.Reload.{IsUntouched, HasNoRecords, HasSurvivors, HasItsRecords, IsBrought}
 

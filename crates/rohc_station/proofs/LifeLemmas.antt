@@ -1,5 +1,5 @@
 -- What a link sees of a life, as a chain of its own events.
-use Rattle.std.proofs.Common.{◌≡◌, ◌≢◌, ℕ, ◌<◌, ◌^◌, List, [], ◌∷◌, ◌++◌, All, ◌⊎◌, inl, inr, ⊎_elim, Bool, true, false, ◌==◌, if◌then◌else◌, nat_eq, Option, Some, None, refl, sym, ap, subst, ◌∙◌, eq-eqb, ne_eqb}
+use Rattle.std.proofs.Common.{◌≡◌, ◌≢◌, ℕ, List, [], ◌∷◌, ◌++◌, ◌⊎◌, inl, inr, ⊎_elim, Bool, true, false, ◌==◌, if◌then◌else◌, nat_eq, Option, Some, None, refl, sym, ap, subst, ◌∙◌, eq-eqb, ne_eqb}
 use Rattle.std.specs.List.{AllByRecursion}
 use Rattle.std.proofs.lemmas.Bool.{cases_eq}
 use Rattle.indexmap.specs.IndexMap.{get}
@@ -18,9 +18,9 @@ use Rattle.rohc_station.specs.Timed.{TimedPacket}
 use Rattle.rohc_station.specs.Told.{Told}
 use Rattle.rohc_station.specs.Counting.{KeepsCounts}
 use Rattle.rohc_station.specs.Taking.{counters_at, TakesPacket, TakesUnless, IsRefusedUnread, CountsFailedSends, Takes, TakesKnown, FailsSends, begins_call}
-use Rattle.rohc_station.specs.Reload.{IsUntouched, HasItsRecords, IsBrought, Reloads, ReloadStays, IsPartly}
+use Rattle.rohc_station.specs.Reload.{IsUntouched, HasItsRecords, IsBrought, IsPartly}
 use Rattle.rohc_station.specs.Reset.{Forgets}
-use Rattle.rohc_station.specs.Life.{StationTurn, Took, TookKnown, Forgot, TookLinks, RefusedLinks, FailedSends, TakesTurn, TakesTurns, LinkEvent, Comes, Forget, Says, Fail, packet_on, fail_on, SaysTheSame, Sees, told_of_packet, told_on, AreCountsAlike, IsCountedIfThere, AreAlikeOn, IsFit, HadMemory, WholeLife}
+use Rattle.rohc_station.specs.Life.{StationTurn, Took, TookKnown, Forgot, TookLinks, RefusedLinks, FailedSends, TakesTurns, LinkEvent, Comes, Forget, Says, Fail, packet_on, fail_on, SaysTheSame, Sees, told_of_packet, told_on, AreCountsAlike, IsCountedIfThere, AreAlikeOn, IsFit, HadMemory, WholeLife}
 use Rattle.rohc_station.proofs.KeepLemmas.{absent_has_none}
 use Rattle.rohc_station.proofs.AlikeLemmas.{packet_alike, known_alike, begins_alike, reset_alike, failed_alike, brought_alike, there_kept, there_answered, there_failed, reset_setting, all_front, all_back, one_rich}
 

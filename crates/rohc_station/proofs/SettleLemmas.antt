@@ -1,11 +1,11 @@
 -- One more link is brought to its setting in the file.
-use Rattle.std.proofs.Common.{◌≡◌, ◌≢◌, ℕ, ◌+◌, ◌-◌, ◌<◌, ◌≤◌, ◌^◌, List, [], ◌∷◌, length, take, get_or, ◌⊎◌, inl, inr, ⊎_elim, Bool, true, false, ◌||◌, nat_eq, Option, Some, None, arith, refl, sym, ap, subst, ◌∙◌, eqb-true}
-use Rattle.std.specs.List.{IsDistinct, list_any}
+use Rattle.std.proofs.Common.{◌≡◌, ◌≢◌, ℕ, ◌+◌, ◌-◌, ◌<◌, ◌≤◌, ◌^◌, List, [], length, take, get_or, ◌⊎◌, inl, inr, ⊎_elim, Bool, true, false, ◌||◌, nat_eq, Option, Some, None, arith, refl, sym, ap, subst, ◌∙◌, eqb-true}
+use Rattle.std.specs.List.{IsDistinct}
 use Rattle.std.proofs.lemmas.Bool.{cases_eq}
 use Rattle.std.proofs.lemmas.List.Folds.{list_any_more}
 use Rattle.rohc_concentrator.specs.declared.concentrator.Concentrator.{Concentrator}
 use Rattle.rohc_concentrator.specs.declared.setting.LinkSetting.{LinkSetting}
-use Rattle.rohc_concentrator.specs.Tables.{setting_at, identifiers_at}
+use Rattle.rohc_concentrator.specs.Tables.{setting_at}
 use Rattle.rohc_concentrator.specs.Setup.{entry_of}
 use Rattle.rohc_station.specs.declared.reload.ReloadReport.{ReloadReport}
 use Rattle.rohc_station.specs.declared.reload.Step.{Step}

@@ -1,7 +1,7 @@
 -- What is told, with one link more.
-use Rattle.std.proofs.Common.{◌≡◌, ◌≢◌, ℕ, suc, ◌+◌, ◌-◌, ◌<◌, ◌^◌, List, [], ◌∷◌, length, ◌⊎◌, inl, inr, ⊎_elim, Bool, true, false, ◌||◌, ◌==◌, nat_eq, Option, Some, None, arith, refl, sym, ap, subst, ◌∙◌, eq-eqb, ne_eqb}
+use Rattle.std.proofs.Common.{◌≡◌, ◌≢◌, ℕ, suc, ◌+◌, ◌-◌, ◌<◌, ◌^◌, List, [], ◌∷◌, length, ◌⊎◌, ⊎_elim, Bool, true, false, ◌||◌, ◌==◌, nat_eq, Option, Some, None, arith, refl, sym, ap, subst, ◌∙◌, eq-eqb, ne_eqb}
 use Rattle.std.specs.Prelude.{sum_by}
-use Rattle.std.specs.List.{AllByRecursion, IsDistinct, list_any}
+use Rattle.std.specs.List.{AllByRecursion}
 use Rattle.std.proofs.lemmas.Bool.{cases_eq}
 use Rattle.std.proofs.lemmas.List.Sums.{sum_by-cons}
 use Rattle.std.proofs.lemmas.Map.Keys.{IsDistinct-cons}
@@ -10,8 +10,7 @@ use Rattle.rohc_concentrator.specs.declared.concentrator.Concentrator.{Concentra
 use Rattle.rohc_concentrator.specs.declared.setting.LinkSetting.{LinkSetting}
 use Rattle.rohc_concentrator.specs.Tables.{setting_at, identifiers_at}
 use Rattle.rohc_station.specs.declared.reload.ReloadReport.{ReloadReport}
-use Rattle.rohc_station.specs.declared.reload.Step.{Step}
-use Rattle.rohc_station.specs.declared.reload.Step.TheVariants.{Kept, Added, Changed, Removed}
+use Rattle.rohc_station.specs.declared.reload.Step.TheVariants.{Added, Changed, Removed}
 use Rattle.rohc_station.specs.Reload.{IsUntouched, is_among, AreThose, IsAdded, IsChanged, IsRemoved, gone_on, Tells}
 use Rattle.rohc_station.specs.Settling.{with_step}
 

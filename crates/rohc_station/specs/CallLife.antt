@@ -7,7 +7,6 @@ use Rattle.rohc_concentrator.specs.Tables.{setting_at, record_at}
 use Rattle.rohc_concentrator.specs.Setup.{entry_of}
 use Rattle.rohc_concentrator.specs.Bears.{borne}
 use Rattle.rohc_links.specs.declared.ports.Ports.{Ports}
-use Rattle.rohc_links.specs.Links.{Lists}
 use Rattle.rohc_serve.specs.Datagram.{ports_of}
 use Rattle.rohc_station.specs.declared.station.Station.{Station}
 use Rattle.rohc_station.specs.declared.reload.ReloadFault.TheVariants.{Settings, NoMemory}

@@ -7,7 +7,6 @@ use Rattle.rohc_concentrator.specs.declared.concentrator.Concentrator.{Concentra
 use Rattle.rohc_concentrator.specs.declared.setting.LinkSetting.{LinkSetting}
 use Rattle.rohc_concentrator.specs.Tables.{setting_at, record_at, identifiers_at}
 use Rattle.rohc_concentrator.specs.Leaving.{left_of, survives}
-use Rattle.rohc_concentrator.specs.declared.setup.SetupFault.{SetupFault}
 use Rattle.rohc_concentrator.specs.Setup.{entry_of, IsFault, AreFine}
 use Rattle.rohc_links.specs.Links.{Lists}
 use Rattle.rohc_links.specs.Limits.{counted}

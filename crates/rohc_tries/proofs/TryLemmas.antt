@@ -1,5 +1,5 @@
 -- The tries that were made are those that were planned.
-use Rattle.std.proofs.Common.{◌≡◌, ℕ, List, [], ◌∷◌, ◌++◌, Bool, true, false, not, nat_eq, refl, ap, ◌∙◌, true≢false}
+use Rattle.std.proofs.Common.{◌≡◌, ℕ, [], ◌∷◌, ◌++◌, Bool, true, false, not, nat_eq, refl, ap, ◌∙◌, true≢false}
 use Rattle.std.proofs.lemmas.Bool.{false≢true}
 use Rattle.std.specs.Prelude.{Result, Ok, Err, is_ok, ◌&&◌, ◌||◌, if◌then◌else◌}
 use Rattle.rohc_tries.specs.declared.tries.Against.{Against}
@@ -7,7 +7,7 @@ use Rattle.rohc_tries.specs.declared.tries.Against.TheVariants as against
 use Rattle.rohc_tries.specs.declared.tries.Meant.{Meant}
 use Rattle.rohc_tries.specs.declared.tries.NotMade.{NotMade}
 use Rattle.rohc_tries.specs.declared.tries.Told.{Told}
-use Rattle.rohc_tries.specs.Tries.{Plan, plan, fits_in, made_of, AreMade, IsTold}
+use Rattle.rohc_tries.specs.Tries.{plan, fits_in, made_of, AreMade, IsTold}
 
 and_false : (b : Bool) → (b && false) ≡ false
 and_false true = refl

@@ -33,12 +33,19 @@ impl Share {
 #[derive(Debug, Drop)]
 pub(crate) struct Process<'a> {
     pub(crate) name: &'a str,
-    /// An IPv4 address.
-    pub(crate) address: &'a str,
+    /// Its IPv4 address, if the file gives one.
+    pub(crate) given: Option<&'a str>,
     /// The port at which it takes datagrams.
     pub(crate) port: u16,
     /// The links that it takes.
     pub(crate) shares: Vec<Share>,
+}
+
+impl<'a> Process<'a> {
+    /// Its IPv4 address: without one in the file it is on this host.
+    pub(crate) fn address(&self) -> &'a str {
+        self.given.unwrap_or(HERE)
+    }
 }
 
 /// The processes, and the port of the datagrams of all links.
@@ -170,6 +177,17 @@ fn has_only(table: &Table, keys: &[&str]) -> bool {
     true
 }
 
+/// The address of a process, if the file gives one.
+fn address_in<'a>(table: &'a Table, place: usize) -> Result<Option<&'a str>, HostsFault> {
+    let Some(value) = table.get("address") else {
+        return Ok(None);
+    };
+    match value.as_str() {
+        Some(address) if is_address(address) => Ok(Some(address)),
+        _ => Err(HostsFault::BadKey(place, "address")),
+    }
+}
+
 /// The process at a place, counted from 1.
 fn process_in<'a>(
     alloc: Global,
@@ -183,24 +201,17 @@ fn process_in<'a>(
         Some(value) => value.as_str(),
         None => None,
     };
-    let address = match table.get("address") {
-        Some(value) => value.as_str(),
-        None => Some(HERE),
-    };
-    match (name, address, port_at(table, "port", None)) {
-        (Some(name), _, _) if !is_name(name) => Err(HostsFault::BadKey(place, "name")),
-        (_, Some(address), _) if !is_address(address) => {
-            Err(HostsFault::BadKey(place, "address"))
-        }
-        (Some(name), Some(address), Some(port)) => Ok(Process {
+    let given = address_in(table, place)?;
+    match (name, port_at(table, "port", None)) {
+        (Some(name), _) if !is_name(name) => Err(HostsFault::BadKey(place, "name")),
+        (Some(name), Some(port)) => Ok(Process {
             name,
-            address,
+            given,
             port,
             shares: shares_in(alloc, table, place)?,
         }),
-        (None, _, _) => Err(HostsFault::BadKey(place, "name")),
-        (_, None, _) => Err(HostsFault::BadKey(place, "address")),
-        (_, _, None) => Err(HostsFault::BadKey(place, "port")),
+        (None, _) => Err(HostsFault::BadKey(place, "name")),
+        (_, None) => Err(HostsFault::BadKey(place, "port")),
     }
 }
 

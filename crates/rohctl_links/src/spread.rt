@@ -9,9 +9,6 @@ use std::fs;
 use std::io::{self, BufWriter, Write};
 use std::rt::Files;
 
-/// The address of this host.
-const HERE: &str = "127.0.0.1";
-
 /// What is asked of `spread`.
 #[derive(Clone, Copy, Debug)]
 pub struct Spread<'a> {
@@ -134,7 +131,7 @@ enum Behind {
 fn write_behind<W: Write>(out: &mut W, behind: Behind, process: &Process<'_>) -> io::Result<()> {
     match behind {
         Behind::Nothing => Ok(()),
-        Behind::Address => write!(out, " : {}", process.address),
+        Behind::Address => write!(out, " : {}", process.address()),
         Behind::Port => write!(out, " : {}", process.port),
     }
 }
@@ -161,14 +158,14 @@ fn write_map<W: Write>(
     Ok(())
 }
 
-/// Whether all processes are on this host.
-fn are_here(processes: &[Process<'_>]) -> bool {
+/// Whether the file gives an address.
+fn gives_address(processes: &[Process<'_>]) -> bool {
     for process in processes {
-        if process.address != HERE {
-            return false;
+        if process.given.is_some() {
+            return true;
         }
     }
-    true
+    false
 }
 
 /// Writes the table of nftables. The 16 bits behind the UDP header are the link's number.
@@ -191,7 +188,7 @@ fn write_table<W: Write>(
     write!(out, "        udp dport {port} @th,64,16 != {{ ")?;
     write_map(out, links, owners, processes, Behind::Nothing)?;
     writeln!(out, " }} counter name unknown_links drop")?;
-    if !are_here(processes) {
+    if gives_address(processes) {
         write!(
             out,
             "        udp dport {port} ip daddr set @th,64,16 map {{ "
@@ -242,7 +239,9 @@ fn write_nginx<W: Write>(
             writeln!(
                 out,
                 "        {} {}:{};",
-                setting.link, process.address, process.port
+                setting.link,
+                process.address(),
+                process.port
             )?;
         }
     }

@@ -1,4 +1,4 @@
-use Rattle.std.proofs.Common.{◌≡◌, ℕ}
+use Rattle.std.proofs.Common.{◌≡◌}
 use Rattle.rohc_explain.specs.Told.{number_at}
 use Rattle.rohc_explain.proofs.bits.number_at.Given as goal
 

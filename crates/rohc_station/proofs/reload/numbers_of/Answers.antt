@@ -1,5 +1,4 @@
-use Rattle.std.proofs.Common.{◌≡◌, ◌++◌, ℕ, List, map, take, false, arith, ap, sym, subst, ◌∙◌}
-use Rattle.indexmap.specs.IndexMap.{keys}
+use Rattle.std.proofs.Common.{◌≡◌, ℕ, List, map, take, false, arith, ap, sym, subst, ◌∙◌}
 use Rattle.rohc_concentrator.specs.declared.setting.LinkSetting.{LinkSetting}
 use Rattle.rohc_station.specs.Reload.{is_among}
 use Rattle.rohc_station.proofs.NumberLemmas.{not_among, no_key, not_listed, take_whole}

@@ -1,4 +1,4 @@
-use Rattle.std.proofs.Common.{◌≡◌, ℕ, ◌<◌, ◌≤◌, ◌+◌, ◌^◌, false, true, inl, inr, ⊎_elim, arith, slice_index, sym, subst, refl, length}
+use Rattle.std.proofs.Common.{◌≡◌, ℕ, ◌<◌, ◌≤◌, ◌+◌, false, true, inl, inr, ⊎_elim, arith, slice_index, sym, subst, refl, length}
 use Rattle.rohc_station.specs.declared.reload.ReloadReport.{ReloadReport}
 use Rattle.rohc_station.specs.Reload.{Tells}
 use Rattle.rohc_station.proofs.SettleLemmas.{each_more, brought_more, tells_more, tells_none, few_more, all_left, among_more}

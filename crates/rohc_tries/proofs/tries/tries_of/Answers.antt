@@ -1,6 +1,5 @@
-use Rattle.std.proofs.Common.{◌≡◌, ◌&&◌, ◌||◌, is_some, nat_le, not, ◌*◌, ◌^◌, ap, ◌∙◌}
+use Rattle.std.proofs.Common.{◌&&◌, ◌||◌, is_some, nat_le, not, ◌*◌, ◌^◌}
 use Rattle.rohc_forms.specs.Kinds.{is_uor2}
-use Rattle.rohc_tries.specs.Tries.{fits_in}
 use Rattle.rohc_tries.proofs.TryLemmas.{tried_told}
 use Rattle.rohc_tries.proofs.tries.tries_of.Goals as goal
 

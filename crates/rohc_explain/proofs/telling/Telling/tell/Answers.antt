@@ -1,4 +1,4 @@
-use Rattle.std.proofs.Common.{◌≡◌, ◌+◌, List, [], ◌∷◌, ◌++◌, refl, arith, rules}
+use Rattle.std.proofs.Common.{◌≡◌, ◌+◌, [], ◌∷◌, ◌++◌, refl, arith}
 use Rattle.rohc_explain.specs.declared.field.Field.{Field}
 use Rattle.rohc_explain.proofs.ToldLemmas.{stay_in_turn, stay_in_place}
 use Rattle.rohc_explain.proofs.telling.Telling.tell.Goals as goal
