@@ -14,7 +14,7 @@ fn part_after(payload: &[u8], from: usize) -> [u8; PART]
     requires { from + 16 ≤ length payload.now }
     ensures { result ≡ take 16 (drop from payload.now) }
 {
-    let Some(part) = payload[from..].first_chunk::<PART>() else {
+    let Some(part) = payload[from..from + PART].first_chunk::<PART>() else {
         unreachable!();
     };
     *part
