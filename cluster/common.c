@@ -41,6 +41,8 @@ void end_at_signals(void) {
     sigaction(SIGTERM, &action, NULL);
     sigaction(SIGINT, &action, NULL);
     sigaction(SIGHUP, &action, NULL);
+    /* What breaks a connection comes as an error of the call. */
+    signal(SIGPIPE, SIG_IGN);
 }
 
 unsigned long number_in(const char *name, const char *word, unsigned long least, unsigned long greatest) {
@@ -77,12 +79,17 @@ const char *id_text(struct id id, char text[ID_TEXT]) {
 
 redisContext *connect_to(const char *where) {
     const struct timeval patience = {.tv_sec = 2};
+    static bool is_told; /* one who tries again and again tells it once */
     bool is_port = strspn(where, "0123456789") == strlen(where) && *where;
     redisContext *redis = is_port
         ? redisConnectWithTimeout("127.0.0.1", (int)number_in("--redis", where, 1, 65535), patience)
         : redisConnectUnixWithTimeout(where, patience);
-    if (redis && !redis->err) return redis;
-    say("no Redis at %s: %s", where, redis ? redis->errstr : "there is no memory");
+    if (redis && !redis->err) {
+        is_told = false;
+        return redis;
+    }
+    if (!is_told) say("no Redis at %s: %s", where, redis ? redis->errstr : "there is no memory");
+    is_told = true;
     if (redis) redisFree(redis);
     return NULL;
 }

@@ -17,7 +17,7 @@
 #include "block.h"
 #include "common.h"
 
-enum { BATCH = 64, DATAGRAM = 65537, FAR_MS = 1000, AGAIN_MS = 100, GREATEST_FILL = 4096 };
+enum { BATCH = 64, DATAGRAM = 65537, FAR_MS = 1000, AGAIN_MS = 10, GREATEST_FILL = 4096 };
 
 /* For a test: a front that begins its ids anew at each start. */
 #ifndef CONTROL
@@ -28,6 +28,7 @@ enum { REUSES_IDS = 1 };
 struct shard {
     struct id last;    /* the last block that stands in the stream */
     bool is_unsure;    /* whether an append of the block was begun that Redis didn't answer */
+    bool is_refused;   /* whether Redis refused the block, and that was told */
     size_t size;       /* the length of the block that is filled */
     unsigned arrivals; /* how many it has */
     uint64_t begun;    /* when its first came */
@@ -37,6 +38,8 @@ struct shard {
 static struct shard *shards;
 static unsigned shard_count, fill = 8;
 static uint64_t wait_ms = 5, taken, dropped, appended;
+/* Redis is asked again after a rest. If it refuses a block once more, that is twice as long, up to a second. */
+static uint64_t rest_ms = AGAIN_MS, rest_end;
 static const char *where;
 static redisContext *redis;
 
@@ -51,6 +54,8 @@ static uint64_t moment_now(void) {
 static bool is_due(const struct shard *shard) {
     return shard->arrivals > 0 && (shard->arrivals >= fill || steady_ms() - shard->begun >= wait_ms);
 }
+
+static void rest(uint64_t milliseconds) { rest_end = steady_ms() + milliseconds; }
 
 /* Begins with the ids that the streams have. */
 static void begin(void) {
@@ -80,8 +85,8 @@ static void put(const uint8_t *datagram, size_t size) {
     taken++;
 }
 
-/* What Redis said to the append of a shard's block. */
-static void end_append(unsigned number, const redisReply *reply) {
+/* What Redis said to the append of a shard's block. Whether the block stands. */
+static bool end_append(unsigned number, const redisReply *reply) {
     struct shard *shard = &shards[number];
     bool stands = reply->type != REDIS_REPLY_ERROR;
     if (!stands && strstr(reply->str, "equal or smaller")) {
@@ -89,19 +94,22 @@ static void end_append(unsigned number, const redisReply *reply) {
         stands = true; /* the append that Redis didn't answer was done */
     }
     if (!stands) {
-        say("in:%u: %s", number, reply->str);
-        return;
+        if (!shard->is_refused) say("in:%u: %s", number, reply->str);
+        shard->is_refused = true;
+        return false;
     }
+    if (shard->is_refused) say("in:%u takes blocks again", number);
     shard->last.number++;
-    shard->is_unsure = false;
+    shard->is_unsure = shard->is_refused = false;
     shard->size = 0;
     shard->arrivals = 0;
     appended++;
+    return true;
 }
 
 /* Appends the blocks that are due. False if the connection broke: what was begun may stand or not. */
 static bool append(void) {
-    bool is_begun[MAX_SHARDS] = {false};
+    bool is_begun[MAX_SHARDS] = {false}, do_all_stand = true;
     char text[ID_TEXT];
     for (unsigned i = 0; i < shard_count; i++) {
         struct shard *shard = &shards[i];
@@ -117,8 +125,14 @@ static bool append(void) {
             for (; i < shard_count; i++) shards[i].is_unsure |= is_begun[i];
             return false;
         }
-        end_append(i, reply);
+        do_all_stand &= end_append(i, reply);
         freeReplyObject(reply);
+    }
+    if (do_all_stand) {
+        rest_ms = AGAIN_MS;
+    } else {
+        rest(rest_ms);
+        rest_ms = 2 * rest_ms < FAR_MS ? 2 * rest_ms : FAR_MS;
     }
     return true;
 }
@@ -131,16 +145,15 @@ static bool tell(void) {
     return reply != NULL;
 }
 
-/* How long to wait for a datagram: until a block is due. */
+/* How long to wait for a datagram: until a block is due, and Redis may be asked. */
 static int patience(void) {
-    uint64_t least = FAR_MS, now = steady_ms();
+    uint64_t now = steady_ms(), least = redis ? FAR_MS : 0;
     for (unsigned i = 0; i < shard_count; i++) {
         if (shards[i].arrivals == 0) continue;
-        uint64_t passed = now - shards[i].begun;
-        if (passed >= wait_ms) return redis ? 0 : AGAIN_MS;
-        if (wait_ms - passed < least) least = wait_ms - passed;
+        uint64_t passed = now - shards[i].begun, left = passed < wait_ms ? wait_ms - passed : 0;
+        if (left < least) least = left;
     }
-    return redis ? (int)least : AGAIN_MS;
+    return (int)(now + least < rest_end ? rest_end - now : least);
 }
 
 /* Takes the datagrams that wait. */
@@ -160,7 +173,12 @@ static void receive(int from) {
 /* Blocks go out as they are due. Without Redis they wait, and the connection is made anew. */
 static void go_on(void) {
     static uint64_t told;
-    if (!redis && (redis = connect_to(where)) != NULL) say("Redis is there again");
+    if (steady_ms() < rest_end && !stopped) return;
+    if (!redis) {
+        redis = connect_to(where);
+        if (redis) say("Redis is there again");
+        else rest(AGAIN_MS);
+    }
     bool holds = redis && append();
     if (holds && steady_ms() - told >= FAR_MS) {
         holds = tell();

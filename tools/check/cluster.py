@@ -343,7 +343,7 @@ def logged(cluster: Cluster) -> dict[int, list[bytes]]:
 
 
 def check_redis(trial: Trial, made: "Made") -> None:
-    """A front, two workers, and a Redis that is killed three times."""
+    """A front, two workers, and a Redis that is killed three times and then has no memory for a while."""
     arrivals = made_arrivals(6_000, 2)
     with Cluster(trial, made.built, trial.scratch / "redis", made.lines) as cluster:
         port = free_port()
@@ -358,14 +358,32 @@ def check_redis(trial: Trial, made: "Made") -> None:
             cluster.server.start()
             cluster.keep()
 
-        send_all(port, arrivals, [(1_500, fall), (3_000, fall), (4_500, fall)])
+        def allow(memory: int) -> None:
+            with cluster.server.client() as client:
+                client.ask("CONFIG", "SET", "maxmemory", str(memory))
+
+        def recover() -> None:
+            time.sleep(0.5)
+            allow(0)
+            cluster.keep()
+
+        def goes_on() -> bool:
+            told = [line.partition(": ")[2] for line in cluster.said("front").splitlines()]
+            last = {line[:4]: line for line in told if line.startswith("in:")}
+            return all("takes blocks again" in line for line in last.values()) and cluster.is_answered()
+
+        send_all(port, arrivals, [(1_500, fall), (3_000, fall), (4_500, fall), (5_000, lambda: allow(1)), (5_400, recover)])
         time.sleep(0.3)
-        trial.demand(cluster.wait(), "redis: not every block has its answers")
+        trial.demand(cluster.wait(until=goes_on), "redis: a shard still refuses blocks, or not every block has its answers")
+        told = cluster.said("front")
+        refused, begun = told.count(": OOM "), told.count("takes datagrams")
+        trial.demand(0 < refused <= SHARDS, f"redis: the front tells {refused} times that a block was refused")
+        trial.demand(begun == 1, f"redis: the front began {begun} times")
         logs = logged(cluster)
         trial.demand(compare(cluster, made.links, logs), "redis: the answers aren't those of one replay")
         count = sum(1 for blocks in logs.values() for block in blocks for _ in arrivals_in(block))
         trial.demand(count > 4_000, f"redis: only {count} arrivals are in the log")
-        trial.say(f"redis: {count} arrivals in the log, Redis killed three times")
+        trial.say(f"redis: {count} arrivals in the log, Redis killed three times and once without memory")
 
 
 class Sink:
@@ -528,7 +546,8 @@ def check_up(trial: Trial, made: "Made") -> None:
         text = (trial.top / "examples/links.toml").read_text()
         text = re.sub(r"deliver_port = \d+", f"deliver_port = {sink.getsockname()[1]}", text)
         stack.callback(trial.ran, trial.top / "cluster/down", folder)
-        started = trial.ran(up, folder, trial.write("up.toml", text), str(port), environment={"CLUSTER_BIN": str(made.built)})
+        words = (up, folder, trial.write("up.toml", text), str(port))
+        started = trial.ran(*words, environment={"CLUSTER_BIN": str(made.built)})
         if not trial.demand(started.text.startswith("ready"), f"cluster/up: {started.end()}", started.call):
             return
         pids = [int(word) for word in (folder / "pids").read_text().split()]
@@ -546,6 +565,10 @@ def check_up(trial: Trial, made: "Made") -> None:
         ended = [trial.ran(trial.top / "cluster/down", folder).status for _ in range(2)]
         left = [pid for pid in every if Path(f"/proc/{pid}").exists()]
         trial.demand(ended == [0, 1] and not left, f"cluster/down: statuses {ended}, 0 and 1 wanted; {left} still run")
+        again = trial.ran(*words, environment={"CLUSTER_BIN": str(made.built)})
+        trial.demand(again.text.startswith("ready"), f"cluster/up once more: {again.end()}", again.call)
+        late = delivers(port, bytes.fromhex("45ac"), sink)
+        trial.demand(late == b"\x45\xac", f"cluster/up once more: {late.hex()} came")
 
 
 def check_controls(trial: Trial, made: "Made") -> None:
