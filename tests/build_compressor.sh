@@ -21,6 +21,8 @@ build() {
                 --crate-name compress "$source/src/main.rs" && compressor=$scratch/compress
     else
         echo "left out: cargo isn't installed, so no packets of the test compressor were tried"
-        exit 0
+        # What was to be written isn't.
+        [ -z "${write:-}" ]
+        exit
     fi
 }

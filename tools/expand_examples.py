@@ -70,6 +70,8 @@ def main():
     if sys.argv[1:] == ["--help"]:
         print(__doc__.strip())
         return
+    if sys.argv[1:]:
+        sys.exit(__doc__)
     examples = read_examples((HERE / "worked_examples.txt").read_text())
     for name, turns in examples.items():
         script = "".join(f"{line}\n" * times for line, _, times in turns)

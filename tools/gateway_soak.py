@@ -10,6 +10,7 @@ lost, or if its memory grew by more than a twentieth after the first tenth of th
 """
 
 import contextlib
+import shutil
 import sys
 import tempfile
 import time
@@ -78,7 +79,12 @@ def main() -> int:
     if len(sys.argv) < 2 or sys.argv[1].startswith("-"):
         print(__doc__)
         return 0 if sys.argv[1:] in (["--help"], ["-h"]) else 2
-    words = [float(word) for word in sys.argv[2:4]]
+    try:
+        words = [float(word) for word in sys.argv[2:4]]
+    except ValueError:
+        sys.exit(f"tools/gateway_soak.py: {' '.join(sys.argv[2:4])}: seconds and datagrams a second are numbers")
+    if not shutil.which(sys.argv[1]):
+        sys.exit(f"tools/gateway_soak.py: there is no program {sys.argv[1]}")
     seconds, rate = words + [3600.0, 2000.0][len(words) :]
     gateway_run.PROGRAM = str(Path(sys.argv[1]).resolve())
     with tempfile.TemporaryDirectory(prefix="gateway-soak-") as folder, contextlib.ExitStack() as stack:

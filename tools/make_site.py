@@ -10,6 +10,7 @@ the buttons or the arrow keys; without them all packets stand one below the othe
 import base64
 import html
 import re
+import shutil
 import subprocess
 import sys
 from pathlib import Path
@@ -176,6 +177,9 @@ def main(words: list[str]) -> int:
         return 0
     if len(words) != 2 or words[0].startswith("-"):
         print("usage: tools/make_site.py ROHCTL FOLDER", file=sys.stderr)
+        return 2
+    if not shutil.which(words[0]):
+        print(f"tools/make_site.py: there is no program {words[0]}", file=sys.stderr)
         return 2
     folder = Path(words[1])
     folder.mkdir(parents=True, exist_ok=True)

@@ -9,6 +9,7 @@ the peak of memory of each run. The second run has twice as many packets and may
 
 import contextlib
 import random
+import shutil
 import subprocess
 import sys
 import tempfile
@@ -62,8 +63,10 @@ def main():
     if sys.argv[1:] == ["--help"]:
         print(__doc__.strip())
         return
-    if len(sys.argv) not in (2, 3):
+    if len(sys.argv) not in (2, 3) or not all(word.isdigit() and int(word) > 0 for word in sys.argv[2:]):
         sys.exit(__doc__)
+    if not shutil.which(sys.argv[1]):
+        sys.exit(f"tools/soak.py: there is no program {sys.argv[1]}")
     packets = int(sys.argv[2]) if len(sys.argv) == 3 else 1_000_000
     with tempfile.TemporaryDirectory() as folder:
         with open(f"{folder}/links", "w") as file, contextlib.redirect_stdout(file):
