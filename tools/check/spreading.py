@@ -43,11 +43,12 @@ def address(place: int, side: int) -> str:
 
 
 def hosts(addresses: Sequence[str], ports: Sequence[int]) -> str:
-    """The hosts file: each process has every fourth link."""
+    """The hosts file: each process has every fourth link. Without addresses all are on this host."""
     text = f"port = {PORT}\n"
     for place, name in enumerate(NAMES):
         links = [link for link in range(1, LINKS + 1) if own(link) == place]
-        text += f'[[process]]\nname = "{name}"\naddress = "{addresses[place]}"\nport = {ports[place]}\nlinks = {links}\n'
+        given = f'address = "{addresses[place]}"\n' if addresses else ""
+        text += f'[[process]]\nname = "{name}"\n{given}port = {ports[place]}\nlinks = {links}\n'
     return text
 
 
@@ -107,7 +108,7 @@ def on_one_host(trial: Trial, folder: Path, way: str) -> int:
     with contextlib.ExitStack() as stack:
         receivers = [stack.enter_context(Receivers()) for _ in NAMES]
         (folder / "links.toml").write_text(links_of(receivers))
-        text = hosts([LOOPBACK] * len(NAMES), range(PORT + 1, PORT + 1 + len(NAMES)))
+        text = hosts((), range(PORT + 1, PORT + 1 + len(NAMES)))
         file = rules(trial, folder, text, "--out", folder, *(["--nginx"] if way == "nginx" else []))
         if way == "nginx":
             stack.enter_context(nginx(trial, folder))
