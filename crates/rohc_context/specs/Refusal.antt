@@ -1,14 +1,14 @@
--- The thirty refusals in one table, in the order of their numbers. A row has the number, the name as answer lines
--- show it, and what finds the refusal. Words: Finder, Row, row_of; number_of, name_of, is_found_by;
+-- The thirty refusals in one table, in the order of their numbers. A row has the number, the name as answer
+-- lines show it, and what finds the refusal. Words: Finder, Row, row_of; number_of, name_of, is_found_by;
 -- StandAtNumbers.
 use Rattle.std.specs.Prelude.{◌≡◌, ℕ, ◌-◌, List, [], ◌∷◌, Bool, true, false, Some, codes, slice_get}
 use Rattle.std.specs.List.{list_any}
 use Rattle.rohc_context.specs.declared.refusal.Refusal.{Refusal}
 use Rattle.rohc_context.specs.declared.refusal.Refusal.TheVariants.{Empty, FeedbackShort, AfterAddCid, Segment, ReservedType, AddCidOnLarge, LargeCid, CidRange, NoHeader, NoContext, Profile, ProfileChange, Truncated, IpVersion, Protocol, ExtensionList, RtpVersion, Csrc, ZeroStride, ReliableMode, OuterHeader, NoStride, RndInUo1, IpIdTwice, Trailing, TooLong, StateTooLow, Check, NoLink, NoMemory}
 
--- What finds a refusal: the framing of a packet; the reading of an IR or IR-DYN, or of a packet of another kind;
--- the state of a context; or the tables of links and contexts. A rebuilt packet that would be too long is refused
--- alike, whatever its kind.
+-- What finds a refusal: the framing of a packet; the reading of an IR or IR-DYN, or of a packet of another
+-- kind; the state of a context; or the tables of links and contexts. A rebuilt packet that would be too long
+-- is refused alike, whatever its kind.
 pub data Finder : Type 0 where
   Framing : Finder
   Chain : Finder
