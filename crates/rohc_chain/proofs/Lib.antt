@@ -8,3 +8,4 @@ pub mod TextLemmas
 pub mod GoodLemmas
 pub mod EachLemmas
 pub mod RowLemmas
+pub mod ShownLemmas

@@ -4,5 +4,6 @@ pub mod Chains
 pub mod Packets
 pub mod ChainText
 pub mod Texts
+pub mod Shown
 pub mod Good
 pub mod Laws

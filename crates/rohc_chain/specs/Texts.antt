@@ -11,9 +11,8 @@ use Rattle.rohc_chain.specs.Packets.{IrContent, Plain, StaticOnly, Whole, DynCon
 use Rattle.rohc_chain.specs.ChainText.{SpellsStatic, SpellsDynamic}
 use Rattle.rohc_bits.specs.Grammar.{Octet, Says, Which, As, Judged, Called, or_else, fault_after, first_fault}
 use Rattle.rohc_bits.specs.InTurn.{◌>>=◌}
-use Rattle.rohc_bits.specs.Places.{Place, places}
 use Rattle.rohc_chain.specs.declared.refusal.ChainRefusal.TheVariants.{Truncated}
-use Rattle.rohc_chain.specs.Octets.{Name, Profile, Crc, ChainPiece, read}
+use Rattle.rohc_chain.specs.Octets.{Profile, Crc, ChainPiece, read}
 use Rattle.rohc_chain.specs.Faults.{ir_profile_fault, dyn_profile_fault}
 use Rattle.rohc_chain.specs.Chains.{static_at, dynamic_at}
 
@@ -111,14 +110,6 @@ ir_dyn_pieces profile = do
   given ← Judged (dyn_profile_fault profile) (Called Profile Octet)
   check ← Called Crc Octet
   dynamic_at nothing_kept
-
--- The places of the fields of an IR and of an IR-DYN, for those who show packets. A packet's octets are its
--- first octet and those behind its CID octets.
-abbrev pub ir_places : Header → List (Place Name)
-ir_places h = places Truncated (ir_pieces (is_dynamic h.kind)) 1 h.rest
-
-abbrev pub ir_dyn_places : Header → ℕ → List (Place Name)
-ir_dyn_places h profile = places Truncated (ir_dyn_pieces profile) 1 h.rest
 
 -- the first fault among the pieces, else the fault that is judged last
 abbrev pub fault_among : {A : Type 0} → (List ℕ → Option ChainRefusal) → ChainPiece A → List ℕ →

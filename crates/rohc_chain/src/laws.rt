@@ -2,6 +2,7 @@
 //! for what a packet says.
 
 ghost use Rattle.rohc_chain.specs.Laws.{ReadsIrs, RefusesIrs, SaysOne, SaysGood, ReadsIrDyns, RefusesIrDyns, DynSaysOne, DynSaysGood, SpellsEachStatic, SpellsEachDynamic, RowsInPlace};
+ghost use Rattle.rohc_chain.specs.Shown.{ShowsIr, ShowsCutIr, ShowsIrDyn};
 
 /// An IR of octets is read exactly if its octets encode what is read and the rebuilt packet isn't too
 /// long. Otherwise its first fault is the refusal. An IR says at most one thing, and its numbers are
@@ -31,4 +32,11 @@ pub fn each_chain()
 /// What a chain says of an octet with several fields stands at their places.
 pub fn in_place()
     ensures { RowsInPlace }
+{}
+
+/// The fields of a worked IR, of one that is cut off, and of a worked IR-DYN stand where those who show packets say.
+pub fn shown()
+    ensures ir { ShowsIr }
+    ensures cut { ShowsCutIr }
+    ensures ir_dyn { ShowsIrDyn }
 {}

@@ -4,14 +4,20 @@ use Rattle.std.specs.Prelude.{map, All, fold}
 use Rattle.std.proofs.lemmas.Nat.{pow-add}
 use Rattle.std.proofs.Math.Nat.{mul_assoc, add-mul, mod-eq_of_lt}
 use Rattle.std.proofs.lemmas.List.Elements.{All-head, All-tail, All-cons}
+use Rattle.rohc_bits.specs.Bits as bits
 use Rattle.rohc_bits.specs.Bits.{IsOctet, bits_of, number}
+use Rattle.rohc_bits.specs.Fronts as fronts
+use Rattle.rohc_bits.specs.Reading as reading
 use Rattle.rohc_bits.specs.Places.{widths, cut}
 use Rattle.rohc_bits.proofs.BitLists.{number-octets}
 use Rattle.rohc_bits.proofs.PlaceLemmas.{stands}
 use Rattle.rohc_forms.specs.Slices.{slice}
 use Rattle.rohc_forms.specs.Table.{By, Layout, Said, Extension3Octet, FirstOctet, IpOctet, RtpOctet, TypeOctet, named, row, parts, width, under, and_said, number_in}
 use Rattle.rohc_forms.specs.Formats.{number_of}
-use Rattle.rohc_forms.specs.Shown.{with_numbers, SaidInPlace, PartsInPlace}
+use Rattle.rohc_forms.specs.Octets as octets
+use Rattle.rohc_forms.specs.Packets as packets
+use Rattle.rohc_forms.specs.Extension as extension
+use Rattle.rohc_forms.specs.Shown.{ShowsExtension1, ShowsExtension2, ShowsExtension3, with_numbers, SaidInPlace, PartsInPlace}
 
 named_widths : (l : Layout) → widths (named l) ≡ width l
 named_widths [] = refl
@@ -65,3 +71,16 @@ parts_in_place = λ octet n small.
     parts_cut octet n
     ∙ ap (λ k. cut (row octet) k) (sym whole ∙ number_is (n ∷ []) (All-cons IsOctet n [] small (λ i d l. absurd (omega arith))))
     ∙ sym (stands (row octet) (n ∷ []) (whole_row octet ∙ refl))
+
+-- the worked packets, by computing
+pub shows_extension_1 : ShowsExtension1
+unfolding packets.head_at packets.base_at packets.extension_at packets.short_extension_at reading.next_octet octets.word_if number bits.bits
+shows_extension_1 = refl
+
+pub shows_extension_2 : ShowsExtension2
+unfolding packets.head_at packets.base_at packets.extension_at packets.short_extension_at reading.next_octet reading.next_word octets.word_if number bits.bits
+shows_extension_2 = refl
+
+pub shows_extension_3 : ShowsExtension3
+unfolding packets.head_at packets.base_at packets.extension_at packets.extension_3_at extension.ip_octet_at extension.behind_ip_octet extension.sn_at extension.ts_at extension.ip_given_at extension.behind_protocol extension.offset_at extension.rtp_given_at extension.behind_rtp_octet extension.stride_at extension.behind_time_stride octets.octet_if octets.word_if reading.next_octet reading.next_word reading.next_value fronts.front_value number bits.bits
+shows_extension_3 = refl

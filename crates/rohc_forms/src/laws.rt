@@ -3,7 +3,7 @@
 
 ghost use Rattle.rohc_forms.specs.Formats.{FitsOne, FitsOneExtension};
 ghost use Rattle.rohc_forms.specs.Laws.{CountsOctets, CountsExtension, BeginsWith11, HaveEightBits, StandInPlace, ReadsForms, SaysOne, SaysGood, RefusesForms};
-ghost use Rattle.rohc_forms.specs.Shown.{SaidInPlace, PartsInPlace};
+ghost use Rattle.rohc_forms.specs.Shown.{SaidInPlace, PartsInPlace, ShowsExtension1, ShowsExtension2, ShowsExtension3};
 
 /// Under each RND exactly one format fits a packet whose first octet is below E0, and as many base
 /// octets are read as the format has. Exactly one of the extensions 0, 1 and 2 fits an extension whose
@@ -43,4 +43,11 @@ pub fn first_fault()
 pub fn in_place()
     ensures format { SaidInPlace }
     ensures extension_3 { PartsInPlace }
+{}
+
+/// The fields of worked packets with extensions 1, 2 and 3 stand where those who show packets say.
+pub fn shown()
+    ensures extension_1 { ShowsExtension1 }
+    ensures extension_2 { ShowsExtension2 }
+    ensures extension_3 { ShowsExtension3 }
 {}
