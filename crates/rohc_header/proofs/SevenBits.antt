@@ -206,6 +206,18 @@ both_shifted w s x y within first second =
     ∙ xor_block s x y 0 0 (pow_pos s) (pow_pos s) ∙ omega arith in
     mod-eq_of_lt (within (bit_xor x y) (xor_lt w x y first second)) ∙ sym apart
 
+-- Two numbers of two words each, added without carry: their low words, and their high ones.
+halves : (a b c d : ℕ) → a < 2 ^ 16 → c < 2 ^ 16 → bit_xor (b * 2 ^ 16 + a) (d * 2 ^ 16 + c) ≡ bit_xor b d * 2 ^ 16 + bit_xor a c
+halves a b c d low small = xor_block 16 b d a c low small
+
+pub low_half : (a b c d m n : ℕ) → a < 2 ^ 16 → c < 2 ^ 16 → m ≡ b * 2 ^ 16 + a → n ≡ d * 2 ^ 16 + c → bit_xor m n % 65536 ≡ bit_xor a c
+low_half a b c d m n low small first second =
+    rw (first, second) (omega (arith, halves a b c d low small, xor_lt 16 a c low small))
+
+pub high_half : (a b c d m n : ℕ) → a < 2 ^ 16 → c < 2 ^ 16 → m ≡ b * 2 ^ 16 + a → n ≡ d * 2 ^ 16 + c → bit_xor m n / 65536 ≡ bit_xor b d
+high_half a b c d m n low small first second =
+    rw (first, second) (omega (arith, halves a b c d low small, xor_lt 16 a c low small))
+
 -- Nine words in the order of their shifts, and in the order of the header.
 in_order : (a b c d e f g h k : ℕ) → bit_xor (bit_xor (bit_xor (bit_xor (bit_xor a b) (bit_xor c f)) (bit_xor d g)) (bit_xor e h)) k
     ≡ bit_xor (bit_xor (bit_xor (bit_xor (bit_xor (bit_xor (bit_xor a b) c) d) e) k) f) (bit_xor g h)

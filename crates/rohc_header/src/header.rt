@@ -1,6 +1,6 @@
 //! Rebuilt headers and their checks.
 
-ghost use Rattle.std.specs.Prelude.{◌≡◌, ◌+◌, ◌*◌, ◌<◌, ◌≤◌, ◌↔◌, length, IfSome, IsNone};
+ghost use Rattle.std.specs.Prelude.{◌≡◌, ◌+◌, ◌*◌, ◌<◌, ◌≤◌, ◌↔◌, length, get_or, bit_xor, IfSome, IsNone};
 ghost use Rattle.rohc_checks.specs.Division.{check, poly3, poly7};
 ghost use Rattle.rohc_header.specs.Original.{IsOriginal, longest_payload};
 ghost use Rattle.rohc_header.specs.Polynomial.{coefficients};
@@ -106,8 +106,7 @@ pub fn put_header(octets: &mut ArrayVec<u8, 40>, fixed: &Static, moving: &Dynami
 {
     // Copied first, so that the compiler knows that the fields don't overlap the octets.
     let fixed = *fixed;
-    // Made anew, so that the compiler knows that nothing stands there.
-    *octets = Octets::new();
+    octets.clear();
     put_ip(octets, &fixed, moving, payload_len);
     put_udp(octets, &fixed, moving, payload_len);
     put_rtp(octets, &fixed, moving);
@@ -127,14 +126,16 @@ pub fn check3_after(octets: &[u8], reg: u8) -> u8
     let total_length = word(octets[2] ^ reg, octets[3]) << 4;
     let id = word(octets[4], octets[5]) << 6;
     let ip_checksum_and_sn = (word(octets[10], octets[11]) ^ word(octets[30], octets[31])) << 1;
-    let udp_length_and_ts = (word(octets[24], octets[25]) ^ word(octets[32], octets[33])) << 3;
-    let udp_sum_and_ts = (word(octets[26], octets[27]) ^ word(octets[34], octets[35])) << 5;
+    let (udp_length_and_ts, udp_sum_and_ts) = added(
+        [octets[24], octets[25], octets[26], octets[27]],
+        [octets[32], octets[33], octets[34], octets[35]],
+    );
     let marker_and_type = u32::from(octets[29]);
     let bits = total_length
         ^ id
         ^ ip_checksum_and_sn
-        ^ udp_length_and_ts
-        ^ udp_sum_and_ts
+        ^ (udp_length_and_ts << 3)
+        ^ (udp_sum_and_ts << 5)
         ^ marker_and_type;
     let two = bits ^ (bits >> 14);
     let one = two ^ (two >> 7);
@@ -159,6 +160,18 @@ fn word(first: u8, second: u8) -> u32
     ensures { result ≡ first + second * 256 }
 {
     u32::from(u16::from_le_bytes([first, second]))
+}
+
+/// The first words of both, added without carry, and so the second words. A word's first octet is in its low bits.
+///
+/// Each four octets are read at once, since they were written at once: what was just written in parts and is read as a
+/// whole makes the processor wait.
+fn added(these: [u8; 4], those: [u8; 4]) -> (u32, u32)
+    ensures first { result.0 ≡ bit_xor (get_or these 0 0 + get_or these 1 0 * 256) (get_or those 0 0 + get_or those 1 0 * 256) }
+    ensures second { result.1 ≡ bit_xor (get_or these 2 0 + get_or these 3 0 * 256) (get_or those 2 0 + get_or those 3 0 * 256) }
+{
+    let both = u32::from_le_bytes(these) ^ u32::from_le_bytes(those);
+    (both % 65_536, both / 65_536)
 }
 
 /// The 7-bit check of a header's 40 octets, from the register `reg` after its static octets (RFC 3095 5.9.2).
