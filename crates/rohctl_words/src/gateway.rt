@@ -1,36 +1,49 @@
 //! The subcommands that ask a running gateway.
 
-use crate::options::valued;
-use clap::{Arg, Command};
+use crate::options::{Word, argument, subcommand, valued, with_words};
+use clap::Command;
 use std::alloc::{AllocError, Global};
 
-/// A subcommand that asks a running gateway.
-fn asking<'a>(
-    alloc: Global,
-    name: &'static str,
-    about: &'static str,
-) -> Result<Command<'a>, AllocError> {
-    Command::new(alloc, name).about(about).arg(valued(
-        alloc,
+/// The option that names the gateway.
+fn control() -> Word {
+    valued(
         "control",
         "SOCKET",
         "The control socket of the rohc-gateway",
     )
-    .required(true))
+    .required()
 }
 
-/// A subcommand that asks a running gateway of a link.
-fn asking_link<'a>(
+/// The option that names a link.
+fn link() -> Word {
+    valued("link", "NUMBER", "The number of the link").required()
+}
+
+/// With a subcommand that asks a running gateway.
+fn asking<'a>(
     alloc: Global,
+    command: Command<'a>,
     name: &'static str,
     about: &'static str,
+    words: &[Word],
 ) -> Result<Command<'a>, AllocError> {
-    asking(alloc, name, about)?.arg(valued(
-        alloc,
-        "link",
-        "NUMBER",
-        "The number of the link",
-    ).required(true))
+    let asked = subcommand(alloc, name, about, &[control()])?;
+    command.subcommand(with_words(alloc, asked, words)?)
+}
+
+/// With the subcommands that ask a gateway as a whole.
+fn with_whole<'a>(alloc: Global, command: Command<'a>) -> Result<Command<'a>, AllocError> {
+    let mut command = command;
+    for (name, about) in [
+        ("status", "Tell what a rohc-gateway is doing"),
+        ("stop", "Have a rohc-gateway save its calls and end"),
+        ("save", "Have a rohc-gateway save its calls"),
+        ("reload", "Have a rohc-gateway read its links again"),
+        ("drain", "Have a rohc-gateway take no new call"),
+    ] {
+        command = asking(alloc, command, name, about, &[])?;
+    }
+    Ok(command)
 }
 
 /// The subcommands that ask a running gateway.
@@ -38,32 +51,33 @@ pub(crate) fn with_gateway<'a>(
     alloc: Global,
     command: Command<'a>,
 ) -> Result<Command<'a>, AllocError> {
-    command
-        .subcommand(asking(alloc, "status", "Tell what a rohc-gateway is doing")?)?
-        .subcommand(asking(alloc, "stop", "Have a rohc-gateway save its calls and end")?)?
-        .subcommand(asking(alloc, "save", "Have a rohc-gateway save its calls")?)?
-        .subcommand(asking(alloc, "reload", "Have a rohc-gateway read its links again")?)?
-        .subcommand(asking(alloc, "drain", "Have a rohc-gateway take no new call")?)?
-        .subcommand(asking_link(
-            alloc,
-            "reset",
-            "Have a rohc-gateway forget a link's contexts, or one",
-        )?
-        .arg(valued(alloc, "cid", "NUMBER", "The CID of the one"))?)?
-        .subcommand(asking(
-            alloc,
-            "watch",
-            "Have a rohc-gateway log each packet of a call for a while",
-        )?
-        .arg(
-            Arg::new(alloc, "CALL")
-                .help("The link and the CID of the call, L/C")
-                .required(true),
-        )?)?
-        .subcommand(asking_link(alloc, "contexts", "Tell the contexts of a link")?)?
-        .subcommand(asking_link(
-            alloc,
-            "calls",
-            "Tell the calls of a link, the longest silent first",
-        )?)
+    let command = with_whole(alloc, command)?;
+    let command = asking(
+        alloc,
+        command,
+        "reset",
+        "Have a rohc-gateway forget a link's contexts, or one",
+        &[link(), valued("cid", "NUMBER", "The CID of the one")],
+    )?;
+    let command = asking(
+        alloc,
+        command,
+        "watch",
+        "Have a rohc-gateway log each packet of a call for a while",
+        &[argument("CALL", "The link and the CID of the call, L/C").required()],
+    )?;
+    let command = asking(
+        alloc,
+        command,
+        "contexts",
+        "Tell the contexts of a link",
+        &[link()],
+    )?;
+    asking(
+        alloc,
+        command,
+        "calls",
+        "Tell the calls of a link, the longest silent first",
+        &[link()],
+    )
 }

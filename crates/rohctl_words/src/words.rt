@@ -2,136 +2,116 @@
 
 use crate::captures::{decompress_words, explain_words, report_words, script_words};
 use crate::gateway::with_gateway;
-use crate::options::{flag, valued};
-use clap::{Arg, Command};
+use crate::options::{argument, flag, subcommand, valued};
+use clap::Command;
 use std::alloc::{AllocError, Global};
 
 /// The subcommand `totals`.
 fn totals<'a>(alloc: Global) -> Result<Command<'a>, AllocError> {
-    Command::new(alloc, "totals")
-        .about("Count the answer lines of rohcd replay, by call, by link and of all")
-        .arg(
-            Arg::new(alloc, "ANSWERS")
-                .help("The answer lines; - is standard input")
-                .default_value("-"),
-        )?
-        .arg(flag(alloc, "json", "Write JSON, one object a line"))?
-        .arg(flag(alloc, "prometheus", "Write the text format of Prometheus").conflicts_with(
-            "json",
-        )?)?
-        .arg(flag(
-            alloc,
-            "follow",
-            "On a terminal, draw the table again while lines come",
-        ))
+    subcommand(
+        alloc,
+        "totals",
+        "Count the answer lines of rohcd replay, by call, by link and of all",
+        &[
+            argument("ANSWERS", "The answer lines; - is standard input").otherwise("-"),
+            flag("json", "Write JSON, one object a line"),
+            flag("prometheus", "Write the text format of Prometheus").without("json"),
+            flag(
+                "follow",
+                "On a terminal, draw the table again while lines come",
+            ),
+        ],
+    )
 }
 
 /// The subcommand `links`.
 fn links<'a>(alloc: Global) -> Result<Command<'a>, AllocError> {
-    Command::new(alloc, "links")
-        .about("Tell all faults of a links file, or what a good one sets")
-        .arg(
-            Arg::new(alloc, "FILE")
-                .help("The links file; - is standard input")
-                .required_unless_present("new")?,
-        )?
-        .arg(flag(alloc, "json", "Write JSON, one object a line"))?
-        .arg(flag(alloc, "new", "Write a links file to start from").conflicts_with("FILE")?)
+    subcommand(
+        alloc,
+        "links",
+        "Tell all faults of a links file, or what a good one sets",
+        &[
+            argument("FILE", "The links file; - is standard input").required_unless("new"),
+            flag("json", "Write JSON, one object a line"),
+            flag("new", "Write a links file to start from").without("FILE"),
+        ],
+    )
 }
 
 /// The subcommand `diff`.
 fn diff<'a>(alloc: Global) -> Result<Command<'a>, AllocError> {
-    Command::new(alloc, "diff")
-        .about(
-            "Tell the first difference of each call in two answers, or two traces, of one script",
-        )
-        .arg(
-            Arg::new(alloc, "A")
-                .help("The first text; - is standard input")
-                .required(true),
-        )?
-        .arg(Arg::new(alloc, "B").help("The second text").required(true))?
-        .arg(flag(alloc, "json", "Write JSON, one object a line"))
+    subcommand(
+        alloc,
+        "diff",
+        "Tell the first difference of each call in two answers, or two traces, of one script",
+        &[
+            argument("A", "The first text; - is standard input").required(),
+            argument("B", "The second text").required(),
+            flag("json", "Write JSON, one object a line"),
+        ],
+    )
 }
 
 /// The subcommand `plan`.
 fn plan_words<'a>(alloc: Global) -> Result<Command<'a>, AllocError> {
-    Command::new(alloc, "plan")
-        .about("Tell what k and n mean on a link, what memory calls take, or how to spread links")
-        .arg(valued(
-            alloc,
-            "damage",
-            "PERCENT",
-            "How many of 100 headers are damaged",
-        )
-        .default_value("1"))?
-        .arg(valued(
-            alloc,
-            "packet-ms",
-            "MS",
-            "The time between two packets of a call",
-        )
-        .default_value("20"))?
-        .arg(valued(alloc, "window", "K/N", "A window of at most 16 outcomes"))?
-        .arg(valued(alloc, "calls", "COUNT", "Tell the memory of so many calls"))?
-        .arg(valued(
-            alloc,
-            "split",
-            "COUNT",
-            "Spread the links over so many processes",
-        )
-        .requires_arg("links")?)?
-        .arg(valued(alloc, "links", "FILE", "The links to spread").requires_arg("split")?)?
-        .arg(flag(alloc, "json", "Write JSON, one object a line"))
+    subcommand(
+        alloc,
+        "plan",
+        "Tell what k and n mean on a link, what memory calls take, or how to spread links",
+        &[
+            valued("damage", "PERCENT", "How many of 100 headers are damaged").otherwise("1"),
+            valued("packet-ms", "MS", "The time between two packets of a call").otherwise("20"),
+            valued("window", "K/N", "A window of at most 16 outcomes"),
+            valued("calls", "COUNT", "Tell the memory of so many calls"),
+            valued("split", "COUNT", "Spread the links over so many processes").with("links"),
+            valued("links", "FILE", "The links to spread").with("split"),
+            flag("json", "Write JSON, one object a line"),
+        ],
+    )
 }
 
 /// The subcommand `trace`.
 fn trace<'a>(alloc: Global) -> Result<Command<'a>, AllocError> {
-    Command::new(alloc, "trace")
-        .about("Write each line of a script with its number, and its answers behind it")
-        .arg(valued(alloc, "links", "FILE", "The links file").required(true))?
-        .arg(
-            Arg::new(alloc, "SCRIPT")
-                .help("The script; - is standard input")
-                .default_value("-"),
-        )
+    subcommand(
+        alloc,
+        "trace",
+        "Write each line of a script with its number, and its answers behind it",
+        &[
+            valued("links", "FILE", "The links file").required(),
+            argument("SCRIPT", "The script; - is standard input").otherwise("-"),
+        ],
+    )
 }
 
 /// The subcommand `spread`.
 fn spread_words<'a>(alloc: Global) -> Result<Command<'a>, AllocError> {
-    Command::new(alloc, "spread")
-        .about("Write the rules that bring each datagram to the process of its link")
-        .arg(
-            Arg::new(alloc, "LINKS")
-                .help("The links file")
-                .required(true),
-        )?
-        .arg(valued(alloc, "hosts", "FILE", "The processes and their links").required(true))?
-        .arg(flag(
-            alloc,
-            "nginx",
-            "Write a configuration of nginx, not a table of nftables",
-        ))?
-        .arg(valued(
-            alloc,
-            "out",
-            "FOLDER",
-            "Write a links file for each process there",
-        ))
+    subcommand(
+        alloc,
+        "spread",
+        "Write the rules that bring each datagram to the process of its link",
+        &[
+            argument("LINKS", "The links file").required(),
+            valued("hosts", "FILE", "The processes and their links").required(),
+            flag(
+                "nginx",
+                "Write a configuration of nginx, not a table of nftables",
+            ),
+            valued("out", "FOLDER", "Write a links file for each process there"),
+        ],
+    )
 }
 
 /// The subcommand `verify`.
 fn verify<'a>(alloc: Global) -> Result<Command<'a>, AllocError> {
-    Command::new(alloc, "verify")
-        .about("Tell whether installed files are as they were packed")
-        .arg(
-            Arg::new(alloc, "LIST")
-                .help("The digests, as sha256sum writes them")
-                .required(true),
-        )?
-        .arg(valued(alloc, "root", "FOLDER", "Where the paths of the list begin").default_value(
-            "/",
-        ))
+    subcommand(
+        alloc,
+        "verify",
+        "Tell whether installed files are as they were packed",
+        &[
+            argument("LIST", "The digests, as sha256sum writes them").required(),
+            valued("root", "FOLDER", "Where the paths of the list begin").otherwise("/"),
+        ],
+    )
 }
 
 /// The parser of the command line.
