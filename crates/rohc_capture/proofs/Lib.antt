@@ -1,3 +1,4 @@
 pub mod FrameLemmas
 pub mod WindowLemmas
 pub mod ReaderLemmas
+pub mod WriterLemmas

@@ -1,5 +1,5 @@
 -- A capture that is written: with numbers with their most significant octet first.
--- Words: pair, quad; missing; pcap_head, pcapng_head; pcap_record, pcapng_record; head_of, frame_record.
+-- Words: pair, quad; missing; pcap_head, pcapng_head; before_frame, after_frame; head_of, frame_record.
 use Rattle.std.specs.Prelude.{ℕ, ◌+◌, ◌*◌, ◌-◌, ◌/◌, ◌%◌, List, [], ◌∷◌, ◌++◌, length, take}
 use Rattle.rohc_capture.specs.declared.writer.Format.{Format}
 use Rattle.rohc_capture.specs.declared.writer.Format.TheVariants.{Pcap, Pcapng}
@@ -20,12 +20,9 @@ missing size = (4 - size % 4) % 4
 abbrev pub pcap_head : ℕ → List ℕ
 pcap_head link = quad 0xa1b23c4d ++ quad 0x00020004 ++ quad 0 ++ quad 0 ++ quad 262144 ++ quad link
 
--- a record of pcap: the second and its nanosecond, the length twice, and the frame
+-- before a frame in pcap: the second and its nanosecond, and the length twice
 abbrev pub pcap_front : ℕ → ℕ → List ℕ
 pcap_front nanos size = quad (nanos / 1000000000) ++ quad (nanos % 1000000000) ++ quad size ++ quad size
-
-abbrev pub pcap_record : ℕ → List ℕ → List ℕ
-pcap_record nanos frame = pcap_front nanos (length frame) ++ frame
 
 -- the head of a file of pcapng: a section of version 1.0 with no length, and an interface of this link type
 -- with frames up to 262,144 octets and times in units of 10^-9 seconds
@@ -42,8 +39,8 @@ interface_head link =
 abbrev pub pcapng_head : ℕ → List ℕ
 pcapng_head link = section_head ++ interface_head link
 
--- an enhanced packet block of the first interface: its length, its time in two halves, the frame's length
--- twice, the frame, zeros up to a multiple of four, and the block's length again
+-- an enhanced packet block of the first interface. Before the frame: its length, its time in two halves, and the
+-- frame's length twice. Behind it: zeros up to a multiple of four, and the block's length again
 abbrev pub block_length : ℕ → ℕ
 block_length size = 32 + size + missing size
 
@@ -55,13 +52,19 @@ pcapng_front nanos size =
 abbrev pub pcapng_back : ℕ → List ℕ
 pcapng_back size = take (missing size) (0 ∷ 0 ∷ 0 ∷ []) ++ quad (block_length size)
 
-abbrev pub pcapng_record : ℕ → List ℕ → List ℕ
-pcapng_record nanos frame = pcapng_front nanos (length frame) ++ frame ++ pcapng_back (length frame)
-
 abbrev pub head_of : Format → ℕ → List ℕ
 head_of Pcap link = pcap_head link
 head_of Pcapng link = pcapng_head link
 
+-- a frame as it is written: what stands before it, the frame, and what stands behind it
+abbrev pub before_frame : Format → ℕ → ℕ → List ℕ
+before_frame Pcap nanos size = pcap_front nanos size
+before_frame Pcapng nanos size = pcapng_front nanos size
+
+abbrev pub after_frame : Format → ℕ → List ℕ
+after_frame Pcap size = []
+after_frame Pcapng size = pcapng_back size
+
 abbrev pub frame_record : Format → ℕ → List ℕ → List ℕ
-frame_record Pcap nanos frame = pcap_record nanos frame
-frame_record Pcapng nanos frame = pcapng_record nanos frame
+frame_record format nanos frame =
+    before_frame format nanos (length frame) ++ frame ++ after_frame format (length frame)

@@ -24,4 +24,4 @@ pub use fault::{CaptureFault, FRAME_FAULTS, FaultKind, FrameFault};
 pub use frame::{Network, Protocol, network_in};
 pub use reader::{Capture, Record};
 pub use udp::{Datagram, datagram_in};
-pub use writer::{Format, WriteFault, write_head, write_record};
+pub use writer::{Batch, Format, WriteFault, put_record, write_head, write_record};

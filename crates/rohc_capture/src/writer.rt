@@ -1,8 +1,8 @@
 //! Writing a capture.
 
-ghost use Rattle.std.specs.Prelude.{◌≡◌, ◌≤◌, ◌<◌, ◌+◌, ◌/◌, ◌%◌, ◌++◌, ◌^◌, ◌↔◌, ◌≢◌, length, take, [], ◌∷◌, OnOk, IfOk, IfErr, Err};
+ghost use Rattle.std.specs.Prelude.{◌≡◌, ◌≤◌, ◌<◌, ◌+◌, ◌/◌, ◌%◌, ◌++◌, ◌^◌, ◌↔◌, ◌≢◌, length, take, [], ◌∷◌, OnOk, IfOk, IfErr, Err, IsTrue, true, false};
 ghost use Rattle.std.specs.Io.KnownBytes.{Appends};
-ghost use Rattle.rohc_capture.specs.Written.{quad, missing, pcap_head, section_head, interface_head, pcap_record, pcapng_front, pcapng_back, pcapng_record, head_of, frame_record};
+ghost use Rattle.rohc_capture.specs.Written.{quad, missing, pcap_head, section_head, interface_head, pcap_front, pcapng_front, pcapng_back, before_frame, after_frame, head_of, frame_record};
 
 use arrayvec::ArrayVec;
 use std::io::Write;
@@ -30,20 +30,29 @@ pub enum WriteFault {
 /// The octets before a packet, or before the first record.
 type Head = ArrayVec<u8, 32>;
 
+/// Records of pcap, one behind the other, that are still to be written. A batch takes a record without a call, whose
+/// frame may then stay in registers up to there.
+pub type Batch = ArrayVec<u8, 4096>;
+
+/// The octets before a frame in a record of pcap.
+const RECORD_HEAD: usize = 16;
+
 /// The longest packet that is written, in octets.
 const LONGEST_PACKET: usize = 262_144;
 
 /// Appends octets.
-fn put_all(head: &mut Head, octets: &[u8])
-    requires { length head.old.items + length octets.now ≤ 32 }
+#[inline(always)]
+fn put_all<const N: usize>(head: &mut ArrayVec<u8, N>, octets: &[u8])
+    requires { length head.old.items + length octets.now ≤ N }
     ensures { head.new.items ≡ head.old.items ++ octets.now }
 {
     head.try_extend_from_slice(octets).unwrap();
 }
 
 /// Appends a number.
-fn put(head: &mut Head, number: u32)
-    requires { length head.old.items + 4 ≤ 32 }
+#[inline(always)]
+fn put<const N: usize>(head: &mut ArrayVec<u8, N>, number: u32)
+    requires { length head.old.items + 4 ≤ N }
     ensures { head.new.items ≡ head.old.items ++ quad number }
 {
     put_all(head, &number.to_be_bytes());
@@ -90,81 +99,40 @@ fn write_two<W: Write>(writer: &mut W, first: &[u8], second: &[u8]) -> Result<()
     write_one(writer, second)
 }
 
-/// Writes three parts.
+/// Appends what stands before a frame in a record of pcap.
 #[inline(always)]
-fn write_three<W: Write>(
-    writer: &mut W,
-    first: &[u8],
-    second: &[u8],
-    third: &[u8],
-) -> Result<(), WriteFault>
-    ensures written { OnOk result (Appends (W.contents writer.old) (W.contents writer.new) (first.now ++ second.now ++ third.now)) }
-    ensures failed { IfErr result (λ e. e ≡ WriteFault.Failed) }
+fn put_pcap_front<const N: usize>(head: &mut ArrayVec<u8, N>, nanos: u64, size: u32)
+    requires room { length head.old.items + 16 ≤ N }
+    requires time { nanos / 1000000000 < 2 ^ 32 }
+    ensures { head.new.items ≡ head.old.items ++ pcap_front nanos size }
 {
-    write_one(writer, first)?;
-    write_two(writer, second, third)
+    put(head, (nanos / 1_000_000_000) as u32);
+    put(head, (nanos % 1_000_000_000) as u32);
+    put(head, size);
+    put(head, size);
 }
 
-/// Writes a frame in two parts, and what stands behind it.
-fn write_behind<W: Write>(
-    writer: &mut W,
-    front: &[u8],
-    rest: &[u8],
-    behind: &[u8],
-) -> Result<(), WriteFault>
-    ensures written { OnOk result (Appends (W.contents writer.old) (W.contents writer.new) ((front.now ++ rest.now) ++ behind.now)) }
-    ensures failed { IfErr result (λ e. e ≡ WriteFault.Failed) }
+/// Whether a record of pcap can hold a time: it lies before 2106.
+#[inline(always)]
+fn is_in_time(nanos: u64) -> bool
+    ensures { IsTrue result ↔ (nanos / 1000000000 < 2 ^ 32) }
 {
-    write_two(writer, front, rest)?;
-    write_one(writer, behind)
+    nanos / 1_000_000_000 <= u64::from(u32::MAX)
 }
 
-/// Writes what stands before a frame, the frame in two parts, and what stands behind it.
-fn write_frame<W: Write>(
-    writer: &mut W,
-    before: &[u8],
-    front: &[u8],
-    rest: &[u8],
-    behind: &[u8],
-) -> Result<(), WriteFault>
-    ensures written { OnOk result (Appends (W.contents writer.old) (W.contents writer.new) (before.now ++ (front.now ++ rest.now) ++ behind.now)) }
-    ensures failed { IfErr result (λ e. e ≡ WriteFault.Failed) }
+/// Writes what stands before a frame in a record of pcap. Its time must lie before 2106.
+fn write_pcap_front<W: Write>(writer: &mut W, nanos: u64, size: u32) -> Result<(), WriteFault>
+    ensures written { OnOk result (Appends (W.contents writer.old) (W.contents writer.new) (pcap_front nanos size)) }
+    ensures size { result ≢ Err WriteFault.TooLong }
+    ensures late { (result ≡ Err WriteFault.TooLate) ↔ (2 ^ 32 ≤ nanos / 1000000000) }
+    ensures stays { result ≡ Err WriteFault.TooLate → writer.new ≡ writer.old }
 {
-    write_one(writer, before)?;
-    write_behind(writer, front, rest, behind)
-}
-
-/// The head of a record of pcap, from its second and its nanosecond.
-fn pcap_front(second: u32, nano: u32, size: u32) -> Head
-    ensures { result.items ≡ quad second ++ quad nano ++ quad size ++ quad size }
-{
-    let mut head = Head::new();
-    put(&mut head, second);
-    put(&mut head, nano);
-    put(&mut head, size);
-    put(&mut head, size);
-    head
-}
-
-/// Writes a record of pcap. Its time must lie before 2106.
-fn write_pcap<W: Write>(
-    writer: &mut W,
-    nanos: u64,
-    front: &[u8],
-    rest: &[u8],
-) -> Result<(), WriteFault>
-    ensures written { OnOk result (Appends (W.contents writer.old) (W.contents writer.new) (pcap_record nanos (front.now ++ rest.now))) }
-    ensures long { (result ≡ Err WriteFault.TooLong) ↔ (LONGEST_PACKET < length (front.now ++ rest.now)) }
-    ensures late { (result ≡ Err WriteFault.TooLate) ↔ ((length (front.now ++ rest.now) ≤ LONGEST_PACKET) × (2 ^ 32 ≤ nanos / 1000000000)) }
-    ensures stays { IfErr result (λ e. e ≢ WriteFault.Failed → writer.new ≡ writer.old) }
-{
-    let size = size_of(front, rest)?;
-    let Ok(second) = u32::try_from(nanos / 1_000_000_000) else {
+    if !is_in_time(nanos) {
         return Err(WriteFault::TooLate);
-    };
-    let nano = (nanos % 1_000_000_000) as u32;
-    let head = pcap_front(second, nano, size);
-    write_three(writer, head.as_slice(), front, rest)
+    }
+    let mut head = Head::new();
+    put_pcap_front(&mut head, nanos, size);
+    write_one(writer, head.as_slice())
 }
 
 /// What stands before a frame in its block of pcapng.
@@ -196,22 +164,35 @@ fn pcapng_back(size: u32) -> Head
     back
 }
 
-/// Writes a packet's block of pcapng.
-fn write_pcapng<W: Write>(
+/// Writes what stands before a frame of this length.
+fn write_before<W: Write>(
     writer: &mut W,
+    format: Format,
     nanos: u64,
-    front: &[u8],
-    rest: &[u8],
+    size: u32,
 ) -> Result<(), WriteFault>
-    ensures written { OnOk result (Appends (W.contents writer.old) (W.contents writer.new) (pcapng_record nanos (front.now ++ rest.now))) }
-    ensures long { (result ≡ Err WriteFault.TooLong) ↔ (LONGEST_PACKET < length (front.now ++ rest.now)) }
-    ensures never_late { result ≢ Err WriteFault.TooLate }
-    ensures stays { IfErr result (λ e. e ≢ WriteFault.Failed → writer.new ≡ writer.old) }
+    requires { size ≤ LONGEST_PACKET }
+    ensures written { OnOk result (Appends (W.contents writer.old) (W.contents writer.new) (before_frame format nanos size)) }
+    ensures size { result ≢ Err WriteFault.TooLong }
+    ensures late { (result ≡ Err WriteFault.TooLate) ↔ ((format ≡ Format.Pcap) × (2 ^ 32 ≤ nanos / 1000000000)) }
+    ensures stays { result ≡ Err WriteFault.TooLate → writer.new ≡ writer.old }
 {
-    let size = size_of(front, rest)?;
-    let before = pcapng_front(nanos, size);
-    let behind = pcapng_back(size);
-    write_frame(writer, before.as_slice(), front, rest, behind.as_slice())
+    match format {
+        Format::Pcap => write_pcap_front(writer, nanos, size),
+        Format::Pcapng => write_one(writer, pcapng_front(nanos, size).as_slice()),
+    }
+}
+
+/// Writes what stands behind a frame of this length.
+fn write_after<W: Write>(writer: &mut W, format: Format, size: u32) -> Result<(), WriteFault>
+    requires { size ≤ LONGEST_PACKET }
+    ensures written { OnOk result (Appends (W.contents writer.old) (W.contents writer.new) (after_frame format size)) }
+    ensures failed { IfErr result (λ e. e ≡ WriteFault.Failed) }
+{
+    match format {
+        Format::Pcap => Ok(()),
+        Format::Pcapng => write_one(writer, pcapng_back(size).as_slice()),
+    }
 }
 
 /// The head of a file of pcap.
@@ -295,8 +276,32 @@ pub fn write_record<W: Write>(
         ↔ ((format ≡ Format.Pcap) × (length (front.now ++ rest.now) ≤ LONGEST_PACKET) × (2 ^ 32 ≤ nanos / 1000000000)) }
     ensures stays { IfErr result (λ e. e ≢ WriteFault.Failed → writer.new ≡ writer.old) }
 {
-    match format {
-        Format::Pcap => write_pcap(writer, nanos, front, rest),
-        Format::Pcapng => write_pcapng(writer, nanos, front, rest),
+    let size = size_of(front, rest)?;
+    write_before(writer, format, nanos, size)?;
+    write_two(writer, front, rest)?;
+    write_after(writer, format, size)
+}
+
+/// Puts a record of pcap, of a frame in two parts, behind those of a batch, and returns true, if there is room for it and
+/// its time lies before 2106. Else nothing is changed.
+#[inline(always)]
+pub fn put_record(batch: &mut Batch, nanos: u64, front: &[u8], rest: &[u8]) -> bool
+    ensures put { result ≡ true → batch.new.items ≡ batch.old.items ++ frame_record Format.Pcap nanos (front.now ++ rest.now) }
+    ensures room { IsTrue result ↔ ((length batch.old.items + 16 + length front.now + length rest.now ≤ 4096) × (nanos / 1000000000 < 2 ^ 32)) }
+    ensures kept { result ≡ false → batch.new ≡ batch.old }
+{
+    let room = batch.remaining_capacity();
+    if room < RECORD_HEAD
+        || room - RECORD_HEAD < front.len()
+        || room - RECORD_HEAD - front.len() < rest.len()
+    {
+        return false;
     }
+    if !is_in_time(nanos) {
+        return false;
+    }
+    put_pcap_front(batch, nanos, (front.len() + rest.len()) as u32);
+    put_all(batch, front);
+    put_all(batch, rest);
+    true
 }

@@ -1,15 +1,18 @@
 -- Runs one after another.
-use Rattle.std.proofs.Common.{◌≡◌, ◌≢◌, ℕ, List, [], ◌∷◌, ◌++◌, map, Option, Some, None, IfSome, Result, Ok, Err, refl, sym, ◌∙◌, ap, subst, append_assoc, append-nil}
+use Rattle.std.proofs.Common.{◌≡◌, ◌≢◌, ℕ, ◌/◌, Bool, List, [], ◌∷◌, ◌++◌, map, Option, Some, None, IfSome, Result, Ok, Err, refl, sym, ◌∙◌, ap, subst, append_assoc, append-nil}
 use Rattle.std.specs.List.{flat_map}
 use Rattle.std.specs.Option.{option_map}
-use Rattle.std.specs.Io.KnownBytes.{Appends, Keeps}
-use Rattle.std.proofs.KnownBytes.{Appends-nil, Appends-trans, Appends-kept}
+use Rattle.std.specs.Io.KnownBytes.{Appends, Keeps, append_known}
+use Rattle.std.proofs.KnownBytes.{Appends-nil, Appends-trans, Appends-kept, Keeps-refl}
 use Rattle.rohc_concentrator.specs.declared.concentrator.Concentrator.{Concentrator}
 use Rattle.rohc_concentrator.specs.Report.{Report}
 use Rattle.rohc_concentrator.specs.Events.{Event, RunsEvents}
 use Rattle.rohc_capture.specs.declared.choice.Rule.{Rule}
 use Rattle.rohc_concentrator.specs.Isolation.{IsIsolatedRun}
+use Rattle.rohc_concentrator.specs.Tables.{KeepsAll}
+use Rattle.rohc_capture.specs.declared.writer.Format.{Format}
 use Rattle.rohc_concentrator.proofs.EventLemmas.{isolated_events}
+use Rattle.rohc_concentrator.proofs.KeepLemmas.{arrives_after}
 use Rattle.rohc_capture.specs.declared.fault.FrameFault.{FrameFault}
 use Rattle.rohc_capture.specs.declared.fault.CaptureFault.{CaptureFault}
 use Rattle.rohc_capture.specs.declared.fault.FaultKind.TheVariants.{Read}
@@ -18,8 +21,10 @@ use Rattle.rohc_capture.specs.declared.reader.Record.{Record}
 use Rattle.rohc_capture.specs.Choice.{packet_in}
 use Rattle.rohc_capture.specs.Records.{Entry, Standing, standing, IsNext, Leads, Holds}
 use Rattle.rohc_capture.specs.Standing.{entry_of, ReadsOn}
+use Rattle.rohc_decompress.specs.declared.fault.BulkFault.{BulkFault}
+use Rattle.rohc_decompress.specs.declared.fault.BulkFault.TheVariants.{Capture, Write}
 use Rattle.rohc_decompress.specs.Written.{packet_of, packet_text, feedback_of, feedback_text, TakesPacket, Work, work}
-use Rattle.rohc_decompress.specs.Run.{arrival_of, arrival_in, arrivals_in, Turn, event_of, turn_packet, turn_feedback, How, Runs, event_run, Decompresses, Breaks}
+use Rattle.rohc_decompress.specs.Run.{arrival_of, arrival_in, arrivals_in, Turn, event_of, turn_packet, turn_feedback, How, Runs, event_run, Decompresses, Breaks, Stops}
 
 some_is : (x y : List ℕ) → ◌≡◌ {A = Option (List ℕ)} (Some x) (Some y) → x ≡ y
 some_is x y e = cc
@@ -65,7 +70,35 @@ Runs-kept how es a b packets feedback r p q = record {
   feedback = Appends-kept a.feedback b.feedback feedback _ r.feedback q;
 }
 
+-- ---- a batch
+
+-- nothing stands in it
+pub append_known-none : (known : Option (List ℕ)) (batch : List ℕ) → batch ≡ [] → append_known known batch ≡ known
+append_known-none None batch none = refl
+append_known-none (Some text) batch none = ap (λ l. Some (text ++ l)) none ∙ ap Some (append-nil text)
+
+kept-appends : (a b c : Option (List ℕ)) (text : List ℕ) → Keeps a b → Appends b c text → Appends a c text
+kept-appends None b c text p q = tt
+kept-appends (Some x) None c text p q = absurd p
+kept-appends (Some x) (Some y) None text p q = absurd q
+kept-appends (Some x) (Some y) (Some z) text p q = q ∙ ap (λ l. l ++ text) p
+
+-- it was written, and more is written behind it
+pub behind-batch : (old poured new : Option (List ℕ)) (batch text : List ℕ) → Keeps old poured → batch ≡ [] → Appends poured new text → Appends old (append_known new batch) text
+behind-batch old poured new batch text kept none more =
+    subst (λ k. Appends old k text) (sym (append_known-none new batch none)) (kept-appends old poured new text kept more)
+
 -- ---- one record
+
+-- what is tried first and changes nothing may be left out
+pub takes_after : (format : Format) (padded : Bool) (link nanos : ℕ) (packet : List ℕ) (old : Work) (mid : Concentrator) (new : Work) → KeepsAll old.concentrator mid →
+    TakesPacket format padded link nanos packet (work mid old.packets old.feedback) new → TakesPacket format padded link nanos packet old new
+takes_after format padded link nanos packet old mid new kept t = record {
+  report = t.report;
+  arrives = arrives_after old.concentrator mid link (nanos / 1000000) packet t.report new.concentrator kept t.arrives;
+  packets = t.packets;
+  feedback = t.feedback;
+}
 
 pub one-turn : (how : How) (e : Entry) (link : ℕ) (packet : List ℕ) (old new : Work) → packet_in how.rules e.link_type e.original e.frame ≡ Ok (Some (link, packet)) →
     TakesPacket how.format how.padded link e.nanos packet old new → Runs how (e ∷ []) old new
@@ -146,3 +179,23 @@ ends_well how s es old new ending h r = record { records = es; held = h; run = r
 pub breaks_off : (how : How) (s : Option Standing) (es : List Entry) (kind : Kind) (place : ℕ) (rest : Option (List ℕ)) (old new : Work) → IsLed s es kind place rest → Runs how es old new →
     Breaks how s old new
 breaks_off how s es kind place rest old new l r = record { records = es; led = led-here s es kind place rest l; run = r; isolated = isolated r }
+
+-- ---- the last batch is written
+
+pub whole-poured : (how : How) (s : Option Standing) (ending : Result Unit CaptureFault) (old new : Work) (poured : Option (List ℕ)) → Keeps new.packets poured →
+    Decompresses how s ending old new → Decompresses how s ending old (work new.concentrator poured new.feedback)
+whole-poured how s ending old new poured kept d =
+    ends_well how s d.records old (work new.concentrator poured new.feedback) ending d.held (Runs-kept how d.records old new poured new.feedback d.run kept (Keeps-refl new.feedback))
+
+break-poured : (how : How) (s : Option Standing) (old new : Work) (poured : Option (List ℕ)) → Keeps new.packets poured → Breaks how s old new → Breaks how s old (work new.concentrator poured new.feedback)
+break-poured how s old new poured kept b =
+    let run = Runs-kept how b.records old new poured new.feedback b.run kept (Keeps-refl new.feedback) in
+    record { records = b.records; led = b.led; run = run; isolated = isolated run }
+
+pub stop-poured : (how : How) (s : Option Standing) (fault : BulkFault) (old new : Work) (poured : Option (List ℕ)) → Keeps new.packets poured →
+    Stops how s fault old new → Stops how s fault old (work new.concentrator poured new.feedback)
+stop-poured how s (Capture fault) old new poured kept p = (
+  λ known. whole-poured how s (Err fault) old new poured kept (p.0 known),
+  break-poured how s old new poured kept p.1,
+)
+stop-poured how s Write old new poured kept p = tt

@@ -1,8 +1,8 @@
 //! A run over a capture.
 
-ghost use Rattle.std.specs.Prelude.{◌≡◌, [], ◌∷◌, Some, Ok, OnOk, IfErr};
+ghost use Rattle.std.specs.Prelude.{◌≡◌, [], ◌∷◌, ◌++◌, Some, None, Ok, OnOk, IfErr, length, true, false};
 ghost use Rattle.std.specs.Option.{option_map};
-ghost use Rattle.std.specs.Io.KnownBytes.{Appends, Keeps};
+ghost use Rattle.std.specs.Io.KnownBytes.{append_known, Appends, Keeps};
 ghost use Rattle.rohc_context.specs.Response.{response_of};
 ghost use Rattle.rohc_feedback.specs.Element.{octets_of};
 ghost use Rattle.rohc_concentrator.specs.Report.{report_of};
@@ -17,10 +17,11 @@ use crate::cut::without_padding;
 use crate::fault::BulkFault;
 use crate::tally::{Tally, more};
 use rohc_capture::{
-    Capture, CaptureFault, FaultKind, Format, Record, Rule, packet_in, write_head, write_record,
+    Batch, Capture, CaptureFault, FaultKind, Format, Record, Rule, packet_in, put_record,
+    write_head, write_record,
 };
 use rohc_concentrator::{Answer, Concentrator};
-use rohc_context::{Delivered, Reply};
+use rohc_context::{AtOnce, Delivered, Outcome, Reply};
 use rohc_feedback::Element;
 use rohc_frame::Elements;
 use std::io::{Read, Write};
@@ -31,6 +32,9 @@ const RAW_IP: u16 = 101;
 /// The link type of Ethernet frames.
 const ETHERNET: u16 = 1;
 
+/// The octets of the head of nearly every packet.
+const HEAD: usize = 40;
+
 /// How a capture is run.
 #[derive(Clone, Copy, Debug)]
 pub struct Bulk<'a> {
@@ -40,6 +44,14 @@ pub struct Bulk<'a> {
     pub padded: bool,
     /// The form of the captures that are written.
     pub format: Format,
+}
+
+/// An answer on a link, with the time of its frame in nanoseconds since 1970.
+#[derive(Debug, Drop)]
+struct Answered<'a> {
+    link: u16,
+    nanos: u64,
+    answer: Answer<'a>,
 }
 
 /// Writes the heads of both captures: of raw IP packets, and of feedback in Ethernet frames.
@@ -64,7 +76,8 @@ pub fn begin<W: Write, V: Write>(
 ///
 /// A packet that is delivered goes to `packets`, and feedback that is due to `feedback`, each with the time of its frame.
 /// The addresses of a feedback's Ethernet frame are 02:00:00:00:00:00 and 02:00:00:00 with the link's number behind.
-/// Counts are added to `tally`. Both writers are flushed before a read that may wait. After a fault all before it was written.
+/// Counts are added to `tally`. Both writers are flushed before a read that may wait. After a fault of the capture all
+/// before it was written.
 pub fn decompress<R: Read, W: Write, V: Write>(
     concentrator: &mut Concentrator,
     bulk: &Bulk<'_>,
@@ -82,6 +95,44 @@ pub fn decompress<R: Read, W: Write, V: Write>(
         (work concentrator.old (W.contents packets.old) (V.contents feedback.old))
         (work concentrator.new (W.contents packets.new) (V.contents feedback.new))) }
 {
+    let mut batch = Batch::new();
+    let ran = take_records(
+        concentrator,
+        bulk,
+        capture,
+        &mut batch,
+        packets,
+        feedback,
+        tally,
+    );
+    if let Err(BulkFault::Write) = ran {
+        return ran;
+    }
+    let Ok(()) = pour(&mut batch, packets) else {
+        return Err(BulkFault::Write);
+    };
+    ran
+}
+
+/// Takes the records of a capture to its end. What stands in the batch afterwards is still to be written.
+fn take_records<R: Read, W: Write, V: Write>(
+    concentrator: &mut Concentrator,
+    bulk: &Bulk<'_>,
+    capture: &mut Capture<R>,
+    batch: &mut Batch,
+    packets: &mut W,
+    feedback: &mut V,
+    tally: &mut Tally,
+) -> Result<(), BulkFault>
+    ensures whole { OnOk result (Decompresses (how bulk.now)
+        (option_map (standing capture.old.kind (place_of capture.old)) (rest_of R.remaining capture.old)) (Ok tt)
+        (work concentrator.old (append_known (W.contents packets.old) batch.old.items) (V.contents feedback.old))
+        (work concentrator.new (append_known (W.contents packets.new) batch.new.items) (V.contents feedback.new))) }
+    ensures fault { IfErr result (λ fault. Stops (how bulk.now)
+        (option_map (standing capture.old.kind (place_of capture.old)) (rest_of R.remaining capture.old)) fault
+        (work concentrator.old (append_known (W.contents packets.old) batch.old.items) (V.contents feedback.old))
+        (work concentrator.new (append_known (W.contents packets.new) batch.new.items) (V.contents feedback.new))) }
+{
     for _ in 0..u64::MAX {
         let record = match capture.next() {
             Ok(Some(record)) => record,
@@ -90,10 +141,19 @@ pub fn decompress<R: Read, W: Write, V: Write>(
         };
         more(&mut tally.frames);
         let frame = capture.frame();
-        let Ok(()) = take_frame(concentrator, bulk, &record, frame, packets, feedback, tally) else {
+        let Ok(()) = take_frame(
+            concentrator,
+            bulk,
+            &record,
+            frame,
+            batch,
+            packets,
+            feedback,
+            tally,
+        ) else {
             return Err(BulkFault::Write);
         };
-        let Ok(()) = settle(capture.is_ahead(), packets, feedback) else {
+        let Ok(()) = settle(capture.is_ahead(), batch, packets, feedback) else {
             return Err(BulkFault::Write);
         };
     }
@@ -113,18 +173,32 @@ fn flush<W: Write>(writer: &mut W) -> Result<(), BulkFault>
     }
 }
 
-/// Flushes both writers, unless the next record is ahead.
+/// Writes the records of a batch, and empties it.
+fn pour<W: Write>(batch: &mut Batch, packets: &mut W) -> Result<(), BulkFault>
+    ensures kept { OnOk result (Keeps (append_known (W.contents packets.old) batch.old.items) (W.contents packets.new)) }
+    ensures empty { OnOk result (batch.new.items ≡ []) }
+{
+    let Ok(()) = packets.write_all(batch.as_slice()) else {
+        return Err(BulkFault::Write);
+    };
+    batch.clear();
+    Ok(())
+}
+
+/// Writes the batch and flushes both writers, unless the next record is ahead.
 fn settle<W: Write, V: Write>(
     is_ahead: bool,
+    batch: &mut Batch,
     packets: &mut W,
     feedback: &mut V,
 ) -> Result<(), BulkFault>
-    ensures packets { OnOk result (Keeps (W.contents packets.old) (W.contents packets.new)) }
+    ensures packets { OnOk result (Keeps (append_known (W.contents packets.old) batch.old.items) (append_known (W.contents packets.new) batch.new.items)) }
     ensures feedback { OnOk result (Keeps (V.contents feedback.old) (V.contents feedback.new)) }
 {
     if is_ahead {
         return Ok(());
     }
+    pour(batch, packets)?;
     flush(packets)?;
     flush(feedback)
 }
@@ -135,13 +209,14 @@ fn take_frame<W: Write, V: Write>(
     bulk: &Bulk<'_>,
     record: &Record,
     frame: &[u8],
+    batch: &mut Batch,
     packets: &mut W,
     feedback: &mut V,
     tally: &mut Tally,
 ) -> Result<(), BulkFault>
     ensures { OnOk result (Runs (how bulk.now) (entry_of «record».now frame.now ∷ [])
-        (work concentrator.old (W.contents packets.old) (V.contents feedback.old))
-        (work concentrator.new (W.contents packets.new) (V.contents feedback.new))) }
+        (work concentrator.old (append_known (W.contents packets.old) batch.old.items) (V.contents feedback.old))
+        (work concentrator.new (append_known (W.contents packets.new) batch.new.items) (V.contents feedback.new))) }
 {
     match packet_in(bulk.rules, record.link_type, record.original, frame) {
         Ok(Some((link, packet))) => {
@@ -153,6 +228,7 @@ fn take_frame<W: Write, V: Write>(
                 link,
                 nanos,
                 packet,
+                batch,
                 packets,
                 feedback,
                 tally,
@@ -169,25 +245,144 @@ fn take_frame<W: Write, V: Write>(
     }
 }
 
-/// Takes a packet of a link that was captured at this time: it arrives, and what is delivered is written.
+/// Takes a packet of a link that was captured at this time: it arrives, and what is delivered is put into the batch, or is
+/// written behind it.
+///
+/// Nearly every packet is taken at once, and its record put into the batch. Then the answer is lent to no function that
+/// isn't inlined, and the compiler writes a header of 40 octets to where it goes, part by part.
 ///
 /// The error is a failed write. Then the packet has arrived, and a part of what it delivers may have been written.
+#[inline(always)]
 pub fn take_packet<W: Write, V: Write>(
     concentrator: &mut Concentrator,
     bulk: &Bulk<'_>,
     link: u16,
     nanos: u64,
     packet: &[u8],
+    batch: &mut Batch,
     packets: &mut W,
     feedback: &mut V,
     tally: &mut Tally,
 ) -> Result<(), BulkFault>
     ensures { OnOk result (TakesPacket bulk.now.format bulk.now.padded link nanos packet.now
-        (work concentrator.old (W.contents packets.old) (V.contents feedback.old))
-        (work concentrator.new (W.contents packets.new) (V.contents feedback.new))) }
+        (work concentrator.old (append_known (W.contents packets.old) batch.old.items) (V.contents feedback.old))
+        (work concentrator.new (append_known (W.contents packets.new) batch.new.items) (V.contents feedback.new))) }
+{
+    let mut answer = Answer::blank();
+    let moment = nanos / 1_000_000;
+    if !concentrator.take_at_once(AtOnce::Rebuilt, link, moment, packet, &mut answer) {
+        return take_longer(
+            concentrator,
+            bulk,
+            link,
+            nanos,
+            packet,
+            batch,
+            packets,
+            feedback,
+            tally,
+        );
+    }
+    if put_answer(bulk, nanos, &answer, batch) {
+        more(&mut tally.delivered);
+        return Ok(());
+    }
+    let answered = Answered {
+        link,
+        nanos,
+        answer,
+    };
+    take_other(bulk, answered, batch, packets, feedback, tally)
+}
+
+/// Takes a packet that isn't taken at once.
+#[cold]
+#[inline(never)]
+fn take_longer<W: Write, V: Write>(
+    concentrator: &mut Concentrator,
+    bulk: &Bulk<'_>,
+    link: u16,
+    nanos: u64,
+    packet: &[u8],
+    batch: &mut Batch,
+    packets: &mut W,
+    feedback: &mut V,
+    tally: &mut Tally,
+) -> Result<(), BulkFault>
+    ensures { OnOk result (TakesPacket bulk.now.format bulk.now.padded link nanos packet.now
+        (work concentrator.old (append_known (W.contents packets.old) batch.old.items) (V.contents feedback.old))
+        (work concentrator.new (append_known (W.contents packets.new) batch.new.items) (V.contents feedback.new))) }
 {
     let mut answer = Answer::blank();
     concentrator.arrive_into(link, nanos / 1_000_000, packet, &mut answer);
+    let answered = Answered {
+        link,
+        nanos,
+        answer,
+    };
+    take_other(bulk, answered, batch, packets, feedback, tally)
+}
+
+/// Puts the record of what an answer delivers into the batch, and returns true, if that is a packet whose head has 40
+/// octets, without feedback, the record is one of pcap with nothing cut, and there is room. Nearly every answer is one.
+#[inline(always)]
+fn put_answer(bulk: &Bulk<'_>, nanos: u64, answer: &Answer<'_>, batch: &mut Batch) -> bool
+    ensures put { result ≡ true → batch.new.items ≡ batch.old.items
+        ++ packet_text bulk.now.format bulk.now.padded nanos (packet_of (report_of answer.now)) }
+    ensures feedback { result ≡ true → feedback_of (report_of answer.now) ≡ None }
+    ensures kept { result ≡ false → batch.new ≡ batch.old }
+{
+    let Answer::Arrived { reply, .. } = answer else {
+        return false;
+    };
+    if reply.outcome != Outcome::Delivered || reply.feedback.is_some() {
+        return false;
+    }
+    if bulk.format != Format::Pcap || bulk.padded {
+        return false;
+    }
+    match &reply.packet {
+        Some(packet) if packet.head.len() == HEAD => put_long(nanos, packet, batch),
+        _ => false,
+    }
+}
+
+/// Puts the record of a packet whose head has 40 octets into the batch, and returns true, if there is room. The compiler
+/// makes no call of a copy whose length it knows.
+#[inline(always)]
+fn put_long(nanos: u64, long: &Delivered<'_>, batch: &mut Batch) -> bool
+    requires { length long.now.head.items ≡ 40 }
+    ensures put { result ≡ true → batch.new.items ≡ batch.old.items
+        ++ packet_text Format.Pcap false nanos (Some (delivered_packet long.now)) }
+    ensures kept { result ≡ false → batch.new ≡ batch.old }
+{
+    let head = &long.head.as_slice()[..HEAD];
+    put_record(batch, nanos, head, long.payload)
+}
+
+/// Writes the batch and what an answer of another shape delivers, and counts it.
+#[cold]
+#[inline(never)]
+fn take_other<W: Write, V: Write>(
+    bulk: &Bulk<'_>,
+    answered: Answered<'_>,
+    batch: &mut Batch,
+    packets: &mut W,
+    feedback: &mut V,
+    tally: &mut Tally,
+) -> Result<(), BulkFault>
+    ensures packets { OnOk result (Appends (append_known (W.contents packets.old) batch.old.items)
+        (append_known (W.contents packets.new) batch.new.items)
+        (packet_text bulk.now.format bulk.now.padded answered.entry.nanos (packet_of (report_of answered.entry.answer)))) }
+    ensures feedback { OnOk result (Appends (V.contents feedback.old) (V.contents feedback.new)
+        (feedback_text bulk.now.format answered.entry.link answered.entry.nanos (feedback_of (report_of answered.entry.answer)))) }
+{
+    pour(batch, packets)?;
+    let Answered {
+        link,
+        nanos,
+        answer,
+    } = answered;
     take_answer(bulk, link, nanos, &answer, packets, feedback, tally)
 }
 

@@ -1,5 +1,7 @@
 //! `decompress`: from a capture of ROHC packets to a capture of IP packets.
 
+ghost use Rattle.std.specs.Prelude.{◌≡◌, ◌≢◌};
+
 use crate::rules::{RuleWords, rules_of};
 use rohc_capture::{Capture, CaptureFault, FaultKind, Format};
 use rohc_concentrator::Concentrator;
@@ -30,7 +32,11 @@ pub struct Decompress<'a> {
 }
 
 /// The ending for a capture that can't be read on.
-pub fn capture_end(fault: CaptureFault) -> Ending {
+pub fn capture_end(fault: CaptureFault) -> Ending
+    ensures memory { fault.kind ≡ FaultKind.NoMemory → result ≡ Ending.Memory }
+    ensures read { fault.kind ≡ FaultKind.Read → result ≡ Ending.Read }
+    ensures capture { fault.kind ≢ FaultKind.NoMemory → fault.kind ≢ FaultKind.Read → result ≡ Ending.Capture fault }
+{
     match fault.kind {
         FaultKind::NoMemory => Ending::Memory,
         FaultKind::Read => Ending::Read,

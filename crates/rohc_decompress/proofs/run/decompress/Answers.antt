@@ -1,82 +1,38 @@
-use Rattle.std.proofs.Common.{◌≡◌, [], ◌∷◌, ◌++◌, Some, None, Ok, Err, IfSome, refl, subst}
+use Rattle.std.proofs.Common.{Ok, OnOk, IfErr, subst}
+use Rattle.std.proofs.lemmas.Result.{on_ok_weaker, IfErr-weaker}
 use Rattle.std.specs.Option.{option_map}
+use Rattle.std.specs.Io.KnownBytes.{append_known}
 use Rattle.rohc_capture.specs.Records.{standing}
-use Rattle.rohc_capture.specs.Standing.{entry_of, frame_of, rest_of, place_of, ReadsOn}
+use Rattle.rohc_capture.specs.Standing.{rest_of, place_of}
 use Rattle.rohc_decompress.specs.Written.{work}
-use Rattle.rohc_decompress.specs.Run.{how, Runs}
-use Rattle.rohc_decompress.proofs.RunLemmas.{Runs-none, Runs-more, Runs-kept, led-first, led-more, led-end, led-fault, ends_well, breaks_off}
+use Rattle.rohc_decompress.specs.Run.{how, Decompresses, Stops}
+use Rattle.rohc_decompress.proofs.RunLemmas.{append_known-none, whole-poured, stop-poured}
 use Rattle.rohc_decompress.proofs.run.decompress.Goals as goal
 
-pub loop-init : goal.loop-init
-loop-init g c = (
-  [],
-  led-first c.args.capture.now.kind (place_of c.args.capture.now) (rest_of g.R.Read.remaining c.args.capture.now),
-  Runs-none (how c.args.bulk.now) (work c.args.concentrator.now (g.W.Write.contents c.args.packets.now) (g.V.Write.contents c.args.feedback.now)),
-)
-
-pub returns-in-Ok-None-clause-whole : goal.returns-in-Ok-None-clause-whole
-returns-in-Ok-None-clause-whole g c =
-    let rest = rest_of g.R.Read.remaining in
+pub returns-clause-whole : goal.returns-clause-whole
+returns-clause-whole g c =
     let first = c.args.capture.now in
-    let s = option_map (standing first.kind (place_of first)) (rest first) in
-    let here = c.loop.capture in
-    let next = c.next.new.self in
-    let i = c.loop.invariant in
-    let is : c.next.result ≡ Ok None = cc (c.in-Ok-None.is, c.in-Ok-None.field-0-is) in
-    let read = subst (λ r. IfSome (rest here) (λ text. ReadsOn (standing here.kind (place_of here) text) r (frame_of next) next.kind (place_of next) (rest next))) is c.next.ensures in
-    ends_well (how c.args.bulk.now) s i.0
-    (work c.args.concentrator.now (g.W.Write.contents c.args.packets.now) (g.V.Write.contents c.args.feedback.now))
-    (work c.loop.concentrator (g.W.Write.contents c.loop.packets) (g.V.Write.contents c.loop.feedback)) (Ok tt)
-    (led-end s i.0 here.kind next.kind (place_of here) (place_of next) (rest here) (rest next) (frame_of next) i.1 read) i.2
-
-pub returns-in-Err-clause-fault : goal.returns-in-Err-clause-fault
-returns-in-Err-clause-fault g c =
-    let rest = rest_of g.R.Read.remaining in
-    let first = c.args.capture.now in
-    let s = option_map (standing first.kind (place_of first)) (rest first) in
-    let here = c.loop.capture in
-    let next = c.next.new.self in
-    let i = c.loop.invariant in
-    let old = work c.args.concentrator.now (g.W.Write.contents c.args.packets.now) (g.V.Write.contents c.args.feedback.now) in
-    let new = work c.loop.concentrator (g.W.Write.contents c.loop.packets) (g.V.Write.contents c.loop.feedback) in
-    let is : c.next.result ≡ Err c.in-Err.fault = cc (c.in-Err.is) in
-    let read = subst (λ r. IfSome (rest here) (λ text. ReadsOn (standing here.kind (place_of here) text) r (frame_of next) next.kind (place_of next) (rest next))) is c.next.ensures in (
-      λ k. ends_well (how c.args.bulk.now) s i.0 old new (Err c.in-Err.fault)
-          (led-fault s i.0 here.kind next.kind (place_of here) (place_of next) (rest here) (rest next) (frame_of next) c.in-Err.fault i.1 read k) i.2,
-      breaks_off (how c.args.bulk.now) s i.0 here.kind (place_of here) (rest here) old new i.1 i.2,
-    )
-
-pub loop-preserved : goal.loop-preserved
-loop-preserved g c =
-    let rest = rest_of g.R.Read.remaining in
-    let first = c.args.capture.now in
-    let s = option_map (standing first.kind (place_of first)) (rest first) in
-    let here = c.loop.capture in
-    let next = c.next.new.self in
-    let i = c.loop.invariant in
-    let r = c.in-Ok-Some.record in
-    let e = entry_of r (frame_of next) in
-    let old = work c.args.concentrator.now (g.W.Write.contents c.args.packets.now) (g.V.Write.contents c.args.feedback.now) in
-    let mid = work c.loop.concentrator (g.W.Write.contents c.loop.packets) (g.V.Write.contents c.loop.feedback) in
-    let took = work c.take_frame.new.concentrator (g.W.Write.contents c.take_frame.new.packets) (g.V.Write.contents c.take_frame.new.feedback) in
-    let packets = g.W.Write.contents c.settle.new.packets in
-    let feedback = g.V.Write.contents c.settle.new.feedback in
-    let is : c.next.result ≡ Ok (Some r) = cc (c.in-Ok-Some.is, c.in-Ok-Some.field-0-is) in
-    let read = subst (λ r. IfSome (rest here) (λ text. ReadsOn (standing here.kind (place_of here) text) r (frame_of next) next.kind (place_of next) (rest next))) is c.next.ensures in
-    let turn = subst (λ f. Runs (how c.args.bulk.now) (entry_of r f ∷ []) mid took) c.frame-frame.ensures c.in-Ok.ensures in (
-      i.0 ++ e ∷ [],
-      led-more s i.0 here.kind next.kind (place_of here) (place_of next) (rest here) (rest next) r (frame_of next) i.1 read,
-      Runs-more (how c.args.bulk.now) i.0 (e ∷ []) old mid (work c.take_frame.new.concentrator packets feedback) i.2
-          (Runs-kept (how c.args.bulk.now) (e ∷ []) mid took packets feedback turn c.in-Ok-settle.ensures.packets c.in-Ok-settle.ensures.feedback),
-    )
+    let s = option_map (standing first.kind (place_of first)) (rest_of g.R.Read.remaining first) in
+    let contents = g.W.Write.contents in
+    let feedback = g.V.Write.contents c.args.feedback.now in
+    let ran = c.take_records-ran.new in
+    let new = work ran.concentrator (append_known (contents ran.packets) ran.batch.items) (g.V.Write.contents ran.feedback) in
+    let none = append_known-none (contents c.args.packets.now) c.new-batch.result.items c.new-batch.ensures in
+    on_ok_weaker c.take_records-ran.result
+    (whole-poured (how c.args.bulk.now) s (Ok tt) (work c.args.concentrator.now (contents c.args.packets.now) feedback) new (contents c.pour.new.packets) c.in-Ok.ensures.kept)
+    (subst (λ k. OnOk c.take_records-ran.result (Decompresses (how c.args.bulk.now) s (Ok tt) (work c.args.concentrator.now k feedback) new)) none c.take_records-ran.ensures.whole)
 
 pub returns-clause-fault : goal.returns-clause-fault
 returns-clause-fault g c =
-    let rest = rest_of g.R.Read.remaining in
     let first = c.args.capture.now in
-    let s = option_map (standing first.kind (place_of first)) (rest first) in
-    let here = c.loop.capture in
-    let i = c.loop.invariant in
-    let old = work c.args.concentrator.now (g.W.Write.contents c.args.packets.now) (g.V.Write.contents c.args.feedback.now) in
-    let new = work c.loop.concentrator (g.W.Write.contents c.loop.packets) (g.V.Write.contents c.loop.feedback) in
-    (λ k. absurd (k refl), breaks_off (how c.args.bulk.now) s i.0 here.kind (place_of here) (rest here) old new i.1 i.2)
+    let s = option_map (standing first.kind (place_of first)) (rest_of g.R.Read.remaining first) in
+    let contents = g.W.Write.contents in
+    let feedback = g.V.Write.contents c.args.feedback.now in
+    let ran = c.take_records-ran.new in
+    let new = work ran.concentrator (append_known (contents ran.packets) ran.batch.items) (g.V.Write.contents ran.feedback) in
+    let none = append_known-none (contents c.args.packets.now) c.new-batch.result.items c.new-batch.ensures in
+    let old = work c.args.concentrator.now (contents c.args.packets.now) feedback in
+    let after = work ran.concentrator (contents c.pour.new.packets) (g.V.Write.contents ran.feedback) in
+    IfErr-weaker c.take_records-ran.result (λ fault. Stops (how c.args.bulk.now) s fault old new) (λ fault. Stops (how c.args.bulk.now) s fault old after)
+    (λ fault. stop-poured (how c.args.bulk.now) s fault (work c.args.concentrator.now (contents c.args.packets.now) feedback) new (contents c.pour.new.packets) c.in-Ok.ensures.kept)
+    (subst (λ k. IfErr c.take_records-ran.result (λ fault. Stops (how c.args.bulk.now) s fault (work c.args.concentrator.now k feedback) new)) none c.take_records-ran.ensures.fault)
