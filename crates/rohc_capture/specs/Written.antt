@@ -1,6 +1,6 @@
 -- A capture that is written: with numbers with their most significant octet first.
--- Words: pair, quad; missing; pcap_head, pcapng_head; before_frame, after_frame; head_of, frame_record.
-use Rattle.std.specs.Prelude.{ℕ, ◌+◌, ◌*◌, ◌-◌, ◌/◌, ◌%◌, List, [], ◌∷◌, ◌++◌, length, take}
+-- Words: pair, quad; missing; pcap_head, pcapng_head; before_frame, after_frame; is_in_time; head_of, frame_record.
+use Rattle.std.specs.Prelude.{ℕ, ◌+◌, ◌*◌, ◌-◌, ◌/◌, ◌%◌, ◌^◌, Bool, true, nat_lt, List, [], ◌∷◌, ◌++◌, length, take}
 use Rattle.rohc_capture.specs.declared.writer.Format.{Format}
 use Rattle.rohc_capture.specs.declared.writer.Format.TheVariants.{Pcap, Pcapng}
 
@@ -55,6 +55,11 @@ pcapng_back size = take (missing size) (0 ∷ 0 ∷ 0 ∷ []) ++ quad (block_len
 abbrev pub head_of : Format → ℕ → List ℕ
 head_of Pcap link = pcap_head link
 head_of Pcapng link = pcapng_head link
+
+-- whether a capture can hold a time: pcap has 32 bits for the second
+abbrev pub is_in_time : Format → ℕ → Bool
+is_in_time Pcap nanos = nat_lt (nanos / 1000000000) (2 ^ 32)
+is_in_time Pcapng nanos = true
 
 -- a frame as it is written: what stands before it, the frame, and what stands behind it
 abbrev pub before_frame : Format → ℕ → ℕ → List ℕ

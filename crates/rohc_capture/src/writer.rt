@@ -2,7 +2,7 @@
 
 ghost use Rattle.std.specs.Prelude.{◌≡◌, ◌≤◌, ◌<◌, ◌+◌, ◌/◌, ◌%◌, ◌++◌, ◌^◌, ◌↔◌, ◌≢◌, length, take, [], ◌∷◌, OnOk, IfOk, IfErr, Err, IsTrue, true, false};
 ghost use Rattle.std.specs.Io.KnownBytes.{Appends};
-ghost use Rattle.rohc_capture.specs.Written.{quad, missing, pcap_head, section_head, interface_head, pcap_front, pcapng_front, pcapng_back, before_frame, after_frame, head_of, frame_record};
+ghost use Rattle.rohc_capture.specs.Written.{quad, missing, pcap_head, section_head, interface_head, pcap_front, pcapng_front, pcapng_back, before_frame, after_frame, is_in_time, head_of, frame_record};
 
 use arrayvec::ArrayVec;
 use std::io::Write;
@@ -30,12 +30,12 @@ pub enum WriteFault {
 /// The octets before a packet, or before the first record.
 type Head = ArrayVec<u8, 32>;
 
-/// Records of pcap, one behind the other, that are still to be written. A batch takes a record without a call, whose
+/// Records of a capture, one behind the other, that are still to be written. A batch takes a record without a call, whose
 /// frame may then stay in registers up to there.
 pub type Batch = ArrayVec<u8, 4096>;
 
-/// The octets before a frame in a record of pcap.
-const RECORD_HEAD: usize = 16;
+/// The most octets before and behind a frame.
+const AROUND: usize = 35;
 
 /// The longest packet that is written, in octets.
 const LONGEST_PACKET: usize = 262_144;
@@ -112,86 +112,70 @@ fn put_pcap_front<const N: usize>(head: &mut ArrayVec<u8, N>, nanos: u64, size: 
     put(head, size);
 }
 
-/// Whether a record of pcap can hold a time: it lies before 2106.
+/// Appends what stands before a frame in its block of pcapng.
 #[inline(always)]
-fn is_in_time(nanos: u64) -> bool
-    ensures { IsTrue result ↔ (nanos / 1000000000 < 2 ^ 32) }
+fn put_pcapng_front<const N: usize>(head: &mut ArrayVec<u8, N>, nanos: u64, size: u32)
+    requires size { size ≤ LONGEST_PACKET }
+    requires room { length head.old.items + 28 ≤ N }
+    ensures { head.new.items ≡ head.old.items ++ pcapng_front nanos size }
 {
-    nanos / 1_000_000_000 <= u64::from(u32::MAX)
+    put(head, 6);
+    put(head, 32 + size + missing(size));
+    put(head, 0);
+    put(head, (nanos / 4_294_967_296) as u32);
+    put(head, (nanos % 4_294_967_296) as u32);
+    put(head, size);
+    put(head, size);
 }
 
-/// Writes what stands before a frame in a record of pcap. Its time must lie before 2106.
-fn write_pcap_front<W: Write>(writer: &mut W, nanos: u64, size: u32) -> Result<(), WriteFault>
-    ensures written { OnOk result (Appends (W.contents writer.old) (W.contents writer.new) (pcap_front nanos size)) }
-    ensures size { result ≢ Err WriteFault.TooLong }
-    ensures late { (result ≡ Err WriteFault.TooLate) ↔ (2 ^ 32 ≤ nanos / 1000000000) }
-    ensures stays { result ≡ Err WriteFault.TooLate → writer.new ≡ writer.old }
+/// Appends what stands behind a frame in its block of pcapng.
+#[inline(always)]
+fn put_pcapng_back<const N: usize>(back: &mut ArrayVec<u8, N>, size: u32)
+    requires size { size ≤ LONGEST_PACKET }
+    requires room { length back.old.items + 7 ≤ N }
+    ensures { back.new.items ≡ back.old.items ++ pcapng_back size }
 {
-    if !is_in_time(nanos) {
-        return Err(WriteFault::TooLate);
-    }
-    let mut head = Head::new();
-    put_pcap_front(&mut head, nanos, size);
-    write_one(writer, head.as_slice())
-}
-
-/// What stands before a frame in its block of pcapng.
-fn pcapng_front(nanos: u64, size: u32) -> Head
-    requires { size ≤ LONGEST_PACKET }
-    ensures { result.items ≡ pcapng_front nanos size }
-{
-    let mut head = Head::new();
-    put(&mut head, 6);
-    put(&mut head, 32 + size + missing(size));
-    put(&mut head, 0);
-    put(&mut head, (nanos / 4_294_967_296) as u32);
-    put(&mut head, (nanos % 4_294_967_296) as u32);
-    put(&mut head, size);
-    put(&mut head, size);
-    head
-}
-
-/// What stands behind a frame in its block of pcapng.
-fn pcapng_back(size: u32) -> Head
-    requires { size ≤ LONGEST_PACKET }
-    ensures { result.items ≡ pcapng_back size }
-{
-    let mut back = Head::new();
     let zeros = [0u8; 3];
     let padding = missing(size);
-    put_all(&mut back, &zeros[..padding as usize]);
-    put(&mut back, 32 + size + padding);
-    back
+    put_all(back, &zeros[..padding as usize]);
+    put(back, 32 + size + padding);
 }
 
-/// Writes what stands before a frame of this length.
-fn write_before<W: Write>(
-    writer: &mut W,
-    format: Format,
-    nanos: u64,
-    size: u32,
-) -> Result<(), WriteFault>
-    requires { size ≤ LONGEST_PACKET }
-    ensures written { OnOk result (Appends (W.contents writer.old) (W.contents writer.new) (before_frame format nanos size)) }
-    ensures size { result ≢ Err WriteFault.TooLong }
-    ensures late { (result ≡ Err WriteFault.TooLate) ↔ ((format ≡ Format.Pcap) × (2 ^ 32 ≤ nanos / 1000000000)) }
-    ensures stays { result ≡ Err WriteFault.TooLate → writer.new ≡ writer.old }
+/// Whether a capture of this form can hold a time: in pcap it lies before 2106.
+#[inline(always)]
+fn is_in_time(format: Format, nanos: u64) -> bool
+    ensures { result ≡ is_in_time format nanos }
 {
     match format {
-        Format::Pcap => write_pcap_front(writer, nanos, size),
-        Format::Pcapng => write_one(writer, pcapng_front(nanos, size).as_slice()),
+        Format::Pcap => nanos / 1_000_000_000 < 4_294_967_296,
+        Format::Pcapng => true,
     }
 }
 
-/// Writes what stands behind a frame of this length.
-fn write_after<W: Write>(writer: &mut W, format: Format, size: u32) -> Result<(), WriteFault>
-    requires { size ≤ LONGEST_PACKET }
-    ensures written { OnOk result (Appends (W.contents writer.old) (W.contents writer.new) (after_frame format size)) }
-    ensures failed { IfErr result (λ e. e ≡ WriteFault.Failed) }
+/// Appends what stands before a frame of this length.
+#[inline(always)]
+fn put_before<const N: usize>(head: &mut ArrayVec<u8, N>, format: Format, nanos: u64, size: u32)
+    requires size { size ≤ LONGEST_PACKET }
+    requires room { length head.old.items + 28 ≤ N }
+    requires time { is_in_time format nanos ≡ true }
+    ensures { head.new.items ≡ head.old.items ++ before_frame format nanos size }
 {
     match format {
-        Format::Pcap => Ok(()),
-        Format::Pcapng => write_one(writer, pcapng_back(size).as_slice()),
+        Format::Pcap => put_pcap_front(head, nanos, size),
+        Format::Pcapng => put_pcapng_front(head, nanos, size),
+    }
+}
+
+/// Appends what stands behind a frame of this length.
+#[inline(always)]
+fn put_after<const N: usize>(back: &mut ArrayVec<u8, N>, format: Format, size: u32)
+    requires size { size ≤ LONGEST_PACKET }
+    requires room { length back.old.items + 7 ≤ N }
+    ensures { back.new.items ≡ back.old.items ++ after_frame format size }
+{
+    match format {
+        Format::Pcap => {}
+        Format::Pcapng => put_pcapng_back(back, size),
     }
 }
 
@@ -277,31 +261,37 @@ pub fn write_record<W: Write>(
     ensures stays { IfErr result (λ e. e ≢ WriteFault.Failed → writer.new ≡ writer.old) }
 {
     let size = size_of(front, rest)?;
-    write_before(writer, format, nanos, size)?;
-    write_two(writer, front, rest)?;
-    write_after(writer, format, size)
+    if !is_in_time(format, nanos) {
+        return Err(WriteFault::TooLate);
+    }
+    let mut before = Head::new();
+    put_before(&mut before, format, nanos, size);
+    let mut behind = Head::new();
+    put_after(&mut behind, format, size);
+    write_two(writer, before.as_slice(), front)?;
+    write_two(writer, rest, behind.as_slice())
 }
 
-/// Puts a record of pcap, of a frame in two parts, behind those of a batch, and returns true, if there is room for it and
-/// its time lies before 2106. Else nothing is changed.
+/// Puts a frame in two parts behind those of a batch, with its time in nanoseconds since 1970, and returns true, if there is
+/// room for it and a capture of this form can hold the time. Else nothing is changed.
 #[inline(always)]
-pub fn put_record(batch: &mut Batch, nanos: u64, front: &[u8], rest: &[u8]) -> bool
-    ensures put { result ≡ true → batch.new.items ≡ batch.old.items ++ frame_record Format.Pcap nanos (front.now ++ rest.now) }
-    ensures room { IsTrue result ↔ ((length batch.old.items + 16 + length front.now + length rest.now ≤ 4096) × (nanos / 1000000000 < 2 ^ 32)) }
+pub fn put_record(batch: &mut Batch, format: Format, nanos: u64, front: &[u8], rest: &[u8]) -> bool
+    ensures put { result ≡ true → batch.new.items ≡ batch.old.items ++ frame_record format nanos (front.now ++ rest.now) }
+    ensures room { IsTrue result ↔ ((length batch.old.items + AROUND + length front.now + length rest.now ≤ 4096)
+        × (is_in_time format nanos ≡ true)) }
     ensures kept { result ≡ false → batch.new ≡ batch.old }
 {
     let room = batch.remaining_capacity();
-    if room < RECORD_HEAD
-        || room - RECORD_HEAD < front.len()
-        || room - RECORD_HEAD - front.len() < rest.len()
-    {
+    if room < AROUND || room - AROUND < front.len() || room - AROUND - front.len() < rest.len() {
         return false;
     }
-    if !is_in_time(nanos) {
+    if !is_in_time(format, nanos) {
         return false;
     }
-    put_pcap_front(batch, nanos, (front.len() + rest.len()) as u32);
+    let size = (front.len() + rest.len()) as u32;
+    put_before(batch, format, nanos, size);
     put_all(batch, front);
     put_all(batch, rest);
+    put_after(batch, format, size);
     true
 }

@@ -4,6 +4,7 @@ ghost use Rattle.std.specs.Prelude.{◌≡◌, take, min, length, true};
 ghost use Rattle.rohc_decompress.specs.Cut.{octet_at, total_of, shown};
 
 /// The octet at a place of a packet in two parts.
+#[inline(always)]
 fn octet_at(front: &[u8], rest: &[u8], place: usize) -> Option<u8>
     ensures { result ≡ octet_at front.now rest.now place }
 {
@@ -14,6 +15,7 @@ fn octet_at(front: &[u8], rest: &[u8], place: usize) -> Option<u8>
 }
 
 /// The IPv4 total length of a packet in two parts, if it has one.
+#[inline(always)]
 fn total_of(front: &[u8], rest: &[u8]) -> Option<usize>
     ensures { result ≡ total_of front.now rest.now }
 {
@@ -27,6 +29,7 @@ fn total_of(front: &[u8], rest: &[u8]) -> Option<usize>
 }
 
 /// The second part of a packet, up to its IPv4 total length, if that is at least a header's and within the packet.
+#[inline(always)]
 pub(crate) fn without_padding<'a>(front: &[u8], rest: &'a [u8]) -> &'a [u8]
     ensures { result.now ≡ shown true front.now rest.entry.now }
 {
@@ -38,6 +41,7 @@ pub(crate) fn without_padding<'a>(front: &[u8], rest: &'a [u8]) -> &'a [u8]
 }
 
 /// At most `size` octets from the front.
+#[inline(always)]
 fn front_of(octets: &[u8], size: usize) -> &[u8]
     ensures { result.now ≡ take size octets.entry.now }
 {

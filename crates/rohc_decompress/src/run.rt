@@ -315,16 +315,11 @@ fn take_longer<W: Write, V: Write>(
 {
     let mut answer = Answer::blank();
     concentrator.arrive_into(link, nanos / 1_000_000, packet, &mut answer);
-    let answered = Answered {
-        link,
-        nanos,
-        answer,
-    };
-    take_other(bulk, answered, batch, packets, feedback, tally)
+    take_behind(bulk, link, nanos, &answer, batch, packets, feedback, tally)
 }
 
 /// Puts the record of what an answer delivers into the batch, and returns true, if that is a packet whose head has 40
-/// octets, without feedback, the record is one of pcap with nothing cut, and there is room. Nearly every answer is one.
+/// octets, without feedback, and there is room. Nearly every answer is one.
 #[inline(always)]
 fn put_answer(bulk: &Bulk<'_>, nanos: u64, answer: &Answer<'_>, batch: &mut Batch) -> bool
     ensures put { result ≡ true → batch.new.items ≡ batch.old.items
@@ -338,11 +333,8 @@ fn put_answer(bulk: &Bulk<'_>, nanos: u64, answer: &Answer<'_>, batch: &mut Batc
     if reply.outcome != Outcome::Delivered || reply.feedback.is_some() {
         return false;
     }
-    if bulk.format != Format::Pcap || bulk.padded {
-        return false;
-    }
     match &reply.packet {
-        Some(packet) if packet.head.len() == HEAD => put_long(nanos, packet, batch),
+        Some(packet) if packet.head.len() == HEAD => put_long(bulk, nanos, packet, batch),
         _ => false,
     }
 }
@@ -350,17 +342,18 @@ fn put_answer(bulk: &Bulk<'_>, nanos: u64, answer: &Answer<'_>, batch: &mut Batc
 /// Puts the record of a packet whose head has 40 octets into the batch, and returns true, if there is room. The compiler
 /// makes no call of a copy whose length it knows.
 #[inline(always)]
-fn put_long(nanos: u64, long: &Delivered<'_>, batch: &mut Batch) -> bool
+fn put_long(bulk: &Bulk<'_>, nanos: u64, long: &Delivered<'_>, batch: &mut Batch) -> bool
     requires { length long.now.head.items ≡ 40 }
     ensures put { result ≡ true → batch.new.items ≡ batch.old.items
-        ++ packet_text Format.Pcap false nanos (Some (delivered_packet long.now)) }
+        ++ packet_text bulk.now.format bulk.now.padded nanos (Some (delivered_packet long.now)) }
     ensures kept { result ≡ false → batch.new ≡ batch.old }
 {
     let head = &long.head.as_slice()[..HEAD];
-    put_record(batch, nanos, head, long.payload)
+    let payload = shown(bulk.padded, head, long.payload);
+    put_record(batch, bulk.format, nanos, head, payload)
 }
 
-/// Writes the batch and what an answer of another shape delivers, and counts it.
+/// Takes an answer whose packet isn't put into the batch.
 #[cold]
 #[inline(never)]
 fn take_other<W: Write, V: Write>(
@@ -377,13 +370,33 @@ fn take_other<W: Write, V: Write>(
     ensures feedback { OnOk result (Appends (V.contents feedback.old) (V.contents feedback.new)
         (feedback_text bulk.now.format answered.entry.link answered.entry.nanos (feedback_of (report_of answered.entry.answer)))) }
 {
-    pour(batch, packets)?;
     let Answered {
         link,
         nanos,
         answer,
     } = answered;
-    take_answer(bulk, link, nanos, &answer, packets, feedback, tally)
+    take_behind(bulk, link, nanos, &answer, batch, packets, feedback, tally)
+}
+
+/// Writes the batch and, behind it, what an answer delivers, and counts it.
+fn take_behind<W: Write, V: Write>(
+    bulk: &Bulk<'_>,
+    link: u16,
+    nanos: u64,
+    answer: &Answer<'_>,
+    batch: &mut Batch,
+    packets: &mut W,
+    feedback: &mut V,
+    tally: &mut Tally,
+) -> Result<(), BulkFault>
+    ensures packets { OnOk result (Appends (append_known (W.contents packets.old) batch.old.items)
+        (append_known (W.contents packets.new) batch.new.items)
+        (packet_text bulk.now.format bulk.now.padded nanos (packet_of (report_of answer.now)))) }
+    ensures feedback { OnOk result (Appends (V.contents feedback.old) (V.contents feedback.new)
+        (feedback_text bulk.now.format link nanos (feedback_of (report_of answer.now)))) }
+{
+    pour(batch, packets)?;
+    take_answer(bulk, link, nanos, answer, packets, feedback, tally)
 }
 
 /// Counts the feedback in a packet.
@@ -469,6 +482,7 @@ fn take_reply<W: Write, V: Write>(
 }
 
 /// The part of a payload that is written: all of it, unless padding is cut.
+#[inline(always)]
 fn shown<'a>(padded: bool, head: &[u8], payload: &'a [u8]) -> &'a [u8]
     ensures { result.now ≡ shown padded head.now payload.entry.now }
 {

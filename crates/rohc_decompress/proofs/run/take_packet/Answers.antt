@@ -20,10 +20,11 @@ returns-then-put_answer g c =
     let packets = g.W.Write.contents c.args.packets.now in
     let feedback = g.V.Write.contents c.args.feedback.now in
     let report = report_of c.take_at_once.new.answer in
+    let put = c.put_answer.ensures.put c.if-put_answer.true in
     record {
       report = report;
       arrives = c.take_at_once.ensures.taken c.if-not-take_at_once.false;
       packets = append_known-grown (append_known packets c.args.batch.now.items) packets c.args.batch.now.items c.put_answer.new.batch.items
-          (packet_text c.args.bulk.now.format c.args.bulk.now.padded c.args.nanos (packet_of report)) (Keeps-refl (append_known packets c.args.batch.now.items)) (c.put_answer.ensures.put c.if-put_answer.true);
+          (packet_text c.args.bulk.now.format c.args.bulk.now.padded c.args.nanos (packet_of report)) (Keeps-refl (append_known packets c.args.batch.now.items)) put;
       feedback = subst (λ due. Appends feedback feedback (feedback_text c.args.bulk.now.format c.args.link c.args.nanos due)) (sym (c.put_answer.ensures.feedback c.if-put_answer.true)) (Appends-nil feedback);
     }
