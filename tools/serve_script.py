@@ -3,10 +3,10 @@
 
 usage: tools/serve_script.py PROGRAM LINKS SCRIPT...
 
-Each arrival of a script is a datagram, so a script has no resets; its moments are not sent, so its answers must not
-hang on them. Each link's ports are sockets of this program, on free ports of 127.0.0.1. What each port gets must be
-what `replay` answers, octet for octet and in its order, and the printed line must count it. Then it tries a port that
-is taken, and an output that is full.
+Each arrival of a script is a datagram, so a script has no resets. Its moments are not sent, so its answers must not hang
+on them: each link gets times that no run is long enough for. Each link's ports are sockets of this program, on free
+ports of 127.0.0.1. What each port gets must be what `replay` answers, octet for octet and in its order, and the printed
+line must count it. Then it tries a port that is taken, and an output that is full.
 """
 import re
 import select
@@ -18,6 +18,8 @@ import time
 
 LOOPBACK = "127.0.0.1"
 WAIT = 10
+# The settings of a link that are times, in milliseconds: no packet is late, no STATIC-NACK comes again, nothing expires.
+TIMES = {"packet_ms": 60_000, "static_nack_ms": 3_600_000, "idle_ms": 0}
 
 
 def bound():
@@ -28,15 +30,18 @@ def bound():
 
 
 def with_own_ports(text):
-    """The links file with the port of a socket of ours in place of each port, and these sockets by link and kind."""
+    """The links file with our times, and a socket's port in place of each port; and these sockets by link and kind."""
     sockets = {}
     lines = []
     link = None
     for line in text.splitlines():
         number = re.match(r"number = (\d+)", line)
         port = re.match(r"(deliver|feedback|relay)_port = ", line)
+        time_key = line.split(" ")[0]
         if number:
             link = int(number[1])
+        if time_key in TIMES:
+            line = f"{time_key} = {TIMES[time_key]}"
         if port:
             sockets[link, port[1]] = bound()
             line = f"{port[1]}_port = {sockets[link, port[1]].getsockname()[1]}"
