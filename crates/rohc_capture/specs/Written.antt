@@ -1,5 +1,6 @@
 -- A capture that is written: with numbers with their most significant octet first.
--- Words: pair, quad; missing; pcap_head, pcapng_head; before_frame, after_frame; is_in_time; head_of, frame_record.
+-- Words: pair, quad; missing; pcap_head, pcapng_head, head_of; is_in_time; before_frame, after_frame,
+-- frame_record.
 use Rattle.std.specs.Prelude.{ℕ, ◌+◌, ◌*◌, ◌-◌, ◌/◌, ◌%◌, ◌^◌, Bool, true, nat_lt, List, [], ◌∷◌, ◌++◌, length, take}
 use Rattle.rohc_capture.specs.declared.writer.Format.{Format}
 use Rattle.rohc_capture.specs.declared.writer.Format.TheVariants.{Pcap, Pcapng}
@@ -39,8 +40,8 @@ interface_head link =
 abbrev pub pcapng_head : ℕ → List ℕ
 pcapng_head link = section_head ++ interface_head link
 
--- an enhanced packet block of the first interface. Before the frame: its length, its time in two halves, and the
--- frame's length twice. Behind it: zeros up to a multiple of four, and the block's length again
+-- an enhanced packet block of the first interface. Before the frame: its length, its time in two halves,
+-- and the frame's length twice. Behind it: zeros up to a multiple of four, and the block's length again
 abbrev pub block_length : ℕ → ℕ
 block_length size = 32 + size + missing size
 
