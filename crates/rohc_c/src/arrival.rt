@@ -18,7 +18,7 @@ use rohc_frame::Elements;
 
 /// The answer to an arrival: `struct polorowan_arrival` of include/polorowan.h. Its octets stand in the caller's buffers.
 #[repr(C)]
-#[derive(Clone, Copy, Debug, Default, Drop)]
+#[derive(Clone, Copy, Default, Drop)]
 pub struct RohcArrival {
     /// 0 if the packet has a CID; 1 if it has only padding and feedback; 2 for a refusal without a CID.
     pub kind: u8,

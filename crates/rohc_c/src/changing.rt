@@ -12,7 +12,7 @@ use rohc_concentrator::{AddFault, ChangeFault, Concentrator};
 use std::alloc::Global;
 
 /// Why a link isn't added or changed.
-#[derive(Clone, Copy, Debug, PartialEq, Eq)]
+#[derive(Clone, Copy, PartialEq, Eq)]
 pub enum LinkFault {
     /// There are 256 links.
     TooManyLinks,

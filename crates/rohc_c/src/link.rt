@@ -11,7 +11,7 @@ use std::alloc::{AllocError, Global};
 
 /// A range of CIDs with a mode of its own: `struct polorowan_range` of include/polorowan.h.
 #[repr(C)]
-#[derive(Clone, Copy, Debug)]
+#[derive(Clone, Copy)]
 pub struct RohcRange {
     /// The least CID of the range.
     pub first: u16,
@@ -24,7 +24,7 @@ pub struct RohcRange {
 /// The setting of a link: `struct polorowan_link` of include/polorowan.h. Its fields are those of `Settings` and
 /// `LinkSetting`.
 #[repr(C)]
-#[derive(Clone, Copy, Debug)]
+#[derive(Clone, Copy)]
 pub struct RohcLink {
     pub link: u16,
     pub max_cid: u16,

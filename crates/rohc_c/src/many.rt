@@ -2,7 +2,7 @@
 
 /// One of many packets: `struct polorowan_packet` of include/polorowan.h.
 #[repr(C)]
-#[derive(Clone, Copy, Debug)]
+#[derive(Clone, Copy)]
 pub struct RohcPacket {
     /// Its link.
     pub link: u16,

@@ -9,7 +9,7 @@ use rohc_bits::put_behind;
 use rohc_frame::Elements;
 
 /// What was written into the buffer for feedback.
-#[derive(Clone, Copy, Debug)]
+#[derive(Clone, Copy)]
 pub(crate) struct Relayed {
     /// How many elements.
     pub(crate) count: usize,

@@ -13,7 +13,7 @@ use std::alloc::Global;
 
 /// What was restored: `struct polorowan_restored` of include/polorowan.h. Each count stays at the greatest number of 64 bits.
 #[repr(C)]
-#[derive(Clone, Copy, Debug, Default, Drop)]
+#[derive(Clone, Copy, Default, Drop)]
 pub struct RohcRestored {
     /// The moment of saving, in milliseconds.
     pub moment: u64,
@@ -47,7 +47,7 @@ pub(crate) fn tell(restored: Restored) -> RohcRestored
 }
 
 /// Why nothing is restored: why no concentrator is made from the links, or the first fault of the octets.
-#[derive(Clone, Copy, Debug, PartialEq, Eq)]
+#[derive(Clone, Copy, PartialEq, Eq)]
 pub enum BackFault {
     /// As of `polorowan_new`.
     New(NewFault),
@@ -204,7 +204,7 @@ pub(crate) fn saved_octets(
 }
 
 /// A link that was saved: its octets, or why there are none.
-#[derive(Debug, Drop)]
+#[derive(Drop)]
 pub enum SavedLink {
     /// The octets.
     Saved(Vec<u8>),

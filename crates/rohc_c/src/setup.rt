@@ -9,7 +9,7 @@ use rohc_concentrator::{Concentrator, SetupFault};
 use std::alloc::{AllocError, Global};
 
 /// Why no concentrator is made from links. A place counts the links from 1.
-#[derive(Clone, Copy, Debug, PartialEq, Eq)]
+#[derive(Clone, Copy, PartialEq, Eq)]
 pub enum NewFault {
     /// A link counts more than eight ranges.
     TooManyRanges { place: usize },

@@ -9,7 +9,7 @@ use rohc_context::{ContextState, Profile};
 
 /// A context: `struct polorowan_context_info` of include/polorowan.h.
 #[repr(C)]
-#[derive(Clone, Copy, Debug, Default, Drop)]
+#[derive(Clone, Copy, Default, Drop)]
 pub struct RohcContextInfo {
     /// Its CID.
     pub cid: u16,

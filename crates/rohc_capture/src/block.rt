@@ -24,7 +24,7 @@ pub(crate) const ENHANCED: u32 = 6;
 const MICROSECONDS: u8 = 6;
 
 /// What a section says of an interface.
-#[derive(Clone, Copy, Debug, PartialEq, Eq)]
+#[derive(Clone, Copy, PartialEq, Eq)]
 pub(crate) struct Interface {
     pub link_type: u16,
     /// The most octets that are captured of a frame; 0 is no limit.
@@ -34,7 +34,7 @@ pub(crate) struct Interface {
 }
 
 /// What stands before the octets of a packet.
-#[derive(Clone, Copy, Debug, PartialEq, Eq)]
+#[derive(Clone, Copy, PartialEq, Eq)]
 pub(crate) struct PacketHead {
     /// The interface by its place in the section.
     pub interface: u32,

@@ -9,7 +9,7 @@ use crate::frame::{Protocol, network_in};
 use crate::udp::datagram_in;
 
 /// What the octets are carried by.
-#[derive(Clone, Copy, Debug, PartialEq, Eq)]
+#[derive(Clone, Copy, PartialEq, Eq)]
 pub enum Carrier {
     /// The link itself, by an EtherType or a number of PPP.
     Link,
@@ -18,7 +18,7 @@ pub enum Carrier {
 }
 
 /// What a frame carries.
-#[derive(Clone, Copy, Debug)]
+#[derive(Clone, Copy)]
 pub struct Carried<'a> {
     /// The number of the frame's last VLAN tag, 0 to 4095, if there is a tag.
     pub vlan: Option<u16>,

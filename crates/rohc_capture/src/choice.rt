@@ -10,7 +10,7 @@ use crate::carried::{Carried, Carrier, carried_in};
 use crate::fault::FrameFault;
 
 /// A rule that says which link a frame belongs to.
-#[derive(Clone, Copy, Debug, PartialEq, Eq)]
+#[derive(Clone, Copy, PartialEq, Eq)]
 pub enum Rule {
     /// Each ROHC packet that the capture's own link carries is of this link.
     Every(u16),

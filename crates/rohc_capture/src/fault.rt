@@ -4,7 +4,7 @@ use std::alloc::AllocError;
 use std::fmt;
 
 /// Why a capture can't be read on.
-#[derive(Clone, Copy, Debug, PartialEq, Eq)]
+#[derive(Clone, Copy, PartialEq, Eq)]
 pub enum FaultKind {
     /// There is no memory.
     NoMemory,
@@ -27,7 +27,7 @@ pub enum FaultKind {
 }
 
 /// Why a capture can't be read on, and where: the octets of the capture before the record or the block.
-#[derive(Clone, Copy, Debug, PartialEq, Eq)]
+#[derive(Clone, Copy, PartialEq, Eq)]
 pub struct CaptureFault {
     /// What is wrong.
     pub kind: FaultKind,
@@ -70,7 +70,7 @@ impl fmt::Display for CaptureFault {
 }
 
 /// Why a frame carries nothing that is looked for.
-#[derive(Clone, Copy, Debug, PartialEq, Eq)]
+#[derive(Clone, Copy, PartialEq, Eq)]
 pub enum FrameFault {
     /// Frames of this link type aren't known.
     LinkType,

@@ -8,7 +8,7 @@ use crate::fault::FrameFault;
 use crate::octets::{after, octet, word};
 
 /// What follows the headers of a link.
-#[derive(Clone, Copy, Debug, PartialEq, Eq)]
+#[derive(Clone, Copy, PartialEq, Eq)]
 pub enum Protocol {
     /// A ROHC packet.
     Rohc,
@@ -19,7 +19,7 @@ pub enum Protocol {
 }
 
 /// What stands inside the headers of a link.
-#[derive(Clone, Copy, Debug)]
+#[derive(Clone, Copy)]
 pub struct Network<'a> {
     /// The number of the last VLAN tag, 0 to 4095, if there is a tag.
     pub vlan: Option<u16>,

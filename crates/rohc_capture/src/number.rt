@@ -5,7 +5,7 @@ ghost use Rattle.std.specs.Option.{option_map};
 ghost use Rattle.rohc_capture.specs.Number.{short_at, long_at};
 
 /// The order of the octets of a number.
-#[derive(Clone, Copy, Debug, PartialEq, Eq)]
+#[derive(Clone, Copy, PartialEq, Eq)]
 pub(crate) enum ByteOrder {
     /// The most significant octet first.
     Big,

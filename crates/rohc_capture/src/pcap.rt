@@ -6,7 +6,7 @@ ghost use Rattle.rohc_capture.specs.Pcap.{magic_of, nanos_of, file_in, record_in
 use crate::number::{ByteOrder, long};
 
 /// What the head of a file says.
-#[derive(Clone, Copy, Debug, PartialEq, Eq)]
+#[derive(Clone, Copy, PartialEq, Eq)]
 pub(crate) struct PcapHead {
     pub order: ByteOrder,
     /// Whether fractions of a second are nanoseconds, and not microseconds.
@@ -15,7 +15,7 @@ pub(crate) struct PcapHead {
 }
 
 /// What the head of a record says.
-#[derive(Clone, Copy, Debug, PartialEq, Eq)]
+#[derive(Clone, Copy, PartialEq, Eq)]
 pub(crate) struct RecordHead {
     /// When the frame was captured, in nanoseconds since 1970.
     pub nanos: u64,

@@ -37,7 +37,7 @@ const PACKET_HEAD: usize = 28;
 const SIMPLE_HEAD: usize = 12;
 
 /// What the first octets say of the capture.
-#[derive(Clone, Copy, Debug)]
+#[derive(Clone, Copy)]
 enum Kind {
     /// Nothing was read so far.
     Unknown,
@@ -48,7 +48,7 @@ enum Kind {
 }
 
 /// Where a record's octets lie ahead.
-#[derive(Clone, Copy, Debug)]
+#[derive(Clone, Copy)]
 struct Span {
     /// The octets before the frame.
     skip: usize,
@@ -66,7 +66,7 @@ const NOTHING: Span = Span {
 };
 
 /// What a block was.
-#[derive(Clone, Copy, Debug)]
+#[derive(Clone, Copy)]
 enum Block {
     /// The capture ended before it.
     End,
@@ -77,7 +77,7 @@ enum Block {
 }
 
 /// A frame of a capture.
-#[derive(Clone, Copy, Debug, PartialEq, Eq)]
+#[derive(Clone, Copy, PartialEq, Eq)]
 pub struct Record {
     /// When the frame was captured, in nanoseconds since 1970. A packet without a time has that of the record before.
     pub nanos: u64,

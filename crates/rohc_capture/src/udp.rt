@@ -8,7 +8,7 @@ use crate::fault::FrameFault;
 use crate::octets::{after, cut, octet, word};
 
 /// A UDP datagram over IPv4.
-#[derive(Clone, Copy, Debug)]
+#[derive(Clone, Copy)]
 pub struct Datagram<'a> {
     /// The port that it comes from.
     pub source: u16,

@@ -8,7 +8,7 @@ use arrayvec::ArrayVec;
 use std::io::Write;
 
 /// The form of a capture that is written.
-#[derive(Clone, Copy, Debug, PartialEq, Eq)]
+#[derive(Clone, Copy, PartialEq, Eq)]
 pub enum Format {
     /// pcap, with times in nanoseconds.
     Pcap,
@@ -17,7 +17,7 @@ pub enum Format {
 }
 
 /// Why a capture isn't written on.
-#[derive(Clone, Copy, Debug, PartialEq, Eq)]
+#[derive(Clone, Copy, PartialEq, Eq)]
 pub enum WriteFault {
     /// The packet is longer than 262,144 octets. Nothing of it was written.
     TooLong,

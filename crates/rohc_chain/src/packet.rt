@@ -3,7 +3,7 @@
 use rohc_header::{Dynamic, Static};
 
 /// The content of an IR packet.
-#[derive(Clone, Copy, Debug)]
+#[derive(Clone, Copy)]
 pub enum Ir<'a> {
     /// Profile 0x0000: the IP packet that it carries, or no octets.
     Plain {
@@ -22,7 +22,7 @@ pub enum Ir<'a> {
 }
 
 /// The content of an IR-DYN packet of profile 0x0001.
-#[derive(Clone, Copy, Debug)]
+#[derive(Clone, Copy)]
 pub struct IrDyn<'a> {
     /// The fields of the dynamic chain.
     pub moving: Dynamic,

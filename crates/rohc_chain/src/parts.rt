@@ -1,7 +1,7 @@
 //! The content of single chains.
 
 /// The content of the dynamic chain of IPv4.
-#[derive(Clone, Copy, Debug)]
+#[derive(Clone, Copy)]
 pub(crate) struct IpDynamic {
     pub tos: u8,
     pub ttl: u8,
@@ -12,7 +12,7 @@ pub(crate) struct IpDynamic {
 }
 
 /// The content of the dynamic chain of RTP.
-#[derive(Clone, Copy, Debug)]
+#[derive(Clone, Copy)]
 pub(crate) struct RtpDynamic {
     pub padding: bool,
     pub extension: bool,
@@ -24,7 +24,7 @@ pub(crate) struct RtpDynamic {
 }
 
 /// The context's values that stay if a dynamic chain doesn't give them: RTP's X and TS_STRIDE.
-#[derive(Clone, Copy, Debug)]
+#[derive(Clone, Copy)]
 pub(crate) struct Kept {
     pub extension: bool,
     pub stride: Option<u32>,

@@ -9,7 +9,7 @@ use rohc_frame::Elements;
 use std::fmt;
 
 /// The answer to an arrival.
-#[derive(Debug, Drop)]
+#[derive(Drop)]
 pub enum Answer<'a> {
     /// The packet has this CID.
     Arrived {

@@ -5,7 +5,7 @@ use crate::records::LinkRecords;
 use indexmap::IndexMap;
 
 /// The contexts of all links.
-#[derive(Debug, Drop)]
+#[derive(Drop)]
 pub struct Concentrator {
     /// The links by number, in the order of their settings.
     pub(crate) links: IndexMap<u16, LinkRecords>,

@@ -31,7 +31,7 @@ pub(crate) fn place_by_hash<V>(map: &IndexMap<u16, V>, key: u16) -> Option<usize
 
 /// Where the entry of each key was put. A place is only a hint, since the map may have been emptied: the key that stands
 /// there is compared. So it is kept in 16 bits.
-#[derive(Debug, Drop)]
+#[derive(Drop)]
 pub(crate) struct Places {
     hints: Vec<u16>,
 }

@@ -8,7 +8,7 @@ use indexmap::IndexMap;
 use rohc_context::Context;
 
 /// A link's setting, and a record for each CID that has one.
-#[derive(Debug, Drop)]
+#[derive(Drop)]
 pub struct LinkRecords {
     /// The link's setting.
     pub setting: LinkSetting,

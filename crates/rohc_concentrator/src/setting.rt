@@ -15,7 +15,7 @@ pub struct CidRange {
 }
 
 /// The setting of a link.
-#[derive(Clone, Debug, Drop)]
+#[derive(Clone, Drop)]
 pub struct LinkSetting {
     /// The link's number.
     pub link: u16,

@@ -8,7 +8,7 @@ use rohc_frame::{Forward, HeadKind};
 
 /// Which packets are taken at once. A caller who puts the header where it stands in the answer takes the rebuilt ones
 /// alone, since then the compiler knows how long it is.
-#[derive(Clone, Copy, Debug, PartialEq, Eq)]
+#[derive(Clone, Copy, PartialEq, Eq)]
 pub enum AtOnce {
     /// Those of Full Context, whose header is rebuilt.
     Rebuilt,

@@ -5,7 +5,7 @@ use rohc_feedback::{Element, ack, nack, plain_ack, static_nack};
 use rohc_frame::{CidKind, Forward};
 
 /// The feedback that an arrival makes due (RFC 3095 5.3.2.2).
-#[derive(Clone, Copy, Debug, PartialEq, Eq)]
+#[derive(Clone, Copy, PartialEq, Eq)]
 pub(crate) enum Due {
     /// Nothing.
     Nothing,

@@ -20,7 +20,7 @@ use rohc_header::{Dynamic, Header, Static};
 use rohc_lsb::{inferred_ts, ip_id, scaled, sn_value, unscaled};
 
 /// A header that a packet means against a reference.
-#[derive(Clone, Copy, Debug)]
+#[derive(Clone, Copy)]
 pub(crate) struct Explained {
     /// Its fields, with the RND, NBO and stride in force.
     pub moving: Dynamic,

@@ -5,7 +5,7 @@ use rohc_chain::ChainRefusal;
 use rohc_forms::FormRefusal;
 
 /// Why an arrival is not accepted, and whether that is a failure.
-#[derive(Clone, Copy, Debug, PartialEq, Eq)]
+#[derive(Clone, Copy, PartialEq, Eq)]
 pub(crate) enum Fault {
     /// Its check doesn't match. That is a failure of the context.
     Unfit,

@@ -6,7 +6,7 @@ use crate::state::State;
 use crate::window::Window;
 
 /// A context: its state, and the time of its last accepted arrival.
-#[derive(Clone, Copy, Debug, Drop)]
+#[derive(Clone, Copy, Drop)]
 pub struct Context {
     /// The time of the last accepted arrival, in milliseconds.
     pub(crate) accepted: u64,

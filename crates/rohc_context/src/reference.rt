@@ -6,7 +6,7 @@ ghost use Rattle.rohc_context.specs.Previous.{fields_by};
 use rohc_header::Dynamic;
 
 /// The fields of the last accepted header, as later packets are decoded against them.
-#[derive(Clone, Copy, Debug)]
+#[derive(Clone, Copy)]
 pub(crate) struct Reference {
     /// The fields without the marker, and with the RND, NBO and stride in force.
     pub moving: Dynamic,
@@ -20,7 +20,7 @@ pub(crate) struct Reference {
 /// What is kept of the previous reference beside the reference: the fields in which the two may differ. RND, NBO, the
 /// stride and whether packets carry a UDP checksum are the same for both. Its numbers and flags stand as those of
 /// `Dynamic` do, so that they are copied together.
-#[derive(Clone, Copy, Debug)]
+#[derive(Clone, Copy)]
 pub(crate) struct Previous {
     /// The type of service (TOS).
     pub tos: u8,

@@ -5,7 +5,7 @@ use arrayvec::ArrayVec;
 use rohc_feedback::Element;
 
 /// A rebuilt packet: its head, followed by its payload.
-#[derive(Debug, Drop)]
+#[derive(Drop)]
 pub struct Delivered<'a> {
     /// The rebuilt header of a packet of profile 0x0001; the first octet of a Normal packet; no
     /// octets for an IR of profile 0x0000.
@@ -26,7 +26,7 @@ pub enum Outcome {
 }
 
 /// The answer of a context to an arrival.
-#[derive(Debug, Drop)]
+#[derive(Drop)]
 pub struct Reply<'a> {
     /// The rebuilt packet, if one was delivered.
     pub packet: Option<Delivered<'a>>,

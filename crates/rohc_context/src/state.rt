@@ -12,7 +12,7 @@ use crate::window::Window;
 use rohc_header::Static;
 
 /// What is kept of a context of profile 0x0001 in No Context.
-#[derive(Clone, Copy, Debug)]
+#[derive(Clone, Copy)]
 pub(crate) struct NoContext {
     /// The time of the last STATIC-NACK, in milliseconds.
     pub nacked: u64,
@@ -20,7 +20,7 @@ pub(crate) struct NoContext {
 }
 
 /// What is kept of a context in Static Context.
-#[derive(Clone, Copy, Debug)]
+#[derive(Clone, Copy)]
 pub(crate) struct StaticContext {
     /// The static part.
     pub fixed: Static,
@@ -33,7 +33,7 @@ pub(crate) struct StaticContext {
 }
 
 /// What is kept of a context in Full Context.
-#[derive(Clone, Copy, Debug)]
+#[derive(Clone, Copy)]
 pub(crate) struct FullContext {
     /// The static part.
     pub fixed: Static,
@@ -50,7 +50,7 @@ pub(crate) struct FullContext {
 }
 
 /// The state of a context.
-#[derive(Clone, Copy, Debug)]
+#[derive(Clone, Copy)]
 pub(crate) enum State {
     /// Profile 0x0000.
     Plain,

@@ -18,7 +18,7 @@ use rohc_forms::{Form, FormKind};
 use rohc_header::{Static, check3_after, check7_after};
 
 /// A header that was accepted, and the reference against which it was decoded.
-#[derive(Clone, Copy, Debug)]
+#[derive(Clone, Copy)]
 pub(crate) struct Accepted {
     pub reference: Reference,
     pub header: Explained,

@@ -18,7 +18,7 @@ const DELIVERED: u8 = 0;
 const STORED: u8 = 31;
 
 /// How many answers of each kind there were. Each number stays at the greatest `u64`.
-#[derive(Clone, Copy, Debug)]
+#[derive(Clone, Copy)]
 #[repr(C)]
 pub struct Counts {
     /// By outcome: at 0 the packets, at 1 to 30 the refusals by their numbers, and at 31 the contexts that were made or

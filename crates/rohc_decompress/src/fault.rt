@@ -4,7 +4,7 @@ use rohc_capture::CaptureFault;
 use std::fmt;
 
 /// Why a run over a capture ended early.
-#[derive(Clone, Copy, Debug, PartialEq, Eq)]
+#[derive(Clone, Copy, PartialEq, Eq)]
 pub enum BulkFault {
     /// The capture can't be read on.
     Capture(CaptureFault),

@@ -36,7 +36,7 @@ const ETHERNET: u16 = 1;
 const HEAD: usize = 40;
 
 /// How a capture is run.
-#[derive(Clone, Copy, Debug)]
+#[derive(Clone, Copy)]
 pub struct Bulk<'a> {
     /// Which link a frame belongs to: the first rule that speaks of it says so.
     pub rules: &'a [Rule],
@@ -47,7 +47,7 @@ pub struct Bulk<'a> {
 }
 
 /// An answer on a link, with the time of its frame in nanoseconds since 1970.
-#[derive(Debug, Drop)]
+#[derive(Drop)]
 struct Answered<'a> {
     link: u16,
     nanos: u64,

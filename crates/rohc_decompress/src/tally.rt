@@ -5,7 +5,7 @@ use rohc_context::Outcome;
 use std::fmt;
 
 /// What a run over a capture counts. A count stays at the greatest u64.
-#[derive(Clone, Copy, Debug, Default, PartialEq, Eq)]
+#[derive(Clone, Copy, Default, PartialEq, Eq)]
 pub struct Tally {
     /// The frames that were read.
     pub frames: u64,

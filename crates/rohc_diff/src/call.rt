@@ -6,7 +6,7 @@ use std::alloc::{AllocError, Global};
 const FARTHEST: usize = 64;
 
 /// One of the two texts.
-#[derive(Clone, Copy, Debug, PartialEq, Eq)]
+#[derive(Clone, Copy, PartialEq, Eq)]
 pub enum Side {
     /// The first text.
     First,
@@ -15,7 +15,7 @@ pub enum Side {
 }
 
 /// A line of a text.
-#[derive(Debug, Drop)]
+#[derive(Drop)]
 pub struct Seen {
     /// The number of the line of the script, if the text is a trace, else of the line of the text.
     pub number: u64,
@@ -24,7 +24,7 @@ pub struct Seen {
 }
 
 /// The first lines in which two texts differ. A text without such a line has none.
-#[derive(Debug, Drop)]
+#[derive(Drop)]
 pub struct Difference {
     /// The line of the first text.
     pub first: Option<Seen>,
@@ -33,7 +33,7 @@ pub struct Difference {
 }
 
 /// What became of a line.
-#[derive(Clone, Copy, Debug, PartialEq, Eq)]
+#[derive(Clone, Copy, PartialEq, Eq)]
 pub(crate) enum Taken {
     /// It waits for the other text.
     Waits,
@@ -44,7 +44,7 @@ pub(crate) enum Taken {
 }
 
 /// The lines of one call.
-#[derive(Debug, Drop)]
+#[derive(Drop)]
 pub(crate) struct CallLines {
     /// The text that is ahead.
     side: Side,

@@ -6,14 +6,14 @@ use rohc_totals::read_answer;
 use std::alloc::{AllocError, Global};
 
 /// The lines of a link: those without a CID, and those of its calls.
-#[derive(Debug, Drop)]
+#[derive(Drop)]
 struct LinkLines {
     whole: CallLines,
     calls: IndexMap<u16, CallLines>,
 }
 
 /// The first difference of a call.
-#[derive(Debug, Drop)]
+#[derive(Drop)]
 pub struct CallDifference {
     /// The link; none if the lines name no link.
     pub link: Option<u16>,
@@ -27,7 +27,7 @@ pub struct CallDifference {
 pub type Differences = Vec<CallDifference>;
 
 /// The lines of all calls.
-#[derive(Debug, Drop)]
+#[derive(Drop)]
 pub struct Calls {
     alloc: Global,
     /// The lines that name no link.

@@ -4,7 +4,7 @@ ghost use Rattle.std.specs.Prelude.{◌≡◌};
 ghost use Rattle.rohc_explain.specs.Names.{name_of};
 
 /// The name of a field.
-#[derive(Clone, Copy, Debug, PartialEq, Eq)]
+#[derive(Clone, Copy, PartialEq, Eq)]
 pub enum FieldName {
     /// A padding octet (RFC 5795 5.2).
     Padding,
@@ -156,7 +156,7 @@ impl FieldName {
 }
 
 /// A field of a packet.
-#[derive(Clone, Copy, Debug, PartialEq, Eq)]
+#[derive(Clone, Copy, PartialEq, Eq)]
 pub struct Field {
     /// Its name.
     pub name: FieldName,

@@ -11,7 +11,7 @@ use rohc_frame::CidKind;
 use std::alloc::{AllocError, Global};
 
 /// What a context says of the octets of a UO-0, UO-1 or UOR-2.
-#[derive(Clone, Copy, Debug, PartialEq, Eq)]
+#[derive(Clone, Copy, PartialEq, Eq)]
 pub struct Terms {
     /// Whether the Identification is random: RND, as the context has it.
     pub rnd: bool,
@@ -22,7 +22,7 @@ pub struct Terms {
 }
 
 /// What a packet is, by the first octet of its header.
-#[derive(Clone, Copy, Debug, PartialEq, Eq)]
+#[derive(Clone, Copy, PartialEq, Eq)]
 pub enum PacketKind {
     /// Padding and feedback alone.
     OnlyFront,
@@ -39,7 +39,7 @@ pub enum PacketKind {
 }
 
 /// The fields of a packet.
-#[derive(Debug, Drop)]
+#[derive(Drop)]
 pub struct PacketFields {
     /// What the packet is.
     pub kind: PacketKind,

@@ -8,7 +8,7 @@ use crate::field::{Field, FieldName};
 use std::alloc::{AllocError, Global};
 
 /// Why no more fields are told.
-#[derive(Clone, Copy, Debug, PartialEq, Eq)]
+#[derive(Clone, Copy, PartialEq, Eq)]
 pub(crate) enum Stop {
     /// The packet ends before the field does.
     Short,

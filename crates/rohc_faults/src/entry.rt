@@ -14,7 +14,7 @@ use std::alloc::{AllocError, Global};
 use toml::Table;
 
 /// The faults of an entry.
-#[derive(Debug, Drop)]
+#[derive(Drop)]
 pub struct EntryFaults<'a> {
     /// The names that the version doesn't know.
     pub unknown: Vec<&'a str>,

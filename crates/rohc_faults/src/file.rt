@@ -12,7 +12,7 @@ use std::alloc::{AllocError, Global};
 use toml::{Table, Value};
 
 /// The faults of a links file.
-#[derive(Debug, Drop)]
+#[derive(Drop)]
 pub struct FileFaults<'a> {
     /// Whether `version` is missing or wrong. The entries are then judged by version 2.
     pub version: bool,

@@ -1,7 +1,7 @@
 //! The meaning of a feedback element.
 
 /// The kind of feedback: the word of an element.
-#[derive(Clone, Copy, Debug, PartialEq, Eq)]
+#[derive(Clone, Copy, PartialEq, Eq)]
 pub enum Word {
     /// ACK, FEEDBACK-2 of Acktype 0: a packet updated the context.
     Ack,
@@ -14,7 +14,7 @@ pub enum Word {
 }
 
 /// The meaning of a feedback element.
-#[derive(Clone, Copy, Debug, PartialEq, Eq)]
+#[derive(Clone, Copy, PartialEq, Eq)]
 pub struct Reading {
     /// The CID.
     pub cid: u16,

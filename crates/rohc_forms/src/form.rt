@@ -26,7 +26,7 @@ pub enum FormKind {
 }
 
 /// What a packet says of the Identification (IP-ID).
-#[derive(Clone, Copy, Debug, PartialEq, Eq)]
+#[derive(Clone, Copy, PartialEq, Eq)]
 pub enum IdBits {
     /// Nothing: its offset from the sequence number stays the same.
     Same,
@@ -38,7 +38,7 @@ pub enum IdBits {
 
 /// The values that an extension 3 gives (RFC 3095 5.7.5). A value that is `None` stays as the context
 /// has it.
-#[derive(Clone, Copy, Debug, PartialEq, Eq)]
+#[derive(Clone, Copy, PartialEq, Eq)]
 pub struct Values {
     /// The type of service (TOS).
     pub tos: Option<u8>,
@@ -64,7 +64,7 @@ pub struct Values {
 }
 
 /// The content of a packet of kind Other.
-#[derive(Clone, Copy, Debug)]
+#[derive(Clone, Copy)]
 pub struct Form<'a> {
     /// The format, by the RND in force.
     pub kind: FormKind,

@@ -7,7 +7,7 @@ use crate::form::{FormKind, Values};
 use rohc_bits::Bits;
 
 /// The octets before an extension.
-#[derive(Clone, Copy, Debug)]
+#[derive(Clone, Copy)]
 pub(crate) struct Base {
     /// The first of them.
     pub first: u8,
@@ -16,7 +16,7 @@ pub(crate) struct Base {
 }
 
 /// The fields of the base octets, with the bits that an extension appends.
-#[derive(Clone, Copy, Debug)]
+#[derive(Clone, Copy)]
 pub(crate) struct Fields {
     pub sn: Bits,
     pub ts: Option<Bits>,
@@ -29,7 +29,7 @@ pub(crate) struct Fields {
 }
 
 /// The ip octet of an extension 3: which octets follow, and the values in it.
-#[derive(Clone, Copy, Debug)]
+#[derive(Clone, Copy)]
 pub(crate) struct IpFlags {
     pub tos: bool,
     pub ttl: bool,
@@ -40,7 +40,7 @@ pub(crate) struct IpFlags {
 }
 
 /// What an extension 3 gives of the IP header.
-#[derive(Clone, Copy, Debug)]
+#[derive(Clone, Copy)]
 pub(crate) struct IpGiven {
     pub tos: Option<u8>,
     pub ttl: Option<u8>,
@@ -50,7 +50,7 @@ pub(crate) struct IpGiven {
 }
 
 /// The rtp octet of an extension 3: which octets follow, and the values in it.
-#[derive(Clone, Copy, Debug)]
+#[derive(Clone, Copy)]
 pub(crate) struct RtpFlags {
     pub payload_type: bool,
     pub marker: bool,
@@ -60,7 +60,7 @@ pub(crate) struct RtpFlags {
 }
 
 /// What an extension 3 gives of the RTP header.
-#[derive(Clone, Copy, Debug)]
+#[derive(Clone, Copy)]
 pub(crate) struct RtpGiven {
     pub marker: bool,
     pub extension: bool,
@@ -73,7 +73,7 @@ pub(crate) struct RtpGiven {
 }
 
 /// The content of an extension 3, with the fields that precede it.
-#[derive(Clone, Copy, Debug)]
+#[derive(Clone, Copy)]
 pub(crate) struct Extension3 {
     pub fields: Fields,
     pub marker: bool,
@@ -81,7 +81,7 @@ pub(crate) struct Extension3 {
 }
 
 /// The content of a packet up to the end of its extension.
-#[derive(Clone, Copy, Debug)]
+#[derive(Clone, Copy)]
 pub(crate) struct Head {
     pub kind: FormKind,
     /// The RND in force.

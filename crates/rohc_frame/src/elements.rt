@@ -6,7 +6,7 @@ use crate::header::Forward;
 use crate::items::split_element;
 
 /// The data of a packet's feedback elements, in order, borrowed from the packet.
-#[derive(Clone, Copy, Debug)]
+#[derive(Clone, Copy)]
 pub struct Elements<'a> {
     octets: &'a [u8],
 }
@@ -48,7 +48,7 @@ impl<'a> Iterator for Elements<'a> {
 }
 
 /// A packet split into its parts.
-#[derive(Clone, Copy, Debug)]
+#[derive(Clone, Copy)]
 pub struct Framed<'a> {
     /// The header. It is `None` if the packet has only padding and feedback.
     pub forward: Option<Forward<'a>>,

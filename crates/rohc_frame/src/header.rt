@@ -28,7 +28,7 @@ impl CidKind {
 }
 
 /// The kind of a packet, by the first octet of its header.
-#[derive(Clone, Copy, Debug, PartialEq, Eq)]
+#[derive(Clone, Copy, PartialEq, Eq)]
 pub enum HeadKind {
     /// FC or FD: an IR, without a dynamic chain or with one.
     Ir { dynamic: bool },
@@ -39,7 +39,7 @@ pub enum HeadKind {
 }
 
 /// The header of a packet, borrowed from the packet's octets.
-#[derive(Clone, Copy, Debug)]
+#[derive(Clone, Copy)]
 pub struct Forward<'a> {
     /// The CID, or context identifier.
     pub cid: u16,

@@ -1,7 +1,7 @@
 //! Answers over HTTP/1.1 (RFC 9112).
 
 use rohc_station::{ReloadReport, RequestFault};
-use std::alloc::Global;
+use std::alloc::{AllocError, Global};
 use std::io;
 use std::io::Write;
 
@@ -49,18 +49,19 @@ pub(crate) struct Reply {
 }
 
 impl Reply {
-    /// One object of JSON.
-    pub(crate) fn object(status: u16, text: String) -> Reply {
-        Reply {
+    /// One object of JSON, if there was memory for its text.
+    pub(crate) fn object(status: u16, text: Result<String, AllocError>) -> io::Result<Reply> {
+        let body = text?.into_bytes();
+        Ok(Reply {
             status,
             kind: Kind::Object,
-            body: text.into_bytes(),
-        }
+            body,
+        })
     }
 
     /// A fault of this name.
     pub(crate) fn fault(alloc: Global, status: u16, name: &str) -> io::Result<Reply> {
-        Ok(Reply::object(status, format!(in alloc; "{{\"fault\":\"{name}\"}}\n")?))
+        Reply::object(status, format!(in alloc; "{{\"fault\":\"{name}\"}}\n"))
     }
 
     /// A fault of a request.
@@ -73,8 +74,8 @@ impl Reply {
         let text = format!(in alloc;
             "{{\"added\":{},\"changed\":{},\"removed\":{},\"contexts_gone\":{}}}\n",
             report.added, report.changed, report.removed, report.contexts_gone
-        )?;
-        Ok(Reply::object(200, text))
+        );
+        Reply::object(200, text)
     }
 
     /// The octets to be sent.

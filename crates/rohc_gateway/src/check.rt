@@ -1,8 +1,26 @@
 //! `check`: all that is wrong, and nothing is changed.
 
-use crate::setup::read_start;
+use crate::setup::{Lines, NoStart, read_start};
 use rohc_gateway_file::{Ending, Options};
 use std::rt::Files;
+
+/// Says that nothing is wrong.
+fn say_good<R: Print>(rt: &R) -> Result<Ending, Ending> {
+    match println!(rt; "good") {
+        Ok(()) => Ok(Ending::Good),
+        Err(_) => Err(Ending::Write),
+    }
+}
+
+/// Says what is wrong.
+fn say_wrong<R: Print>(rt: &R, lines: &Lines) -> Result<Ending, Ending> {
+    for line in &lines.all {
+        if println!(rt; "{line}").is_err() {
+            return Err(Ending::Write);
+        }
+    }
+    Ok(Ending::Findings)
+}
 
 /// Says all that is wrong with a gateway file, its links file and its state file, a line each, or `good`.
 pub(crate) fn check<R: Files + Print + AllocGlobal>(
@@ -10,18 +28,9 @@ pub(crate) fn check<R: Files + Print + AllocGlobal>(
     file: &str,
     options: &Options<'_>,
 ) -> Result<Ending, Ending> {
-    match read_start(rt, file, options, false)? {
-        Ok(_) => match println!(rt; "good") {
-            Ok(()) => Ok(Ending::Good),
-            Err(_) => Err(Ending::Write),
-        },
-        Err(lines) => {
-            for line in &lines.all {
-                if println!(rt; "{line}").is_err() {
-                    return Err(Ending::Write);
-                }
-            }
-            Ok(Ending::Findings)
-        }
+    match read_start(rt, file, options, false) {
+        Ok(_) => say_good(rt),
+        Err(NoStart::Wrong(lines)) => say_wrong(rt, &lines),
+        Err(NoStart::Memory) => Err(Ending::Memory),
     }
 }

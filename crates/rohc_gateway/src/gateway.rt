@@ -10,6 +10,7 @@ use crate::watch::{LONGEST, MOST_PACKETS, Watch};
 use mio::net::UdpSocket;
 use rohc_concentrator::NoLink;
 use rohc_gateway_file::{Config, VERSION};
+use rohc_links::Links;
 use rohc_station::{
     Asked, GatewayFigures, ReloadFault, Request, RequestFault, Station, write_calls,
     write_contexts, write_metrics,
@@ -61,28 +62,7 @@ impl Gateway<'_> {
     ) -> bool {
         for _ in 0..BATCH {
             match socket.recv_from(self.datagram.as_mut_slice()) {
-                Ok((size, _)) => {
-                    let octets = self.datagram.get(..size).unwrap_or(&[]);
-                    let is_watched = match &self.watch {
-                        Some(watch) if is_timed => watch.sees(self.station.timed_call_of(octets)),
-                        Some(watch) => watch.sees(self.station.call_of(octets)),
-                        None => false,
-                    };
-                    let taken = match (is_timed, self.figures.draining) {
-                        (true, false) => self.station.take_timed(octets),
-                        (true, true) => self.station.take_timed_known(octets),
-                        (false, false) => self.station.take(self.moments.now(rt), octets),
-                        (false, true) => self.station.take_known(self.moments.now(rt), octets),
-                    };
-                    if is_watched && let Some(watch) = &mut self.watch {
-                        let head: usize = if is_timed { 10 } else { 2 };
-                        watch.log(rt, octets.len().saturating_sub(head), &taken);
-                    }
-                    let failed = send_all(socket, self.packet.as_mut_slice(), &taken.sends);
-                    if failed > 0 {
-                        self.station.add_failed_sends(octets, failed);
-                    }
-                }
+                Ok((size, _)) => self.take_datagram(rt, socket, is_timed, size),
                 Err(e) if e.kind() == ErrorKind::WouldBlock => return false,
                 Err(_) => {
                     self.figures.failed_receives = self.figures.failed_receives.saturating_add(1);
@@ -90,6 +70,37 @@ impl Gateway<'_> {
             }
         }
         true
+    }
+
+    /// Takes the datagram of this size that was received, and sends what is due.
+    #[inline(always)]
+    fn take_datagram<R: Clock + Eprint>(
+        &mut self,
+        rt: &R,
+        socket: &UdpSocket,
+        is_timed: bool,
+        size: usize,
+    ) {
+        let octets = self.datagram.get(..size).unwrap_or(&[]);
+        let is_watched = match &self.watch {
+            Some(watch) if is_timed => watch.sees(self.station.timed_call_of(octets)),
+            Some(watch) => watch.sees(self.station.call_of(octets)),
+            None => false,
+        };
+        let taken = match (is_timed, self.figures.draining) {
+            (true, false) => self.station.take_timed(octets),
+            (true, true) => self.station.take_timed_known(octets),
+            (false, false) => self.station.take(self.moments.now(rt), octets),
+            (false, true) => self.station.take_known(self.moments.now(rt), octets),
+        };
+        if is_watched && let Some(watch) = &mut self.watch {
+            let head: usize = if is_timed { 10 } else { 2 };
+            watch.log(rt, octets.len().saturating_sub(head), &taken);
+        }
+        let failed = send_all(socket, self.packet.as_mut_slice(), &taken.sends);
+        if failed > 0 {
+            self.station.add_failed_sends(octets, failed);
+        }
     }
 
     /// Saves the contexts; `None` if there is no state file. Returns how many octets were saved.
@@ -139,17 +150,21 @@ impl Gateway<'_> {
 
     /// Takes the links file anew.
     fn reload<R: Files + Eprint + AllocGlobal>(&mut self, rt: &R) -> io::Result<Reply> {
-        let alloc = rt.alloc();
         let path = match &self.config.links {
             Some(path) => path.as_str(),
             None => "",
         };
-        let links = match read_links_file(rt, path) {
-            Ok(links) => links,
-            Err(UnreadLinks::Unreadable) => return refuse_links(rt, 409, "Unreadable"),
-            Err(UnreadLinks::Memory) => return refuse_links(rt, 500, "NoMemory"),
-            Err(UnreadLinks::Fault(fault)) => return refuse_links(rt, 409, fault.name()),
-        };
+        match read_links_file(rt, path) {
+            Ok(links) => self.take_links(rt, links),
+            Err(UnreadLinks::Unreadable) => refuse_links(rt, 409, "Unreadable"),
+            Err(UnreadLinks::Memory) => refuse_links(rt, 500, "NoMemory"),
+            Err(UnreadLinks::Fault(fault)) => refuse_links(rt, 409, fault.name()),
+        }
+    }
+
+    /// Takes these links in place of those that are there.
+    fn take_links<R: Eprint + AllocGlobal>(&mut self, rt: &R, links: Links) -> io::Result<Reply> {
+        let alloc = rt.alloc();
         match self.station.reload(alloc, links) {
             Ok(report) => {
                 let _ = eprintln!(rt;
@@ -178,28 +193,22 @@ impl Gateway<'_> {
             }
         };
         self.is_stopped = stops;
-        match (saved, stops) {
-            (Some(octets), true) => Ok(Reply::object(
-                200,
-                format!(in alloc; "{{\"stopped\":true,\"saved\":{octets}}}\n")?,
-            )),
-            (Some(octets), false) => Ok(Reply::object(
-                200,
-                format!(in alloc; "{{\"saved\":{octets}}}\n")?,
-            )),
-            (None, true) => Ok(Reply::object(
-                200,
-                format!(in alloc; "{{\"stopped\":true,\"saved\":null}}\n")?,
-            )),
-            (None, false) => Reply::fault(alloc, 409, "NoState"),
-        }
+        let text = match (saved, stops) {
+            (Some(octets), true) => {
+                format!(in alloc; "{{\"stopped\":true,\"saved\":{octets}}}\n")
+            }
+            (Some(octets), false) => format!(in alloc; "{{\"saved\":{octets}}}\n"),
+            (None, true) => format!(in alloc; "{{\"stopped\":true,\"saved\":null}}\n"),
+            (None, false) => return Reply::fault(alloc, 409, "NoState"),
+        };
+        Reply::object(200, text)
     }
 
     /// Forgets the records of a link, or that of one CID.
     fn reset<R: AllocGlobal>(&mut self, rt: &R, link: u16, cid: Option<u16>) -> io::Result<Reply> {
         let alloc = rt.alloc();
         match self.station.reset(link, cid) {
-            Ok(gone) => Ok(Reply::object(200, format!(in alloc; "{{\"gone\":{gone}}}\n")?)),
+            Ok(gone) => Reply::object(200, format!(in alloc; "{{\"gone\":{gone}}}\n")),
             Err(NoLink) => Reply::fault(alloc, 404, "NoLink"),
         }
     }
@@ -208,7 +217,7 @@ impl Gateway<'_> {
     fn drain<R: Eprint + AllocGlobal>(&mut self, rt: &R) -> io::Result<Reply> {
         self.figures.draining = true;
         let _ = eprintln!(rt; "<6>rohc-gateway: draining");
-        Ok(Reply::object(200, format!(in rt.alloc(); "{{\"draining\":true}}\n")?))
+        Reply::object(200, format!(in rt.alloc(); "{{\"draining\":true}}\n"))
     }
 
     /// Logs the packets of a call from now on, for a while.
@@ -224,10 +233,8 @@ impl Gateway<'_> {
         }
         self.watch = Some(Watch::new(link, cid, self.moments.now(rt)));
         let _ = eprintln!(rt; "<6>rohc-gateway: watch {link}/{cid} begins");
-        let text = format!(in alloc;
-            "{{\"packets\":{MOST_PACKETS},\"milliseconds\":{LONGEST}}}\n"
-        )?;
-        Ok(Reply::object(200, text))
+        let text = format!(in alloc; "{{\"packets\":{MOST_PACKETS},\"milliseconds\":{LONGEST}}}\n");
+        Reply::object(200, text)
     }
 
     /// Ends the watch if it is over.
@@ -311,10 +318,7 @@ impl Gateway<'_> {
             Request::Reset { link, cid } => self.reset(rt, link, cid),
             Request::Drain => self.drain(rt),
             Request::Watch { link, cid } => self.watch_call(rt, link, cid),
-            Request::Ready => Ok(Reply::object(
-                200,
-                format!(in rt.alloc(); "{{\"ready\":true}}\n")?,
-            )),
+            Request::Ready => Reply::object(200, format!(in rt.alloc(); "{{\"ready\":true}}\n")),
             Request::Status => self.status(rt),
             Request::Metrics => self.metrics(rt),
             Request::Contexts { link } => self.contexts(rt, link, false),

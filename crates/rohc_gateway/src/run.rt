@@ -3,7 +3,7 @@
 use crate::clock::Moments;
 use crate::connection::{Connection, Stream};
 use crate::gateway::Gateway;
-use crate::setup::{Start, read_start};
+use crate::setup::{Lines, NoStart, Start, read_start};
 use crate::sockets::{CONTROL, METRICS, MOST_CONNECTIONS, PLAIN, Sockets, TIMED, remove_control};
 use mio::net::{TcpListener, UnixListener};
 use mio::{Events, Poll, Token};
@@ -240,6 +240,30 @@ where
     }
 }
 
+/// Runs a gateway from what was read.
+fn run_read<R>(rt: &R, start: Start) -> Result<Ending, Ending>
+where
+    R: Files + Net + Clock + Eprint + AllocGlobal,
+{
+    let Start {
+        config,
+        links,
+        concentrator,
+        restored,
+    } = start;
+    let Ok(station) = Station::new(rt.alloc(), concentrator, links) else {
+        return Err(Ending::Memory);
+    };
+    run_from(rt, &config, &restored, station)
+}
+
+/// Says why a gateway doesn't start.
+fn say_wrong<R: Eprint>(rt: &R, lines: &Lines) {
+    for line in &lines.all {
+        let _ = eprintln!(rt; "<3>rohc-gateway: {line}");
+    }
+}
+
 /// Runs a gateway until it is told to stop.
 pub(crate) fn run<R>(
     rt: &R,
@@ -250,24 +274,12 @@ pub(crate) fn run<R>(
 where
     R: Files + Net + Clock + Eprint + AllocGlobal,
 {
-    match read_start(rt, file, options, fresh)? {
-        Ok(start) => {
-            let Start {
-                config,
-                links,
-                concentrator,
-                restored,
-            } = start;
-            let station = Station::new(rt.alloc(), concentrator, links).map_err(
-                |_| Ending::Memory,
-            )?;
-            run_from(rt, &config, &restored, station)
-        }
-        Err(lines) => {
-            for line in &lines.all {
-                let _ = eprintln!(rt; "<3>rohc-gateway: {line}");
-            }
+    match read_start(rt, file, options, fresh) {
+        Ok(start) => run_read(rt, start),
+        Err(NoStart::Wrong(lines)) => {
+            say_wrong(rt, &lines);
             Ok(Ending::Refused)
         }
+        Err(NoStart::Memory) => Err(Ending::Memory),
     }
 }

@@ -48,23 +48,88 @@ pub enum Request<'a> {
     },
 }
 
-/// An option with a value.
-fn valued<'a>(
-    alloc: Global,
-    name: &'static str,
-    value: &'static str,
-    help: &'static str,
-) -> Arg<'a> {
-    Arg::new(alloc, name)
-        .long(name)
-        .value_name(value)
-        .help(help)
-        .action(ArgAction::Set)
+/// What an option's value is.
+#[derive(Clone, Copy)]
+enum Value {
+    /// A path.
+    Path,
+    /// A port above 0.
+    Port,
+    /// Seconds, up to a day.
+    Seconds,
 }
 
-/// An option with a port.
-fn port<'a>(alloc: Global, name: &'static str, help: &'static str) -> Arg<'a> {
-    valued(alloc, name, "PORT", help).value_parser(clap::value_parser!(u16).range(1..))
+/// An option with a value.
+#[derive(Clone, Copy)]
+struct Word {
+    name: &'static str,
+    value: Value,
+    help: &'static str,
+}
+
+/// The options of both subcommands.
+const OPTIONS: [Word; 7] = [
+    Word {
+        name: "links",
+        value: Value::Path,
+        help: "The links file",
+    },
+    Word {
+        name: "port",
+        value: Value::Port,
+        help: "The port for datagrams",
+    },
+    Word {
+        name: "timed-port",
+        value: Value::Port,
+        help: "The port for timed datagrams",
+    },
+    Word {
+        name: "state",
+        value: Value::Path,
+        help: "The file for saved contexts",
+    },
+    Word {
+        name: "save-seconds",
+        value: Value::Seconds,
+        help: "How often to save",
+    },
+    Word {
+        name: "control",
+        value: Value::Path,
+        help: "The control socket",
+    },
+    Word {
+        name: "metrics-port",
+        value: Value::Port,
+        help: "The port for metrics",
+    },
+];
+
+impl Word {
+    /// The option with a value that help texts call so.
+    fn valued<'a>(self, alloc: Global, value: &'static str) -> Arg<'a> {
+        Arg::new(alloc, self.name)
+            .long(self.name)
+            .value_name(value)
+            .help(self.help)
+            .action(ArgAction::Set)
+    }
+
+    /// The option as the parser takes it.
+    fn arg<'a>(self, alloc: Global) -> Arg<'a> {
+        match self.value {
+            Value::Path => self.valued(alloc, "PATH"),
+            Value::Port => {
+                let ports = clap::value_parser!(u16).range(1..);
+                self.valued(alloc, "PORT").value_parser(ports)
+            }
+            Value::Seconds => {
+                let seconds = clap::value_parser!(u32).range(1..=86_400);
+                self.valued(alloc, "SECONDS").value_parser(seconds)
+            }
+        }
+    }
 }
 
 /// A subcommand with the gateway file and its options.
@@ -73,40 +138,47 @@ fn subcommand<'a>(
     name: &'static str,
     about: &'static str,
 ) -> Result<Command<'a>, AllocError> {
-    let seconds = clap::value_parser!(u32).range(1..=86_400);
-    Command::new(alloc, name)
-        .about(about)
-        .arg(
-            Arg::new(alloc, "FILE")
-                .help("The gateway file")
-                .required(true),
-        )?
-        .arg(valued(alloc, "links", "PATH", "The links file"))?
-        .arg(port(alloc, "port", "The port for datagrams"))?
-        .arg(port(alloc, "timed-port", "The port for timed datagrams"))?
-        .arg(valued(alloc, "state", "PATH", "The file for saved contexts"))?
-        .arg(valued(alloc, "save-seconds", "SECONDS", "How often to save").value_parser(seconds))?
-        .arg(valued(alloc, "control", "PATH", "The control socket"))?
-        .arg(port(alloc, "metrics-port", "The port for metrics"))
+    let file = Arg::new(alloc, "FILE")
+        .help("The gateway file")
+        .required(true);
+    let mut command = Command::new(alloc, name).about(about).arg(file)?;
+    for word in &OPTIONS {
+        command = command.arg(word.arg(alloc))?;
+    }
+    Ok(command)
 }
 
-/// The parser of the command line.
-fn command<'a>(alloc: Global) -> Result<Command<'a>, AllocError> {
+/// The subcommand `run`.
+fn run_words<'a>(alloc: Global) -> Result<Command<'a>, AllocError> {
     let fresh = Arg::new(alloc, "fresh")
         .long("fresh")
         .help("Do not restore the saved contexts")
         .action(ArgAction::SetTrue);
-    let run = subcommand(alloc, "run", "Run until it is told to stop")?.arg(fresh)?;
-    let check = subcommand(alloc, "check", "Say all that is wrong, and change nothing")?;
-    Command::new(alloc, "rohc-gateway")
-        .bin_name("rohc-gateway")?
-        .version(VERSION)
-        .about("A ROHC decompressor for many links, as a service")
-        .no_binary_name(true)
-        .subcommand_required(true)
-        .arg_required_else_help(true)
-        .subcommand(run)?
-        .subcommand(check)
+    subcommand(alloc, "run", "Run until it is told to stop")?.arg(fresh)
+}
+
+/// The subcommand `check`.
+fn check_words<'a>(alloc: Global) -> Result<Command<'a>, AllocError> {
+    subcommand(alloc, "check", "Say all that is wrong, and change nothing")
+}
+
+/// The parser of the command line, without its subcommands.
+fn program<'a>(alloc: Global) -> Result<Command<'a>, AllocError> {
+    let named = Command::new(alloc, "rohc-gateway").bin_name("rohc-gateway")?;
+    Ok(
+        named
+            .version(VERSION)
+            .about("A ROHC decompressor for many links, as a service")
+            .no_binary_name(true)
+            .subcommand_required(true)
+            .arg_required_else_help(true),
+    )
+}
+
+/// The parser of the command line.
+fn command<'a>(alloc: Global) -> Result<Command<'a>, AllocError> {
+    let with_run = program(alloc)?.subcommand(run_words(alloc)?)?;
+    with_run.subcommand(check_words(alloc)?)
 }
 
 /// The options in the words that were matched.

@@ -89,7 +89,7 @@ pub struct Reading<'a> {
 }
 
 /// Why there is no table of a gateway file.
-#[derive(Clone, Copy, Debug, PartialEq, Eq)]
+#[derive(Clone, Copy, PartialEq, Eq)]
 pub enum Unread {
     /// The text is no TOML document from this line on.
     NotToml(usize),

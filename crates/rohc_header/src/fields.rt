@@ -2,7 +2,7 @@
 //! that change.
 
 /// The static fields of a call's headers.
-#[derive(Clone, Copy, Debug)]
+#[derive(Clone, Copy)]
 pub struct Static {
     /// The source address.
     pub source: [u8; 4],
@@ -17,7 +17,7 @@ pub struct Static {
 }
 
 /// The dynamic fields of a header, and what a context keeps about them: RND, NBO and the stride.
-#[derive(Clone, Copy, Debug)]
+#[derive(Clone, Copy)]
 pub struct Dynamic {
     /// The type of service (TOS).
     pub tos: u8,

@@ -16,7 +16,7 @@ use rohc_checks::{crc3, crc7};
 pub const LONGEST_PAYLOAD: usize = 65_495;
 
 /// A rebuilt RTP/UDP/IPv4 header.
-#[derive(Clone, Copy, Debug)]
+#[derive(Clone, Copy)]
 pub struct Header {
     /// Its octets: 20 of IPv4, 8 of UDP, 12 of RTP.
     pub octets: [u8; 40],

@@ -8,7 +8,7 @@ use std::alloc::{AllocError, Global};
 use std::marker::Model;
 
 /// The content of a links file: a setting and its ports for each entry, in order.
-#[derive(Debug, Drop)]
+#[derive(Drop)]
 pub struct Links {
     settings: Vec<LinkSetting>,
     ports: Vec<Ports>,

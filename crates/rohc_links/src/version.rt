@@ -1,7 +1,7 @@
 //! The versions of a links file.
 
 /// The version of a links file.
-#[derive(Clone, Copy, Debug, PartialEq, Eq)]
+#[derive(Clone, Copy, PartialEq, Eq)]
 pub enum Version {
     /// Thirteen keys in each entry.
     One,

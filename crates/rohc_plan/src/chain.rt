@@ -10,7 +10,7 @@ const PACKETS: u32 = 2_000;
 const NONE: f64 = 1e-15;
 
 /// A window whose outcomes fail with a chance, each alone.
-#[derive(Clone, Copy, Debug)]
+#[derive(Clone, Copy)]
 pub struct Chain {
     window: Window,
     failing: f64,

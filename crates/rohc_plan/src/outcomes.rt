@@ -3,7 +3,7 @@
 ghost use Rattle.std.specs.Prelude.{◌≤◌};
 
 /// A window of at most 16 outcomes, which k failures among the last n fill.
-#[derive(Clone, Copy, Debug)]
+#[derive(Clone, Copy)]
 pub struct Window {
     k: u8,
     n: u8,
@@ -14,7 +14,7 @@ pub struct Window {
 
 /// The last n - 1 outcomes of a window that isn't filled, as the digits of a number in base 2. The last outcome is the
 /// lowest digit, and a failure is 1.
-#[derive(Clone, Copy, Debug, PartialEq, Eq)]
+#[derive(Clone, Copy, PartialEq, Eq)]
 pub struct Outcomes {
     /// The number.
     pub digits: u32,

@@ -9,7 +9,7 @@ use std::alloc::{AllocError, Global};
 const GREATEST_COUNT: i64 = 1_000_000;
 
 /// What the command line asks for.
-#[derive(Clone, Copy, Debug)]
+#[derive(Clone, Copy)]
 pub(crate) enum Request<'a> {
     /// Run a script from standard input to standard output, with the links of this file.
     Replay {
@@ -31,20 +31,28 @@ fn option<'a>(alloc: Global, name: &'static str) -> Arg<'a> {
         .action(ArgAction::Set)
 }
 
-/// The parser of the command line.
-fn command<'a>(alloc: Global) -> Result<Command<'a>, AllocError> {
+/// The subcommand `replay`.
+fn replay_words<'a>(alloc: Global) -> Result<Command<'a>, AllocError> {
+    Command::new(alloc, "replay").arg(option(alloc, "links"))
+}
+
+/// The subcommand `serve`.
+fn serve_words<'a>(alloc: Global) -> Result<Command<'a>, AllocError> {
     let ports = clap::value_parser!(u16).range(1..);
     let counts = clap::value_parser!(u32).range(1..=GREATEST_COUNT);
-    let replay = Command::new(alloc, "replay").arg(option(alloc, "links"))?;
-    let serve = Command::new(alloc, "serve")
+    Command::new(alloc, "serve")
         .arg(option(alloc, "links"))?
         .arg(option(alloc, "port").value_parser(ports))?
-        .arg(option(alloc, "count").value_parser(counts))?;
+        .arg(option(alloc, "count").value_parser(counts))
+}
+
+/// The parser of the command line.
+fn command<'a>(alloc: Global) -> Result<Command<'a>, AllocError> {
     Command::new(alloc, "rohcd")
         .no_binary_name(true)
         .subcommand_required(true)
-        .subcommand(replay)?
-        .subcommand(serve)
+        .subcommand(replay_words(alloc)?)?
+        .subcommand(serve_words(alloc)?)
 }
 
 /// The request in the words that were matched.

@@ -15,7 +15,7 @@ use rohc_frame::Elements;
 use std::io::Write;
 
 /// A write failed or took no octets.
-#[derive(Clone, Copy, Debug, PartialEq, Eq)]
+#[derive(Clone, Copy, PartialEq, Eq)]
 pub(crate) struct Stopped;
 
 /// Writes a text by single calls, until one fails or takes no octets. Returns how many octets were taken.

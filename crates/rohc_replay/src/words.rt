@@ -15,7 +15,7 @@ use crate::hex_octets::decode;
 use crate::numeral::read_number;
 
 /// The content of a good line. The octets of a packet are stored apart.
-#[derive(Clone, Copy, Debug, PartialEq, Eq)]
+#[derive(Clone, Copy, PartialEq, Eq)]
 pub enum Words {
     /// A packet of `size` octets arrives on a link at this time.
     Arrive { link: u16, moment: u64, size: usize },

@@ -13,7 +13,7 @@ pub(crate) const CELL_WIDTH: usize = 3;
 pub(crate) const WIDTH: usize = 720;
 
 /// The time of a call, from its first packet to its last.
-#[derive(Clone, Copy, Debug, PartialEq, Eq)]
+#[derive(Clone, Copy, PartialEq, Eq)]
 pub struct Axis {
     /// The moment of the first packet.
     pub first: u64,

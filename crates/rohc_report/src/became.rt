@@ -6,7 +6,7 @@ ghost use Rattle.rohc_report.specs.Became.{is_behind, late_count, outcome_of, re
 use rohc_context::Refusal;
 
 /// What became of a packet.
-#[derive(Clone, Copy, Debug, PartialEq, Eq)]
+#[derive(Clone, Copy, PartialEq, Eq)]
 pub enum Became {
     /// It was delivered.
     Delivered,

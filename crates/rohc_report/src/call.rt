@@ -5,7 +5,7 @@ use rohc_context::Refusal;
 use rohc_counts::Counts;
 
 /// The totals of a call: a CID of a link.
-#[derive(Clone, Copy, Debug)]
+#[derive(Clone, Copy)]
 pub struct CallTotals {
     /// Its answers by outcome and by kind of feedback.
     pub counts: Counts,

@@ -11,7 +11,7 @@ use rohc_counts::Counts;
 use std::alloc::{AllocError, Global};
 
 /// The totals of all packets. Memory grows with the calls alone.
-#[derive(Debug, Drop)]
+#[derive(Drop)]
 pub struct Calls {
     /// The totals of each call by its key, in the order of their first packets.
     pub calls: IndexMap<u32, CallTotals>,

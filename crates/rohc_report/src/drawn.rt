@@ -16,7 +16,7 @@ const NOTABLE: usize = 12;
 const PLAIN: usize = 4;
 
 /// What happened in a cell of a time line.
-#[derive(Clone, Copy, Debug)]
+#[derive(Clone, Copy)]
 pub(crate) struct Cell {
     /// The packets that were delivered in all, and those of them that were late and that were repaired.
     pub(crate) delivered: u32,
@@ -43,7 +43,7 @@ const EMPTY: Cell = Cell {
 };
 
 /// A packet that is told.
-#[derive(Debug, Drop)]
+#[derive(Drop)]
 pub(crate) struct Told {
     /// The number of its line or frame.
     pub(crate) number: u64,
@@ -55,7 +55,7 @@ pub(crate) struct Told {
 }
 
 /// The first and the last packets of a kind.
-#[derive(Debug, Drop)]
+#[derive(Drop)]
 pub(crate) struct Kept {
     most: usize,
     pub(crate) first: Vec<Told>,
@@ -104,7 +104,7 @@ impl Kept {
 }
 
 /// A call that is drawn.
-#[derive(Debug, Drop)]
+#[derive(Drop)]
 pub struct Drawn {
     pub(crate) link: u16,
     pub(crate) cid: u16,

@@ -4,7 +4,7 @@ use crate::drawn::Cell;
 use rohc_context::{ContextState, Refusal};
 
 /// What finds a refusal.
-#[derive(Clone, Copy, Debug, PartialEq, Eq)]
+#[derive(Clone, Copy, PartialEq, Eq)]
 pub(crate) enum Finder {
     /// The framing.
     Frame,
@@ -36,7 +36,7 @@ fn finder_of(refusal: Refusal) -> Finder {
 }
 
 /// What is drawn in one colour.
-#[derive(Clone, Copy, Debug, PartialEq, Eq)]
+#[derive(Clone, Copy, PartialEq, Eq)]
 pub(crate) enum Lane {
     State(ContextState),
     Delivered,

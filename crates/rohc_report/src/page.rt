@@ -15,7 +15,7 @@ use std::io;
 use std::io::Write;
 
 /// What a report is of.
-#[derive(Clone, Copy, Debug)]
+#[derive(Clone, Copy)]
 pub struct Report<'a> {
     /// The script or the capture, and the links file, by their names.
     pub input: &'a str,

@@ -8,7 +8,7 @@ use rohc_links::Ports;
 
 /// What is to be sent for a datagram: first the relayed feedback, then the packet, then the
 /// feedback for the peer.
-#[derive(Debug, Drop)]
+#[derive(Drop)]
 pub struct Sends<'a> {
     /// The ports of the datagram's link; `None` if it names no link that is there.
     pub ports: Option<Ports>,

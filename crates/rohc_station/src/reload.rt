@@ -11,7 +11,7 @@ use rohc_links::Links;
 use std::alloc::{AllocError, Global};
 
 /// What a reload did.
-#[derive(Clone, Copy, Debug, PartialEq, Eq)]
+#[derive(Clone, Copy, PartialEq, Eq)]
 pub struct ReloadReport {
     /// Links that were added.
     pub added: u64,

@@ -30,7 +30,7 @@ pub(crate) fn ports_of(links: &Links, link: u16) -> Option<Ports>
 }
 
 /// What came of a datagram.
-#[derive(Debug, Drop)]
+#[derive(Drop)]
 pub struct Taken<'a> {
     /// What is to be sent for it.
     pub sends: Sends<'a>,

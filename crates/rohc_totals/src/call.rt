@@ -5,7 +5,7 @@ use crate::kind::LineKind;
 use rohc_context::Refusal;
 
 /// The totals of a call: a CID of a link.
-#[derive(Clone, Copy, Debug)]
+#[derive(Clone, Copy)]
 pub struct CallTotals {
     /// The call's lines of each kind.
     pub counts: Counts,

@@ -3,7 +3,7 @@
 use crate::kind::{KINDS, LineKind};
 
 /// The number of lines of each kind. Each stays at the greatest `u64`.
-#[derive(Clone, Copy, Debug)]
+#[derive(Clone, Copy)]
 pub struct Counts {
     /// The numbers, by the kinds' numbers.
     lines: [u64; KINDS],

@@ -6,7 +6,7 @@ use rohc_context::Refusal;
 pub const KINDS: usize = 41;
 
 /// The kind of a line.
-#[derive(Clone, Copy, Debug, PartialEq, Eq)]
+#[derive(Clone, Copy, PartialEq, Eq)]
 pub enum LineKind {
     /// The line is no answer line.
     NoAnswer,
@@ -71,7 +71,7 @@ impl LineKind {
 }
 
 /// What a line says: of which link and CID, and what.
-#[derive(Clone, Copy, Debug, PartialEq, Eq)]
+#[derive(Clone, Copy, PartialEq, Eq)]
 pub struct AnswerLine {
     /// The link, if the line names one.
     pub link: Option<u16>,

@@ -154,7 +154,7 @@ pub trait Watcher {
 }
 
 /// A watcher who looks at nothing.
-#[derive(Clone, Copy, Debug)]
+#[derive(Clone, Copy)]
 pub struct Nobody;
 
 impl Watcher for Nobody {

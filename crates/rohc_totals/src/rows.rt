@@ -8,7 +8,7 @@ use crate::totals::{LinkTotals, Totals};
 use std::alloc::{AllocError, Global};
 
 /// A call with its totals.
-#[derive(Clone, Copy, Debug)]
+#[derive(Clone, Copy)]
 pub struct CallRow {
     /// The link's number.
     pub link: u16,

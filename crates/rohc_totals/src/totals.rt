@@ -7,7 +7,7 @@ use indexmap::IndexMap;
 use std::alloc::{AllocError, Global};
 
 /// The totals of a link.
-#[derive(Debug, Drop)]
+#[derive(Drop)]
 pub struct LinkTotals {
     /// The link's lines of each kind.
     pub counts: Counts,
@@ -16,7 +16,7 @@ pub struct LinkTotals {
 }
 
 /// The totals of all lines.
-#[derive(Debug, Drop)]
+#[derive(Drop)]
 pub struct Totals {
     /// The number of lines, which stays at the greatest `u64`.
     pub lines: u64,

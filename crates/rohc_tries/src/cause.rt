@@ -3,7 +3,7 @@
 use rohc_context::Refusal;
 
 /// What stands behind a refusal.
-#[derive(Clone, Copy, Debug, PartialEq, Eq)]
+#[derive(Clone, Copy, PartialEq, Eq)]
 pub struct Cause {
     /// The refusal.
     pub refusal: Refusal,

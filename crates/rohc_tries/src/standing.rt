@@ -9,7 +9,7 @@ use rohc_header::{Dynamic, Static};
 pub(crate) const GREATEST_STRIDE: u32 = 536_870_911;
 
 /// The fields of the last accepted header, as later packets are decoded against them.
-#[derive(Clone, Copy, Debug)]
+#[derive(Clone, Copy)]
 pub struct Reference {
     /// The fields, without the marker.
     pub moving: Dynamic,
@@ -18,7 +18,7 @@ pub struct Reference {
 }
 
 /// What a context keeps beside its windows.
-#[derive(Clone, Copy, Debug)]
+#[derive(Clone, Copy)]
 pub enum Standing {
     /// Profile 0x0000.
     Plain,
@@ -40,7 +40,7 @@ pub enum Standing {
 }
 
 /// The octets aren't those of a saved context.
-#[derive(Clone, Copy, Debug)]
+#[derive(Clone, Copy)]
 struct Unread;
 
 /// Reads a number of 32 bits.

@@ -15,7 +15,7 @@ use rohc_header::{Dynamic, Header, Static};
 use rohc_lsb::{inferred_ts, ip_id, scaled, sn_value, unscaled};
 
 /// The reference of a try.
-#[derive(Clone, Copy, Debug, PartialEq, Eq)]
+#[derive(Clone, Copy, PartialEq, Eq)]
 pub enum Against {
     /// The last accepted header.
     Reference,
@@ -24,7 +24,7 @@ pub enum Against {
 }
 
 /// Why a try wasn't made.
-#[derive(Clone, Copy, Debug, PartialEq, Eq)]
+#[derive(Clone, Copy, PartialEq, Eq)]
 pub enum NotMade {
     /// A try before it fits.
     Settled,
@@ -39,7 +39,7 @@ pub enum NotMade {
 }
 
 /// A try.
-#[derive(Clone, Copy, Debug)]
+#[derive(Clone, Copy)]
 pub struct Told {
     /// The reference.
     pub against: Against,
@@ -50,7 +50,7 @@ pub struct Told {
 }
 
 /// What a packet means by a try.
-#[derive(Clone, Copy, Debug)]
+#[derive(Clone, Copy)]
 pub struct Meant {
     /// The fields of its header.
     pub moving: Dynamic,
@@ -63,7 +63,7 @@ pub struct Meant {
 }
 
 /// What is known of a context when it tries a packet.
-#[derive(Clone, Copy, Debug)]
+#[derive(Clone, Copy)]
 pub struct Situation<'a> {
     pub settings: &'a Settings,
     /// The time since the last accepted arrival, in milliseconds.

@@ -12,7 +12,7 @@ use std::rt::Files;
 use std::time::Clock;
 
 /// How a result is written.
-#[derive(Clone, Copy, Debug, PartialEq, Eq)]
+#[derive(Clone, Copy, PartialEq, Eq)]
 pub enum Form {
     /// A table.
     Table,
@@ -23,7 +23,7 @@ pub enum Form {
 }
 
 /// What is asked of `totals`.
-#[derive(Clone, Copy, Debug)]
+#[derive(Clone, Copy)]
 pub struct Asked<'a> {
     /// The answer lines; `-` is standard input.
     pub answers: &'a str,

@@ -11,7 +11,7 @@ use std::io::{Read, Write};
 use std::rt::Files;
 
 /// What is asked of `decompress`.
-#[derive(Clone, Copy, Debug)]
+#[derive(Clone, Copy)]
 pub struct Decompress<'a> {
     /// The links file.
     pub links: &'a str,

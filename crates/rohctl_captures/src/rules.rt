@@ -5,7 +5,7 @@ use rohctl_ground::Ending;
 use std::alloc::Global;
 
 /// The options that say which link a frame belongs to.
-#[derive(Clone, Copy, Debug)]
+#[derive(Clone, Copy)]
 pub struct RuleWords<'a> {
     /// The link of ROHC packets that the capture's own link carries.
     pub link: Option<&'a str>,
@@ -16,7 +16,7 @@ pub struct RuleWords<'a> {
 }
 
 /// The options that name links.
-#[derive(Clone, Copy, Debug, PartialEq, Eq)]
+#[derive(Clone, Copy, PartialEq, Eq)]
 enum Naming {
     /// `--vlan`: N=L.
     Vlan,
@@ -54,7 +54,7 @@ fn rule_of(naming: Naming, text: &str) -> Option<Rule> {
 }
 
 /// Why there are no rules.
-#[derive(Clone, Copy, Debug, PartialEq, Eq)]
+#[derive(Clone, Copy, PartialEq, Eq)]
 pub enum RulesFault {
     /// A number can't be read, or no rule is asked for.
     Words,

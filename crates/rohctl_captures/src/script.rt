@@ -22,7 +22,7 @@ const LONGEST_PACKET: usize = 65_535;
 const PIECE: usize = 256;
 
 /// What is asked of `script`.
-#[derive(Clone, Copy, Debug)]
+#[derive(Clone, Copy)]
 pub struct Script<'a> {
     /// What is read: a capture or, back, a script.
     pub input: &'a str,

@@ -5,7 +5,7 @@ ghost use Rattle.std.specs.Prelude.{◌≤◌};
 use rohc_capture::{Protocol, network_in};
 
 /// The address of a sender.
-#[derive(Clone, Copy, Debug, PartialEq, Eq)]
+#[derive(Clone, Copy, PartialEq, Eq)]
 pub(crate) enum Sender {
     /// An Ethernet address.
     Ethernet([u8; 6]),

@@ -1,7 +1,7 @@
 //! What is asked of `explain`.
 
 /// How packets are told.
-#[derive(Clone, Copy, Debug, PartialEq, Eq)]
+#[derive(Clone, Copy, PartialEq, Eq)]
 pub enum Telling {
     /// All that is known, for a reader.
     Whole,
@@ -12,7 +12,7 @@ pub enum Telling {
 }
 
 /// Where the packets stand.
-#[derive(Clone, Copy, Debug)]
+#[derive(Clone, Copy)]
 pub enum Source<'a> {
     /// In the script of this file; `-` is standard input.
     Script(&'a str),
@@ -21,7 +21,7 @@ pub enum Source<'a> {
 }
 
 /// Which packets of a script are told.
-#[derive(Clone, Copy, Debug, PartialEq, Eq)]
+#[derive(Clone, Copy, PartialEq, Eq)]
 pub enum Which {
     /// All.
     All,
@@ -32,7 +32,7 @@ pub enum Which {
 }
 
 /// What is asked of `explain`.
-#[derive(Clone, Copy, Debug)]
+#[derive(Clone, Copy)]
 pub struct Asked<'a> {
     /// The links file.
     pub links: &'a str,

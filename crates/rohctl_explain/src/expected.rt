@@ -30,7 +30,7 @@ fn failures_to_fill(window: &Window, k: u8, n: u8) -> u32 {
 }
 
 /// What a context is about to do.
-#[derive(Clone, Copy, Debug, PartialEq, Eq)]
+#[derive(Clone, Copy, PartialEq, Eq)]
 pub(crate) enum Ahead {
     /// It counts as none: its last accepted packet is too long ago.
     Expired,
@@ -45,7 +45,7 @@ pub(crate) enum Ahead {
 }
 
 /// What is told of a context with respect to the time at which a packet arrives.
-#[derive(Clone, Copy, Debug, PartialEq, Eq)]
+#[derive(Clone, Copy, PartialEq, Eq)]
 pub(crate) struct Expected {
     /// The milliseconds since the last accepted arrival.
     pub(crate) age: u64,

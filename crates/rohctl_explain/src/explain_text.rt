@@ -240,7 +240,7 @@ fn write_answer<W: Write>(out: &mut W, explained: &Explained) -> io::Result<()> 
 }
 
 /// Where a packet stands.
-#[derive(Clone, Copy, Debug, PartialEq, Eq)]
+#[derive(Clone, Copy, PartialEq, Eq)]
 pub enum Place {
     /// In this line of a script.
     Line(u64),

@@ -14,7 +14,7 @@ use rohctl_ground::Stop;
 use std::alloc::Global;
 
 /// What is told of a context before a packet or after it.
-#[derive(Clone, Copy, Debug)]
+#[derive(Clone, Copy)]
 pub struct View {
     pub profile: Profile,
     pub state: ContextState,
@@ -28,7 +28,7 @@ pub struct View {
 }
 
 /// The answer to a packet, in a word.
-#[derive(Clone, Copy, Debug, PartialEq, Eq)]
+#[derive(Clone, Copy, PartialEq, Eq)]
 pub enum Got {
     /// A packet of so many octets was delivered.
     Delivered(usize),
@@ -39,7 +39,7 @@ pub enum Got {
 }
 
 /// A packet, explained.
-#[derive(Debug, Drop)]
+#[derive(Drop)]
 pub struct Explained {
     pub link: u16,
     pub cid: Option<u16>,

@@ -4,7 +4,7 @@ use rohc_capture::CaptureFault;
 use std::fmt;
 
 /// How a run of the program ends.
-#[derive(Clone, Copy, Debug, PartialEq, Eq)]
+#[derive(Clone, Copy, PartialEq, Eq)]
 pub enum Ending {
     /// All was done, and nothing was found.
     Good,

@@ -16,7 +16,7 @@ const LONGEST_LINE: usize = 131_200;
 const PIECE: usize = 4096;
 
 /// What a line of a script says.
-#[derive(Clone, Copy, Debug)]
+#[derive(Clone, Copy)]
 pub enum Line<'a> {
     /// A packet arrives on a link at this time, in milliseconds.
     Arrive {
@@ -33,7 +33,7 @@ pub enum Line<'a> {
 }
 
 /// Why a script is read no further.
-#[derive(Clone, Copy, Debug, PartialEq, Eq)]
+#[derive(Clone, Copy, PartialEq, Eq)]
 pub enum Stop {
     /// A packet that was given isn't one.
     Words,

@@ -6,7 +6,7 @@ use std::rt::Files;
 use std::{fs, io};
 
 /// What standard output and standard error are.
-#[derive(Clone, Copy, Debug, PartialEq, Eq)]
+#[derive(Clone, Copy, PartialEq, Eq)]
 pub struct Screen {
     /// Whether standard output is a terminal.
     pub output: bool,

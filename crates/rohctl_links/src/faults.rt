@@ -6,7 +6,7 @@ use rohc_concentrator::{Concentrator, SetupFault};
 use rohc_faults::all_faults;
 use rohc_links::{Links, LinksFault, read_links};
 use rohctl_ground::{Ending, links_text, write_quoted, write_value};
-use std::alloc::Global;
+use std::alloc::{AllocError, Global};
 use std::io;
 use std::io::{BufWriter, Write};
 use std::rt::Files;
@@ -166,6 +166,15 @@ fn write_refused<W: Write>(
     }
 }
 
+/// Whether no fault is told of the text.
+fn is_faultless(alloc: Global, text: &str) -> Result<bool, AllocError> {
+    match toml::table_from_str(alloc, text) {
+        Ok(table) => Ok(all_faults(alloc, &table)?.is_none()),
+        Err(error) if error.is_memory() => Err(AllocError),
+        Err(_) => Ok(false),
+    }
+}
+
 /// Checks that no fault is told of a text that rohcd takes, and writes what its links are.
 fn write_taken<W: Write>(
     out: &mut W,
@@ -174,15 +183,10 @@ fn write_taken<W: Write>(
     links: &Links,
     json: bool,
 ) -> Result<Ending, Ending> {
-    match toml::table_from_str(alloc, text) {
-        Ok(table) => {
-            let faults = all_faults(alloc, &table).map_err(|_| Ending::Memory)?;
-            if !faults.is_none() {
-                return Err(Ending::Differs);
-            }
-        }
-        Err(error) if error.is_memory() => return Err(Ending::Memory),
-        Err(_) => return Err(Ending::Differs),
+    match is_faultless(alloc, text) {
+        Ok(true) => {}
+        Ok(false) => return Err(Ending::Differs),
+        Err(_) => return Err(Ending::Memory),
     }
     let written = if json {
         write_links_json(out, links)
@@ -195,6 +199,20 @@ fn write_taken<W: Write>(
     }
 }
 
+/// Writes all faults of the text, or what it sets.
+fn write_verdict<W: Write>(
+    out: &mut W,
+    alloc: Global,
+    path: &str,
+    text: &str,
+    json: bool,
+) -> Result<Ending, Ending> {
+    match verdict_on(alloc, text)? {
+        Verdict::Taken(links) => write_taken(out, alloc, text, &links, json),
+        Verdict::Refused(name) => write_refused(out, alloc, path, text, name, json),
+    }
+}
+
 /// Tells all faults of the links file, or what it sets.
 pub fn run_links<R>(rt: &R, path: &str, json: bool) -> Result<Ending, Ending>
 where
@@ -204,17 +222,7 @@ where
     let Ok(mut out) = BufWriter::new(rt.alloc(), io::writer(rt)) else {
         return Err(Ending::Memory);
     };
-    let ending = match verdict_on(rt.alloc(), text.as_str())? {
-        Verdict::Taken(links) => write_taken(&mut out, rt.alloc(), text.as_str(), &links, json)?,
-        Verdict::Refused(name) => write_refused(
-            &mut out,
-            rt.alloc(),
-            path,
-            text.as_str(),
-            name,
-            json,
-        )?,
-    };
+    let ending = write_verdict(&mut out, rt.alloc(), path, text.as_str(), json)?;
     match out.flush() {
         Ok(()) => Ok(ending),
         Err(_) => Err(Ending::Write),

@@ -8,7 +8,7 @@ use toml::de::Error;
 use toml::{Table, Value};
 
 /// What is wrong at a place of a links file.
-#[derive(Clone, Copy, Debug, PartialEq, Eq)]
+#[derive(Clone, Copy, PartialEq, Eq)]
 pub(crate) enum Wrong {
     /// The name is none of the keys; this one is the nearest, if one is near.
     Unknown(Option<Key>),
@@ -87,6 +87,27 @@ impl<'a> Entry<'a, '_> {
         }
     }
 
+    /// Appends the faults at the top of the file, which has so many entries.
+    fn push_top(
+        &self,
+        all: &mut Vec<Finding<'a>>,
+        faults: &FileFaults<'a>,
+        count: usize,
+    ) -> Result<(), AllocError> {
+        if faults.version {
+            all.push(self.finding("version", Wrong::Unfit, "1 or 2"))?;
+        }
+        for name in faults.unknown.iter() {
+            all.push(self.finding(name, Wrong::Unknown(None), ""))?;
+        }
+        if faults.link {
+            all.push(self.finding("link", Wrong::Unfit, may_stand(Key::Link)))?;
+        } else if count == 0 || count > 256 {
+            all.push(self.finding("link", Wrong::Count, may_stand(Key::Link)))?;
+        }
+        Ok(())
+    }
+
     /// Appends the faults of the entry.
     fn push(&self, all: &mut Vec<Finding<'a>>, faults: &EntryFaults<'a>) -> Result<(), AllocError> {
         for name in faults.unknown.iter() {
@@ -123,17 +144,7 @@ pub(crate) fn findings<'a>(
         entry: 0,
         table,
     };
-    if faults.version {
-        all.push(top.finding("version", Wrong::Unfit, "1 or 2"))?;
-    }
-    for name in faults.unknown.iter() {
-        all.push(top.finding(name, Wrong::Unknown(None), ""))?;
-    }
-    if faults.link {
-        all.push(top.finding("link", Wrong::Unfit, may_stand(Key::Link)))?;
-    } else if values.is_empty() || values.len() > 256 {
-        all.push(top.finding("link", Wrong::Count, may_stand(Key::Link)))?;
-    }
+    top.push_top(&mut all, faults, values.len())?;
     let version = field_at(table, "version").unwrap_or(Version::Two);
     for (place, faults) in faults.entries.iter().enumerate() {
         if let Some(table) = values.get(place)

@@ -16,7 +16,7 @@ const LONGEST_NAME: usize = 32;
 const ENTRY: &str = "[[process]]";
 
 /// A range of links that a process takes.
-#[derive(Clone, Copy, Debug, PartialEq, Eq)]
+#[derive(Clone, Copy, PartialEq, Eq)]
 pub(crate) struct Share {
     first: u16,
     last: u16,
@@ -30,7 +30,7 @@ impl Share {
 }
 
 /// A process that takes links.
-#[derive(Debug, Drop)]
+#[derive(Drop)]
 pub(crate) struct Process<'a> {
     pub(crate) name: &'a str,
     /// Its IPv4 address, if the file gives one.
@@ -49,14 +49,14 @@ impl<'a> Process<'a> {
 }
 
 /// The processes, and the port of the datagrams of all links.
-#[derive(Debug, Drop)]
+#[derive(Drop)]
 pub(crate) struct Hosts<'a> {
     pub(crate) port: u16,
     pub(crate) processes: Vec<Process<'a>>,
 }
 
 /// What is wrong with a hosts file.
-#[derive(Clone, Copy, Debug, PartialEq, Eq)]
+#[derive(Clone, Copy, PartialEq, Eq)]
 pub(crate) enum HostsFault {
     /// A key of the top, or of the process at this place, counted from 1, is missing or wrong.
     BadKey(usize, &'static str),

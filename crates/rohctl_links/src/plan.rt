@@ -10,7 +10,7 @@ use std::io::{BufWriter, Write};
 use std::rt::Files;
 
 /// What is asked of `plan`.
-#[derive(Clone, Copy, Debug)]
+#[derive(Clone, Copy)]
 pub struct Plan<'a> {
     /// How many of a hundred headers are damaged.
     pub damage: f64,

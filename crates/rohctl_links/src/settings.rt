@@ -91,24 +91,36 @@ fn first_with(ports: &[Ports], port: u16) -> Option<(usize, Key)> {
     None
 }
 
+/// Writes which key before this one, of the link at this place, names its port too, if one does.
+fn write_port_twice<W: Write>(
+    out: &mut W,
+    links: &Links,
+    place: usize,
+    key: Key,
+    port: u16,
+) -> io::Result<()> {
+    if let Some((first, other)) = first_with(links.ports(), port)
+        && (first != place || other != key)
+        && let Some(setting) = links.settings().get(place)
+        && let Some(earlier) = links.settings().get(first)
+    {
+        return writeln!(
+            out,
+            "unusual: link {}: {} {port} is {} of link {} too",
+            setting.link,
+            key.name(),
+            other.name(),
+            earlier.link
+        );
+    }
+    Ok(())
+}
+
 /// Writes the ports that two keys name.
 fn write_ports_twice<W: Write>(out: &mut W, links: &Links) -> io::Result<()> {
     for (place, ports) in links.ports().iter().enumerate() {
         for (key, port) in named_ports(ports) {
-            if let Some((first, other)) = first_with(links.ports(), port)
-                && (first != place || other != key)
-                && let Some(setting) = links.settings().get(place)
-                && let Some(earlier) = links.settings().get(first)
-            {
-                writeln!(
-                    out,
-                    "unusual: link {}: {} {port} is {} of link {} too",
-                    setting.link,
-                    key.name(),
-                    other.name(),
-                    earlier.link
-                )?;
-            }
+            write_port_twice(out, links, place, key, port)?;
         }
     }
     Ok(())

@@ -10,7 +10,7 @@ use std::io::{self, BufWriter, Write};
 use std::rt::Files;
 
 /// What is asked of `spread`.
-#[derive(Clone, Copy, Debug)]
+#[derive(Clone, Copy)]
 pub struct Spread<'a> {
     /// The links file.
     pub links: &'a str,
@@ -23,7 +23,7 @@ pub struct Spread<'a> {
 }
 
 /// The process of a link: its place among them.
-#[derive(Clone, Copy, Debug, PartialEq, Eq)]
+#[derive(Clone, Copy, PartialEq, Eq)]
 enum Owner {
     Nobody,
     One(usize),
@@ -120,7 +120,7 @@ fn owners<W: Write>(
 }
 
 /// What is written behind the number of a link.
-#[derive(Clone, Copy, Debug)]
+#[derive(Clone, Copy)]
 enum Behind {
     Nothing,
     Address,

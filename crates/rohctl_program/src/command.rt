@@ -18,7 +18,7 @@ use rohctl_words::command;
 const MOST_PROCESSES: u64 = 256;
 
 /// What the command line asks for.
-#[derive(Clone, Copy, Debug)]
+#[derive(Clone, Copy)]
 pub(crate) enum Request<'a> {
     /// Count answer lines.
     Totals(Totals<'a>),

@@ -19,7 +19,7 @@ const PIECE: usize = 4096;
 const LONGEST_HEAD: usize = 8192;
 
 /// What is asked of a gateway.
-#[derive(Clone, Copy, Debug, PartialEq, Eq)]
+#[derive(Clone, Copy, PartialEq, Eq)]
 pub(crate) enum Wish {
     /// Tell what it is doing.
     Status,

@@ -18,7 +18,7 @@ const PIECE: usize = 4096;
 const DIGITS: usize = 64;
 
 /// What is found of a file.
-#[derive(Clone, Copy, Debug, PartialEq, Eq)]
+#[derive(Clone, Copy, PartialEq, Eq)]
 enum Found {
     AsPacked,
     Other,

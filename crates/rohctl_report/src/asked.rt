@@ -3,7 +3,7 @@
 use rohctl_captures::RuleWords;
 
 /// What is asked of `report`.
-#[derive(Clone, Copy, Debug)]
+#[derive(Clone, Copy)]
 pub struct Asked<'a> {
     /// The links file.
     pub links: &'a str,

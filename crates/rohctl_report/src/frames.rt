@@ -8,7 +8,7 @@ use std::io::Read;
 use std::rt::Files;
 
 /// What there was beside the packets.
-#[derive(Clone, Copy, Debug, PartialEq, Eq)]
+#[derive(Clone, Copy, PartialEq, Eq)]
 pub(crate) struct Rest {
     /// The frames that no rule speaks of, or that carry no packet.
     pub(crate) left_out: u64,

@@ -4,7 +4,7 @@ use clap::{Arg, ArgAction, Command};
 use std::alloc::{AllocError, Global};
 
 /// How a word is given.
-#[derive(Clone, Copy, Debug, PartialEq, Eq)]
+#[derive(Clone, Copy, PartialEq, Eq)]
 enum Form {
     /// An option without a value.
     Flag,
@@ -15,7 +15,7 @@ enum Form {
 }
 
 /// Whether a word has to be given.
-#[derive(Clone, Copy, Debug, PartialEq, Eq)]
+#[derive(Clone, Copy, PartialEq, Eq)]
 enum Need {
     /// It may be left out.
     Optional,
@@ -28,7 +28,7 @@ enum Need {
 }
 
 /// Which other words go with a word.
-#[derive(Clone, Copy, Debug, PartialEq, Eq)]
+#[derive(Clone, Copy, PartialEq, Eq)]
 enum Company {
     /// Any.
     Any,
@@ -39,7 +39,7 @@ enum Company {
 }
 
 /// An option or an argument.
-#[derive(Clone, Copy, Debug)]
+#[derive(Clone, Copy)]
 pub(crate) struct Word {
     name: &'static str,
     form: Form,

@@ -114,25 +114,72 @@ fn verify<'a>(alloc: Global) -> Result<Command<'a>, AllocError> {
     )
 }
 
+/// The subcommands of files and streams.
+#[derive(Clone, Copy)]
+enum Name {
+    Totals,
+    Trace,
+    Links,
+    Diff,
+    Explain,
+    Plan,
+    Decompress,
+    Script,
+    Report,
+    Spread,
+    Verify,
+}
+
+/// They in the order of the help text.
+const NAMES: [Name; 11] = [
+    Name::Totals,
+    Name::Trace,
+    Name::Links,
+    Name::Diff,
+    Name::Explain,
+    Name::Plan,
+    Name::Decompress,
+    Name::Script,
+    Name::Report,
+    Name::Spread,
+    Name::Verify,
+];
+
+/// A subcommand with its words.
+fn words_of<'a>(alloc: Global, name: Name) -> Result<Command<'a>, AllocError> {
+    match name {
+        Name::Totals => totals(alloc),
+        Name::Trace => trace(alloc),
+        Name::Links => links(alloc),
+        Name::Diff => diff(alloc),
+        Name::Explain => explain_words(alloc),
+        Name::Plan => plan_words(alloc),
+        Name::Decompress => decompress_words(alloc),
+        Name::Script => script_words(alloc),
+        Name::Report => report_words(alloc),
+        Name::Spread => spread_words(alloc),
+        Name::Verify => verify(alloc),
+    }
+}
+
+/// The parser of the command line, without its subcommands.
+fn program<'a>(alloc: Global) -> Result<Command<'a>, AllocError> {
+    let named = Command::new(alloc, "rohctl").bin_name("rohctl")?;
+    Ok(
+        named
+            .version("1.0.0")
+            .about("Tells what rohcd did with each call")
+            .no_binary_name(true)
+            .subcommand_required(true)
+            .arg_required_else_help(true),
+    )
+}
+
 /// The parser of the command line.
 pub fn command<'a>(alloc: Global) -> Result<Command<'a>, AllocError> {
-    let command = Command::new(alloc, "rohctl")
-        .bin_name("rohctl")?
-        .version("1.0.0")
-        .about("Tells what rohcd did with each call")
-        .no_binary_name(true)
-        .subcommand_required(true)
-        .arg_required_else_help(true)
-        .subcommand(totals(alloc)?)?
-        .subcommand(trace(alloc)?)?
-        .subcommand(links(alloc)?)?
-        .subcommand(diff(alloc)?)?
-        .subcommand(explain_words(alloc)?)?
-        .subcommand(plan_words(alloc)?)?
-        .subcommand(decompress_words(alloc)?)?
-        .subcommand(script_words(alloc)?)?
-        .subcommand(report_words(alloc)?)?
-        .subcommand(spread_words(alloc)?)?
-        .subcommand(verify(alloc)?)?;
+    let mut command = program(alloc)?;
+    for name in &NAMES {
+        command = command.subcommand(words_of(alloc, *name)?)?;
+    }
     with_gateway(alloc, command)
 }

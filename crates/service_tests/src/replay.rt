@@ -72,7 +72,7 @@ impl Read for Pieces<'_> {
 }
 
 /// What a writer does when its calls are used up.
-#[derive(Clone, Copy, Debug, PartialEq, Eq)]
+#[derive(Clone, Copy, PartialEq, Eq)]
 enum Tired {
     Fails,
     TakesNone,

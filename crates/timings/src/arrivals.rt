@@ -22,7 +22,7 @@ const HEAD: usize = 40;
 const ROOM: usize = 65_535 + HEAD;
 
 /// Where a delivered packet goes.
-#[derive(Clone, Copy, Debug, PartialEq, Eq)]
+#[derive(Clone, Copy, PartialEq, Eq)]
 pub(crate) enum Target {
     /// It stays in the answer, which borrows its payload.
     Answer,
@@ -31,7 +31,7 @@ pub(crate) enum Target {
 }
 
 /// The sums over the outcomes of the packets.
-#[derive(Clone, Copy, Debug, PartialEq, Eq)]
+#[derive(Clone, Copy, PartialEq, Eq)]
 struct Sum {
     delivered: u64,
     octets: u64,

@@ -15,7 +15,7 @@ use std::time::Instant;
 const LONGEST: usize = 131_072;
 
 /// The sums over the calls of a turn.
-#[derive(Clone, Copy, Debug, PartialEq, Eq)]
+#[derive(Clone, Copy, PartialEq, Eq)]
 struct Sum {
     calls: u64,
     /// The octets that were decoded or encoded.
@@ -25,7 +25,7 @@ struct Sum {
 }
 
 /// The buffers that the calls write into.
-#[derive(Debug, Drop)]
+#[derive(Drop)]
 struct Buffers {
     octets: Vec<u8>,
     text: Vec<u8>,

@@ -31,7 +31,7 @@ const USAGE: &str =
     "timings arrivals|copies|saved LINKS SCRIPT [TURNS], digits SCRIPT ANSWERS [TURNS] or parts [TURNS]";
 
 /// What is timed.
-#[derive(Clone, Copy, Debug, PartialEq, Eq)]
+#[derive(Clone, Copy, PartialEq, Eq)]
 enum Mode {
     /// The arrivals of a script.
     Arrivals,

@@ -47,6 +47,27 @@ where
     eprintln!(rt; "save {saving} restore {restoring} copy {copying} hash {hashing}")
 }
 
+/// Times so many turns with the contexts of a concentrator.
+fn time_turns<R>(
+    rt: &R,
+    settings: &[LinkSetting],
+    concentrator: &Concentrator,
+    turns: u32,
+) -> io::Result<()>
+where
+    R: Print + Eprint + Clock + AllocGlobal,
+{
+    let mut octets = Vec::new(rt.alloc());
+    if save(concentrator, 0, &mut octets).is_err() {
+        return Err(bad_text());
+    }
+    println!(rt; "octets {}", octets.len())?;
+    for _ in 0..turns {
+        time_turn(rt, settings, concentrator, octets.as_slice())?;
+    }
+    Ok(())
+}
+
 /// Times so many turns with the contexts that a script leaves.
 pub(crate) fn time<R>(rt: &R, links: &str, script: &str, turns: u32) -> io::Result<()>
 where
@@ -65,13 +86,5 @@ where
     for arrival in arrivals.iter() {
         concentrator.arrive_into(arrival.link, arrival.moment, arrival.octets, &mut answer);
     }
-    let mut octets = Vec::new(rt.alloc());
-    if save(&concentrator, 0, &mut octets).is_err() {
-        return Err(bad_text());
-    }
-    println!(rt; "octets {}", octets.len())?;
-    for _ in 0..turns {
-        time_turn(rt, links.settings(), &concentrator, octets.as_slice())?;
-    }
-    Ok(())
+    time_turns(rt, links.settings(), &concentrator, turns)
 }

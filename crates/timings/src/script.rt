@@ -6,7 +6,7 @@ use std::io;
 use std::rt::Files;
 
 /// A packet of the script. Its octets stand in one buffer with those of the others.
-#[derive(Clone, Copy, Debug)]
+#[derive(Clone, Copy)]
 struct Packet {
     link: u16,
     moment: u64,
@@ -15,7 +15,7 @@ struct Packet {
 }
 
 /// A packet with its octets.
-#[derive(Clone, Copy, Debug)]
+#[derive(Clone, Copy)]
 pub(crate) struct Arrival<'a> {
     pub(crate) link: u16,
     pub(crate) moment: u64,
@@ -23,7 +23,7 @@ pub(crate) struct Arrival<'a> {
 }
 
 /// The packets of a script.
-#[derive(Debug, Drop)]
+#[derive(Drop)]
 pub(crate) struct Script {
     packets: Vec<Packet>,
     octets: Vec<u8>,

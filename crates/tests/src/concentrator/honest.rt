@@ -22,7 +22,7 @@ const HOSTILE: [&[u8]; 8] = [
 ];
 
 /// A packet as its sender sees it.
-#[derive(Clone, Copy, Debug)]
+#[derive(Clone, Copy)]
 struct Sent {
     sn: u16,
     ts: u32,
