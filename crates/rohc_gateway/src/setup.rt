@@ -50,7 +50,7 @@ impl Lines {
         Ok(())
     }
 
-    /// Adds a line that says that a file can't be read, unless that was for want of memory, which is the error.
+    /// Adds a line that says that a file can't be read. Want of memory is the error.
     fn add_unreadable(&mut self, line: &str, e: &io::Error) -> Result<(), AllocError> {
         if e.kind() == ErrorKind::OutOfMemory {
             return Err(AllocError);
@@ -58,7 +58,7 @@ impl Lines {
         self.add(String::from_str(self.alloc, line)?)
     }
 
-    /// Adds what is wrong with the gateway file as a whole.
+    /// Adds what is wrong with the gateway file as a whole. Want of memory is the error.
     fn add_unread(&mut self, unread: &Unread) -> Result<(), AllocError> {
         match unread {
             Unread::Memory => Err(AllocError),
@@ -84,7 +84,7 @@ impl Lines {
         Ok(())
     }
 
-    /// Adds what is wrong with the links file.
+    /// Adds what is wrong with the links file. Want of memory is the error.
     fn add_unread_links(&mut self, unread: &UnreadLinks) -> Result<(), AllocError> {
         match unread {
             UnreadLinks::Memory => Err(AllocError),
@@ -107,7 +107,7 @@ impl Lines {
         self.add(line?)
     }
 
-    /// Adds a fault of the links' settings.
+    /// Adds a fault of the links' settings. Want of memory is the error.
     fn add_setup_fault(&mut self, fault: &SetupFault) -> Result<(), AllocError> {
         let alloc = self.alloc;
         let name = fault.name();
@@ -121,7 +121,7 @@ impl Lines {
         self.add(line?)
     }
 
-    /// Adds a fault of the state file.
+    /// Adds a fault of the state file. Want of memory is the error.
     fn add_state_fault(&mut self, fault: &SavedFault) -> Result<(), AllocError> {
         if let SavedFault::NoMemory = fault {
             return Err(AllocError);

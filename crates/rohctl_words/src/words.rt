@@ -130,7 +130,7 @@ enum Name {
     Verify,
 }
 
-/// They in the order of the help text.
+/// Their order in the help text.
 const NAMES: [Name; 11] = [
     Name::Totals,
     Name::Trace,
