@@ -109,27 +109,31 @@ impl Connection {
         }
     }
 
+    /// Takes the next octets of the request, and tells what it asks for.
+    fn take(&mut self, octets: &[u8]) -> Progress {
+        if self.head.extend_from_slice(octets).is_err() {
+            return Progress::Ended;
+        }
+        match read_request(self.head.as_slice()) {
+            Asked::Unfinished if self.head.len() < LONGEST_HEAD => Progress::Waits,
+            Asked::Unfinished => Progress::Asks(Asked::Faulty(RequestFault::TooLarge)),
+            asked => Progress::Asks(asked),
+        }
+    }
+
     /// Reads what has come, and tells what it asks for.
     fn read_more(&mut self) -> Progress {
         let mut buffer = [0u8; 1024];
         for _ in 0..16u8 {
-            match self.stream.read(&mut buffer) {
+            let size = match self.stream.read(&mut buffer) {
                 Ok(0) => return Progress::Ended,
-                Ok(size) => {
-                    let octets = buffer.get(..size).unwrap_or(&[]);
-                    if self.head.extend_from_slice(octets).is_err() {
-                        return Progress::Ended;
-                    }
-                    match read_request(self.head.as_slice()) {
-                        Asked::Unfinished if self.head.len() < LONGEST_HEAD => {}
-                        Asked::Unfinished => return Progress::Asks(Asked::Faulty(
-                            RequestFault::TooLarge,
-                        )),
-                        asked => return Progress::Asks(asked),
-                    }
-                }
+                Ok(size) => size,
                 Err(e) if e.kind() == ErrorKind::WouldBlock => return Progress::Waits,
                 Err(_) => return Progress::Ended,
+            };
+            match self.take(buffer.get(..size).unwrap_or(&[])) {
+                Progress::Waits => {}
+                progress => return progress,
             }
         }
         Progress::Ended

@@ -79,6 +79,13 @@ fn folder_of(path: &str) -> &str {
     }
 }
 
+/// Writes octets to a new file, which is synced.
+fn write_synced<R: Files>(rt: &R, path: &str, octets: &[u8]) -> io::Result<()> {
+    let mut file = fs::create(rt, path)?;
+    file.write_all(octets)?;
+    file.sync_all()
+}
+
 /// Puts octets into a file, so that whatever happens either the old file stands whole or the new one: they
 /// are written to a file beside it, which is synced and takes its name. Then the folder is synced.
 pub(crate) fn replace_file<R: Files + AllocGlobal>(
@@ -87,11 +94,7 @@ pub(crate) fn replace_file<R: Files + AllocGlobal>(
     octets: &[u8],
 ) -> io::Result<()> {
     let beside = format!(in rt.alloc(); "{path}.new")?;
-    let mut file = fs::create(rt, beside.as_str())?;
-    file.write_all(octets)?;
-    file.sync_all()?;
-    drop(file);
+    write_synced(rt, beside.as_str(), octets)?;
     fs::rename(rt, beside.as_str(), path)?;
-    let folder = File::open(rt, folder_of(path))?;
-    folder.sync_all()
+    File::open(rt, folder_of(path))?.sync_all()
 }

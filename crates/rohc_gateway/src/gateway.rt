@@ -247,28 +247,32 @@ impl Gateway<'_> {
         }
     }
 
-    /// What stands, in a few numbers.
-    fn status<R: AllocGlobal>(&self, rt: &R) -> io::Result<Reply> {
+    /// How many contexts there are.
+    fn context_count(&self) -> u64 {
         let mut contexts = 0u64;
         for (_, records) in self.station.concentrator().tables() {
             contexts = contexts.saturating_add(records.contexts.len() as u64);
         }
-        let links = self.station.concentrator().tables().len();
-        let GatewayFigures {
-            draining,
-            last_save,
-            ..
-        } = self.figures;
-        let started = self.started;
-        let mut body = Vec::new(rt.alloc());
-        write!(
-            &mut body,
-            "{{\"version\":\"{VERSION}\",\"links\":{links},\"contexts\":{contexts},"
-        )?;
+        contexts
+    }
+
+    /// Writes what stands, in a few numbers.
+    fn write_status<W: Write>(&self, out: &mut W) -> io::Result<()> {
         writeln!(
-            &mut body,
-            "\"draining\":{draining},\"started\":{started},\"saved\":{last_save}}}"
-        )?;
+            out,
+            "{{\"version\":\"{VERSION}\",\"links\":{},\"contexts\":{},\"draining\":{},\"started\":{},\"saved\":{}}}",
+            self.station.concentrator().tables().len(),
+            self.context_count(),
+            self.figures.draining,
+            self.started,
+            self.figures.last_save
+        )
+    }
+
+    /// What stands, in a few numbers.
+    fn status<R: AllocGlobal>(&self, rt: &R) -> io::Result<Reply> {
+        let mut body = Vec::new(rt.alloc());
+        self.write_status(&mut body)?;
         Ok(Reply {
             status: 200,
             kind: Kind::Object,

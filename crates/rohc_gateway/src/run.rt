@@ -10,7 +10,7 @@ use mio::{Events, Poll, Token};
 use rohc_gateway_file::{Config, Ending, Options};
 use rohc_saved::Restored;
 use rohc_station::{GatewayFigures, Station};
-use std::alloc::AllocError;
+use std::alloc::{AllocError, Global};
 use std::io;
 use std::net::Net;
 use std::rt::Files;
@@ -41,21 +41,45 @@ impl Waiting {
     }
 }
 
+/// What a gateway keeps for what comes and goes.
+#[derive(Drop)]
+struct Room {
+    datagram: Vec<u8>,
+    packet: Vec<u8>,
+    connections: Vec<Option<Connection>>,
+}
+
+/// The places of connections, of which there are none.
+fn empty_places(alloc: Global) -> Result<Vec<Option<Connection>>, AllocError> {
+    let mut places = Vec::new(alloc);
+    for _ in 0..MOST_CONNECTIONS {
+        places.push(None)?;
+    }
+    Ok(places)
+}
+
+impl Room {
+    /// Room for a datagram, a packet and all connections.
+    fn new(alloc: Global) -> Result<Room, AllocError> {
+        Ok(Room {
+            datagram: vec![in alloc; 0u8; LONGEST_DATAGRAM]?,
+            packet: vec![in alloc; 0u8; LONGEST_PACKET]?,
+            connections: empty_places(alloc)?,
+        })
+    }
+}
+
 /// A gateway over what it starts from.
-fn gateway_of<'a, R: Clock + AllocGlobal>(
+fn gateway_of<'a, R: Clock>(
     rt: &R,
     config: &'a Config,
     restored: &Restored,
     station: Station,
-) -> Result<Gateway<'a>, AllocError> {
-    let alloc = rt.alloc();
+    room: Room,
+) -> Gateway<'a> {
     let mut moments = Moments::from(restored.moment);
     let started = moments.now(rt);
-    let mut connections = Vec::new(alloc);
-    for _ in 0..MOST_CONNECTIONS {
-        connections.push(None)?;
-    }
-    Ok(Gateway {
+    Gateway {
         config,
         station,
         figures: GatewayFigures::default(),
@@ -64,10 +88,10 @@ fn gateway_of<'a, R: Clock + AllocGlobal>(
         next_save: started.saturating_add(u64::from(config.save_seconds.unwrap_or(0)) * 1000),
         watch: None,
         is_stopped: false,
-        datagram: vec![in alloc; 0u8; LONGEST_DATAGRAM]?,
-        packet: vec![in alloc; 0u8; LONGEST_PACKET]?,
-        connections,
-    })
+        datagram: room.datagram,
+        packet: room.packet,
+        connections: room.connections,
+    }
 }
 
 /// Takes a connection, if there is room for it. Otherwise it is closed.
@@ -212,25 +236,8 @@ where
     Ok(())
 }
 
-/// Runs a gateway from what it starts from.
-fn run_from<R>(
-    rt: &R,
-    config: &Config,
-    restored: &Restored,
-    station: Station,
-) -> Result<Ending, Ending>
-where
-    R: Files + Net + Clock + Eprint + AllocGlobal,
-{
-    let contexts = restored.contexts;
-    let links = station.concentrator().tables().len();
-    let mut gateway = gateway_of(rt, config, restored, station).map_err(|_| Ending::Memory)?;
-    let mut sockets = Sockets::open(rt, config).map_err(|_| Ending::Socket)?;
-    let _ = eprintln!(rt; "<6>rohc-gateway: started: {links} links, {contexts} contexts restored");
-    let served = serve(rt, &mut gateway, &mut sockets);
-    if let Some(path) = &config.control {
-        let _ = remove_control(rt, path.as_str());
-    }
+/// Tells how a run ended.
+fn tell_end<R: Eprint>(rt: &R, served: io::Result<()>) -> Result<Ending, Ending> {
     match served {
         Ok(()) => {
             let _ = eprintln!(rt; "<6>rohc-gateway: stopped");
@@ -240,11 +247,34 @@ where
     }
 }
 
+/// Runs a gateway that has restored so many contexts, from its sockets on.
+fn run_from<R>(
+    rt: &R,
+    config: &Config,
+    gateway: &mut Gateway<'_>,
+    contexts: u64,
+) -> Result<Ending, Ending>
+where
+    R: Files + Net + Clock + Eprint + AllocGlobal,
+{
+    let links = gateway.station.concentrator().tables().len();
+    let mut sockets = Sockets::open(rt, config).map_err(|_| Ending::Socket)?;
+    let _ = eprintln!(rt; "<6>rohc-gateway: started: {links} links, {contexts} contexts restored");
+    let served = serve(rt, gateway, &mut sockets);
+    if let Some(path) = &config.control {
+        let _ = remove_control(rt, path.as_str());
+    }
+    tell_end(rt, served)
+}
+
 /// Runs a gateway from what was read.
 fn run_read<R>(rt: &R, start: Start) -> Result<Ending, Ending>
 where
     R: Files + Net + Clock + Eprint + AllocGlobal,
 {
+    let Ok(room) = Room::new(rt.alloc()) else {
+        return Err(Ending::Memory);
+    };
     let Start {
         config,
         links,
@@ -254,7 +284,8 @@ where
     let Ok(station) = Station::new(rt.alloc(), concentrator, links) else {
         return Err(Ending::Memory);
     };
-    run_from(rt, &config, &restored, station)
+    let mut gateway = gateway_of(rt, &config, &restored, station, room);
+    run_from(rt, &config, &mut gateway, restored.contexts)
 }
 
 /// Says why a gateway doesn't start.

@@ -69,6 +69,15 @@ pub(crate) fn remove_control<R: Files>(rt: &R, path: &str) -> io::Result<()> {
     }
 }
 
+/// Binds a socket that its owner alone may open, under this name.
+fn bind_owned<R: Files + Net>(rt: &R, poll: &Poll, path: &str) -> io::Result<UnixListener> {
+    remove_control(rt, path)?;
+    let mut listener = UnixListener::bind(rt, path)?;
+    fs::set_permissions(rt, path, Permissions::from_mode(0o600))?;
+    watch(poll, &mut listener, CONTROL)?;
+    Ok(listener)
+}
+
 /// Binds the control socket, which its owner alone may open. It is bound under another name first, so that
 /// it is never there for others.
 fn bind_control<R: Files + Net + AllocGlobal>(
@@ -77,12 +86,19 @@ fn bind_control<R: Files + Net + AllocGlobal>(
     path: &str,
 ) -> io::Result<UnixListener> {
     let beside = format!(in rt.alloc(); "{path}.new")?;
-    remove_control(rt, beside.as_str())?;
-    let mut listener = UnixListener::bind(rt, beside.as_str())?;
-    fs::set_permissions(rt, beside.as_str(), Permissions::from_mode(0o600))?;
-    watch(poll, &mut listener, CONTROL)?;
+    let listener = bind_owned(rt, poll, beside.as_str())?;
     fs::rename(rt, beside.as_str(), path)?;
     Ok(listener)
+}
+
+/// Listens on the metrics port, if there is one.
+fn bind_metrics<R: Net>(rt: &R, poll: &Poll, port: Option<u16>) -> io::Result<Option<TcpListener>> {
+    let Some(port) = port else {
+        return Ok(None);
+    };
+    let mut listener = TcpListener::bind(rt, local(port))?;
+    watch(poll, &mut listener, METRICS)?;
+    Ok(Some(listener))
 }
 
 impl Sockets {
@@ -94,14 +110,7 @@ impl Sockets {
         let poll = Poll::new(rt)?;
         let plain = bind_datagrams(rt, &poll, config.port, PLAIN)?;
         let timed = bind_datagrams(rt, &poll, config.timed_port, TIMED)?;
-        let metrics = match config.metrics_port {
-            Some(port) => {
-                let mut listener = TcpListener::bind(rt, local(port))?;
-                watch(&poll, &mut listener, METRICS)?;
-                Some(listener)
-            }
-            None => None,
-        };
+        let metrics = bind_metrics(rt, &poll, config.metrics_port)?;
         let control = match &config.control {
             Some(path) => Some(bind_control(rt, &poll, path.as_str())?),
             None => None,

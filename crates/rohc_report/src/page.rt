@@ -83,28 +83,38 @@ fn write_tile<W: Write>(out: &mut W, name: &str, number: u64, is_bad: bool) -> i
     writeln!(out, "</strong></li>")
 }
 
+/// The totals: the name and the number of each, and whether it is bad if there are any.
+fn tiles_of(report: &Report<'_>) -> [(&'static str, u64, bool); 11] {
+    let calls = report.calls;
+    let packets = packets_in(&calls.all).saturating_sub(calls.resets);
+    let last = if report.is_capture {
+        ("Frames left out", report.frames_left_out, false)
+    } else {
+        ("Bad lines", calls.bad, true)
+    };
+    [
+        ("Packets", packets, false),
+        ("Calls", report.rows.len() as u64, false),
+        ("Silent calls", report.silent(), true),
+        ("Delivered", outcome_in(&calls.all, 0), false),
+        ("of these repaired", calls.repaired, false),
+        ("of these late", calls.late, false),
+        ("Refused", refused_in(&calls.all), true),
+        ("Stored, no packet", outcome_in(&calls.all, 31), false),
+        ("Feedback sent", feedback_in(&calls.all), false),
+        ("Feedback relayed", calls.all.relayed, false),
+        last,
+    ]
+}
+
 /// Writes the totals.
 fn write_totals<W: Write>(out: &mut W, report: &Report<'_>) -> io::Result<()> {
-    let calls = report.calls;
     writeln!(
         out,
         "<section aria-labelledby=\"totals\">\n<h2 id=\"totals\">Totals</h2>\n<ul class=\"tiles\">"
     )?;
-    let packets = packets_in(&calls.all).saturating_sub(calls.resets);
-    write_tile(out, "Packets", packets, false)?;
-    write_tile(out, "Calls", report.rows.len() as u64, false)?;
-    write_tile(out, "Silent calls", report.silent(), true)?;
-    write_tile(out, "Delivered", outcome_in(&calls.all, 0), false)?;
-    write_tile(out, "of these repaired", calls.repaired, false)?;
-    write_tile(out, "of these late", calls.late, false)?;
-    write_tile(out, "Refused", refused_in(&calls.all), true)?;
-    write_tile(out, "Stored, no packet", outcome_in(&calls.all, 31), false)?;
-    write_tile(out, "Feedback sent", feedback_in(&calls.all), false)?;
-    write_tile(out, "Feedback relayed", calls.all.relayed, false)?;
-    if report.is_capture {
-        write_tile(out, "Frames left out", report.frames_left_out, false)?;
-    } else {
-        write_tile(out, "Bad lines", calls.bad, true)?;
+    for (name, number, is_bad) in tiles_of(report) {
+        write_tile(out, name, number, is_bad)?;
     }
     writeln!(out, "</ul>")
 }
@@ -144,12 +154,8 @@ fn write_refusals<W: Write>(alloc: Global, out: &mut W, report: &Report<'_>) -> 
     writeln!(out, "</section>")
 }
 
-/// Writes the calls that are drawn.
-fn write_worst<W: Write>(alloc: Global, out: &mut W, report: &Report<'_>) -> io::Result<()> {
-    write!(
-        out,
-        "<section aria-labelledby=\"worst\">\n<h2 id=\"worst\">The worst calls</h2>\n<p>"
-    )?;
+/// Writes how many calls are drawn, and in which order.
+fn write_order<W: Write>(out: &mut W, report: &Report<'_>) -> io::Result<()> {
     if report.drawn.len() < report.rows.len() {
         write!(out, "Of ")?;
         write_number(out, report.rows.len() as u64)?;
@@ -164,12 +170,19 @@ fn write_worst<W: Write>(alloc: Global, out: &mut W, report: &Report<'_>) -> io:
     writeln!(
         out,
         "Calls that are silent come first, then those with the most refusals. A packet that can be clicked, or reached by Tab and followed by Enter, leads to what is known of it.</p>"
+    )
+}
+
+/// Writes the calls that are drawn.
+fn write_worst<W: Write>(alloc: Global, out: &mut W, report: &Report<'_>) -> io::Result<()> {
+    write!(
+        out,
+        "<section aria-labelledby=\"worst\">\n<h2 id=\"worst\">The worst calls</h2>\n<p>"
     )?;
+    write_order(out, report)?;
     write_legend(out)?;
-    for (place, drawn) in report.drawn.iter().enumerate() {
-        if let Some(row) = report.rows.get(place) {
-            write_call(alloc, out, report.unit(), row, drawn)?;
-        }
+    for (row, drawn) in report.rows.iter().zip(report.drawn) {
+        write_call(alloc, out, report.unit(), row, drawn)?;
     }
     writeln!(out, "</section>")
 }

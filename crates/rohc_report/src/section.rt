@@ -1,5 +1,6 @@
 //! A drawn call: its numbers, its time line, and what is told of its packets.
 
+use crate::call::CallTotals;
 use crate::drawn::{Drawn, Told};
 use crate::escape::write_escaped;
 use crate::lanes::Lane;
@@ -34,16 +35,8 @@ fn write_fact<W: Write>(out: &mut W, number: u64, what: &str) -> io::Result<()> 
     Ok(())
 }
 
-/// Writes what became of a call's packets.
-fn write_facts<W: Write>(out: &mut W, unit: &str, row: &CallRow) -> io::Result<()> {
-    let totals = &row.totals;
-    write!(out, "<p class=\"facts\">")?;
-    write_number(out, totals.packets())?;
-    write!(out, " packets")?;
-    write_fact(out, totals.outcome(0), "delivered")?;
-    write_fact(out, totals.repaired, "of these repaired")?;
-    write_fact(out, totals.late, "of these late")?;
-    write_fact(out, totals.outcome(31), "stored")?;
+/// Writes how many packets of a call are refused, by the numbers of their refusals.
+fn write_refused<W: Write>(out: &mut W, totals: &CallTotals) -> io::Result<()> {
     for refusal in Refusal::all() {
         let count = totals.outcome(refusal.number());
         if count > 0 {
@@ -52,11 +45,35 @@ fn write_facts<W: Write>(out: &mut W, unit: &str, row: &CallRow) -> io::Result<(
             write!(out, " refused {refusal}")?;
         }
     }
-    if let Some((number, _)) = totals.since {
-        write!(out, ". <b>Silent since {unit} {number}</b>: ")?;
-        write_number(out, totals.silent)?;
-        write!(out, " refused in a row")?;
+    Ok(())
+}
+
+/// Writes since when a call is silent, if it is.
+fn write_silence<W: Write>(out: &mut W, unit: &str, totals: &CallTotals) -> io::Result<()> {
+    let Some((number, _)) = totals.since else {
+        return Ok(());
+    };
+    write!(out, ". <b>Silent since {unit} {number}</b>: ")?;
+    write_number(out, totals.silent)?;
+    write!(out, " refused in a row")
+}
+
+/// Writes what became of a call's packets.
+fn write_facts<W: Write>(out: &mut W, unit: &str, totals: &CallTotals) -> io::Result<()> {
+    write!(out, "<p class=\"facts\">")?;
+    write_number(out, totals.packets())?;
+    write!(out, " packets")?;
+    let facts = [
+        (totals.outcome(0), "delivered"),
+        (totals.repaired, "of these repaired"),
+        (totals.late, "of these late"),
+        (totals.outcome(31), "stored"),
+    ];
+    for (number, what) in facts {
+        write_fact(out, number, what)?;
     }
+    write_refused(out, totals)?;
+    write_silence(out, unit, totals)?;
     writeln!(out, ".</p>")
 }
 
@@ -114,6 +131,32 @@ fn write_packets<W: Write>(
     writeln!(out, "</details>")
 }
 
+/// Writes the names of the lanes of a call's picture, and before them how to pass it by.
+fn write_names<W: Write>(out: &mut W, row: &CallRow) -> io::Result<()> {
+    writeln!(
+        out,
+        "<a class=\"skip\" href=\"#e-{}-{}\">Skip the packets of this call</a>\n<div class=\"strip\"><div class=\"names\" aria-hidden=\"true\"><span>state</span><span>delivered</span><span>repaired</span><span>refused</span><span>feedback</span></div>",
+        row.link, row.cid
+    )
+}
+
+/// Writes what is known of a drawn call, of whose packets these are told.
+fn write_body<W: Write>(
+    alloc: Global,
+    out: &mut W,
+    unit: &str,
+    row: &CallRow,
+    drawn: &Drawn,
+    told: &[&Told],
+) -> io::Result<()> {
+    write_facts(out, unit, &row.totals)?;
+    write_names(out, row)?;
+    write_picture(out, unit, drawn, told)?;
+    write_times(out, drawn)?;
+    writeln!(out, "</div>")?;
+    write_packets(alloc, out, unit, row, drawn, told)
+}
+
 /// Writes a drawn call.
 pub(crate) fn write_call<W: Write>(
     alloc: Global,
@@ -122,20 +165,12 @@ pub(crate) fn write_call<W: Write>(
     row: &CallRow,
     drawn: &Drawn,
 ) -> io::Result<()> {
-    let told = drawn.told(alloc)?;
     let (link, cid) = (row.link, row.cid);
+    let told = drawn.told(alloc)?;
     writeln!(
         out,
         "<article id=\"c-{link}-{cid}\">\n<h3>Link {link}, CID {cid}</h3>"
     )?;
-    write_facts(out, unit, row)?;
-    writeln!(
-        out,
-        "<a class=\"skip\" href=\"#e-{link}-{cid}\">Skip the packets of this call</a>\n<div class=\"strip\"><div class=\"names\" aria-hidden=\"true\"><span>state</span><span>delivered</span><span>repaired</span><span>refused</span><span>feedback</span></div>"
-    )?;
-    write_picture(out, unit, drawn, &told)?;
-    write_times(out, drawn)?;
-    writeln!(out, "</div>")?;
-    write_packets(alloc, out, unit, row, drawn, &told)?;
+    write_body(alloc, out, unit, row, drawn, &told)?;
     writeln!(out, "<span id=\"e-{link}-{cid}\"></span>\n</article>")
 }

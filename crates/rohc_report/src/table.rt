@@ -2,7 +2,7 @@
 
 ghost use Rattle.std.specs.Prelude.{◌<◌};
 
-use crate::call::{outcome_in, packets_in, refused_in};
+use crate::call::{CallTotals, outcome_in, packets_in, refused_in};
 use crate::calls::Calls;
 use crate::worst::CallRow;
 use rohc_counts::Counts;
@@ -75,35 +75,38 @@ fn write_counts<W: Write>(
     late: u64,
 ) -> io::Result<()> {
     let [ack, nack, static_nack, plain] = counts.words;
-    write_cell(out, packets_in(counts))?;
-    write_cell(out, outcome_in(counts, 0))?;
-    write_cell(out, repaired)?;
-    write_cell(out, late)?;
-    write_cell(out, outcome_in(counts, 31))?;
-    write_cell(out, refused_in(counts))?;
-    write_cell(out, ack.saturating_add(plain))?;
-    write_cell(out, nack)?;
-    write_cell(out, static_nack)
+    let cells = [
+        packets_in(counts),
+        outcome_in(counts, 0),
+        repaired,
+        late,
+        outcome_in(counts, 31),
+        refused_in(counts),
+        ack.saturating_add(plain),
+        nack,
+        static_nack,
+    ];
+    for number in cells {
+        write_cell(out, number)?;
+    }
+    Ok(())
 }
 
-/// Writes the row of a call.
-fn write_row<W: Write>(out: &mut W, row: &CallRow, is_drawn: bool) -> io::Result<()> {
+/// Writes the name of a call, which leads to its picture if it is drawn.
+fn write_call<W: Write>(out: &mut W, row: &CallRow, is_drawn: bool) -> io::Result<()> {
     let (link, cid) = (row.link, row.cid);
-    let totals = &row.totals;
-    if totals.silent > 0 {
-        write!(out, "<tr class=\"silent\">")?;
-    } else {
-        write!(out, "<tr>")?;
-    }
     if is_drawn {
         write!(
             out,
             "<th scope=\"row\"><a href=\"#c-{link}-{cid}\">{link}/{cid}</a></th>"
-        )?;
+        )
     } else {
-        write!(out, "<th scope=\"row\">{link}/{cid}</th>")?;
+        write!(out, "<th scope=\"row\">{link}/{cid}</th>")
     }
-    write_counts(out, &totals.counts, totals.repaired, totals.late)?;
+}
+
+/// Writes the cells about the refusals since a call's last delivery, and its last refusal.
+fn write_silence<W: Write>(out: &mut W, totals: &CallTotals) -> io::Result<()> {
     write!(out, "<td class=\"now\">")?;
     write_number(out, totals.silent)?;
     match totals.since {
@@ -111,9 +114,24 @@ fn write_row<W: Write>(out: &mut W, row: &CallRow, is_drawn: bool) -> io::Result
         None => write!(out, "</td><td></td>")?,
     }
     match totals.refusal {
-        Some(refusal) => writeln!(out, "<td class=\"text\">{refusal}</td></tr>"),
-        None => writeln!(out, "<td></td></tr>"),
+        Some(refusal) => write!(out, "<td class=\"text\">{refusal}</td>"),
+        None => write!(out, "<td></td>"),
     }
+}
+
+/// Writes the row of a call.
+fn write_row<W: Write>(out: &mut W, row: &CallRow, is_drawn: bool) -> io::Result<()> {
+    let totals = &row.totals;
+    let class = if totals.silent > 0 {
+        " class=\"silent\""
+    } else {
+        ""
+    };
+    write!(out, "<tr{class}>")?;
+    write_call(out, row, is_drawn)?;
+    write_counts(out, &totals.counts, totals.repaired, totals.late)?;
+    write_silence(out, totals)?;
+    writeln!(out, "</tr>")
 }
 
 /// Writes a row of totals.
@@ -129,6 +147,18 @@ fn write_sum<W: Write>(
     writeln!(out, "<td></td><td></td><td></td></tr>")
 }
 
+/// Writes the head of the table of all calls.
+fn write_columns<W: Write>(out: &mut W) -> io::Result<()> {
+    write!(out, "<thead><tr><th scope=\"col\" class=\"text\">Call</th>")?;
+    for column in COLUMNS {
+        write!(out, "<th scope=\"col\">{column}</th>")?;
+    }
+    writeln!(
+        out,
+        "<th scope=\"col\" class=\"text\">Last refusal</th></tr></thead>\n<tbody>"
+    )
+}
+
 /// Writes the table of all calls, the worst first, of which so many are drawn.
 pub(crate) fn write_table<W: Write>(
     out: &mut W,
@@ -140,14 +170,7 @@ pub(crate) fn write_table<W: Write>(
         out,
         "<section aria-labelledby=\"all\">\n<h2 id=\"all\">All calls</h2>\n<div class=\"wide\" role=\"region\" aria-label=\"All calls\" tabindex=\"0\"><table id=\"calls\">"
     )?;
-    write!(out, "<thead><tr><th scope=\"col\" class=\"text\">Call</th>")?;
-    for column in COLUMNS {
-        write!(out, "<th scope=\"col\">{column}</th>")?;
-    }
-    writeln!(
-        out,
-        "<th scope=\"col\" class=\"text\">Last refusal</th></tr></thead>\n<tbody>"
-    )?;
+    write_columns(out)?;
     for (place, row) in rows.iter().enumerate() {
         write_row(out, row, place < drawn)?;
     }

@@ -57,19 +57,8 @@ fn write_call<W: Write>(out: &mut W, row: &CallRow) -> io::Result<()> {
     write_counts(out, &row.totals.counts)
 }
 
-/// Writes an object for each call, then for each link, then for all lines.
-pub(crate) fn write_json<W: Write>(
-    out: &mut W,
-    totals: &Totals,
-    rows: &[CallRow],
-) -> io::Result<()> {
-    for row in rows {
-        write_call(out, row)?;
-    }
-    for (link, of_link) in &totals.links {
-        write!(out, "{{\"link\":{link},")?;
-        write_counts(out, &of_link.counts)?;
-    }
+/// Writes the object of all lines.
+fn write_all<W: Write>(out: &mut W, totals: &Totals) -> io::Result<()> {
     write!(
         out,
         "{{\"lines\":{},\"bad\":{},\"long\":{},\"no_answer\":{},\"first_no_answer\":",
@@ -83,4 +72,20 @@ pub(crate) fn write_json<W: Write>(
         None => write!(out, "null,")?,
     }
     write_counts(out, &totals.counts)
+}
+
+/// Writes an object for each call, then for each link, then for all lines.
+pub(crate) fn write_json<W: Write>(
+    out: &mut W,
+    totals: &Totals,
+    rows: &[CallRow],
+) -> io::Result<()> {
+    for row in rows {
+        write_call(out, row)?;
+    }
+    for (link, of_link) in &totals.links {
+        write!(out, "{{\"link\":{link},")?;
+        write_counts(out, &of_link.counts)?;
+    }
+    write_all(out, totals)
 }

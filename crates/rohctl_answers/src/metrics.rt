@@ -68,8 +68,8 @@ fn write_refused<W: Write>(out: &mut W, row: &CallRow) -> io::Result<()> {
     Ok(())
 }
 
-/// Writes the samples of whole links and of all lines.
-fn write_sums<W: Write>(out: &mut W, totals: &Totals) -> io::Result<()> {
+/// Writes the refusals of whole links.
+fn write_link_refused<W: Write>(out: &mut W, totals: &Totals) -> io::Result<()> {
     write_head(
         out,
         "polorowan_link_refused_total",
@@ -83,6 +83,11 @@ fn write_sums<W: Write>(out: &mut W, totals: &Totals) -> io::Result<()> {
             refused(&of_link.counts)
         )?;
     }
+    Ok(())
+}
+
+/// Writes the feedback elements that links carried.
+fn write_relayed<W: Write>(out: &mut W, totals: &Totals) -> io::Result<()> {
     write_head(
         out,
         "polorowan_relayed_total",
@@ -93,6 +98,11 @@ fn write_sums<W: Write>(out: &mut W, totals: &Totals) -> io::Result<()> {
         let count = of_link.counts.of(LineKind::Relayed);
         writeln!(out, "polorowan_relayed_total{{link=\"{link}\"}} {count}")?;
     }
+    Ok(())
+}
+
+/// Writes the samples of all lines.
+fn write_lines<W: Write>(out: &mut W, totals: &Totals) -> io::Result<()> {
     write_head(
         out,
         "polorowan_lines_total",
@@ -100,28 +110,19 @@ fn write_sums<W: Write>(out: &mut W, totals: &Totals) -> io::Result<()> {
         "Lines, by what they are.",
     )?;
     let counts = &totals.counts;
-    let bad = counts.of(LineKind::BadLine);
-    let long = counts.of(LineKind::LongLine);
-    let no_answer = counts.of(LineKind::NoAnswer);
-    writeln!(
-        out,
-        "polorowan_lines_total{{kind=\"all\"}} {}",
-        totals.lines
-    )?;
-    writeln!(out, "polorowan_lines_total{{kind=\"bad\"}} {bad}")?;
-    writeln!(out, "polorowan_lines_total{{kind=\"long\"}} {long}")?;
-    writeln!(
-        out,
-        "polorowan_lines_total{{kind=\"no_answer\"}} {no_answer}"
-    )
+    for (kind, count) in [
+        ("all", totals.lines),
+        ("bad", counts.of(LineKind::BadLine)),
+        ("long", counts.of(LineKind::LongLine)),
+        ("no_answer", counts.of(LineKind::NoAnswer)),
+    ] {
+        writeln!(out, "polorowan_lines_total{{kind=\"{kind}\"}} {count}")?;
+    }
+    Ok(())
 }
 
-/// Writes all metrics.
-pub(crate) fn write_metrics<W: Write>(
-    out: &mut W,
-    totals: &Totals,
-    rows: &[CallRow],
-) -> io::Result<()> {
+/// Writes the packets that calls got.
+fn write_delivered<W: Write>(out: &mut W, rows: &[CallRow]) -> io::Result<()> {
     write_kind(
         out,
         "polorowan_delivered_total",
@@ -135,7 +136,11 @@ pub(crate) fn write_metrics<W: Write>(
         "Contexts made without a packet.",
         LineKind::Stored,
         rows,
-    )?;
+    )
+}
+
+/// Writes the feedback of calls.
+fn write_all_feedback<W: Write>(out: &mut W, rows: &[CallRow]) -> io::Result<()> {
     write_head(
         out,
         "polorowan_feedback_total",
@@ -145,6 +150,11 @@ pub(crate) fn write_metrics<W: Write>(
     for row in rows {
         write_feedback(out, row)?;
     }
+    Ok(())
+}
+
+/// Writes the refusals of calls.
+fn write_all_refused<W: Write>(out: &mut W, rows: &[CallRow]) -> io::Result<()> {
     write_head(
         out,
         "polorowan_refused_total",
@@ -154,6 +164,11 @@ pub(crate) fn write_metrics<W: Write>(
     for row in rows {
         write_refused(out, row)?;
     }
+    Ok(())
+}
+
+/// Writes how often calls were refused since they got a packet.
+fn write_silence<W: Write>(out: &mut W, rows: &[CallRow]) -> io::Result<()> {
     write_head(
         out,
         "polorowan_refused_since_delivery",
@@ -167,5 +182,20 @@ pub(crate) fn write_metrics<W: Write>(
             row.link, row.cid, row.totals.refused
         )?;
     }
-    write_sums(out, totals)
+    Ok(())
+}
+
+/// Writes all metrics.
+pub(crate) fn write_metrics<W: Write>(
+    out: &mut W,
+    totals: &Totals,
+    rows: &[CallRow],
+) -> io::Result<()> {
+    write_delivered(out, rows)?;
+    write_all_feedback(out, rows)?;
+    write_all_refused(out, rows)?;
+    write_silence(out, rows)?;
+    write_link_refused(out, totals)?;
+    write_relayed(out, totals)?;
+    write_lines(out, totals)
 }

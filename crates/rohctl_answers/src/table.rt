@@ -1,7 +1,7 @@
 //! Totals as a table.
 
 use rohc_context::Refusal;
-use rohc_totals::{CallRow, Counts, LineKind, Totals};
+use rohc_totals::{CallRow, CallTotals, Counts, LineKind, Totals};
 use std::io;
 use std::io::Write;
 
@@ -47,24 +47,57 @@ fn write_counts<W: Write>(out: &mut W, counts: &Counts) -> io::Result<()> {
     )
 }
 
+/// Writes the cells about the refusals since a call's last delivery, if it was ever refused.
+fn write_silence<W: Write>(out: &mut W, call: &CallTotals) -> io::Result<()> {
+    let Some(last) = call.last else {
+        return Ok(());
+    };
+    match call.since {
+        Some(since) => write!(out, " {:>8} {since:>9} {last}", call.refused),
+        None => write!(out, " {:>8} {:>9} {last}", "-", "-"),
+    }
+}
+
 /// Writes the row of a call.
 fn write_call<W: Write>(out: &mut W, row: &CallRow, colour: bool) -> io::Result<()> {
-    let red = colour && row.totals.refused > 0;
-    if red {
-        write!(out, "{RED}")?;
-    }
-    write!(out, "{:>5} {:>5} ", row.link, row.cid)?;
+    let (begin, end) = if colour && row.totals.refused > 0 {
+        (RED, PLAIN)
+    } else {
+        ("", "")
+    };
+    write!(out, "{begin}{:>5} {:>5} ", row.link, row.cid)?;
     write_counts(out, &row.totals.counts)?;
-    if let Some(last) = row.totals.last {
-        match row.totals.since {
-            Some(since) => write!(out, " {:>8} {:>9} {last}", row.totals.refused, since)?,
-            None => write!(out, " {:>8} {:>9} {last}", "-", "-")?,
-        }
+    write_silence(out, &row.totals)?;
+    writeln!(out, "{end}")
+}
+
+/// Writes the rows of the links, and that of all lines.
+fn write_sums<W: Write>(out: &mut W, totals: &Totals) -> io::Result<()> {
+    for (link, of_link) in &totals.links {
+        write!(out, "{link:>5}   all ")?;
+        write_counts(out, &of_link.counts)?;
+        writeln!(out, "")?;
     }
-    if red {
-        write!(out, "{PLAIN}")?;
-    }
+    write!(out, "  all   all ")?;
+    write_counts(out, &totals.counts)?;
     writeln!(out, "")
+}
+
+/// Writes how many lines there are, and of them those that aren't about a call's packets.
+fn write_lines<W: Write>(out: &mut W, totals: &Totals) -> io::Result<()> {
+    writeln!(
+        out,
+        "lines {} relayed {} bad {} long {} no answer {}",
+        totals.lines,
+        totals.counts.of(LineKind::Relayed),
+        totals.counts.of(LineKind::BadLine),
+        totals.counts.of(LineKind::LongLine),
+        totals.counts.of(LineKind::NoAnswer)
+    )?;
+    match totals.strange {
+        Some(line) => writeln!(out, "line {line} is the first that is no answer line"),
+        None => Ok(()),
+    }
 }
 
 /// Writes the table: calls to which nothing is delivered first, then the links, then all lines.
@@ -81,25 +114,6 @@ pub(crate) fn write_table<W: Write>(
     for row in rows {
         write_call(out, row, colour)?;
     }
-    for (link, of_link) in &totals.links {
-        write!(out, "{link:>5}   all ")?;
-        write_counts(out, &of_link.counts)?;
-        writeln!(out, "")?;
-    }
-    write!(out, "  all   all ")?;
-    write_counts(out, &totals.counts)?;
-    writeln!(out, "")?;
-    writeln!(
-        out,
-        "lines {} relayed {} bad {} long {} no answer {}",
-        totals.lines,
-        totals.counts.of(LineKind::Relayed),
-        totals.counts.of(LineKind::BadLine),
-        totals.counts.of(LineKind::LongLine),
-        totals.counts.of(LineKind::NoAnswer)
-    )?;
-    match totals.strange {
-        Some(line) => writeln!(out, "line {line} is the first that is no answer line"),
-        None => Ok(()),
-    }
+    write_sums(out, totals)?;
+    write_lines(out, totals)
 }

@@ -2,11 +2,12 @@
 
 ghost use Rattle.std.specs.Prelude.{◌≡◌, ◌≢◌};
 
+use crate::files::{capture_of, target_of};
 use crate::rules::{RuleWords, rules_of};
 use rohc_capture::{Capture, CaptureFault, FaultKind, Format};
 use rohc_concentrator::Concentrator;
 use rohc_decompress::{Bulk, BulkFault, Tally, begin, decompress};
-use rohctl_ground::{Ending, Screen, Target, Told, concentrator_of, make_target, open_source};
+use rohctl_ground::{Ending, Screen, Target, concentrator_of, make_target};
 use std::io::{Read, Write};
 use std::rt::Files;
 
@@ -66,6 +67,52 @@ fn run_into<S: Read, W: Write, V: Write>(
     decompress(links, bulk, capture, packets, feedback, tally)
 }
 
+/// Runs a capture into this target. The writer's kind is told here, once, and not at each write.
+fn run_to<S: Read, F: Write + Drop, P: Write + Drop, V: Write>(
+    links: &mut Concentrator,
+    bulk: &Bulk<'_>,
+    capture: &mut Capture<S>,
+    packets: &mut Target<F, P>,
+    feedback: &mut V,
+    tally: &mut Tally,
+) -> Result<(), BulkFault> {
+    match packets {
+        Target::File(file) => run_into(links, bulk, capture, file, feedback, tally),
+        Target::Output(output) => run_into(links, bulk, capture, output, feedback, tally),
+        Target::Nothing => Ok(()),
+    }
+}
+
+/// Runs the capture that is asked for.
+fn run_bulk<R>(
+    rt: &R,
+    asked: &Decompress<'_>,
+    bulk: &Bulk<'_>,
+    screen: Screen,
+) -> Result<Ending, Ending>
+where
+    R: Files + Input + Print + Eprint + AllocGlobal,
+{
+    let mut links = concentrator_of(rt, asked.links)?;
+    let mut capture = capture_of(rt, asked.input, screen)?;
+    let mut packets = make_target(rt, asked.output)?;
+    let mut feedback = target_of(rt, asked.feedback)?;
+    let mut tally = Tally::default();
+    let ran = run_to(
+        &mut links,
+        bulk,
+        &mut capture,
+        &mut packets,
+        &mut feedback,
+        &mut tally,
+    );
+    let flushed = packets.flush().is_ok() && feedback.flush().is_ok();
+    if asked.stats && eprintln!(rt; "{tally}").is_err() {
+        return Err(Ending::Write);
+    }
+    ran_end(ran, flushed)
+}
+
 /// Runs a capture, and writes what is delivered.
 pub fn run_decompress<R>(rt: &R, asked: &Decompress<'_>, screen: Screen) -> Result<Ending, Ending>
 where
@@ -77,38 +124,5 @@ where
         padded: asked.padded,
         format: asked.format,
     };
-    let mut links = concentrator_of(rt, asked.links)?;
-    let input = Told::new(rt, open_source(rt, asked.input)?, screen.error);
-    let mut capture = Capture::new(rt.alloc(), input).map_err(|fault| capture_end(fault))?;
-    let mut packets = make_target(rt, asked.output)?;
-    let mut feedback = match asked.feedback {
-        Some(path) => make_target(rt, path)?,
-        None => Target::Nothing,
-    };
-    let mut tally = Tally::default();
-    // The writer's kind is told here, once, and not at each write.
-    let ran = match &mut packets {
-        Target::File(file) => run_into(
-            &mut links,
-            &bulk,
-            &mut capture,
-            file,
-            &mut feedback,
-            &mut tally,
-        ),
-        Target::Output(output) => run_into(
-            &mut links,
-            &bulk,
-            &mut capture,
-            output,
-            &mut feedback,
-            &mut tally,
-        ),
-        Target::Nothing => Ok(()),
-    };
-    let flushed = packets.flush().is_ok() && feedback.flush().is_ok();
-    if asked.stats && eprintln!(rt; "{tally}").is_err() {
-        return Err(Ending::Write);
-    }
-    ran_end(ran, flushed)
+    run_bulk(rt, asked, &bulk, screen)
 }

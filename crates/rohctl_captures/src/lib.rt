@@ -3,6 +3,7 @@
 
 mod bulk;
 mod datagrams;
+mod files;
 mod rules;
 mod script;
 mod sender;

@@ -1,7 +1,8 @@
 //! The subcommand `script`: a capture as a script, and back.
 
-use crate::bulk::{capture_end, ran_end};
+use crate::bulk::ran_end;
 use crate::datagrams::Datagrams;
+use crate::files::{Written, capture_of, target_of};
 use crate::rules::{RuleWords, rules_of};
 use crate::sender::{Sender, sender_of};
 use hex::encode_to_slice;
@@ -133,37 +134,76 @@ where
     Ok(())
 }
 
+/// The files that lines go to.
+fn outputs_of<'a, R: Files + Print + AllocGlobal>(
+    rt: &'a R,
+    asked: &Script<'_>,
+) -> Result<Outputs<Written<'a, R>, Written<'a, R>, Written<'a, R>>, Ending> {
+    let script = make_target(rt, asked.output)?;
+    let other = target_of(rt, asked.other)?;
+    let list = target_of(rt, asked.lines)?;
+    Ok(Outputs {
+        script,
+        other,
+        list,
+        lines: 0,
+    })
+}
+
+/// Turns a capture into a script, by these rules.
+fn run_by<R>(
+    rt: &R,
+    asked: &Script<'_>,
+    rules: &[Rule],
+    sender: Option<Sender>,
+    screen: Screen,
+) -> Result<Ending, Ending>
+where
+    R: Files + Input + Print + Eprint + AllocGlobal,
+{
+    let mut capture = capture_of(rt, asked.input, screen)?;
+    let mut out = outputs_of(rt, asked)?;
+    let ran = run_frames(&mut capture, rules, sender, &mut out);
+    ran_end(ran, out.flush().is_ok())
+}
+
 /// Turns a capture into a script.
 fn run_forth<R>(rt: &R, asked: &Script<'_>, screen: Screen) -> Result<Ending, Ending>
 where
     R: Files + Input + Print + Eprint + AllocGlobal,
 {
-    let rules = rules_of(rt.alloc(), &asked.rules).map_err(|fault| fault.ending())?;
     let sender = match asked.from {
         Some(text) => Some(sender_of(text).ok_or(Ending::CommandLine)?),
         None => None,
     };
-    let input = Told::new(rt, open_source(rt, asked.input)?, screen.error);
-    let mut capture = Capture::new(rt.alloc(), input).map_err(|fault| capture_end(fault))?;
-    let mut out = Outputs {
-        script: make_target(rt, asked.output)?,
-        other: target_of(rt, asked.other)?,
-        list: target_of(rt, asked.lines)?,
-        lines: 0,
-    };
-    let ran = run_frames(&mut capture, rules.as_slice(), sender, &mut out);
-    ran_end(ran, out.flush().is_ok())
+    let rules = rules_of(rt.alloc(), &asked.rules).map_err(|fault| fault.ending())?;
+    run_by(rt, asked, rules.as_slice(), sender, screen)
 }
 
-/// A file to be written, if one is asked for.
-fn target_of<'a, R: Files + Print + AllocGlobal>(
+/// The datagrams of a capture to this port, before the first.
+fn datagrams_of<'a, R: Files + Print + AllocGlobal>(
     rt: &'a R,
-    path: Option<&str>,
-) -> Result<Target<R::File, Printer<'a, R>>, Ending> {
-    match path {
-        Some(path) => make_target(rt, path),
-        None => Ok(Target::Nothing),
+    asked: &Script<'_>,
+    port: u16,
+) -> Result<Datagrams<Written<'a, R>>, Ending> {
+    let mut out = make_target(rt, asked.output)?;
+    match write_head(&mut out, asked.format, RAW_IP) {
+        Ok(()) => Ok(Datagrams {
+            out,
+            format: asked.format,
+            port,
+            left_out: 0,
+        }),
+        Err(_) => Err(Ending::Write),
     }
+}
+
+/// Tells how many lines have no datagram, if there are some.
+fn tell_left_out<R: Eprint>(rt: &R, left_out: u64) -> io::Result<()> {
+    if left_out == 0 {
+        return Ok(());
+    }
+    eprintln!(rt; "lines left out: {left_out} (no arrivals, or more than a capture holds)")
 }
 
 /// Turns a script into a capture of datagrams, each with the number of its link in front.
@@ -175,27 +215,15 @@ where
         return Err(Ending::CommandLine);
     };
     let mut lines = Told::new(rt, open_source(rt, asked.input)?, screen.error);
-    let mut datagrams = Datagrams {
-        out: make_target(rt, asked.output)?,
-        format: asked.format,
-        port,
-        left_out: 0,
-    };
-    if write_head(&mut datagrams.out, asked.format, RAW_IP).is_err() {
+    let mut datagrams = datagrams_of(rt, asked, port)?;
+    let ran = read_script(rt.alloc(), &mut lines, &mut datagrams);
+    let flushed = datagrams.out.flush();
+    if flushed.is_err() || tell_left_out(rt, datagrams.left_out).is_err() {
         return Err(Ending::Write);
     }
-    let ran = read_script(rt.alloc(), &mut lines, &mut datagrams);
-    let flushed = datagrams.out.flush().is_ok();
-    let left_out = datagrams.left_out;
-    let told = left_out == 0
-        || eprintln!(rt;
-            "lines left out: {left_out} (no arrivals, or more than a capture holds)"
-        ).is_ok();
-    if flushed && told {
-        ran.map_err(|stop| stop.ending())?;
-        Ok(Ending::Good)
-    } else {
-        Err(Ending::Write)
+    match ran {
+        Ok(()) => Ok(Ending::Good),
+        Err(stop) => Err(stop.ending()),
     }
 }
 

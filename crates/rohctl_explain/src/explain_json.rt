@@ -3,26 +3,34 @@
 use crate::expected::{Ahead, Expected, expected_of, failures};
 use crate::explain_text::{answer_name, format_name, profile_name, state_name};
 use crate::packet::{Explained, Got, View};
-use rohc_explain::PacketFields;
+use rohc_explain::{Field, PacketFields};
 use rohc_tries::{Told, cause_of};
 use std::io;
 use std::io::Write;
+
+/// Writes a comma, unless it is the first place.
+fn write_comma<W: Write>(out: &mut W, place: usize) -> io::Result<()> {
+    if place > 0 { write!(out, ",") } else { Ok(()) }
+}
+
+/// Writes a field.
+fn write_field<W: Write>(out: &mut W, field: &Field) -> io::Result<()> {
+    write!(
+        out,
+        "{{\"name\":\"{}\",\"first\":{},\"bits\":{},\"value\":{}}}",
+        field.name.name(),
+        field.first,
+        field.count,
+        field.value
+    )
+}
 
 /// Writes the fields.
 fn write_fields<W: Write>(out: &mut W, told: &PacketFields) -> io::Result<()> {
     write!(out, ",\"fields\":[")?;
     for (place, field) in told.fields.iter().enumerate() {
-        if place > 0 {
-            write!(out, ",")?;
-        }
-        write!(
-            out,
-            "{{\"name\":\"{}\",\"first\":{},\"bits\":{},\"value\":{}}}",
-            field.name.name(),
-            field.first,
-            field.count,
-            field.value
-        )?;
+        write_comma(out, place)?;
+        write_field(out, field)?;
     }
     write!(
         out,
@@ -62,6 +70,19 @@ fn write_view<W: Write>(
     write!(out, "}}")
 }
 
+/// Writes what lies ahead of a context.
+fn write_ahead<W: Write>(out: &mut W, ahead: Ahead) -> io::Result<()> {
+    match ahead {
+        Ahead::Falls { to, after } => write!(
+            out,
+            ",\"falls_to\":\"{}\",\"falls_after\":{after}",
+            state_name(to)
+        ),
+        Ahead::StaticNack { wait } => write!(out, ",\"static_nack_in\":{wait}"),
+        Ahead::Expired | Ahead::Nothing | Ahead::Silent => Ok(()),
+    }
+}
+
 /// Writes what is expected of the context before the packet.
 fn write_expected<W: Write>(out: &mut W, explained: &Explained) -> io::Result<()> {
     let Some(Expected { age, sn, ahead }) = expected_of(explained) else {
@@ -72,54 +93,57 @@ fn write_expected<W: Write>(out: &mut W, explained: &Explained) -> io::Result<()
     if let Some(sn) = sn {
         write!(out, ",\"sn\":{sn}")?;
     }
-    match ahead {
-        Ahead::Falls { to, after } => write!(
-            out,
-            ",\"falls_to\":\"{}\",\"falls_after\":{after}",
-            state_name(to)
-        )?,
-        Ahead::StaticNack { wait } => write!(out, ",\"static_nack_in\":{wait}")?,
-        Ahead::Expired | Ahead::Nothing | Ahead::Silent => {}
-    }
+    write_ahead(out, ahead)?;
     write!(out, "}}")
 }
 
+/// Writes a try.
+fn write_try<W: Write>(out: &mut W, told: &Told) -> io::Result<()> {
+    match &told.result {
+        Ok(meant) => write!(
+            out,
+            "{{\"shift\":{},\"sn\":{},\"ts\":{},\"has\":{},\"needs\":{},\"fits\":{}}}",
+            told.shift,
+            meant.moving.sn,
+            meant.moving.ts,
+            meant.has,
+            meant.needs,
+            meant.fits()
+        ),
+        Err(_) => write!(out, "{{\"shift\":{},\"made\":false}}", told.shift),
+    }
+}
+
 /// Writes the tries.
-fn write_tries<W: Write>(out: &mut W, tries: &[Told; 3]) -> io::Result<()> {
+fn write_tries<W: Write>(out: &mut W, tries: &[Told]) -> io::Result<()> {
     write!(out, ",\"tries\":[")?;
     for (place, told) in tries.iter().enumerate() {
-        if place > 0 {
-            write!(out, ",")?;
-        }
-        match &told.result {
-            Ok(meant) => write!(
-                out,
-                "{{\"shift\":{},\"sn\":{},\"ts\":{},\"has\":{},\"needs\":{},\"fits\":{}}}",
-                told.shift,
-                meant.moving.sn,
-                meant.moving.ts,
-                meant.has,
-                meant.needs,
-                meant.fits()
-            )?,
-            Err(_) => write!(out, "{{\"shift\":{},\"made\":false}}", told.shift)?,
-        }
+        write_comma(out, place)?;
+        write_try(out, told)?;
     }
     write!(out, "]")
 }
 
-/// Writes the answer.
-fn write_answer<W: Write>(out: &mut W, explained: &Explained) -> io::Result<()> {
-    write!(out, ",\"answer\":\"{}\"", answer_name(explained.got))?;
-    match explained.got {
-        Got::Delivered(octets) => write!(out, ",\"octets\":{octets}")?,
+/// Writes what became of a packet.
+fn write_got<W: Write>(out: &mut W, got: Got) -> io::Result<()> {
+    write!(out, ",\"answer\":\"{}\"", answer_name(got))?;
+    match got {
+        Got::Delivered(octets) => write!(out, ",\"octets\":{octets}"),
         Got::Refused(refusal) => write!(
             out,
             ",\"refusal\":\"{refusal}\",\"section\":\"{}\"",
             cause_of(refusal).section
-        )?,
-        Got::Stored | Got::OnlyFront => {}
+        ),
+        Got::Stored | Got::OnlyFront => Ok(()),
     }
+}
+
+/// Writes the tries of a packet and its answer.
+fn write_answer<W: Write>(out: &mut W, explained: &Explained) -> io::Result<()> {
+    if let Some(tries) = &explained.tries {
+        write_tries(out, tries.as_slice())?;
+    }
+    write_got(out, explained.got)?;
     let feedback = match &explained.feedback {
         Some(element) => element.len(),
         None => 0,
@@ -127,12 +151,8 @@ fn write_answer<W: Write>(out: &mut W, explained: &Explained) -> io::Result<()> 
     write!(out, ",\"feedback\":{feedback}")
 }
 
-/// Writes a packet as an object.
-pub(crate) fn write_object<W: Write>(
-    out: &mut W,
-    line: u64,
-    explained: &Explained,
-) -> io::Result<()> {
+/// Writes where a packet stands, and its format.
+fn write_head<W: Write>(out: &mut W, line: u64, explained: &Explained) -> io::Result<()> {
     write!(
         out,
         "{{\"line\":{line},\"link\":{},\"moment\":{},\"cid\":",
@@ -142,15 +162,21 @@ pub(crate) fn write_object<W: Write>(
         Some(cid) => write!(out, "{cid}")?,
         None => write!(out, "null")?,
     }
-    write!(out, ",\"format\":\"{}\"", format_name(explained))?;
+    write!(out, ",\"format\":\"{}\"", format_name(explained))
+}
+
+/// Writes a packet as an object.
+pub(crate) fn write_object<W: Write>(
+    out: &mut W,
+    line: u64,
+    explained: &Explained,
+) -> io::Result<()> {
+    write_head(out, line, explained)?;
     if let Some(told) = &explained.told {
         write_fields(out, told)?;
     }
     write_view(out, "before", explained, explained.before.as_ref())?;
     write_expected(out, explained)?;
-    if let Some(tries) = &explained.tries {
-        write_tries(out, tries)?;
-    }
     write_answer(out, explained)?;
     write_view(out, "after", explained, explained.after.as_ref())?;
     writeln!(out, "}}")

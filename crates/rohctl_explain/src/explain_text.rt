@@ -3,7 +3,7 @@
 use crate::expected::{Ahead, Expected, expected_of, failures};
 use crate::packet::{Explained, Got, View, counts_after};
 use rohc_context::{ContextState, Profile, Settings};
-use rohc_explain::{Field, PacketKind};
+use rohc_explain::{Field, PacketFields, PacketKind};
 use rohc_forms::FormKind;
 use rohc_tries::{Against, NotMade, Told, cause_of};
 use std::io;
@@ -78,6 +78,37 @@ fn write_field<W: Write>(out: &mut W, field: &Field) -> io::Result<()> {
     writeln!(out, "")
 }
 
+/// Writes the failures that a context has counted, and how many lead to its next fall.
+fn write_windows<W: Write>(out: &mut W, view: &View, settings: &Settings) -> io::Result<()> {
+    let Some((first, second)) = &view.windows else {
+        return Ok(());
+    };
+    let (k, n) = (settings.k1, settings.n1);
+    let failed = failures(first, n);
+    write!(out, ", failures {failed} of the last {n} (falls at {k})")?;
+    if view.state != ContextState::StaticContext {
+        return Ok(());
+    }
+    let (k, n) = (settings.k2, settings.n2);
+    let failed = failures(second, n);
+    write!(out, " and {failed} of {n} (falls at {k})")
+}
+
+/// Writes the state and the profile of a context, its last accepted packet's time, and the SN of its reference.
+fn write_standing<W: Write>(out: &mut W, title: &str, view: &View) -> io::Result<()> {
+    write!(
+        out,
+        "{title}: {}, profile {}, last accepted at {}",
+        state_name(view.state),
+        profile_name(view.profile),
+        view.accepted
+    )?;
+    match view.sn {
+        Some(sn) => write!(out, ", SN {sn}"),
+        None => Ok(()),
+    }
+}
+
 /// Writes what is told of a context.
 fn write_view<W: Write>(
     out: &mut W,
@@ -88,33 +119,9 @@ fn write_view<W: Write>(
     let Some(view) = view else {
         return writeln!(out, "{title}: no context");
     };
-    write!(
-        out,
-        "{title}: {}, profile {}, last accepted at {}",
-        state_name(view.state),
-        profile_name(view.profile),
-        view.accepted
-    )?;
-    if let Some(sn) = view.sn {
-        write!(out, ", SN {sn}")?;
-    }
-    if let (Some((first, second)), Some(settings)) = (&view.windows, &explained.settings) {
-        write!(
-            out,
-            ", failures {} of the last {} (falls at {})",
-            failures(first, settings.n1),
-            settings.n1,
-            settings.k1
-        )?;
-        if view.state == ContextState::StaticContext {
-            write!(
-                out,
-                " and {} of {} (falls at {})",
-                failures(second, settings.n2),
-                settings.n2,
-                settings.k2
-            )?;
-        }
+    write_standing(out, title, view)?;
+    if let Some(settings) = &explained.settings {
+        write_windows(out, view, settings)?;
     }
     writeln!(out, "")
 }
@@ -138,21 +145,24 @@ fn write_ahead<W: Write>(out: &mut W, ahead: Ahead, settings: &Settings) -> io::
     }
 }
 
+/// Writes the packet that is expected.
+fn write_next<W: Write>(out: &mut W, expected: &Expected, view: Option<&View>) -> io::Result<()> {
+    match (expected.ahead, expected.sn) {
+        (Ahead::Expired, _) => write!(out, "an IR alone"),
+        (_, Some(sn)) => write!(out, "SN {sn}"),
+        (_, None) => write!(out, "{}", taken_by(view)),
+    }
+}
+
 /// Writes what is expected of the context before the packet.
 fn write_expected<W: Write>(out: &mut W, explained: &Explained) -> io::Result<()> {
-    let (Some(settings), Some(Expected { age, sn, ahead })) = (
-        &explained.settings,
-        expected_of(explained),
-    ) else {
+    let (Some(settings), Some(expected)) = (&explained.settings, expected_of(explained)) else {
         return Ok(());
     };
+    let age = expected.age;
     write!(out, "expected: {age} ms after the last accepted packet, ")?;
-    match (ahead, sn) {
-        (Ahead::Expired, _) => write!(out, "an IR alone")?,
-        (_, Some(sn)) => write!(out, "SN {sn}")?,
-        (_, None) => write!(out, "{}", taken_by(explained.before.as_ref()))?,
-    }
-    write_ahead(out, ahead, settings)?;
+    write_next(out, &expected, explained.before.as_ref())?;
+    write_ahead(out, expected.ahead, settings)?;
     writeln!(out, "")
 }
 
@@ -249,11 +259,16 @@ pub enum Place {
 }
 
 /// Writes where a packet stands.
-fn write_head<W: Write>(out: &mut W, at: Place, explained: &Explained) -> io::Result<()> {
+fn write_place<W: Write>(out: &mut W, at: Place) -> io::Result<()> {
     match at {
-        Place::Line(number) => write!(out, "line {number}")?,
-        Place::Frame(number) => write!(out, "frame {number}")?,
+        Place::Line(number) => write!(out, "line {number}"),
+        Place::Frame(number) => write!(out, "frame {number}"),
     }
+}
+
+/// Writes where a packet stands, and what it is.
+fn write_head<W: Write>(out: &mut W, at: Place, explained: &Explained) -> io::Result<()> {
+    write_place(out, at)?;
     write!(
         out,
         ": link {} at {}, {} octets",
@@ -265,29 +280,50 @@ fn write_head<W: Write>(out: &mut W, at: Place, explained: &Explained) -> io::Re
     writeln!(out, ", {}", format_name(explained))
 }
 
-/// Writes all that is known of a packet.
-pub fn write_whole<W: Write>(out: &mut W, at: Place, explained: &Explained) -> io::Result<()> {
-    write_head(out, at, explained)?;
+/// Writes the fields of a packet.
+fn write_fields<W: Write>(out: &mut W, told: &PacketFields) -> io::Result<()> {
+    for field in &told.fields {
+        write_field(out, field)?;
+    }
+    if told.is_whole {
+        writeln!(out, "  bit {:>4} payload", told.end)
+    } else {
+        writeln!(out, "  bit {:>4} no more fields are told", told.end)
+    }
+}
+
+/// Writes the tries of a packet.
+fn write_tries<W: Write>(out: &mut W, tries: &[Told]) -> io::Result<()> {
+    for (place, told) in tries.iter().enumerate() {
+        write_try(out, place.saturating_add(1), told)?;
+    }
+    Ok(())
+}
+
+/// Writes what a packet has and what its context was before it.
+fn write_before<W: Write>(out: &mut W, explained: &Explained) -> io::Result<()> {
     if let Some(told) = &explained.told {
-        for field in &told.fields {
-            write_field(out, field)?;
-        }
-        if told.is_whole {
-            writeln!(out, "  bit {:>4} payload", told.end)?;
-        } else {
-            writeln!(out, "  bit {:>4} no more fields are told", told.end)?;
-        }
+        write_fields(out, told)?;
     }
     write_view(out, "before", explained, explained.before.as_ref())?;
-    write_expected(out, explained)?;
+    write_expected(out, explained)
+}
+
+/// Writes what became of a packet, and what its context is after it.
+fn write_after<W: Write>(out: &mut W, explained: &Explained) -> io::Result<()> {
     if let Some(tries) = &explained.tries {
-        for (place, told) in tries.iter().enumerate() {
-            write_try(out, place.saturating_add(1), told)?;
-        }
+        write_tries(out, tries.as_slice())?;
     }
     write_answer(out, explained)?;
     write_view(out, "after", explained, explained.after.as_ref())?;
-    writeln!(out, "taken next: {}", taken_next(explained))?;
+    writeln!(out, "taken next: {}", taken_next(explained))
+}
+
+/// Writes all that is known of a packet.
+pub fn write_whole<W: Write>(out: &mut W, at: Place, explained: &Explained) -> io::Result<()> {
+    write_head(out, at, explained)?;
+    write_before(out, explained)?;
+    write_after(out, explained)?;
     writeln!(out, "")
 }
 

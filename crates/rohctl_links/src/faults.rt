@@ -4,13 +4,13 @@ use crate::finding::{Finding, Wrong, findings, no_toml};
 use crate::settings::{write_links, write_links_json};
 use rohc_concentrator::{Concentrator, SetupFault};
 use rohc_faults::all_faults;
-use rohc_links::{Links, LinksFault, read_links};
+use rohc_links::{Key, Links, LinksFault, read_links};
 use rohctl_ground::{Ending, links_text, write_quoted, write_value};
 use std::alloc::{AllocError, Global};
 use std::io;
 use std::io::{BufWriter, Write};
 use std::rt::Files;
-use toml::Value;
+use toml::{Table, Value};
 
 /// What rohcd would say of a links file: its links, or the name of its fault.
 #[derive(Drop)]
@@ -33,38 +33,48 @@ fn verdict_on(alloc: Global, text: &str) -> Result<Verdict, Ending> {
     }
 }
 
-/// Writes a fault as a line for a reader.
-fn write_line<W: Write>(out: &mut W, path: &str, finding: &Finding<'_>) -> io::Result<()> {
+/// Writes where a fault is.
+fn write_place<W: Write>(out: &mut W, path: &str, finding: &Finding<'_>) -> io::Result<()> {
     write!(out, "{path}:")?;
     if let Some(line) = finding.line {
         write!(out, "{line}:")?;
     }
     match (finding.entry, finding.link) {
-        (0, _) => write!(out, " ")?,
-        (_, Some(link)) => write!(out, " link {link}: ")?,
-        (entry, None) => write!(out, " entry {entry}: ")?,
+        (0, _) => write!(out, " "),
+        (_, Some(link)) => write!(out, " link {link}: "),
+        (entry, None) => write!(out, " entry {entry}: "),
     }
-    match finding.wrong {
-        Wrong::NoToml => return writeln!(out, "the text is no TOML document"),
-        Wrong::Unknown(near) => {
-            write_quoted(out, finding.name)?;
-            return match near {
-                Some(key) => writeln!(out, " is no key; the nearest is {}", key.name()),
-                None => writeln!(out, " is no key"),
-            };
-        }
-        Wrong::Twice(earlier) => {
-            return writeln!(
-                out,
-                "number: entry {earlier} has it too; {} may stand there",
-                finding.may
-            );
-        }
-        Wrong::Unfit | Wrong::Beyond | Wrong::Count => {}
+}
+
+/// Writes that a name is no key.
+fn write_unknown<W: Write>(out: &mut W, name: &str, near: Option<Key>) -> io::Result<()> {
+    write_quoted(out, name)?;
+    match near {
+        Some(key) => writeln!(out, " is no key; the nearest is {}", key.name()),
+        None => writeln!(out, " is no key"),
     }
+}
+
+/// Writes what stands at a key, and what may.
+fn write_unfit<W: Write>(out: &mut W, finding: &Finding<'_>) -> io::Result<()> {
     write!(out, "{}: ", finding.name)?;
     write_value(out, finding.value)?;
     writeln!(out, " stands there; {} may", finding.may)
+}
+
+/// Writes a fault as a line for a reader.
+fn write_line<W: Write>(out: &mut W, path: &str, finding: &Finding<'_>) -> io::Result<()> {
+    write_place(out, path, finding)?;
+    match finding.wrong {
+        Wrong::NoToml => writeln!(out, "the text is no TOML document"),
+        Wrong::Unknown(near) => write_unknown(out, finding.name, near),
+        Wrong::Twice(earlier) => writeln!(
+            out,
+            "number: entry {earlier} has it too; {} may stand there",
+            finding.may
+        ),
+        Wrong::Unfit | Wrong::Beyond | Wrong::Count => write_unfit(out, finding),
+    }
 }
 
 /// The word of JSON for what is wrong.
@@ -92,28 +102,39 @@ fn write_json_value<W: Write>(out: &mut W, value: Option<&Value>) -> io::Result<
     }
 }
 
-/// Writes a fault as an object.
-fn write_object<W: Write>(out: &mut W, finding: &Finding<'_>) -> io::Result<()> {
+/// Writes a number, or that it isn't known.
+fn write_number<W: Write>(out: &mut W, number: Option<u64>) -> io::Result<()> {
+    match number {
+        Some(number) => write!(out, "{number}"),
+        None => write!(out, "null"),
+    }
+}
+
+/// Writes the members that say where a fault is.
+fn write_place_members<W: Write>(out: &mut W, finding: &Finding<'_>) -> io::Result<()> {
     write!(out, "{{\"line\":")?;
-    match finding.line {
-        Some(line) => write!(out, "{line}")?,
-        None => write!(out, "null")?,
-    }
+    write_number(out, finding.line.map(|line| line as u64))?;
     write!(out, ",\"entry\":{},\"link\":", finding.entry)?;
-    match finding.link {
-        Some(link) => write!(out, "{link}")?,
-        None => write!(out, "null")?,
-    }
+    write_number(out, finding.link.map(u64::from))
+}
+
+/// Writes the members that say what is wrong.
+fn write_wrong_members<W: Write>(out: &mut W, finding: &Finding<'_>) -> io::Result<()> {
     write!(out, ",\"key\":")?;
     write_quoted(out, finding.name)?;
     write!(out, ",\"fault\":\"{}\",\"stands\":", word(finding.wrong))?;
     write_json_value(out, finding.value)?;
     write!(out, ",\"may\":")?;
-    write_quoted(out, finding.may)?;
-    write!(out, ",\"nearest\":")?;
+    write_quoted(out, finding.may)
+}
+
+/// Writes a fault as an object.
+fn write_object<W: Write>(out: &mut W, finding: &Finding<'_>) -> io::Result<()> {
+    write_place_members(out, finding)?;
+    write_wrong_members(out, finding)?;
     match finding.wrong {
-        Wrong::Unknown(Some(key)) => writeln!(out, "\"{}\"}}", key.name()),
-        _ => writeln!(out, "null}}"),
+        Wrong::Unknown(Some(key)) => writeln!(out, ",\"nearest\":\"{}\"}}", key.name()),
+        _ => writeln!(out, ",\"nearest\":null}}"),
     }
 }
 
@@ -139,6 +160,24 @@ fn write_faults<W: Write>(
     }
 }
 
+/// Writes all faults of a TOML document that is refused.
+fn write_table<W: Write>(
+    out: &mut W,
+    alloc: Global,
+    path: &str,
+    text: &str,
+    table: &Table,
+    name: &str,
+    json: bool,
+) -> Result<(), Ending> {
+    let faults = all_faults(alloc, table).map_err(|_| Ending::Memory)?;
+    if faults.is_none() {
+        return Err(Ending::Differs);
+    }
+    let all = findings(alloc, text, table, &faults).map_err(|_| Ending::Memory)?;
+    write_faults(out, path, all.as_slice(), name, json).map_err(|_| Ending::Write)
+}
+
 /// Writes all faults of a refused text.
 fn write_refused<W: Write>(
     out: &mut W,
@@ -148,22 +187,15 @@ fn write_refused<W: Write>(
     name: &str,
     json: bool,
 ) -> Result<Ending, Ending> {
-    let written = match toml::table_from_str(alloc, text) {
-        Ok(table) => {
-            let faults = all_faults(alloc, &table).map_err(|_| Ending::Memory)?;
-            if faults.is_none() {
-                return Err(Ending::Differs);
-            }
-            let all = findings(alloc, text, &table, &faults).map_err(|_| Ending::Memory)?;
-            write_faults(out, path, all.as_slice(), name, json)
-        }
+    match toml::table_from_str(alloc, text) {
+        Ok(table) => write_table(out, alloc, path, text, &table, name, json)?,
         Err(error) if error.is_memory() => return Err(Ending::Memory),
-        Err(error) => write_faults(out, path, &[no_toml(text, &error)], name, json),
-    };
-    match written {
-        Ok(()) => Ok(Ending::Findings),
-        Err(_) => Err(Ending::Write),
+        Err(error) => {
+            let written = write_faults(out, path, &[no_toml(text, &error)], name, json);
+            written.map_err(|_| Ending::Write)?;
+        }
     }
+    Ok(Ending::Findings)
 }
 
 /// Whether no fault is told of the text.

@@ -25,7 +25,7 @@ pub(crate) enum Wrong {
 }
 
 /// A fault of a links file.
-#[derive(Drop)]
+#[derive(Clone, Copy)]
 pub(crate) struct Finding<'a> {
     /// The line, counted from 1, if it is known.
     pub(crate) line: Option<usize>,
@@ -64,7 +64,7 @@ pub(crate) fn may_stand(key: Key) -> &'static str {
 }
 
 /// The faults of one entry, at its table.
-#[derive(Drop)]
+#[derive(Clone, Copy)]
 struct Entry<'a, 'p> {
     alloc: Global,
     places: &'p Places<'a>,

@@ -177,6 +177,18 @@ fn has_only(table: &Table, keys: &[&str]) -> bool {
     true
 }
 
+/// The name of a process.
+fn name_in<'a>(table: &'a Table, place: usize) -> Result<&'a str, HostsFault> {
+    let name = match table.get("name") {
+        Some(value) => value.as_str(),
+        None => None,
+    };
+    match name {
+        Some(name) if is_name(name) => Ok(name),
+        _ => Err(HostsFault::BadKey(place, "name")),
+    }
+}
+
 /// The address of a process, if the file gives one.
 fn address_in<'a>(table: &'a Table, place: usize) -> Result<Option<&'a str>, HostsFault> {
     let Some(value) = table.get("address") else {
@@ -197,22 +209,18 @@ fn process_in<'a>(
     if !has_only(table, &["name", "address", "port", "links"]) {
         return Err(HostsFault::UnknownKey(place));
     }
-    let name = match table.get("name") {
-        Some(value) => value.as_str(),
-        None => None,
-    };
+    let name = name_in(table, place)?;
     let given = address_in(table, place)?;
-    match (name, port_at(table, "port", None)) {
-        (Some(name), _) if !is_name(name) => Err(HostsFault::BadKey(place, "name")),
-        (Some(name), Some(port)) => Ok(Process {
-            name,
-            given,
-            port,
-            shares: shares_in(alloc, table, place)?,
-        }),
-        (None, _) => Err(HostsFault::BadKey(place, "name")),
-        (_, None) => Err(HostsFault::BadKey(place, "port")),
-    }
+    let Some(port) = port_at(table, "port", None) else {
+        return Err(HostsFault::BadKey(place, "port"));
+    };
+    let shares = shares_in(alloc, table, place)?;
+    Ok(Process {
+        name,
+        given,
+        port,
+        shares,
+    })
 }
 
 /// Whether one of the processes has this name.
@@ -223,6 +231,25 @@ fn has_name(processes: &[Process<'_>], name: &str) -> bool {
         }
     }
     false
+}
+
+/// The processes of these entries.
+fn processes_in<'a>(alloc: Global, entries: &'a [Value]) -> Result<Vec<Process<'a>>, HostsFault> {
+    let mut processes: Vec<Process<'a>> = Vec::new(alloc);
+    for entry in entries {
+        let place = processes.len().saturating_add(1);
+        let Some(table) = entry.as_table() else {
+            return Err(HostsFault::BadKey(0, "process"));
+        };
+        let process = process_in(alloc, table, place)?;
+        if has_name(&processes, process.name) {
+            return Err(HostsFault::SameName(place));
+        }
+        if processes.push(process).is_err() {
+            return Err(HostsFault::NoMemory);
+        }
+    }
+    Ok(processes)
 }
 
 /// The processes of a hosts file.
@@ -240,20 +267,7 @@ pub(crate) fn hosts_in<'a>(alloc: Global, table: &'a Table) -> Result<Hosts<'a>,
     let Some(entries) = value.as_array() else {
         return Err(missing);
     };
-    let mut processes: Vec<Process<'a>> = Vec::new(alloc);
-    for entry in entries {
-        let place = processes.len().saturating_add(1);
-        let Some(table) = entry.as_table() else {
-            return Err(missing);
-        };
-        let process = process_in(alloc, table, place)?;
-        if has_name(&processes, process.name) {
-            return Err(HostsFault::SameName(place));
-        }
-        if processes.push(process).is_err() {
-            return Err(HostsFault::NoMemory);
-        }
-    }
+    let processes = processes_in(alloc, entries)?;
     if processes.is_empty() {
         return Err(missing);
     }

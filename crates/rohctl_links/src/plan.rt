@@ -248,6 +248,33 @@ fn write_shares<W: Write>(out: &mut W, shares: &[u64], homes: &[(usize, u16)]) -
     Ok(())
 }
 
+/// Spreads the links of a file over so many processes.
+fn write_split_of<R: Files + Input + AllocGlobal, W: Write>(
+    rt: &R,
+    out: &mut W,
+    links: &str,
+    processes: u16,
+) -> Result<Ending, Ending> {
+    let links = good_links(rt, links)?;
+    let processes = usize::from(processes);
+    write_split(out, rt.alloc(), links.settings(), processes)
+}
+
+/// Writes what was asked of `plan`.
+fn write_asked<R: Files + Input + AllocGlobal, W: Write>(
+    rt: &R,
+    out: &mut W,
+    plan: &Plan<'_>,
+) -> Result<Ending, Ending> {
+    if let Some(calls) = plan.calls {
+        write_memory(out, calls)
+    } else if let Some(processes) = plan.split {
+        write_split_of(rt, out, plan.links.unwrap_or("-"), processes)
+    } else {
+        write_plan(out, rt.alloc(), plan)
+    }
+}
+
 /// Tells what was asked of `plan`.
 pub fn run_plan<R: Files + Input + Print + AllocGlobal>(
     rt: &R,
@@ -256,19 +283,7 @@ pub fn run_plan<R: Files + Input + Print + AllocGlobal>(
     let Ok(mut out) = BufWriter::new(rt.alloc(), io::writer(rt)) else {
         return Err(Ending::Memory);
     };
-    let ending = if let Some(calls) = plan.calls {
-        write_memory(&mut out, calls)?
-    } else if let Some(processes) = plan.split {
-        let links = good_links(rt, plan.links.unwrap_or("-"))?;
-        write_split(
-            &mut out,
-            rt.alloc(),
-            links.settings(),
-            usize::from(processes),
-        )?
-    } else {
-        write_plan(&mut out, rt.alloc(), plan)?
-    };
+    let ending = write_asked(rt, &mut out, plan)?;
     match out.flush() {
         Ok(()) => Ok(ending),
         Err(_) => Err(Ending::Write),

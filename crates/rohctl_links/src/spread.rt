@@ -8,6 +8,7 @@ use std::alloc::{AllocError, Global};
 use std::fs;
 use std::io::{self, BufWriter, Write};
 use std::rt::Files;
+use toml::Table;
 
 /// What is asked of `spread`.
 #[derive(Clone, Copy)]
@@ -168,42 +169,58 @@ fn gives_address(processes: &[Process<'_>]) -> bool {
     false
 }
 
-/// Writes the table of nftables. The 16 bits behind the UDP header are the link's number.
+/// What stands before the rules of the table of nftables.
+const TABLE_HEAD: &str = "\
+# Each datagram to the process of its link: `nft -f FILE`, as root.
+table ip polorowan {
+    counter unknown_links {}
+    chain to_process {
+        type filter hook prerouting priority raw;
+";
+
+/// Writes the rule that drops datagrams of other links. The 16 bits behind the UDP header are the link's number.
+fn write_known<W: Write>(
+    out: &mut W,
+    hosts: &Hosts<'_>,
+    links: &Links,
+    owners: &[usize],
+) -> io::Result<()> {
+    let port = hosts.port;
+    writeln!(out, "        udp dport {port} notrack")?;
+    write!(out, "        udp dport {port} @th,64,16 != {{ ")?;
+    write_map(out, links, owners, &hosts.processes, Behind::Nothing)?;
+    writeln!(out, " }} counter name unknown_links drop")
+}
+
+/// Writes the rule that sets a part of a datagram's way by its link.
+fn write_rule<W: Write>(
+    out: &mut W,
+    hosts: &Hosts<'_>,
+    links: &Links,
+    owners: &[usize],
+    part: &str,
+    behind: Behind,
+) -> io::Result<()> {
+    let port = hosts.port;
+    write!(out, "        udp dport {port} {part} set @th,64,16 map {{ ")?;
+    write_map(out, links, owners, &hosts.processes, behind)?;
+    writeln!(out, " }}")
+}
+
+/// Writes the table of nftables.
 fn write_table<W: Write>(
     out: &mut W,
     hosts: &Hosts<'_>,
     links: &Links,
     owners: &[usize],
 ) -> io::Result<()> {
-    let (port, processes) = (hosts.port, hosts.processes.as_slice());
-    writeln!(
-        out,
-        "# Each datagram to the process of its link: `nft -f FILE`, as root."
-    )?;
-    writeln!(out, "table ip polorowan {{")?;
-    writeln!(out, "    counter unknown_links {{}}")?;
-    writeln!(out, "    chain to_process {{")?;
-    writeln!(out, "        type filter hook prerouting priority raw;")?;
-    writeln!(out, "        udp dport {port} notrack")?;
-    write!(out, "        udp dport {port} @th,64,16 != {{ ")?;
-    write_map(out, links, owners, processes, Behind::Nothing)?;
-    writeln!(out, " }} counter name unknown_links drop")?;
-    if gives_address(processes) {
-        write!(
-            out,
-            "        udp dport {port} ip daddr set @th,64,16 map {{ "
-        )?;
-        write_map(out, links, owners, processes, Behind::Address)?;
-        writeln!(out, " }}")?;
+    out.write_all(TABLE_HEAD.as_bytes())?;
+    write_known(out, hosts, links, owners)?;
+    if gives_address(&hosts.processes) {
+        write_rule(out, hosts, links, owners, "ip daddr", Behind::Address)?;
     }
-    write!(
-        out,
-        "        udp dport {port} udp dport set @th,64,16 map {{ "
-    )?;
-    write_map(out, links, owners, processes, Behind::Port)?;
-    writeln!(out, " }}")?;
-    writeln!(out, "    }}")?;
-    writeln!(out, "}}")
+    write_rule(out, hosts, links, owners, "udp dport", Behind::Port)?;
+    writeln!(out, "    }}\n}}")
 }
 
 /// What stands before the lines of the links in nginx's configuration.
@@ -222,6 +239,14 @@ stream {
     js_set $link link.number;
     map $link $process { # a number that isn't here goes to a port where nobody listens
         default 127.0.0.1:9;
+";
+
+/// What stands behind the port at which nginx listens.
+const NGINX_END: &str = "        js_preread link.preread;
+        proxy_pass $process;
+        proxy_responses 0; # answers go to ports of their own
+    }
+}
 ";
 
 /// Writes the configuration of nginx.
@@ -245,17 +270,12 @@ fn write_nginx<W: Write>(
             )?;
         }
     }
-    writeln!(out, "    }}")?;
-    writeln!(out, "    server {{")?;
-    writeln!(out, "        listen 127.0.0.1:{} udp;", hosts.port)?;
-    writeln!(out, "        js_preread link.preread;")?;
-    writeln!(out, "        proxy_pass $process;")?;
-    writeln!(
+    write!(
         out,
-        "        proxy_responses 0; # answers go to ports of their own"
+        "    }}\n    server {{\n        listen 127.0.0.1:{} udp;\n",
+        hosts.port
     )?;
-    writeln!(out, "    }}")?;
-    writeln!(out, "}}")
+    out.write_all(NGINX_END.as_bytes())
 }
 
 /// Writes the links file of the process at this place.
@@ -282,6 +302,24 @@ fn path_of(alloc: Global, folder: &str, name: &str) -> Result<String, AllocError
     Ok(path)
 }
 
+/// Writes the links file of the process at this place.
+fn write_file<R: Files + AllocGlobal>(
+    rt: &R,
+    path: &str,
+    links: &Links,
+    owners: &[usize],
+    own: usize,
+) -> Result<(), Ending> {
+    let file = fs::create(rt, path).map_err(|_| Ending::Write)?;
+    let Ok(mut out) = BufWriter::new(rt.alloc(), file) else {
+        return Err(Ending::Memory);
+    };
+    if write_own(&mut out, links, owners, own).is_err() || out.flush().is_err() {
+        return Err(Ending::Write);
+    }
+    Ok(())
+}
+
 /// Writes a links file for each process into a folder.
 fn write_files<R: Files + AllocGlobal>(
     rt: &R,
@@ -292,12 +330,7 @@ fn write_files<R: Files + AllocGlobal>(
 ) -> Result<(), Ending> {
     for (place, process) in processes.iter().enumerate() {
         let path = path_of(rt.alloc(), folder, process.name).map_err(|_| Ending::Memory)?;
-        let file = fs::create(rt, path.as_str()).map_err(|_| Ending::Write)?;
-        let Ok(mut out) = BufWriter::new(rt.alloc(), file) else {
-            return Err(Ending::Memory);
-        };
-        write_own(&mut out, links, owners, place).map_err(|_| Ending::Write)?;
-        out.flush().map_err(|_| Ending::Write)?;
+        write_file(rt, path.as_str(), links, owners, place)?;
     }
     Ok(())
 }
@@ -307,32 +340,61 @@ pub fn run_spread<R>(rt: &R, asked: Spread<'_>) -> Result<Ending, Ending>
 where
     R: Files + Input + Print + AllocGlobal,
 {
-    let alloc = rt.alloc();
     let links = good_links(rt, asked.links)?;
     let text = links_text(rt, asked.hosts)?;
-    let Ok(mut out) = BufWriter::new(alloc, io::writer(rt)) else {
+    let Ok(mut out) = BufWriter::new(rt.alloc(), io::writer(rt)) else {
         return Err(Ending::Memory);
     };
-    let written = match toml::table_from_str(alloc, text.as_str()) {
-        Ok(table) => match hosts_in(alloc, &table) {
-            Ok(hosts) => write_rules(rt, &mut out, asked, text.as_str(), &hosts, &links)?,
-            Err(HostsFault::NoMemory) => return Err(Ending::Memory),
-            Err(fault) => {
-                write_fault(&mut out, asked.hosts, text.as_str(), fault).map_err(
-                    |_| Ending::Write,
-                )?;
-                Ending::Findings
-            }
-        },
-        Err(_) => {
-            writeln!(out, "{}: the text is no TOML document", asked.hosts).map_err(
-                |_| Ending::Write,
-            )?;
-            Ending::Findings
-        }
-    };
+    let written = write_spread(rt, &mut out, asked, text.as_str(), &links)?;
     match out.flush() {
         Ok(()) => Ok(written),
+        Err(_) => Err(Ending::Write),
+    }
+}
+
+/// Writes the rules for the processes of a hosts file's text, or what is wrong with it.
+fn write_spread<R, W>(
+    rt: &R,
+    out: &mut W,
+    asked: Spread<'_>,
+    text: &str,
+    links: &Links,
+) -> Result<Ending, Ending>
+where
+    R: Files + AllocGlobal,
+    W: Write,
+{
+    let written = match toml::table_from_str(rt.alloc(), text) {
+        Ok(table) => return write_hosts(rt, out, asked, text, &table, links),
+        Err(error) if error.is_memory() => return Err(Ending::Memory),
+        Err(_) => writeln!(out, "{}: the text is no TOML document", asked.hosts),
+    };
+    match written {
+        Ok(()) => Ok(Ending::Findings),
+        Err(_) => Err(Ending::Write),
+    }
+}
+
+/// Writes the rules for the processes of a hosts file, or what is wrong with it.
+fn write_hosts<R, W>(
+    rt: &R,
+    out: &mut W,
+    asked: Spread<'_>,
+    text: &str,
+    table: &Table,
+    links: &Links,
+) -> Result<Ending, Ending>
+where
+    R: Files + AllocGlobal,
+    W: Write,
+{
+    let written = match hosts_in(rt.alloc(), table) {
+        Ok(hosts) => return write_rules(rt, out, asked, text, &hosts, links),
+        Err(HostsFault::NoMemory) => return Err(Ending::Memory),
+        Err(fault) => write_fault(out, asked.hosts, text, fault),
+    };
+    match written {
+        Ok(()) => Ok(Ending::Findings),
         Err(_) => Err(Ending::Write),
     }
 }

@@ -42,23 +42,28 @@ pub(crate) enum Wish {
 }
 
 impl Wish {
-    /// Writes the request.
-    fn write<W: Write>(self, out: &mut W) -> io::Result<()> {
+    /// Writes the method and the path of the request.
+    fn write_path<W: Write>(self, out: &mut W) -> io::Result<()> {
         match self {
-            Wish::Status => out.write_all(b"GET /status")?,
-            Wish::Stop => out.write_all(b"POST /stop")?,
-            Wish::Save => out.write_all(b"POST /save")?,
-            Wish::Reload => out.write_all(b"POST /reload")?,
-            Wish::Drain => out.write_all(b"POST /drain")?,
-            Wish::Reset { link, cid: None } => write!(out, "POST /reset?link={link}")?,
+            Wish::Status => out.write_all(b"GET /status"),
+            Wish::Stop => out.write_all(b"POST /stop"),
+            Wish::Save => out.write_all(b"POST /save"),
+            Wish::Reload => out.write_all(b"POST /reload"),
+            Wish::Drain => out.write_all(b"POST /drain"),
+            Wish::Reset { link, cid: None } => write!(out, "POST /reset?link={link}"),
             Wish::Reset {
                 link,
                 cid: Some(cid),
-            } => write!(out, "POST /reset?link={link}&cid={cid}")?,
-            Wish::Watch { link, cid } => write!(out, "POST /watch?link={link}&cid={cid}")?,
-            Wish::Contexts { link } => write!(out, "GET /contexts?link={link}")?,
-            Wish::Calls { link } => write!(out, "GET /calls?link={link}")?,
+            } => write!(out, "POST /reset?link={link}&cid={cid}"),
+            Wish::Watch { link, cid } => write!(out, "POST /watch?link={link}&cid={cid}"),
+            Wish::Contexts { link } => write!(out, "GET /contexts?link={link}"),
+            Wish::Calls { link } => write!(out, "GET /calls?link={link}"),
         }
+    }
+
+    /// Writes the request.
+    fn write<W: Write>(self, out: &mut W) -> io::Result<()> {
+        self.write_path(out)?;
         out.write_all(b" HTTP/1.1\r\nHost: rohc-gateway\r\n\r\n")
     }
 }
@@ -83,6 +88,38 @@ fn is_done(head: &[u8]) -> bool {
     head.get(8..12) == Some(b" 200".as_slice())
 }
 
+/// An answer, as far as it was read.
+#[derive(Drop)]
+struct Reading {
+    head: Vec<u8>,
+    /// Whether the request was done, once the head has ended.
+    done: Option<bool>,
+}
+
+/// Writes a part of an answer's body.
+fn write_body<W: Write>(out: &mut W, octets: &[u8]) -> Result<(), Ending> {
+    out.write_all(octets).map_err(|_| Ending::Write)
+}
+
+impl Reading {
+    /// Takes the next octets of an answer, and writes those of its body. Returns whether it can be an answer.
+    fn take<W: Write>(&mut self, octets: &[u8], out: &mut W) -> Result<bool, Ending> {
+        if self.done.is_some() {
+            write_body(out, octets)?;
+            return Ok(true);
+        }
+        if self.head.extend_from_slice(octets).is_err() {
+            return Err(Ending::Memory);
+        }
+        let Some(at) = body_at(&self.head) else {
+            return Ok(self.head.len() <= LONGEST_HEAD);
+        };
+        self.done = Some(is_done(&self.head));
+        write_body(out, self.head.get(at..).unwrap_or(&[]))?;
+        Ok(true)
+    }
+}
+
 /// Reads an answer to its end, and writes its body. Returns whether the request was done, or `None` if there is no answer.
 fn pass_answer<R: Read, W: Write>(
     alloc: Global,
@@ -90,29 +127,40 @@ fn pass_answer<R: Read, W: Write>(
     out: &mut W,
 ) -> Result<Option<bool>, Ending> {
     let mut piece = [0; PIECE];
-    let mut head = Vec::new(alloc);
-    let mut done = None;
+    let mut reading = Reading {
+        head: Vec::new(alloc),
+        done: None,
+    };
     for _ in 0..u64::MAX {
         let count = match stream.read(&mut piece) {
-            Ok(0) => return Ok(done),
+            Ok(0) => return Ok(reading.done),
             Ok(count) => count,
             Err(_) => return Err(Ending::NoGateway),
         };
-        let octets = piece.get(..count).unwrap_or(&[]);
-        if done.is_some() {
-            out.write_all(octets).map_err(|_| Ending::Write)?;
-            continue;
-        }
-        head.extend_from_slice(octets).map_err(|_| Ending::Memory)?;
-        if let Some(at) = body_at(&head) {
-            done = Some(is_done(&head));
-            let body = head.get(at..).unwrap_or(&[]);
-            out.write_all(body).map_err(|_| Ending::Write)?;
-        } else if head.len() > LONGEST_HEAD {
-            return Ok(None);
+        if !reading.take(piece.get(..count).unwrap_or(&[]), out)? {
+            break;
         }
     }
     Ok(None)
+}
+
+/// A stream to a gateway, at which nothing takes longer than an answer may.
+fn connected<R: Net>(rt: &R, control: &str) -> io::Result<UnixStream> {
+    let stream = UnixStream::connect(rt, control)?;
+    let wait = Some(Duration::from_secs(WAIT_SECONDS));
+    stream.set_read_timeout(wait)?;
+    stream.set_write_timeout(wait)?;
+    Ok(stream)
+}
+
+/// A stream on which a gateway was asked.
+fn asked<R: Net + AllocGlobal>(rt: &R, control: &str, wish: Wish) -> Result<UnixStream, Ending> {
+    let octets = request(rt.alloc(), wish).map_err(|_| Ending::Memory)?;
+    let mut stream = connected(rt, control).map_err(|_| Ending::NoGateway)?;
+    match stream.write_all(&octets) {
+        Ok(()) => Ok(stream),
+        Err(_) => Err(Ending::NoGateway),
+    }
 }
 
 /// Asks a gateway, and writes what it answers.
@@ -120,13 +168,7 @@ pub(crate) fn run_control<R>(rt: &R, control: &str, wish: Wish) -> Result<Ending
 where
     R: Net + Print + AllocGlobal,
 {
-    let octets = request(rt.alloc(), wish).map_err(|_| Ending::Memory)?;
-    let mut stream = UnixStream::connect(rt, control).map_err(|_| Ending::NoGateway)?;
-    let wait = Some(Duration::from_secs(WAIT_SECONDS));
-    if stream.set_read_timeout(wait).is_err() || stream.set_write_timeout(wait).is_err() {
-        return Err(Ending::NoGateway);
-    }
-    stream.write_all(&octets).map_err(|_| Ending::NoGateway)?;
+    let mut stream = asked(rt, control, wish)?;
     let mut out = io::writer(rt);
     match pass_answer(rt.alloc(), &mut stream, &mut out)? {
         Some(true) => Ok(Ending::Good),

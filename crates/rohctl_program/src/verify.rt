@@ -93,6 +93,34 @@ fn verify_line<R: Files + AllocGlobal, W: Write>(
     Ok(false)
 }
 
+/// Compares the files of a list below a folder, and writes which aren't as they were packed. Returns how many there are,
+/// if all are.
+fn verify_lines<R: Files + AllocGlobal, W: Write>(
+    rt: &R,
+    out: &mut W,
+    root: &str,
+    text: &str,
+) -> Result<Option<u64>, Ending> {
+    let mut count = 0u64;
+    let mut good = true;
+    for line in text.split("\n") {
+        if line.is_empty() || line.starts_with("#") {
+            continue;
+        }
+        count = count.saturating_add(1);
+        good = verify_line(rt, out, root, line)? && good;
+    }
+    Ok(if good && count > 0 { Some(count) } else { None })
+}
+
+/// Writes that so many files are as they were packed, if they are.
+fn write_end<W: Write>(out: &mut W, good: Option<u64>) -> io::Result<()> {
+    if let Some(count) = good {
+        writeln!(out, "{count} files are as they were packed")?;
+    }
+    out.flush()
+}
+
 /// Compares all files of a list below a folder, and writes which aren't as they were packed.
 pub(crate) fn run_verify<R>(rt: &R, list: &str, root: &str) -> Result<Ending, Ending>
 where
@@ -102,26 +130,10 @@ where
     let Ok(mut out) = BufWriter::new(rt.alloc(), io::writer(rt)) else {
         return Err(Ending::Memory);
     };
-    let mut count = 0u64;
-    let mut good = true;
-    for line in text.split("\n") {
-        if line.is_empty() || line.starts_with("#") {
-            continue;
-        }
-        count = count.saturating_add(1);
-        good = verify_line(rt, &mut out, root, line)? && good;
-    }
-    let end = if good && count > 0 {
-        writeln!(out, "{count} files are as they were packed")
-    } else {
-        Ok(())
-    };
-    if end.is_err() || out.flush().is_err() {
-        return Err(Ending::Write);
-    }
-    if good && count > 0 {
-        Ok(Ending::Good)
-    } else {
-        Ok(Ending::Findings)
+    let good = verify_lines(rt, &mut out, root, text.as_str())?;
+    match write_end(&mut out, good) {
+        Err(_) => Err(Ending::Write),
+        Ok(()) if good.is_some() => Ok(Ending::Good),
+        Ok(()) => Ok(Ending::Findings),
     }
 }

@@ -66,71 +66,106 @@ impl Taker for Counting {
     }
 }
 
-/// The run that draws.
+/// The calls that are drawn.
 #[derive(Drop)]
-pub(crate) struct Drawing {
-    alloc: Global,
-    concentrator: Concentrator,
-    is_capture: bool,
+pub(crate) struct DrawnCalls {
     pub(crate) drawn: Vec<Drawn>,
-    /// Where a call stands among the drawn ones.
+    /// Where a call stands among them.
     places: IndexMap<u32, usize>,
 }
 
-impl Drawing {
-    /// A run that draws these calls.
-    pub(crate) fn new(
-        alloc: Global,
-        concentrator: Concentrator,
-        is_capture: bool,
-        rows: &[CallRow],
-    ) -> Result<Self, AllocError> {
-        let mut drawn = Vec::new(alloc);
-        let mut places = IndexMap::new(alloc);
-        for (place, row) in rows.iter().enumerate() {
-            let axis = Axis {
-                first: row.totals.first,
-                last: row.totals.last,
-            };
-            drawn.push(Drawn::new(alloc, row.link, row.cid, axis)?)?;
-            places.insert(key_of(row.link, row.cid), place)?;
-        }
-        Ok(Drawing {
-            alloc,
-            concentrator,
-            is_capture,
-            drawn,
-            places,
-        })
+/// A call before its first packet.
+fn fresh_call(alloc: Global, row: &CallRow) -> Result<Drawn, AllocError> {
+    let axis = Axis {
+        first: row.totals.first,
+        last: row.totals.last,
+    };
+    Drawn::new(alloc, row.link, row.cid, axis)
+}
+
+/// The calls of these rows, before their first packets.
+fn fresh_calls(alloc: Global, rows: &[CallRow]) -> Result<Vec<Drawn>, AllocError> {
+    let mut drawn = Vec::new(alloc);
+    for row in rows {
+        drawn.push(fresh_call(alloc, row)?)?;
+    }
+    Ok(drawn)
+}
+
+/// Where the call of each row stands among them.
+fn places_of(alloc: Global, rows: &[CallRow]) -> Result<IndexMap<u32, usize>, AllocError> {
+    let mut places = IndexMap::new(alloc);
+    for (place, row) in rows.iter().enumerate() {
+        places.insert(key_of(row.link, row.cid), place)?;
+    }
+    Ok(places)
+}
+
+impl DrawnCalls {
+    /// The calls of these rows, before their first packets.
+    pub(crate) fn new(alloc: Global, rows: &[CallRow]) -> Result<Self, AllocError> {
+        let drawn = fresh_calls(alloc, rows)?;
+        let places = places_of(alloc, rows)?;
+        Ok(DrawnCalls { drawn, places })
     }
 
+    /// The call of a packet, if it is drawn.
+    fn call_of(&mut self, explained: &Explained) -> Option<&mut Drawn> {
+        let place = self.places.get(&key_of(explained.link, explained.cid?))?;
+        self.drawn.get_mut(*place)
+    }
+}
+
+/// The run that draws.
+#[derive(Drop)]
+pub(crate) struct Drawing {
+    pub(crate) alloc: Global,
+    pub(crate) concentrator: Concentrator,
+    pub(crate) is_capture: bool,
+    pub(crate) calls: DrawnCalls,
+}
+
+/// What `explain` writes of a packet.
+fn text_of(alloc: Global, at: Place, explained: &Explained) -> Result<Vec<u8>, Stop> {
+    let mut text = Vec::new(alloc);
+    match write_whole(&mut text, at, explained) {
+        Ok(()) => Ok(text),
+        Err(_) => Err(Stop::Memory),
+    }
+}
+
+/// Draws a packet into its call.
+fn draw(
+    alloc: Global,
+    drawn: &mut Drawn,
+    number: u64,
+    at: Place,
+    explained: &Explained,
+) -> Result<(), Stop> {
+    let text = text_of(alloc, at, explained)?;
+    let taken = drawn.take(
+        number,
+        explained.moment,
+        became_of(explained),
+        feedback_of(explained),
+        state_of(explained),
+        text,
+    );
+    taken.map_err(|_| Stop::Memory)
+}
+
+impl Drawing {
     /// Draws a packet, if its call is drawn.
     fn draw(&mut self, number: u64, explained: &Explained) -> Result<(), Stop> {
-        let Some(cid) = explained.cid else {
-            return Ok(());
-        };
-        let Some(place) = self.places.get(&key_of(explained.link, cid)) else {
-            return Ok(());
-        };
-        let Some(drawn) = self.drawn.get_mut(*place) else {
-            return Ok(());
-        };
         let at = if self.is_capture {
             Place::Frame(number)
         } else {
             Place::Line(number)
         };
-        let mut text = Vec::new(self.alloc);
-        write_whole(&mut text, at, explained).map_err(|_| Stop::Memory)?;
-        let taken = drawn.take(
-            number,
-            explained.moment,
-            became_of(explained),
-            feedback_of(explained),
-            state_of(explained),
-            text,
-        );
-        taken.map_err(|_| Stop::Memory)
+        match self.calls.call_of(explained) {
+            Some(drawn) => draw(self.alloc, drawn, number, at, explained),
+            None => Ok(()),
+        }
     }
 }
 

@@ -3,7 +3,7 @@
 use crate::asked::Asked;
 use crate::frames::{Rest, take_all};
 use crate::held::{Held, hold};
-use crate::passes::{Counting, Drawing};
+use crate::passes::{Counting, Drawing, DrawnCalls};
 use rohc_capture::Rule;
 use rohc_concentrator::Concentrator;
 use rohc_links::Links;
@@ -64,43 +64,93 @@ fn end_of(calls: &Calls, rows: &[CallRow], rest: Rest) -> Result<Ending, Ending>
     Ok(Ending::Good)
 }
 
-/// Writes the report that is asked for. The input is read twice: to count, and to draw the calls that are the worst.
+/// An input, and how it is read.
+#[derive(Clone, Copy)]
+struct Source<'a> {
+    held: &'a Held<'a>,
+    /// The rules for a capture; a script has none.
+    rules: Option<&'a [Rule]>,
+    screen: Screen,
+}
+
+/// Counts all packets of an input.
+fn count_all<R>(rt: &R, links: &Links, source: Source<'_>) -> Result<(Calls, Rest), Ending>
+where
+    R: Files + Eprint + AllocGlobal,
+{
+    let mut counting = Counting {
+        alloc: rt.alloc(),
+        concentrator: fresh(rt.alloc(), links)?,
+        calls: Calls::new(rt.alloc()),
+    };
+    let rest = take_all(rt, source.held, source.rules, source.screen, &mut counting)?;
+    Ok((counting.calls, rest))
+}
+
+/// Draws the calls of these rows. The input has to end as it did when it was counted.
+fn draw_all<R>(
+    rt: &R,
+    links: &Links,
+    source: Source<'_>,
+    rows: &[CallRow],
+    rest: Rest,
+) -> Result<DrawnCalls, Ending>
+where
+    R: Files + Eprint + AllocGlobal,
+{
+    let calls = DrawnCalls::new(rt.alloc(), rows).map_err(|_| Ending::Memory)?;
+    let mut drawing = Drawing {
+        alloc: rt.alloc(),
+        concentrator: fresh(rt.alloc(), links)?,
+        is_capture: source.rules.is_some(),
+        calls,
+    };
+    let again = take_all(rt, source.held, source.rules, source.screen, &mut drawing)?;
+    if again == rest {
+        Ok(drawing.calls)
+    } else {
+        Err(Ending::Read)
+    }
+}
+
+/// Writes the report on an input. It is read twice: to count, and to draw the calls that are the worst.
+fn report_on<R>(
+    rt: &R,
+    asked: &Asked<'_>,
+    links: &Links,
+    source: Source<'_>,
+) -> Result<Ending, Ending>
+where
+    R: Files + Print + Eprint + AllocGlobal,
+{
+    let (calls, rest) = count_all(rt, links, source)?;
+    let rows = worst_first(rt.alloc(), &calls).map_err(|_| Ending::Memory)?;
+    let calls_drawn = draw_all(rt, links, source, front_of(&rows), rest)?;
+    let report = Report {
+        input: asked.input,
+        links: asked.links,
+        is_capture: source.rules.is_some(),
+        frames_left_out: rest.left_out,
+        calls: &calls,
+        rows: &rows,
+        drawn: &calls_drawn.drawn,
+    };
+    write_report(rt, asked.output, &report)?;
+    end_of(&calls, &rows, rest)
+}
+
+/// Writes the report that is asked for.
 pub fn run_report<R>(rt: &R, asked: &Asked<'_>, screen: Screen) -> Result<Ending, Ending>
 where
     R: Files + Input + Print + Eprint + AllocGlobal,
 {
     let links = good_links(rt, asked.links)?;
-    let mut counting = Counting {
-        alloc: rt.alloc(),
-        concentrator: fresh(rt.alloc(), &links)?,
-        calls: Calls::new(rt.alloc()),
-    };
     let held = hold(rt, asked.input)?;
     let rules = rules_for(rt, &held, asked)?;
-    let rules = rules.as_ref().map(|rules| rules.as_slice());
-    let rest = take_all(rt, &held, rules, screen, &mut counting)?;
-    let calls = counting.calls;
-    let rows = worst_first(rt.alloc(), &calls).map_err(|_| Ending::Memory)?;
-    let concentrator = fresh(rt.alloc(), &links)?;
-    let mut drawing = Drawing::new(
-        rt.alloc(),
-        concentrator,
-        rules.is_some(),
-        front_of(&rows),
-    ).map_err(|_| Ending::Memory)?;
-    let again = take_all(rt, &held, rules, screen, &mut drawing)?;
-    if again != rest {
-        return Err(Ending::Read);
-    }
-    let report = Report {
-        input: asked.input,
-        links: asked.links,
-        is_capture: rules.is_some(),
-        frames_left_out: rest.left_out,
-        calls: &calls,
-        rows: &rows,
-        drawn: &drawing.drawn,
+    let source = Source {
+        held: &held,
+        rules: rules.as_ref().map(|rules| rules.as_slice()),
+        screen,
     };
-    write_report(rt, asked.output, &report)?;
-    end_of(&calls, &rows, rest)
+    report_on(rt, asked, &links, source)
 }

@@ -1,6 +1,6 @@
 //! Links files of both versions, and the first fault of each.
 
-use rohc_concentrator::CidRange;
+use rohc_concentrator::{CidRange, LinkSetting};
 use rohc_context::{Mode, Settings};
 use rohc_frame::CidKind;
 use rohc_links::{Key, LinksFault, Ports, read_links};
@@ -93,11 +93,22 @@ fn compare_links(
     let text = joined(rt, alloc, parts);
     let links = read_links(alloc, text.as_str()).expect(rt, "links");
     assert_eq!(rt; links.ports(), [PORTS].as_slice());
-    assert_eq!(rt; links.settings().len(), 1);
-    for setting in links.settings() {
-        assert_eq!(rt; (setting.link, setting.settings), (link, settings));
-        assert_eq!(rt; setting.ranges.as_slice(), ranges);
-    }
+    compare_settings(rt, links.settings(), link, settings, ranges);
+}
+
+/// Compares the settings of links with these of one.
+fn compare_settings(
+    rt: &impl Abort,
+    found: &[LinkSetting],
+    link: u16,
+    settings: Settings,
+    ranges: &[CidRange],
+) {
+    let [setting] = found else {
+        panic!(rt; "more links than one, or none");
+    };
+    assert_eq!(rt; (setting.link, setting.settings), (link, settings));
+    assert_eq!(rt; setting.ranges.as_slice(), ranges);
 }
 
 /// The text of these parts.
@@ -180,14 +191,23 @@ const FAULTS: [((&str, &str), &str, LinksFault); 11] = [
 fn tells_the_first_fault(rt: HostRuntime) {
     for (parts, name, fault) in FAULTS {
         compare_name(&rt, &fault, name);
-        let text = joined(&rt, rt.alloc(), parts);
-        assert_eq!(rt;
-            read_links(rt.alloc(), text.as_str()).err(),
-            Some(fault),
-            "at {text}"
-        );
+        compare_fault(&rt, rt.alloc(), parts, fault);
     }
     compare_name(&rt, &LinksFault::NoMemory, "NoMemory");
+}
+
+/// Compares the fault of the text of these parts with this one.
+fn compare_fault(rt: &impl Abort, alloc: Global, parts: (&str, &str), fault: LinksFault) {
+    let text = joined(rt, alloc, parts);
+    assert_eq!(rt;
+        read_links(alloc, text.as_str()).err(),
+        Some(fault),
+        "at {text}"
+    );
+}
+
+#[test]
+fn a_file_may_have_no_links(rt: HostRuntime) {
     for text in ["version = 1", "version = 2\nlink = []"] {
         let links = read_links(rt.alloc(), text).expect(&rt, "links");
         assert!(rt; links.settings().is_empty());

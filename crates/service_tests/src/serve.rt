@@ -105,28 +105,31 @@ fn for_nobody(
     assert!(rt; sends.packet.is_none() && sends.feedback.is_none() && sends.refused);
 }
 
-#[test]
-fn a_datagram_is_answered(rt: HostRuntime) -> Result<(), Fail> {
-    let (links, mut concentrator) = made(rt.alloc())?;
-    let first = b"\x00\x01\xfc\x00\xb7\x45\xaa";
+/// Compares what is sent of a datagram with this packet and this feedback, which go to the ports of link 1.
+fn were_made(rt: &impl Abort, sends: Sends<'_>, octets: &[u8], element: &[u8]) {
     let Sends {
         ports,
         mut relayed,
         packet,
         feedback,
         refused,
-    } = answer_datagram(&mut concentrator, &links, 0, first);
+    } = sends;
+    let (Some(packet), Some(feedback)) = (packet, feedback) else {
+        panic!(rt; "no packet, or no feedback");
+    };
     assert_eq!(rt; ports, Some(PORTS_1));
     assert!(rt; relayed.next().is_none() && !refused);
-    let Some(packet) = packet else {
-        panic!(rt; "no packet");
-    };
     assert!(rt; packet.head.is_empty());
-    assert_eq!(rt; packet.payload, b"\x45\xaa".as_slice());
-    let Some(element) = feedback else {
-        panic!(rt; "no feedback");
-    };
-    assert_eq!(rt; element.as_slice(), b"\xf1\x00".as_slice());
+    assert_eq!(rt; packet.payload, octets);
+    assert_eq!(rt; feedback.as_slice(), element);
+}
+
+#[test]
+fn a_datagram_is_answered(rt: HostRuntime) -> Result<(), Fail> {
+    let (links, mut concentrator) = made(rt.alloc())?;
+    let first = b"\x00\x01\xfc\x00\xb7\x45\xaa";
+    let sends = answer_datagram(&mut concentrator, &links, 0, first);
+    were_made(&rt, sends, b"\x45\xaa", b"\xf1\x00");
     for_nobody(&rt, &links, &mut concentrator, b"\x00\x09\x10\xac", None);
     for_nobody(&rt, &links, &mut concentrator, b"\x00", None);
     for_nobody(&rt, &links, &mut concentrator, b"", None);

@@ -1,7 +1,10 @@
 //! Cursors, readers and bit strings.
 
+ghost use Rattle.std.specs.Prelude.{◌<◌};
+
 use rohc_bits::reading::{cursor_over, is_set, octet, value, word};
 use rohc_bits::{Bits, Cursor, put_behind};
+use std::process::Abort;
 
 #[test]
 fn bits_stand_behind_one_another(rt: HostRuntime) {
@@ -45,9 +48,16 @@ fn octets_behind_others(rt: HostRuntime) {
     assert_eq!(rt; place, [1, 8, 9, 4, 5]);
 }
 
+// Compares whether the bit at a place of a word is set, from the lowest on.
+fn compare_bit(rt: &impl Abort, word: u32, place: u8, expected: bool)
+    requires { place < 32 }
+{
+    assert_eq!(rt; is_set(word, place), expected);
+}
+
 #[test]
 fn bits_by_their_places(rt: HostRuntime) {
-    assert!(rt; is_set(0b0100, 2));
-    assert!(rt; !is_set(0b0100, 1));
-    assert!(rt; is_set(0x8000_0000, 31));
+    compare_bit(&rt, 0b0100, 2, true);
+    compare_bit(&rt, 0b0100, 1, false);
+    compare_bit(&rt, 0x8000_0000, 31, true);
 }

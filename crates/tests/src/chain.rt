@@ -56,6 +56,18 @@ fn is_read_at_each_cut(size: CidKind, packet: &[u8], framed: usize, header: usiz
     true
 }
 
+// The same of the packet that has these parts.
+fn is_read_in_parts(
+    alloc: Global,
+    size: CidKind,
+    parts: Parts,
+    framed: usize,
+    header: usize,
+) -> Result<bool, AllocError> {
+    let packet = octets_of(alloc, parts)?;
+    Ok(is_read_at_each_cut(size, &packet, framed, header))
+}
+
 // The CID kind, a packet, how many octets its first octet and CID have, and how many its header has.
 const CUT: [(CidKind, Parts, usize, usize); 5] = [
     (CidKind::Small, (b"\xe1\xfc\x00\x30\x45\xaa", 0, 0), 2, 4),
@@ -68,8 +80,7 @@ const CUT: [(CidKind, Parts, usize, usize); 5] = [
 #[test]
 fn each_beginning_of_a_packet(rt: HostRuntime) -> Result<(), Fail> {
     for (size, parts, framed, header) in CUT {
-        let packet = octets_of(rt.alloc(), parts)?;
-        assert!(rt; is_read_at_each_cut(size, &packet, framed, header));
+        assert!(rt; is_read_in_parts(rt.alloc(), size, parts, framed, header)?);
     }
     Ok(())
 }
@@ -92,15 +103,21 @@ const LONG: [(u8, usize, Option<ChainRefusal>); 4] = [
     (0x2c, 65_496, Some(ChainRefusal::TooLong)),
 ];
 
+// Example whole IR with this check octet and a payload of so many octets.
+fn long_packet(alloc: Global, check: u8, length: usize) -> Result<Vec<u8>, AllocError> {
+    let mut packet = octets_of(alloc, (b"", 0, 41))?;
+    let header = packet.len();
+    packet.resize(header.saturating_add(length), 0)?;
+    if let Some(place) = packet.get_mut(2) {
+        *place = check;
+    }
+    Ok(packet)
+}
+
 #[test]
 fn long_packets(rt: HostRuntime) -> Result<(), Fail> {
     for (check, length, refusal) in LONG {
-        let mut packet = octets_of(rt.alloc(), (b"", 0, 41))?;
-        let header = packet.len();
-        packet.resize(header + length, 0)?;
-        if let Some(place) = packet.get_mut(2) {
-            *place = check;
-        }
+        let packet = long_packet(rt.alloc(), check, length)?;
         assert_eq!(rt; refusal_of(&packet), refusal);
     }
     Ok(())

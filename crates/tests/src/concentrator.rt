@@ -3,39 +3,35 @@
 mod honest;
 mod links;
 
+use crate::call::SETTINGS;
 use crate::examples::WHOLE_IR;
 use arrayvec::ArrayVec;
 use rohc_concentrator::{
     Answer, CidRange, Concentrator, LinkRecords, LinkSetting, NoLink, SetupFault,
 };
 use rohc_context::{AtOnce, Mode, Outcome, Refusal, Settings};
-use rohc_frame::CidKind;
 use std::alloc::{AllocError, Global};
 use std::fmt::InlineText;
 use std::process::Abort;
 
 /// Link 1 of the worked examples, with this `idle_ms`.
-fn link_1(idle_ms: u32) -> LinkSetting {
+pub(crate) fn link_1(idle_ms: u32) -> LinkSetting {
     LinkSetting {
         link: 1,
         settings: Settings {
-            size: CidKind::Small,
-            max_cid: 15,
-            mode: Mode::O,
-            k1: 2,
-            n1: 3,
-            k2: 2,
-            n2: 3,
-            packet_ms: 20,
-            static_nack_ms: 1000,
             idle_ms,
+            ..SETTINGS
         },
         ranges: ArrayVec::new(),
     }
 }
 
 /// The outcome of a packet on link 1, if it has a CID.
-fn outcome(concentrator: &mut Concentrator, moment: u64, packet: &[u8]) -> Option<Outcome> {
+pub(crate) fn outcome(
+    concentrator: &mut Concentrator,
+    moment: u64,
+    packet: &[u8],
+) -> Option<Outcome> {
     match concentrator.arrive(1, moment, packet) {
         Answer::Arrived { reply, .. } => Some(reply.outcome),
         Answer::OnlyFront { .. } | Answer::Refused(_) => None,
@@ -43,7 +39,7 @@ fn outcome(concentrator: &mut Concentrator, moment: u64, packet: &[u8]) -> Optio
 }
 
 /// The concentrator with this link alone.
-fn made(rt: &impl Abort, alloc: Global, setting: LinkSetting) -> Concentrator {
+pub(crate) fn made(rt: &impl Abort, alloc: Global, setting: LinkSetting) -> Concentrator {
     Concentrator::new(alloc, &[setting]).expect(rt, "a concentrator")
 }
 

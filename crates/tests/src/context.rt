@@ -1,49 +1,13 @@
 //! Arrivals of one context, from the worked examples; settings and refusals.
 
+use crate::call::{SETTINGS, answer, first};
 use crate::examples::WHOLE_IR;
-use rohc_context::{Context, ContextState, Mode, Outcome, Profile, Refusal, Reply, Settings};
-use rohc_frame::{CidKind, cut, plain_header};
+use rohc_context::{AtOnce, ContextState, Outcome, Profile, Refusal, Reply, Settings};
+use rohc_frame::{CidKind, plain_header};
 use std::fmt::InlineText;
 
-const SETTINGS: Settings = Settings {
-    size: CidKind::Small,
-    max_cid: 15,
-    mode: Mode::O,
-    k1: 2,
-    n1: 3,
-    k2: 2,
-    n2: 3,
-    packet_ms: 20,
-    static_nack_ms: 1000,
-    idle_ms: 0,
-};
-
-const REBUILT: rohc_context::AtOnce = rohc_context::AtOnce::Rebuilt;
-
-// The context after a first packet.
-fn first(packet: &[u8]) -> Option<Context> {
-    let forward = cut(CidKind::Small, 15, packet).ok()?.forward?;
-    let (context, _reply) = Context::first(&SETTINGS, 0, &forward).ok()?;
-    Some(context)
-}
-
-// The answer to a packet: its outcome, the sequence number of the rebuilt header, and the type octet of the
-// feedback.
-fn answer(context: &mut Context, packet: &[u8]) -> Option<(Outcome, Option<u8>, Option<u8>)> {
-    let forward = cut(CidKind::Small, 15, packet).ok()?.forward?;
-    let reply = context.arrive(&SETTINGS, 0, &forward);
-    let sn = match &reply.packet {
-        Some(packet) => packet.head.get(31).copied(),
-        None => None,
-    };
-    let feedback = match &reply.feedback {
-        Some(element) => element.first().copied(),
-        None => None,
-    };
-    Some((reply.outcome, sn, feedback))
-}
-
 /// A packet whose header was rebuilt at once.
+const REBUILT: AtOnce = AtOnce::Rebuilt;
 
 const UNFIT: Outcome = Outcome::Refused(Refusal::Check);
 
@@ -56,7 +20,7 @@ const LOW: Outcome = Outcome::Refused(Refusal::StateTooLow);
 // Examples first UO-0, fall to Static and UOR-2-TS jump.
 #[test]
 fn a_call_falls_and_is_taken_up_again(rt: HostRuntime) {
-    let Some(mut context) = first(WHOLE_IR) else {
+    let Some(mut context) = first(0, WHOLE_IR) else {
         panic!(rt; "refused");
     };
     let answers: [(&[u8], Outcome, Option<u8>, Option<u8>, ContextState); 7] = [
@@ -90,7 +54,7 @@ fn packets_without_an_extension_3(rt: HostRuntime) {
         (&[0xc0, 0x0c, 0xfa, 0x63, 0x64, 0xad], 100),
     ];
     for (packet, sn) in packets {
-        let Some(mut context) = first(WHOLE_IR) else {
+        let Some(mut context) = first(0, WHOLE_IR) else {
             panic!(rt; "refused");
         };
         assert!(rt; answer(&mut context, &[0x10, 0xac]).is_some());
@@ -115,7 +79,7 @@ fn packets_without_an_extension_are_taken_at_once(rt: HostRuntime) {
         (&[0x11, 0xac], false, UNFIT),
     ];
     for (packet, taken, outcome) in packets {
-        let Some(mut context) = first(WHOLE_IR) else {
+        let Some(mut context) = first(0, WHOLE_IR) else {
             panic!(rt; "refused");
         };
         let mut reply = Reply::refused(Refusal::NoLink);
@@ -141,7 +105,7 @@ fn packets_without_an_extension_are_taken_at_once(rt: HostRuntime) {
 // In Full Context the second window is empty. The registers are those of headers with the reference's fields.
 #[test]
 fn what_is_stored_is_lent(rt: HostRuntime) {
-    let Some(mut context) = first(WHOLE_IR) else {
+    let Some(mut context) = first(0, WHOLE_IR) else {
         panic!(rt; "refused");
     };
     assert!(rt; answer(&mut context, &[0x11, 0xac]).is_some());
@@ -156,7 +120,7 @@ fn what_is_stored_is_lent(rt: HostRuntime) {
 // A context of profile 0x0000 has neither.
 #[test]
 fn a_plain_context_lends_nothing(rt: HostRuntime) {
-    let Some(context) = first(&[0xfc, 0x00, 0xb7, 0x45, 0xaa]) else {
+    let Some(context) = first(0, &[0xfc, 0x00, 0xb7, 0x45, 0xaa]) else {
         panic!(rt; "refused");
     };
     assert!(rt; context.windows().is_none());

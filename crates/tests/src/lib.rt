@@ -6,6 +6,8 @@
 #[cfg(test)]
 mod bits;
 #[cfg(test)]
+mod call;
+#[cfg(test)]
 mod chain;
 #[cfg(test)]
 mod checks;

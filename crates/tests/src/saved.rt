@@ -1,25 +1,10 @@
 //! Saved contexts: the octets as docs/FORMATS.md has them, each state and back, and octets that are no context.
 
+use crate::call::{answer, first};
+use crate::concentrator::{link_1, made, outcome};
 use crate::examples::WHOLE_IR;
-use arrayvec::ArrayVec;
-use rohc_concentrator::{Answer, Concentrator, LinkSetting, PutFault};
-use rohc_context::{Context, ContextFault, ContextState, Mode, Outcome, Settings};
-use rohc_frame::{CidKind, cut};
-use std::alloc::Global;
-use std::process::Abort;
-
-const SETTINGS: Settings = Settings {
-    size: CidKind::Small,
-    max_cid: 15,
-    mode: Mode::O,
-    k1: 2,
-    n1: 3,
-    k2: 2,
-    n2: 3,
-    packet_ms: 20,
-    static_nack_ms: 1000,
-    idle_ms: 0,
-};
+use rohc_concentrator::PutFault;
+use rohc_context::{Context, ContextFault, ContextState, Outcome};
 
 // What is saved after it, if it came at 0102030405060708: written by hand from docs/FORMATS.md.
 const SAVED: [u8; 59] = [
@@ -34,24 +19,6 @@ const SAVED: [u8; 59] = [
     0x00, // no previous reference
     0x00, 0x00, 0x00, 0x00, 0x00, 0x00, 0x00, 0x00, 0x00, // an empty window
 ];
-
-// The context after a first packet at this time.
-fn first(moment: u64, packet: &[u8]) -> Option<Context> {
-    let forward = cut(CidKind::Small, 15, packet).ok()?.forward?;
-    let (context, _reply) = Context::first(&SETTINGS, moment, &forward).ok()?;
-    Some(context)
-}
-
-// The answer to a packet: its outcome, and the sequence number of the rebuilt header.
-fn answer(context: &mut Context, packet: &[u8]) -> Option<(Outcome, Option<u8>)> {
-    let forward = cut(CidKind::Small, 15, packet).ok()?.forward?;
-    let reply = context.arrive(&SETTINGS, 0, &forward);
-    let sn = match &reply.packet {
-        Some(packet) => packet.head.get(31).copied(),
-        None => None,
-    };
-    Some((reply.outcome, sn))
-}
 
 #[test]
 fn a_context_is_saved_as_documented(rt: HostRuntime) {
@@ -148,30 +115,12 @@ fn any_octets_are_safe(rt: HostRuntime) {
     }
 }
 
-// The outcome of a packet on link 1, if it has a CID.
-fn outcome(concentrator: &mut Concentrator, packet: &[u8]) -> Option<Outcome> {
-    match concentrator.arrive(1, 0, packet) {
-        Answer::Arrived { reply, .. } => Some(reply.outcome),
-        Answer::OnlyFront { .. } | Answer::Refused(_) => None,
-    }
-}
-
-// The concentrator with link 1 alone.
-fn made(rt: &impl Abort, alloc: Global) -> Concentrator {
-    let setting = LinkSetting {
-        link: 1,
-        settings: SETTINGS,
-        ranges: ArrayVec::new(),
-    };
-    Concentrator::new(alloc, &[setting]).expect(rt, "a concentrator")
-}
-
 // Example first UO-0, cut behind its IR.
 #[test]
 fn a_restored_context_goes_on_in_another_concentrator(rt: HostRuntime) {
-    let mut before = made(&rt, rt.alloc());
-    let mut after = made(&rt, rt.alloc());
-    assert_eq!(rt; outcome(&mut before, WHOLE_IR), Some(Outcome::Delivered));
+    let mut before = made(&rt, rt.alloc(), link_1(0));
+    let mut after = made(&rt, rt.alloc(), link_1(0));
+    assert_eq!(rt; outcome(&mut before, 0, WHOLE_IR), Some(Outcome::Delivered));
     let Some((cid, context)) = before.context_at(1, 0) else {
         panic!(rt; "no record");
     };
@@ -184,6 +133,9 @@ fn a_restored_context_goes_on_in_another_concentrator(rt: HostRuntime) {
     assert_eq!(rt; after.put(1, cid, restored), Err(PutFault::HasRecord));
     assert!(rt; after.has_context(1, 0));
     for packet in [[0x10, 0xac], [0x11, 0xac], [0x11, 0xac], [0x10, 0xac]] {
-        assert_eq!(rt; outcome(&mut after, &packet), outcome(&mut before, &packet));
+        assert_eq!(rt;
+            outcome(&mut after, 0, &packet),
+            outcome(&mut before, 0, &packet)
+        );
     }
 }

@@ -132,6 +132,25 @@ fn run(
     sum
 }
 
+/// Times one turn on a concentrator without contexts. Returns its sums and its nanoseconds.
+fn time_run<R>(
+    rt: &R,
+    settings: &[LinkSetting],
+    arrivals: &[Arrival<'_>],
+    target: Target,
+    buffer: &mut [u8],
+) -> io::Result<(Sum, u128)>
+where
+    R: Clock + AllocGlobal,
+{
+    let Ok(mut concentrator) = Concentrator::new(rt.alloc(), settings) else {
+        return Err(bad_text());
+    };
+    let start = Instant::now(rt)?;
+    let sum = run(&mut concentrator, arrivals, target, buffer);
+    Ok((sum, start.elapsed(rt)?.as_nanos()))
+}
+
 /// Times one turn, and prints its sums and its nanoseconds. It starts without contexts.
 fn time_turn<R>(
     rt: &R,
@@ -143,12 +162,7 @@ fn time_turn<R>(
 where
     R: Print + Eprint + Clock + AllocGlobal,
 {
-    let Ok(mut concentrator) = Concentrator::new(rt.alloc(), settings) else {
-        return Err(bad_text());
-    };
-    let start = Instant::now(rt)?;
-    let sum = run(&mut concentrator, arrivals, target, buffer);
-    let nanos = start.elapsed(rt)?.as_nanos();
+    let (sum, nanos) = time_run(rt, settings, arrivals, target, buffer)?;
     let packets = arrivals.len();
     println!(rt;
         "packets {packets} delivered {} octets {} lasts {}",

@@ -17,6 +17,44 @@ fn since<R: Clock>(rt: &R, start: Instant) -> io::Result<u128> {
     Ok(start.elapsed(rt)?.as_nanos())
 }
 
+/// Saves all contexts to an empty text, and returns the nanoseconds.
+fn time_saving<R: Clock>(
+    rt: &R,
+    concentrator: &Concentrator,
+    text: &mut Vec<u8>,
+) -> io::Result<u128> {
+    let start = Instant::now(rt)?;
+    match save(concentrator, 0, text) {
+        Ok(_) => since(rt, start),
+        Err(_) => Err(bad_text()),
+    }
+}
+
+/// Restores the contexts of a text. Returns whether it could be done, and the nanoseconds.
+fn time_restoring<R>(rt: &R, settings: &[LinkSetting], text: &[u8]) -> io::Result<(bool, u128)>
+where
+    R: Clock + AllocGlobal,
+{
+    let start = Instant::now(rt)?;
+    let restored = restore(rt.alloc(), settings, text).is_ok();
+    Ok((restored, since(rt, start)?))
+}
+
+/// Copies octets to a text, and returns the nanoseconds.
+fn time_copying<R: Clock>(rt: &R, octets: &[u8], text: &mut Vec<u8>) -> io::Result<u128> {
+    let start = Instant::now(rt)?;
+    text.clear();
+    text.extend_from_slice(octets)?;
+    since(rt, start)
+}
+
+/// Hashes a text. Returns the first octet of its digest, and the nanoseconds.
+fn time_hashing<R: Clock>(rt: &R, text: &[u8]) -> io::Result<(u8, u128)> {
+    let start = Instant::now(rt)?;
+    let digest = Sha256::digest(text);
+    Ok((digest[0], since(rt, start)?))
+}
+
 /// Times one turn, and prints its nanoseconds.
 fn time_turn<R>(
     rt: &R,
@@ -28,22 +66,11 @@ where
     R: Print + Eprint + Clock + AllocGlobal,
 {
     let mut text = Vec::with_capacity(rt.alloc(), octets.len())?;
-    let start = Instant::now(rt)?;
-    if save(concentrator, 0, &mut text).is_err() {
-        return Err(bad_text());
-    }
-    let saving = since(rt, start)?;
-    let start = Instant::now(rt)?;
-    let restored = restore(rt.alloc(), settings, text.as_slice()).is_ok();
-    let restoring = since(rt, start)?;
-    let start = Instant::now(rt)?;
-    text.clear();
-    text.extend_from_slice(octets)?;
-    let copying = since(rt, start)?;
-    let start = Instant::now(rt)?;
-    let digest = Sha256::digest(text.as_slice());
-    let hashing = since(rt, start)?;
-    println!(rt; "restored {restored} digest {}", digest[0])?;
+    let saving = time_saving(rt, concentrator, &mut text)?;
+    let (restored, restoring) = time_restoring(rt, settings, text.as_slice())?;
+    let copying = time_copying(rt, octets, &mut text)?;
+    let (digest, hashing) = time_hashing(rt, text.as_slice())?;
+    println!(rt; "restored {restored} digest {digest}")?;
     eprintln!(rt; "save {saving} restore {restoring} copy {copying} hash {hashing}")
 }
 

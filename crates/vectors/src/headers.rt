@@ -40,8 +40,26 @@ fn read_static(alloc: Global, column: &str) -> Result<Static, NoAnswer> {
     })
 }
 
-fn read_dynamic(column: &str) -> Result<Dynamic, NoAnswer> {
-    let mut values = Words::of(column);
+/// The dynamic fields of a header whose fields are all zero.
+const ZERO: Dynamic = Dynamic {
+    tos: 0,
+    ttl: 0,
+    id: 0,
+    df: false,
+    rnd: false,
+    nbo: false,
+    udp_sum: 0,
+    padding: false,
+    extension: false,
+    marker: false,
+    payload_type: 0,
+    sn: 0,
+    ts: 0,
+    stride: None,
+};
+
+/// The fields of IP and UDP.
+fn read_ip(values: &mut Words<'_>) -> Result<Dynamic, NoAnswer> {
     Ok(Dynamic {
         tos: values.octet()?,
         ttl: values.octet()?,
@@ -50,6 +68,13 @@ fn read_dynamic(column: &str) -> Result<Dynamic, NoAnswer> {
         rnd: values.flag()?,
         nbo: values.flag()?,
         udp_sum: values.word()?,
+        ..ZERO
+    })
+}
+
+/// The fields of RTP, behind these of IP and UDP.
+fn read_rtp(values: &mut Words<'_>, front: Dynamic) -> Result<Dynamic, NoAnswer> {
+    Ok(Dynamic {
         padding: values.flag()?,
         extension: values.flag()?,
         marker: values.flag()?,
@@ -57,7 +82,14 @@ fn read_dynamic(column: &str) -> Result<Dynamic, NoAnswer> {
         sn: values.word()?,
         ts: values.quad()?,
         stride: values.optional_quad()?,
+        ..front
     })
+}
+
+fn read_dynamic(column: &str) -> Result<Dynamic, NoAnswer> {
+    let mut values = Words::of(column);
+    let front = read_ip(&mut values)?;
+    read_rtp(&mut values, front)
 }
 
 /// An address, in hexadecimal digits.

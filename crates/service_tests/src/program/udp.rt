@@ -2,9 +2,10 @@
 
 use super::LINK_1;
 use rohc_concentrator::Concentrator;
-use rohc_links::read_links;
+use rohc_links::{Links, read_links};
 use rohc_program::UdpFront;
 use rohc_serve::{ServeTally, serve};
+use std::alloc::Global;
 use std::io;
 use std::net::{Ipv4Addr, Net, UdpSocket};
 use std::process::Abort;
@@ -27,28 +28,52 @@ fn gets(rt: &impl Abort, socket: &UdpSocket, octets: &[u8]) -> io::Result<()> {
     Ok(())
 }
 
-#[test]
-fn datagrams_go_to_their_ports(rt: HostRuntime) -> Result<(), Fail> {
-    let (deliver, deliver_port) = bound(&rt)?;
-    let (feedback, feedback_port) = bound(&rt)?;
-    let (relay, relay_port) = bound(&rt)?;
+/// The sockets that get what is sent for a link.
+#[derive(Drop)]
+struct Ends {
+    deliver: UdpSocket,
+    feedback: UdpSocket,
+    relay: UdpSocket,
+}
+
+/// Three sockets, and the links file that names their ports.
+fn bound_ends<R: Net + AllocGlobal>(rt: &R) -> Result<(Ends, String), Fail> {
+    let (deliver, deliver_port) = bound(rt)?;
+    let (feedback, feedback_port) = bound(rt)?;
+    let (relay, relay_port) = bound(rt)?;
     let links = format!(in rt.alloc();
         "{LINK_1}deliver_port = {deliver_port}\nfeedback_port = {feedback_port}\nrelay_port = {relay_port}\n"
     )?;
-    let datagrams: [&[u8]; 3] = [
-        b"\x00\x01\xfc\x00\xb7\x45\xaa",
-        b"\x00\x09\x10\xac",
-        b"\x00\x01\xf2\x20\x07",
-    ];
-    let tally = served(&rt, links.as_str(), &datagrams)?;
-    let line = format!(in rt.alloc(); "{tally}")?;
-    assert_eq!(rt;
-        line.as_str(),
-        "datagrams 3 delivered 1 feedback 1 relayed 1 refused 1 failed 0"
-    );
-    gets(&rt, &deliver, b"\x45\xaa")?;
-    gets(&rt, &feedback, b"\xf1\x00")?;
-    gets(&rt, &relay, b"\x20\x07")?;
+    let ends = Ends {
+        deliver,
+        feedback,
+        relay,
+    };
+    Ok((ends, links))
+}
+
+/// Compares the line of a tally with this text.
+fn compare_line(rt: &impl Abort, alloc: Global, tally: ServeTally, text: &str) {
+    let line = format!(in alloc; "{tally}").expect(rt, "memory");
+    assert_eq!(rt; line.as_str(), text);
+}
+
+/// Datagrams that each socket gets one for, and one that nobody does.
+const DATAGRAMS: [&[u8]; 3] = [
+    b"\x00\x01\xfc\x00\xb7\x45\xaa",
+    b"\x00\x09\x10\xac",
+    b"\x00\x01\xf2\x20\x07",
+];
+
+#[test]
+fn datagrams_go_to_their_ports(rt: HostRuntime) -> Result<(), Fail> {
+    let (ends, links) = bound_ends(&rt)?;
+    let tally = served(&rt, links.as_str(), &DATAGRAMS)?;
+    let text = "datagrams 3 delivered 1 feedback 1 relayed 1 refused 1 failed 0";
+    compare_line(&rt, rt.alloc(), tally, text);
+    gets(&rt, &ends.deliver, b"\x45\xaa")?;
+    gets(&rt, &ends.feedback, b"\xf1\x00")?;
+    gets(&rt, &ends.relay, b"\x20\x07")?;
     Ok(())
 }
 
@@ -78,10 +103,18 @@ where
     R: Net + Clock + AllocGlobal,
 {
     let links = read_links(rt.alloc(), links)?;
+    served_on(rt, &links, datagrams)
+}
+
+/// Serves these datagrams on these links.
+fn served_on<R>(rt: &R, links: &Links, datagrams: &[&[u8]]) -> Result<ServeTally, Fail>
+where
+    R: Net + Clock + AllocGlobal,
+{
     let mut concentrator = Concentrator::new(rt.alloc(), links.settings())?;
     let mut front = waiting_front(rt, datagrams)?;
     let count = u32::try_from(datagrams.len()).unwrap_or(0);
-    let tally = serve(rt.alloc(), &mut concentrator, &links, &mut front, count)?;
+    let tally = serve(rt.alloc(), &mut concentrator, links, &mut front, count)?;
     Ok(tally)
 }
 
