@@ -54,6 +54,42 @@ where
     })
 }
 
+/// Writes the totals in the form that is asked for.
+fn write_totals<W: Write>(
+    out: &mut W,
+    asked: &Asked<'_>,
+    screen: Screen,
+    totals: &Totals,
+    rows: &[CallRow],
+) -> io::Result<()> {
+    if asked.follow && screen.output {
+        clear(out)?;
+    }
+    match asked.form {
+        Form::Table => write_table(out, totals, rows, screen.colour)?,
+        Form::Json => write_json(out, totals, rows)?,
+        Form::Prometheus => write_metrics(out, totals, rows)?,
+    }
+    out.flush()
+}
+
+/// Prints the totals in the form that is asked for.
+fn print_totals<R: Print + AllocGlobal>(
+    rt: &R,
+    asked: &Asked<'_>,
+    screen: Screen,
+    totals: &Totals,
+    rows: &[CallRow],
+) -> Result<(), Ending> {
+    let Ok(mut out) = BufWriter::new(rt.alloc(), io::writer(rt)) else {
+        return Err(Ending::Memory);
+    };
+    match write_totals(&mut out, asked, screen, totals, rows) {
+        Ok(()) => Ok(()),
+        Err(_) => Err(Ending::Write),
+    }
+}
+
 /// Counts the answer lines of a file, and writes what there is.
 pub fn run_totals<R>(rt: &R, asked: &Asked<'_>, screen: Screen) -> Result<Ending, Ending>
 where
@@ -61,20 +97,7 @@ where
 {
     let totals = totals_of(rt, asked, screen)?;
     let rows = call_rows(rt.alloc(), &totals).map_err(|_| Ending::Memory)?;
-    let Ok(mut out) = BufWriter::new(rt.alloc(), io::writer(rt)) else {
-        return Err(Ending::Memory);
-    };
-    if asked.follow && screen.output && clear(&mut out).is_err() {
-        return Err(Ending::Write);
-    }
-    let written = match asked.form {
-        Form::Table => write_table(&mut out, &totals, &rows, screen.colour),
-        Form::Json => write_json(&mut out, &totals, &rows),
-        Form::Prometheus => write_metrics(&mut out, &totals, &rows),
-    };
-    if written.is_err() || out.flush().is_err() {
-        return Err(Ending::Write);
-    }
+    print_totals(rt, asked, screen, &totals, &rows)?;
     Ok(found(&totals, &rows))
 }
 

@@ -49,6 +49,15 @@ impl<W: Write + Drop> Run<W> {
         };
         written.map_err(|_| Stop::Write)
     }
+
+    /// Flushes what was told. Returns how the run ends: whether a packet that was told is refused.
+    fn end(&mut self) -> Result<Ending, Ending> {
+        match self.out.flush() {
+            Err(_) => Err(Ending::Write),
+            Ok(()) if self.found => Ok(Ending::Findings),
+            Ok(()) => Ok(Ending::Good),
+        }
+    }
 }
 
 impl<W: Write + Drop> Taker for Run<W> {
@@ -88,6 +97,30 @@ fn step_of(concentrator: &Concentrator, link: u16) -> u64 {
     }
 }
 
+/// Has the packets that are asked for taken.
+fn take_packets<R, W>(
+    rt: &R,
+    asked: &Asked<'_>,
+    screen: Screen,
+    run: &mut Run<W>,
+) -> Result<(), Ending>
+where
+    R: Files + Input + Eprint + AllocGlobal,
+    W: Write + Drop,
+{
+    let ran = match asked.source {
+        Source::Word { link, packets } => {
+            let step = step_of(&run.concentrator, link);
+            read_packets(rt.alloc(), link, step, packets, run)
+        }
+        Source::Script(path) => {
+            let mut lines = Told::new(rt, open_source(rt, path)?, screen.error && !screen.output);
+            read_script(rt.alloc(), &mut lines, run)
+        }
+    };
+    ran.map_err(|stop| stop.ending())
+}
+
 /// Explains what was asked for.
 pub fn run_explain<R>(rt: &R, asked: &Asked<'_>, screen: Screen) -> Result<Ending, Ending>
 where
@@ -105,20 +138,6 @@ where
         out,
         found: false,
     };
-    let ran = match asked.source {
-        Source::Word { link, packets } => {
-            let step = step_of(&run.concentrator, link);
-            read_packets(rt.alloc(), link, step, packets, &mut run)
-        }
-        Source::Script(path) => {
-            let mut lines = Told::new(rt, open_source(rt, path)?, screen.error && !screen.output);
-            read_script(rt.alloc(), &mut lines, &mut run)
-        }
-    };
-    ran.map_err(|stop| stop.ending())?;
-    match run.out.flush() {
-        Err(_) => Err(Ending::Write),
-        Ok(()) if run.found => Ok(Ending::Findings),
-        Ok(()) => Ok(Ending::Good),
-    }
+    take_packets(rt, asked, screen, &mut run)?;
+    run.end()
 }

@@ -156,47 +156,85 @@ fn wish_of(name: &str, options: &ArgMatches<'_>) -> Option<Wish> {
     }
 }
 
+/// The request `totals`.
+fn totals_of<'a>(options: &ArgMatches<'a>) -> Option<Request<'a>> {
+    Some(Request::Totals(Totals {
+        answers: options.get_str("ANSWERS")?,
+        form: form_of(options),
+        follow: options.get_flag("follow"),
+    }))
+}
+
+/// The request `links`.
+fn links_of<'a>(options: &ArgMatches<'a>) -> Option<Request<'a>> {
+    if options.get_flag("new") {
+        return Some(Request::NewLinks);
+    }
+    Some(Request::Links {
+        links: options.get_str("FILE")?,
+        json: options.get_flag("json"),
+    })
+}
+
+/// The request `diff`.
+fn diff_of<'a>(options: &ArgMatches<'a>) -> Option<Request<'a>> {
+    Some(Request::Diff {
+        first: options.get_str("A")?,
+        second: options.get_str("B")?,
+        json: options.get_flag("json"),
+    })
+}
+
+/// The request `trace`.
+fn trace_of<'a>(options: &ArgMatches<'a>) -> Option<Request<'a>> {
+    Some(Request::Trace {
+        links: options.get_str("links")?,
+        script: options.get_str("SCRIPT")?,
+    })
+}
+
+/// The request `spread`.
+fn spread_of<'a>(options: &ArgMatches<'a>) -> Option<Request<'a>> {
+    Some(Request::Spread(Spread {
+        links: options.get_str("LINKS")?,
+        hosts: options.get_str("hosts")?,
+        nginx: options.get_flag("nginx"),
+        out: options.get_str("out"),
+    }))
+}
+
+/// The request `verify`.
+fn verify_of<'a>(options: &ArgMatches<'a>) -> Option<Request<'a>> {
+    Some(Request::Verify {
+        list: options.get_str("LIST")?,
+        root: options.get_str("root")?,
+    })
+}
+
+/// The request to a gateway, by its name.
+fn control_of<'a>(name: &str, options: &ArgMatches<'a>) -> Option<Request<'a>> {
+    Some(Request::Control {
+        control: options.get_str("control")?,
+        wish: wish_of(name, options)?,
+    })
+}
+
 /// The request in the words that were matched.
 fn asked_for<'a>(matches: &ArgMatches<'a>) -> Option<Request<'a>> {
-    match matches.subcommand()? {
-        ("totals", options) => Some(Request::Totals(Totals {
-            answers: options.get_str("ANSWERS")?,
-            form: form_of(options),
-            follow: options.get_flag("follow"),
-        })),
-        ("links", options) if options.get_flag("new") => Some(Request::NewLinks),
-        ("links", options) => Some(Request::Links {
-            links: options.get_str("FILE")?,
-            json: options.get_flag("json"),
-        }),
-        ("diff", options) => Some(Request::Diff {
-            first: options.get_str("A")?,
-            second: options.get_str("B")?,
-            json: options.get_flag("json"),
-        }),
-        ("explain", options) => Some(Request::Explain(explain_of(options)?)),
-        ("plan", options) => Some(Request::Plan(plan_of(options)?)),
-        ("script", options) => Some(Request::Script(script_of(options)?)),
-        ("decompress", options) => Some(Request::Decompress(decompress_of(options)?)),
-        ("report", options) => Some(Request::Report(report_of(options)?)),
-        ("trace", options) => Some(Request::Trace {
-            links: options.get_str("links")?,
-            script: options.get_str("SCRIPT")?,
-        }),
-        ("spread", options) => Some(Request::Spread(Spread {
-            links: options.get_str("LINKS")?,
-            hosts: options.get_str("hosts")?,
-            nginx: options.get_flag("nginx"),
-            out: options.get_str("out"),
-        })),
-        ("verify", options) => Some(Request::Verify {
-            list: options.get_str("LIST")?,
-            root: options.get_str("root")?,
-        }),
-        (name, options) => Some(Request::Control {
-            control: options.get_str("control")?,
-            wish: wish_of(name, options)?,
-        }),
+    let (name, options) = matches.subcommand()?;
+    match name {
+        "totals" => totals_of(options),
+        "links" => links_of(options),
+        "diff" => diff_of(options),
+        "explain" => explain_of(options).map(|asked| Request::Explain(asked)),
+        "plan" => plan_of(options).map(|plan| Request::Plan(plan)),
+        "script" => script_of(options).map(|asked| Request::Script(asked)),
+        "decompress" => decompress_of(options).map(|asked| Request::Decompress(asked)),
+        "report" => report_of(options).map(|asked| Request::Report(asked)),
+        "trace" => trace_of(options),
+        "spread" => spread_of(options),
+        "verify" => verify_of(options),
+        name => control_of(name, options),
     }
 }
 

@@ -74,7 +74,7 @@ struct Source<'a> {
 }
 
 /// Counts all packets of an input.
-fn count_all<R>(rt: &R, links: &Links, source: Source<'_>) -> Result<(Calls, Rest), Ending>
+fn count_all<R>(rt: &R, links: &Links, source: Source<'_>) -> Result<(Counting, Rest), Ending>
 where
     R: Files + Eprint + AllocGlobal,
 {
@@ -84,7 +84,26 @@ where
         calls: Calls::new(rt.alloc()),
     };
     let rest = take_all(rt, source.held, source.rules, source.screen, &mut counting)?;
-    Ok((counting.calls, rest))
+    Ok((counting, rest))
+}
+
+/// A run that draws the calls of these rows.
+fn drawing_of(
+    alloc: Global,
+    links: &Links,
+    is_capture: bool,
+    rows: &[CallRow],
+) -> Result<Drawing, Ending> {
+    let concentrator = fresh(alloc, links)?;
+    match DrawnCalls::new(alloc, rows) {
+        Ok(calls) => Ok(Drawing {
+            alloc,
+            concentrator,
+            is_capture,
+            calls,
+        }),
+        Err(_) => Err(Ending::Memory),
+    }
 }
 
 /// Draws the calls of these rows. The input has to end as it did when it was counted.
@@ -94,22 +113,61 @@ fn draw_all<R>(
     source: Source<'_>,
     rows: &[CallRow],
     rest: Rest,
-) -> Result<DrawnCalls, Ending>
+) -> Result<Drawing, Ending>
 where
     R: Files + Eprint + AllocGlobal,
 {
-    let calls = DrawnCalls::new(rt.alloc(), rows).map_err(|_| Ending::Memory)?;
-    let mut drawing = Drawing {
-        alloc: rt.alloc(),
-        concentrator: fresh(rt.alloc(), links)?,
-        is_capture: source.rules.is_some(),
-        calls,
-    };
+    let mut drawing = drawing_of(rt.alloc(), links, source.rules.is_some(), rows)?;
     let again = take_all(rt, source.held, source.rules, source.screen, &mut drawing)?;
     if again == rest {
-        Ok(drawing.calls)
+        Ok(drawing)
     } else {
         Err(Ending::Read)
+    }
+}
+
+/// Draws the calls of the first of these rows, and writes the page of them all.
+fn report_rows<R>(
+    rt: &R,
+    asked: &Asked<'_>,
+    links: &Links,
+    source: Source<'_>,
+    calls: &Calls,
+    rows: &[CallRow],
+    rest: Rest,
+) -> Result<Ending, Ending>
+where
+    R: Files + Print + Eprint + AllocGlobal,
+{
+    let drawing = draw_all(rt, links, source, front_of(rows), rest)?;
+    let report = Report {
+        input: asked.input,
+        links: asked.links,
+        is_capture: source.rules.is_some(),
+        frames_left_out: rest.left_out,
+        calls,
+        rows,
+        drawn: &drawing.calls.drawn,
+    };
+    write_report(rt, asked.output, &report)?;
+    end_of(calls, rows, rest)
+}
+
+/// Writes the report on these calls.
+fn report_calls<R>(
+    rt: &R,
+    asked: &Asked<'_>,
+    links: &Links,
+    source: Source<'_>,
+    calls: &Calls,
+    rest: Rest,
+) -> Result<Ending, Ending>
+where
+    R: Files + Print + Eprint + AllocGlobal,
+{
+    match worst_first(rt.alloc(), calls) {
+        Ok(rows) => report_rows(rt, asked, links, source, calls, &rows, rest),
+        Err(_) => Err(Ending::Memory),
     }
 }
 
@@ -123,20 +181,28 @@ fn report_on<R>(
 where
     R: Files + Print + Eprint + AllocGlobal,
 {
-    let (calls, rest) = count_all(rt, links, source)?;
-    let rows = worst_first(rt.alloc(), &calls).map_err(|_| Ending::Memory)?;
-    let calls_drawn = draw_all(rt, links, source, front_of(&rows), rest)?;
-    let report = Report {
-        input: asked.input,
-        links: asked.links,
-        is_capture: source.rules.is_some(),
-        frames_left_out: rest.left_out,
-        calls: &calls,
-        rows: &rows,
-        drawn: &calls_drawn.drawn,
+    let (counting, rest) = count_all(rt, links, source)?;
+    report_calls(rt, asked, links, source, &counting.calls, rest)
+}
+
+/// Writes the report on the input that is asked for.
+fn report_input<R>(
+    rt: &R,
+    asked: &Asked<'_>,
+    links: &Links,
+    screen: Screen,
+) -> Result<Ending, Ending>
+where
+    R: Files + Input + Print + Eprint + AllocGlobal,
+{
+    let held = hold(rt, asked.input)?;
+    let rules = rules_for(rt, &held, asked)?;
+    let source = Source {
+        held: &held,
+        rules: rules.as_ref().map(|rules| rules.as_slice()),
+        screen,
     };
-    write_report(rt, asked.output, &report)?;
-    end_of(&calls, &rows, rest)
+    report_on(rt, asked, links, source)
 }
 
 /// Writes the report that is asked for.
@@ -145,12 +211,5 @@ where
     R: Files + Input + Print + Eprint + AllocGlobal,
 {
     let links = good_links(rt, asked.links)?;
-    let held = hold(rt, asked.input)?;
-    let rules = rules_for(rt, &held, asked)?;
-    let source = Source {
-        held: &held,
-        rules: rules.as_ref().map(|rules| rules.as_slice()),
-        screen,
-    };
-    report_on(rt, asked, &links, source)
+    report_input(rt, asked, &links, screen)
 }

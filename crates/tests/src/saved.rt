@@ -3,8 +3,9 @@
 use crate::call::{answer, first};
 use crate::concentrator::{link_1, made, outcome};
 use crate::examples::WHOLE_IR;
-use rohc_concentrator::PutFault;
+use rohc_concentrator::{Concentrator, PutFault};
 use rohc_context::{Context, ContextFault, ContextState, Outcome};
+use std::process::Abort;
 
 // What is saved after it, if it came at 0102030405060708: written by hand from docs/FORMATS.md.
 const SAVED: [u8; 59] = [
@@ -46,16 +47,21 @@ fn a_call_goes_on_after_each_state(rt: HostRuntime) {
     ];
     for (packet, length, state) in packets {
         assert_eq!(rt; context.state(), state);
-        let saved = context.save();
-        assert_eq!(rt; saved.len(), length);
-        let Ok(mut restored) = Context::restore(saved.as_slice()) else {
-            panic!(rt; "not restored");
-        };
-        assert_eq!(rt; restored.saved().copied(), context.saved().copied());
-        assert_eq!(rt; restored.save().as_slice(), saved.as_slice());
-        assert_eq!(rt; answer(&mut restored, packet), answer(&mut context, packet));
-        assert_eq!(rt; restored.save().as_slice(), context.save().as_slice());
+        compare_restored(&rt, &mut context, packet, length);
     }
+}
+
+// Compares a context, of which so many octets are saved, with what is restored of it, before a packet and after it.
+fn compare_restored(rt: &impl Abort, context: &mut Context, packet: &[u8], length: usize) {
+    let saved = context.save();
+    assert_eq!(rt; saved.len(), length);
+    let Ok(mut restored) = Context::restore(saved.as_slice()) else {
+        panic!(rt; "not restored");
+    };
+    assert_eq!(rt; restored.saved().copied(), context.saved().copied());
+    assert_eq!(rt; restored.save().as_slice(), saved.as_slice());
+    assert_eq!(rt; answer(&mut restored, packet), answer(context, packet));
+    assert_eq!(rt; restored.save().as_slice(), context.save().as_slice());
 }
 
 #[test]
@@ -115,23 +121,34 @@ fn any_octets_are_safe(rt: HostRuntime) {
     }
 }
 
+// The CID of the first record of link 1, and what is restored of it.
+fn restored_of(concentrator: &Concentrator) -> Option<(u16, Context)> {
+    let (cid, context) = concentrator.context_at(1, 0)?;
+    match Context::restore(context.save().as_slice()) {
+        Ok(restored) => Some((cid, restored)),
+        Err(_) => None,
+    }
+}
+
+// Puts a context where none may stand, and then where it is missing.
+fn compare_puts(rt: &impl Abort, concentrator: &mut Concentrator, cid: u16, context: Context) {
+    assert_eq!(rt; concentrator.put(9, cid, context), Err(PutFault::NoLink));
+    assert_eq!(rt; concentrator.put(1, 16, context), Err(PutFault::CidRange));
+    assert_eq!(rt; concentrator.put(1, cid, context), Ok(()));
+    assert_eq!(rt; concentrator.put(1, cid, context), Err(PutFault::HasRecord));
+    assert!(rt; concentrator.has_context(1, 0));
+}
+
 // Example first UO-0, cut behind its IR.
 #[test]
 fn a_restored_context_goes_on_in_another_concentrator(rt: HostRuntime) {
     let mut before = made(&rt, rt.alloc(), link_1(0));
     let mut after = made(&rt, rt.alloc(), link_1(0));
     assert_eq!(rt; outcome(&mut before, 0, WHOLE_IR), Some(Outcome::Delivered));
-    let Some((cid, context)) = before.context_at(1, 0) else {
-        panic!(rt; "no record");
-    };
-    let Ok(restored) = Context::restore(context.save().as_slice()) else {
+    let Some((cid, restored)) = restored_of(&before) else {
         panic!(rt; "not restored");
     };
-    assert_eq!(rt; after.put(9, cid, restored), Err(PutFault::NoLink));
-    assert_eq!(rt; after.put(1, 16, restored), Err(PutFault::CidRange));
-    assert_eq!(rt; after.put(1, cid, restored), Ok(()));
-    assert_eq!(rt; after.put(1, cid, restored), Err(PutFault::HasRecord));
-    assert!(rt; after.has_context(1, 0));
+    compare_puts(&rt, &mut after, cid, restored);
     for packet in [[0x10, 0xac], [0x11, 0xac], [0x11, 0xac], [0x10, 0xac]] {
         assert_eq!(rt;
             outcome(&mut after, 0, &packet),

@@ -6,7 +6,7 @@ use std::num::ParseIntError;
 use std::str::SplitWhitespace;
 
 /// Why a question gets no answer.
-#[derive(Drop)]
+#[derive(Clone, Copy)]
 pub(crate) enum NoAnswer {
     /// It can't be read.
     Unreadable,

@@ -56,21 +56,44 @@ fn compare_records(rt: &impl Abort, concentrator: &Concentrator, wanted: [bool; 
     assert_eq!(rt; concentrator.has_context(1, 1), wanted[1]);
 }
 
+/// Compares what comes of adding a link with this.
+fn compare_adding(
+    rt: &impl Abort,
+    alloc: Global,
+    concentrator: &mut Concentrator,
+    setting: LinkSetting,
+    wanted: Result<(), AddFault>,
+) {
+    assert_eq!(rt; concentrator.add_link(alloc, setting), wanted);
+}
+
 #[test]
-fn links_come_and_go(rt: HostRuntime) {
+fn links_come(rt: HostRuntime) {
     let mut concentrator = with_two_records(&rt, rt.alloc(), 0);
-    assert_eq!(rt; concentrator.add_link(rt.alloc(), link(2)), Ok(()));
-    let again = concentrator.add_link(rt.alloc(), link(2));
-    assert_eq!(rt; again, Err(AddFault::DuplicateLink));
-    let bad = concentrator.add_link(rt.alloc(), link_1_up_to(16, CidKind::Small));
-    assert_eq!(rt; bad, Err(AddFault::BadSetting));
-    assert_eq!(rt; concentrator.add_link(rt.alloc(), link(3)), Ok(()));
+    let bad = link_1_up_to(16, CidKind::Small);
+    let twice = Err(AddFault::DuplicateLink);
+    compare_adding(&rt, rt.alloc(), &mut concentrator, link(2), Ok(()));
+    compare_adding(&rt, rt.alloc(), &mut concentrator, link(2), twice);
+    compare_adding(
+        &rt,
+        rt.alloc(),
+        &mut concentrator,
+        bad,
+        Err(AddFault::BadSetting),
+    );
     compare_records(&rt, &concentrator, [true, true]);
+}
+
+#[test]
+fn links_go(rt: HostRuntime) {
+    let mut concentrator = with_two_records(&rt, rt.alloc(), 0);
+    compare_adding(&rt, rt.alloc(), &mut concentrator, link(2), Ok(()));
+    compare_adding(&rt, rt.alloc(), &mut concentrator, link(3), Ok(()));
     assert_eq!(rt; concentrator.remove_link(1), Ok(2));
     assert_eq!(rt; concentrator.remove_link(1), Err(NoLink));
     assert_eq!(rt; concentrator.link_at(0), Some(2));
     assert_eq!(rt; concentrator.link_at(1), Some(3));
-    assert_eq!(rt; concentrator.add_link(rt.alloc(), link(1)), Ok(()));
+    compare_adding(&rt, rt.alloc(), &mut concentrator, link(1), Ok(()));
     compare_records(&rt, &concentrator, [false, false]);
     compare_outcomes(&rt, &mut concentrator, &[(60, IR_0, DELIVERED)]);
 }
@@ -113,15 +136,19 @@ fn one_record_is_forgotten(rt: HostRuntime) {
 }
 
 #[test]
-fn expired_records_are_forgotten(rt: HostRuntime) {
-    let mut concentrator = with_two_records(&rt, rt.alloc(), 100);
-    let setting = link_1(100);
+fn a_record_expires(rt: HostRuntime) {
+    let concentrator = with_two_records(&rt, rt.alloc(), 100);
     let Some((_, context)) = concentrator.context_at(1, 0) else {
         panic!(rt; "no context");
     };
-    assert!(rt; !setting.has_expired(context, 99));
-    assert!(rt; setting.has_expired(context, 100));
+    assert!(rt; !link_1(100).has_expired(context, 99));
+    assert!(rt; link_1(100).has_expired(context, 100));
     assert!(rt; !link_1(0).has_expired(context, 100));
+}
+
+#[test]
+fn expired_records_are_forgotten(rt: HostRuntime) {
+    let mut concentrator = with_two_records(&rt, rt.alloc(), 100);
     assert_eq!(rt; concentrator.forget_expired(1, 99), Ok(0));
     assert_eq!(rt; concentrator.forget_expired(1, 149), Ok(1));
     compare_records(&rt, &concentrator, [false, true]);
