@@ -218,7 +218,8 @@ where
     let mut datagrams = datagrams_of(rt, asked, port)?;
     let ran = read_script(rt.alloc(), &mut lines, &mut datagrams);
     let flushed = datagrams.out.flush();
-    if flushed.is_err() || tell_left_out(rt, datagrams.left_out).is_err() {
+    let told = tell_left_out(rt, datagrams.left_out);
+    if flushed.is_err() || told.is_err() {
         return Err(Ending::Write);
     }
     match ran {
