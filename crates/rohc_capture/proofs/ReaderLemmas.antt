@@ -207,6 +207,12 @@ next-record (Some x) (Some y) (Some z) first ahead head place at r same k l enou
           ∙ ap (λ q. read_record head place r frame (counted q (min all (length ahead))) (drop all ahead ++ z)) (sym same)),
     )
 
+-- in a capture of pcapng it is known what follows, and no more is said
+pub known-ahead : (old new : List ℕ) (before after : Option (List ℕ)) → after ≡ before →
+    IfSome (prepend_known old before) (λ text. (rest : List ℕ) × (prepend_known new after ≡ Some rest) × Unit {0})
+known-ahead old new None after same = tt
+known-ahead old new (Some x) after same = (new ++ x, ap (prepend_known new) same, tt)
+
 -- ---- the first octets of a capture
 
 long-length : (order : ByteOrder) (xs : List ℕ) → is_number (long_at order xs) ≡ true → 4 ≤ length xs

@@ -2,7 +2,7 @@
 use Rattle.std.proofs.Common.{◌≡◌, ℕ, ◌+◌, ◌-◌, ◌≤◌, List, ◌++◌, length, take, drop, slice_range, Option, Some, None, arith, sym, ◌∙◌, ap, append_assoc}
 use Rattle.std.specs.Io.KnownBytes.{Keeps, Consumes, prepend_known}
 use Rattle.std.proofs.Math.Seq.{take-add}
-use Rattle.std.proofs.lemmas.List.{drop-drop, drop-take, drop_all, length-take}
+use Rattle.std.proofs.lemmas.List.{drop-drop, drop-take, drop_all, length-drop, length-take, take_all}
 
 -- two parts that meet make one
 pub range-append : (xs : List ℕ) (i j k : ℕ) → i ≤ j → j ≤ k → slice_range xs i j ++ slice_range xs j k ≡ slice_range xs i k
@@ -53,3 +53,7 @@ range-drop-all xs i j n order within many =
     let none : j - j ≡ 0 = omega arith in
     ap (λ k. slice_range xs k j) e ∙ ap (λ k. take k (drop j xs)) none
     ∙ sym (drop_all n (slice_range xs i j) (omega (arith, length-take (j - i) (drop i xs))))
+
+-- the part up to the end
+pub range-behind : (xs : List ℕ) (i : ℕ) → slice_range xs i (length xs) ≡ drop i xs
+range-behind xs i = take_all (length xs - i) (drop i xs) (omega (arith, length-drop i xs))

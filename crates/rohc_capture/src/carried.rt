@@ -1,12 +1,13 @@
 //! What a frame carries: a ROHC packet, or the payload of a UDP datagram.
 
-ghost use Rattle.std.specs.Prelude.{◌≡◌};
+ghost use Rattle.std.specs.Prelude.{◌≡◌, Ok, IfSome};
 ghost use Rattle.std.specs.Result.{result_map_both};
 ghost use Rattle.rohc_capture.specs.Carried.{load_of, carried_in};
 
 use crate::fault::FrameFault;
-use crate::frame::{Protocol, network_in};
-use crate::udp::datagram_in;
+use crate::frame::{Protocol, network_in, protocol_of};
+use crate::octets::{after, octet, word};
+use crate::udp::{Datagram, datagram_in, form_in, segment_in};
 
 /// What the octets are carried by.
 #[derive(Clone, Copy, PartialEq, Eq)]
@@ -28,9 +29,63 @@ pub struct Carried<'a> {
     pub octets: &'a [u8],
 }
 
+/// The link type of Ethernet frames.
+const ETHERNET: u16 = 1;
+
+/// The octets of the headers of an Ethernet frame, of IPv4 and of UDP.
+const HEADERS: usize = 42;
+
+/// The first octet of an IPv4 header without options.
+const PLAIN_IPV4: u8 = 0x45;
+
+/// The octets of the header of UDP.
+const UDP: usize = 8;
+
+/// What nearly every frame carries: a ROHC packet, or the payload of a UDP datagram over IPv4, in an Ethernet frame without
+/// tags. `None` says nothing.
+///
+/// The lengths are looked at first, and so the compiler drops the checks of single octets.
+#[tactic(auto, unfolding(crate::specs::Carried::carried_in, crate::specs::Frame::network_in, crate::specs::Frame::ethernet, crate::specs::Frame::untagged, crate::specs::Frame::typed, crate::specs::Udp::datagram_in))]
+#[inline(always)]
+pub(crate) fn carried_at_once(link_type: u16, frame: &[u8]) -> Option<Carried<'_>>
+    ensures { IfSome result (λ carried. carried_in link_type frame.now ≡ Ok (load_of carried)) }
+{
+    if link_type != ETHERNET || frame.len() < HEADERS {
+        return None;
+    }
+    let (kind, packet) = word(after(frame, 12).ok()?).ok()?;
+    match protocol_of(kind) {
+        Protocol::Ipv4 => {
+            let (first, _) = octet(packet).ok()?;
+            if first != PLAIN_IPV4 {
+                return None;
+            }
+            let segment = segment_in(packet).ok()?;
+            if segment.len() < UDP {
+                return None;
+            }
+            let Datagram {
+                destination,
+                payload,
+                ..
+            } = form_in(segment).ok()?;
+            Some(Carried {
+                vlan: None,
+                carrier: Carrier::Udp(destination),
+                octets: payload,
+            })
+        }
+        Protocol::Rohc => Some(Carried {
+            vlan: None,
+            carrier: Carrier::Link,
+            octets: packet,
+        }),
+        Protocol::Other => None,
+    }
+}
+
 /// What a frame of this link type carries. The link types are those of `network_in`.
 #[tactic(auto, unfolding(crate::specs::Carried::carried_in))]
-#[inline(always)]
 pub fn carried_in(link_type: u16, frame: &[u8]) -> Result<Carried<'_>, FrameFault>
     ensures { result_map_both load_of (λ e. e) result ≡ carried_in link_type frame.now }
 {

@@ -1,12 +1,12 @@
 //! Which link a frame belongs to.
 
-ghost use Rattle.std.specs.Prelude.{◌≡◌, true};
+ghost use Rattle.std.specs.Prelude.{◌≡◌, Some, Ok, IfSome, true};
 ghost use Rattle.std.specs.Option.{option_map};
 ghost use Rattle.std.specs.Result.{result_map_both};
 ghost use Rattle.rohc_capture.specs.Carried.{load_of};
 ghost use Rattle.rohc_capture.specs.Choice.{by_number, by_rule, chosen, packet_in};
 
-use crate::carried::{Carried, Carrier, carried_in};
+use crate::carried::{Carried, Carrier, carried_at_once, carried_in};
 use crate::fault::FrameFault;
 
 /// A rule that says which link a frame belongs to.
@@ -23,6 +23,7 @@ pub enum Rule {
 }
 
 /// The link in the first two octets, and the packet after it.
+#[inline(always)]
 fn by_number(octets: &[u8]) -> Option<(u16, &[u8])>
     ensures { option_map (λ c. (c.0, c.1.now)) result ≡ by_number true octets.now }
 {
@@ -31,6 +32,7 @@ fn by_number(octets: &[u8]) -> Option<(u16, &[u8])>
 }
 
 /// The link and the packet by one rule.
+#[inline(always)]
 fn by_rule<'a>(rule: Rule, carried: &Carried<'a>) -> Option<(u16, &'a [u8])>
     ensures { option_map (λ c. (c.0, c.1.now)) result ≡ by_rule rule carried.now.vlan carried.now.carrier carried.now.octets.now }
 {
@@ -61,12 +63,29 @@ pub fn choose<'a>(rules: &[Rule], carried: &Carried<'a>) -> Option<(u16, &'a [u8
     None
 }
 
+/// What `packet_in` gives for nearly every frame: the link and the packet in a UDP datagram over IPv4, in an Ethernet frame
+/// without tags. `None` says nothing.
+#[tactic(auto, unfolding(crate::specs::Choice::packet_in))]
+#[inline(always)]
+pub fn packet_at_once<'a>(
+    rules: &[Rule],
+    link_type: u16,
+    original: u32,
+    frame: &'a [u8],
+) -> Option<(u16, &'a [u8])>
+    ensures { IfSome result (λ c. packet_in rules.now link_type original frame.now ≡ Ok (Some (c.0, c.1.now))) }
+{
+    if original as usize > frame.len() {
+        return None;
+    }
+    choose(rules, &carried_at_once(link_type, frame)?)
+}
+
 /// The link that a frame belongs to, and the packet that it carries, by the frame's link type, and how many octets
 /// it had; `None` if no rule speaks of it.
 ///
 /// The errors are `NotWhole`, if not all its octets are there, and those of `carried_in`.
 #[tactic(auto, unfolding(crate::specs::Choice::packet_in))]
-#[inline(always)]
 pub fn packet_in<'a>(
     rules: &[Rule],
     link_type: u16,

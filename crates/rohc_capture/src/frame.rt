@@ -33,7 +33,7 @@ pub struct Network<'a> {
 const TYPES: u8 = 9;
 
 /// The protocol of an EtherType.
-fn protocol_of(kind: u16) -> Protocol
+pub(crate) fn protocol_of(kind: u16) -> Protocol
     ensures { result ≡ protocol_of kind }
 {
     match kind {

@@ -4,7 +4,9 @@
 //! IPv4, and rules say which link it belongs to.
 #![tactic(auto)]
 
+mod batch;
 mod block;
+mod buffer;
 mod carried;
 mod choice;
 mod fault;
@@ -18,10 +20,11 @@ mod udp;
 mod window;
 mod writer;
 
+pub use batch::Batch;
 pub use carried::{Carried, Carrier, carried_in};
-pub use choice::{Rule, choose, packet_in};
+pub use choice::{Rule, choose, packet_at_once, packet_in};
 pub use fault::{CaptureFault, FRAME_FAULTS, FaultKind, FrameFault};
 pub use frame::{Network, Protocol, network_in};
 pub use reader::{Capture, Record};
 pub use udp::{Datagram, datagram_in};
-pub use writer::{Batch, Format, WriteFault, put_record, write_head, write_record};
+pub use writer::{Format, WriteFault, put_record, write_head, write_record};

@@ -7,6 +7,7 @@ ghost use Rattle.rohc_capture.specs.Octets.{octet_at, word_at, after, cut};
 use crate::fault::FrameFault;
 
 /// The octet at the front, and what follows.
+#[inline(always)]
 pub(crate) fn octet(octets: &[u8]) -> Result<(u8, &[u8]), FrameFault>
     ensures { result_map_both (λ w. (w.0, w.1.now)) (λ e. e) result ≡ octet_at octets.now }
 {
@@ -18,6 +19,7 @@ pub(crate) fn octet(octets: &[u8]) -> Result<(u8, &[u8]), FrameFault>
 
 /// The two octets at the front as a number, and what follows.
 #[tactic(auto, unfolding(crate::specs::Octets::word_at))]
+#[inline(always)]
 pub(crate) fn word(octets: &[u8]) -> Result<(u16, &[u8]), FrameFault>
     ensures { result_map_both (λ w. (w.0, w.1.now)) (λ e. e) result ≡ word_at octets.now }
 {
@@ -29,6 +31,7 @@ pub(crate) fn word(octets: &[u8]) -> Result<(u16, &[u8]), FrameFault>
 
 /// What follows the first `count` octets.
 #[tactic(auto, unfolding(crate::specs::Octets::after))]
+#[inline(always)]
 pub(crate) fn after(octets: &[u8], count: usize) -> Result<&[u8], FrameFault>
     ensures { result_map_both (λ r. r.now) (λ e. e) result ≡ after count octets.now }
 {
@@ -40,6 +43,7 @@ pub(crate) fn after(octets: &[u8], count: usize) -> Result<&[u8], FrameFault>
 
 /// The octets from `start` up to `end`, or the fault if they aren't there.
 #[tactic(auto, unfolding(crate::specs::Octets::cut))]
+#[inline(always)]
 pub(crate) fn cut(
     octets: &[u8],
     start: usize,

@@ -1,6 +1,6 @@
 //! Reading a capture, record by record.
 
-ghost use Rattle.std.specs.Prelude.{◌≡◌, ◌≢◌, ◌+◌, ◌≤◌, ℕ, List, [], length, drop, true, false, Some, None, Ok, Err, IfOk, IfErr, IfSome, OnOk, OnErr};
+ghost use Rattle.std.specs.Prelude.{◌≡◌, ◌≢◌, ◌+◌, ◌≤◌, ℕ, List, [], length, drop, true, false, Some, None, Ok, Err, IfOk, IfErr, IfSome, IfNone, OnOk, OnErr};
 ghost use Rattle.rohc_capture.specs.declared.reader.Kind.TheVariants as kinds;
 ghost use Rattle.rohc_capture.specs.Window.{ahead_of, text_in, StaysKnown};
 ghost use Rattle.rohc_capture.specs.Records.{standing, is_section};
@@ -132,6 +132,20 @@ fn second_length(order: ByteOrder, block: &[u8]) -> Option<u32> {
     Some(length)
 }
 
+/// The block at the front, if it is whole, of a packet with a time, and both its lengths agree.
+fn block_in(order: ByteOrder, octets: &[u8]) -> Option<&[u8]> {
+    let (kind, rest) = long(order, octets)?;
+    let (length, _) = long(order, rest)?;
+    if kind != ENHANCED || length % 4 != 0 || length as usize > LONGEST {
+        return None;
+    }
+    let block = octets.get(..length as usize)?;
+    if second_length(order, block) != Some(length) {
+        return None;
+    }
+    Some(block)
+}
+
 /// A block's body: what stands between its first two numbers and its last.
 fn body_of(block: &[u8]) -> &[u8] {
     match block.get(8..) {
@@ -189,7 +203,22 @@ impl<R: Read> Capture<R> {
         }
     }
 
-    /// The captured octets of the record that `next` read last.
+    /// Reads the next record if it lies ahead whole, and in a capture of pcapng in the next block; else nothing is changed.
+    #[inline(always)]
+    pub fn next_ahead(&mut self) -> Option<Record>
+        ensures some { IfSome result (λ r. IfSome (rest_of R.remaining self.old) (λ text.
+            ReadsOn (standing self.old.kind (place_of self.old) text) (Ok (Some r))
+            (frame_of self.new) self.new.kind (place_of self.new) (rest_of R.remaining self.new))) }
+        ensures none { IfNone result (self.new ≡ self.old) }
+    {
+        match self.kind {
+            Kind::Pcap(head) => self.next_ahead_in_pcap(head),
+            Kind::Pcapng(order) => self.next_ahead_in_blocks(order),
+            Kind::Unknown => None,
+        }
+    }
+
+    /// The captured octets of the record that was read last.
     pub fn frame(&self) -> &[u8]
         ensures { result.now ≡ frame_of self.now }
     {
@@ -223,6 +252,14 @@ impl<R: Read> Capture<R> {
                 None => false,
             },
         }
+    }
+
+    /// Whether the last read gave as many octets as were asked for. A file does, up to its end. A pipe mostly gives less, and
+    /// then the next read may have to wait.
+    pub fn was_full(&self) -> bool
+        ensures { result ≡ self.now.window.is_full }
+    {
+        self.window.is_full()
     }
 
     /// Reads the next record by the capture's kind, which the first octets say. Returns whether there is one.
@@ -334,6 +371,79 @@ impl<R: Read> Capture<R> {
             link_type: head.link_type,
         };
         Ok(true)
+    }
+
+    /// The same, of a capture of pcap.
+    #[inline(always)]
+    fn next_ahead_in_pcap(&mut self, head: PcapHead) -> Option<Record>
+        ensures some { IfSome result (λ r. IfSome (rest_of R.remaining self.old) (λ text.
+            ReadsOn (standing (kinds.Pcap head) (place_of self.old) text) (Ok (Some r))
+            (frame_of self.new) (kinds.Pcap head) (place_of self.new) (rest_of R.remaining self.new))) }
+        ensures none { IfNone result (self.new ≡ self.old) }
+        ensures kind { self.new.kind ≡ self.old.kind }
+    {
+        let rest = self.window.ahead().get(self.span.all..)?;
+        let next = record_in(head, rest)?;
+        let captured = next.captured as usize;
+        let all = RECORD_HEAD + captured;
+        if all > LONGEST || all > rest.len() {
+            return None;
+        }
+        let _ = self.window.pass(self.span.all);
+        let skip = RECORD_HEAD;
+        self.span = Span {
+            skip,
+            captured,
+            all,
+        };
+        Some(Record {
+            nanos: next.nanos,
+            original: next.original,
+            interface: 0,
+            place: self.window.place(),
+            link_type: head.link_type,
+        })
+    }
+
+    /// The same, of a capture of pcapng: the next block is one of a packet with a time.
+    #[inline(never)]
+    fn next_ahead_in_blocks(&mut self, order: ByteOrder) -> Option<Record>
+        ensures some { IfSome result (λ r. IfSome (rest_of R.remaining self.old) (λ text.
+            ReadsOn (standing (kinds.Pcapng order) (place_of self.old) text) (Ok (Some r))
+            (frame_of self.new) (kinds.Pcapng order) (place_of self.new) (rest_of R.remaining self.new))) }
+        ensures none { IfNone result (self.new ≡ self.old) }
+        ensures kind { self.new.kind ≡ self.old.kind }
+    {
+        let (record, span) = self.block_ahead(order)?;
+        let _ = self.window.pass(self.span.all);
+        self.span = span;
+        self.nanos = record.nanos;
+        Some(record)
+    }
+
+    /// The record of the block that lies ahead, if it is whole and one of a packet with a time, and where its octets lie.
+    fn block_ahead(&self, order: ByteOrder) -> Option<(Record, Span)> {
+        let rest = self.window.ahead().get(self.span.all..)?;
+        let block = block_in(order, rest)?;
+        let head = enhanced_in(order, body_of(block))?;
+        let interface = *self.interfaces.get(head.interface as usize)?;
+        let captured = head.captured as usize;
+        if captured > block.len().saturating_sub(PACKET_HEAD + 4) {
+            return None;
+        }
+        let record = Record {
+            nanos: nanos_of(head.ticks?, interface.resolution),
+            original: head.original,
+            interface: head.interface,
+            place: self.window.place().saturating_add(self.span.all as u64),
+            link_type: interface.link_type,
+        };
+        let span = Span {
+            skip: PACKET_HEAD,
+            captured,
+            all: block.len(),
+        };
+        Some((record, span))
     }
 
     /// Reads blocks up to the next with a packet.

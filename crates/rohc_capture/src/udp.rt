@@ -20,7 +20,8 @@ pub struct Datagram<'a> {
 
 /// What follows the IP header, up to the packet's total length, if that is a whole UDP datagram.
 #[tactic(auto, unfolding(crate::specs::Udp::segment_in))]
-fn segment_in(packet: &[u8]) -> Result<&[u8], FrameFault>
+#[inline(always)]
+pub(crate) fn segment_in(packet: &[u8]) -> Result<&[u8], FrameFault>
     ensures { result_map_both (λ r. r.now) (λ e. e) result ≡ segment_in packet.now }
 {
     let (first, rest) = octet(packet)?;
@@ -51,7 +52,8 @@ fn segment_in(packet: &[u8]) -> Result<&[u8], FrameFault>
 
 /// The datagram that begins here.
 #[tactic(auto, unfolding(crate::specs::Udp::form_in))]
-fn form_in(udp: &[u8]) -> Result<Datagram<'_>, FrameFault>
+#[inline(always)]
+pub(crate) fn form_in(udp: &[u8]) -> Result<Datagram<'_>, FrameFault>
     ensures { result_map_both form_of (λ e. e) result ≡ form_in udp.now }
 {
     let (source, rest) = word(udp)?;

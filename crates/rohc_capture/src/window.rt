@@ -23,6 +23,8 @@ pub(crate) struct Window<R> {
     start: usize,
     end: usize,
     place: u64,
+    /// Whether the last read gave as many octets as were asked for.
+    is_full: bool,
     ghost ordered: { start ≤ end },
     ghost within: { end ≤ vec_len octets },
     ghost room: { vec_len octets ≡ 1048576 + 131072 },
@@ -46,7 +48,7 @@ fn refill<R: Read>(reader: &mut R, octets: &mut [u8], start: usize, end: usize) 
 }
 
 impl<R: Read> Window<R> {
-    ghost use Rattle.std.specs.Prelude.{◌≡◌, ℕ, ◌+◌, ◌<◌, ◌≤◌, min, length, take, drop, [], true, false, Some, Ok, Err, IfOk, IfErr};
+    ghost use Rattle.std.specs.Prelude.{◌≡◌, ℕ, ◌+◌, ◌<◌, ◌≤◌, nat_eq, min, length, take, drop, [], true, false, Some, Ok, Err, IfOk, IfErr};
     ghost use Rattle.std.specs.Io.KnownBytes.{Keeps, IsAtEnd};
     ghost use Rattle.rohc_capture.specs.Window.{ahead_of, text_in, StaysKnown, counted};
     ghost use Rattle.rohc_capture.specs.declared.fault.FaultKind.TheVariants as faults;
@@ -65,6 +67,7 @@ impl<R: Read> Window<R> {
             start: 0,
             end: 0,
             place: 0,
+            is_full: false,
         })
     }
 
@@ -73,6 +76,13 @@ impl<R: Read> Window<R> {
         ensures { result ≡ self.now.place }
     {
         self.place
+    }
+
+    /// Whether the last read gave as many octets as were asked for.
+    pub(crate) fn is_full(&self) -> bool
+        ensures { result ≡ self.now.is_full }
+    {
+        self.is_full
     }
 
     /// The octets that were read and not yet passed.
@@ -89,6 +99,7 @@ impl<R: Read> Window<R> {
         ensures place { self.new.place ≡ self.old.place }
         ensures at_end { IfOk result (λ more. more ≡ false → (ahead_of self.new ≡ ahead_of self.old) × IsAtEnd (R.remaining self.new.reader)) }
         ensures fault { IfErr result (λ kind. kind ≡ faults.Read) }
+        ensures full { self.new.is_full ≡ nat_eq (length (ahead_of self.new)) (length (ahead_of self.old) + PIECE) }
     {
         let held = self.end - self.start;
         let read = refill(
@@ -99,9 +110,11 @@ impl<R: Read> Window<R> {
         );
         self.start = 0;
         self.end = held;
+        self.is_full = false;
         match read {
             Ok(count) => {
                 self.end = held + count;
+                self.is_full = count == PIECE;
                 Ok(0 < count)
             }
             Err(e) if e.kind() == ErrorKind::Interrupted => Ok(true),

@@ -4,7 +4,8 @@ ghost use Rattle.std.specs.Prelude.{◌≡◌, ◌≤◌, ◌<◌, ◌+◌, ◌/
 ghost use Rattle.std.specs.Io.KnownBytes.{Appends};
 ghost use Rattle.rohc_capture.specs.Written.{quad, missing, pcap_head, section_head, interface_head, pcap_front, pcapng_front, pcapng_back, before_frame, after_frame, is_in_time, head_of, frame_record};
 
-use arrayvec::ArrayVec;
+use crate::batch::{BATCH, Batch};
+use crate::buffer::{Buffer, put_at};
 use std::io::Write;
 
 /// The form of a capture that is written.
@@ -28,11 +29,7 @@ pub enum WriteFault {
 }
 
 /// The octets before a packet, or before the first record.
-type Head = ArrayVec<u8, 32>;
-
-/// Records of a capture, one behind the other, that are still to be written. A batch takes a record without a call, whose
-/// frame may then stay in registers up to there.
-pub type Batch = ArrayVec<u8, 4096>;
+type Head = Buffer<32>;
 
 /// The most octets before and behind a frame.
 const AROUND: usize = 35;
@@ -40,22 +37,23 @@ const AROUND: usize = 35;
 /// The longest packet that is written, in octets.
 const LONGEST_PACKET: usize = 262_144;
 
-/// Appends octets.
-#[inline(always)]
-fn put_all<const N: usize>(head: &mut ArrayVec<u8, N>, octets: &[u8])
-    requires { length head.old.items + length octets.now ≤ N }
-    ensures { head.new.items ≡ head.old.items ++ octets.now }
+/// Appends a number.
+fn append(head: &mut Head, number: u32)
+    requires { length head.old + 4 ≤ 32 }
+    ensures { head.new ≡ head.old ++ quad number }
 {
-    head.try_extend_from_slice(octets).unwrap();
+    head.put_all(&number.to_be_bytes());
 }
 
-/// Appends a number.
+/// Puts a number behind the first `used` octets, and returns how many there are then.
 #[inline(always)]
-fn put<const N: usize>(head: &mut ArrayVec<u8, N>, number: u32)
-    requires { length head.old.items + 4 ≤ N }
-    ensures { head.new.items ≡ head.old.items ++ quad number }
+fn put(cells: &mut [u8], used: usize, number: u32) -> usize
+    requires { used + 4 ≤ length cells.old }
+    ensures put { take result cells.new ≡ take used cells.old ++ quad number }
+    ensures used { result ≡ used + 4 }
+    ensures length { length cells.new ≡ length cells.old }
 {
-    put_all(head, &number.to_be_bytes());
+    put_at(cells, used, &number.to_be_bytes())
 }
 
 /// How many octets are missing from a length to a multiple of four.
@@ -99,46 +97,52 @@ fn write_two<W: Write>(writer: &mut W, first: &[u8], second: &[u8]) -> Result<()
     write_one(writer, second)
 }
 
-/// Appends what stands before a frame in a record of pcap.
+/// Puts what stands before a frame in a record of pcap.
 #[inline(always)]
-fn put_pcap_front<const N: usize>(head: &mut ArrayVec<u8, N>, nanos: u64, size: u32)
-    requires room { length head.old.items + 16 ≤ N }
+fn put_pcap_front(cells: &mut [u8], used: usize, nanos: u64, size: u32) -> usize
+    requires room { used + 16 ≤ length cells.old }
     requires time { nanos / 1000000000 < 2 ^ 32 }
-    ensures { head.new.items ≡ head.old.items ++ pcap_front nanos size }
+    ensures put { take result cells.new ≡ take used cells.old ++ pcap_front nanos size }
+    ensures used { result ≡ used + 16 }
+    ensures length { length cells.new ≡ length cells.old }
 {
-    put(head, (nanos / 1_000_000_000) as u32);
-    put(head, (nanos % 1_000_000_000) as u32);
-    put(head, size);
-    put(head, size);
+    let used = put(cells, used, (nanos / 1_000_000_000) as u32);
+    let used = put(cells, used, (nanos % 1_000_000_000) as u32);
+    let used = put(cells, used, size);
+    put(cells, used, size)
 }
 
-/// Appends what stands before a frame in its block of pcapng.
+/// Puts what stands before a frame in its block of pcapng.
 #[inline(always)]
-fn put_pcapng_front<const N: usize>(head: &mut ArrayVec<u8, N>, nanos: u64, size: u32)
+fn put_pcapng_front(cells: &mut [u8], used: usize, nanos: u64, size: u32) -> usize
     requires size { size ≤ LONGEST_PACKET }
-    requires room { length head.old.items + 28 ≤ N }
-    ensures { head.new.items ≡ head.old.items ++ pcapng_front nanos size }
+    requires room { used + 28 ≤ length cells.old }
+    ensures put { take result cells.new ≡ take used cells.old ++ pcapng_front nanos size }
+    ensures used { result ≡ used + 28 }
+    ensures length { length cells.new ≡ length cells.old }
 {
-    put(head, 6);
-    put(head, 32 + size + missing(size));
-    put(head, 0);
-    put(head, (nanos / 4_294_967_296) as u32);
-    put(head, (nanos % 4_294_967_296) as u32);
-    put(head, size);
-    put(head, size);
+    let used = put(cells, used, 6);
+    let used = put(cells, used, 32 + size + missing(size));
+    let used = put(cells, used, 0);
+    let used = put(cells, used, (nanos / 4_294_967_296) as u32);
+    let used = put(cells, used, (nanos % 4_294_967_296) as u32);
+    let used = put(cells, used, size);
+    put(cells, used, size)
 }
 
-/// Appends what stands behind a frame in its block of pcapng.
+/// Puts what stands behind a frame in its block of pcapng.
 #[inline(always)]
-fn put_pcapng_back<const N: usize>(back: &mut ArrayVec<u8, N>, size: u32)
+fn put_pcapng_back(cells: &mut [u8], used: usize, size: u32) -> usize
     requires size { size ≤ LONGEST_PACKET }
-    requires room { length back.old.items + 7 ≤ N }
-    ensures { back.new.items ≡ back.old.items ++ pcapng_back size }
+    requires room { used + 7 ≤ length cells.old }
+    ensures put { take result cells.new ≡ take used cells.old ++ pcapng_back size }
+    ensures used { result ≤ used + 7 }
+    ensures length { length cells.new ≡ length cells.old }
 {
     let zeros = [0u8; 3];
     let padding = missing(size);
-    put_all(back, &zeros[..padding as usize]);
-    put(back, 32 + size + padding);
+    let used = put_at(cells, used, &zeros[..padding as usize]);
+    put(cells, used, 32 + size + padding)
 }
 
 /// Whether a capture of this form can hold a time: in pcap it lies before 2106.
@@ -152,77 +156,81 @@ fn is_in_time(format: Format, nanos: u64) -> bool
     }
 }
 
-/// Appends what stands before a frame of this length.
+/// Puts what stands before a frame of this length.
 #[inline(always)]
-fn put_before<const N: usize>(head: &mut ArrayVec<u8, N>, format: Format, nanos: u64, size: u32)
+fn put_before(cells: &mut [u8], used: usize, format: Format, nanos: u64, size: u32) -> usize
     requires size { size ≤ LONGEST_PACKET }
-    requires room { length head.old.items + 28 ≤ N }
+    requires room { used + 28 ≤ length cells.old }
     requires time { is_in_time format nanos ≡ true }
-    ensures { head.new.items ≡ head.old.items ++ before_frame format nanos size }
+    ensures put { take result cells.new ≡ take used cells.old ++ before_frame format nanos size }
+    ensures used { result ≤ used + 28 }
+    ensures length { length cells.new ≡ length cells.old }
 {
     match format {
-        Format::Pcap => put_pcap_front(head, nanos, size),
-        Format::Pcapng => put_pcapng_front(head, nanos, size),
+        Format::Pcap => put_pcap_front(cells, used, nanos, size),
+        Format::Pcapng => put_pcapng_front(cells, used, nanos, size),
     }
 }
 
-/// Appends what stands behind a frame of this length.
+/// Puts what stands behind a frame of this length.
 #[inline(always)]
-fn put_after<const N: usize>(back: &mut ArrayVec<u8, N>, format: Format, size: u32)
+fn put_after(cells: &mut [u8], used: usize, format: Format, size: u32) -> usize
     requires size { size ≤ LONGEST_PACKET }
-    requires room { length back.old.items + 7 ≤ N }
-    ensures { back.new.items ≡ back.old.items ++ after_frame format size }
+    requires room { used + 7 ≤ length cells.old }
+    ensures put { take result cells.new ≡ take used cells.old ++ after_frame format size }
+    ensures used { result ≤ used + 7 }
+    ensures length { length cells.new ≡ length cells.old }
 {
     match format {
-        Format::Pcap => {}
-        Format::Pcapng => put_pcapng_back(back, size),
+        Format::Pcap => used,
+        Format::Pcapng => put_pcapng_back(cells, used, size),
     }
 }
 
 /// The head of a file of pcap.
 fn pcap_head(link_type: u16) -> Head
-    ensures { result.items ≡ pcap_head link_type }
+    ensures { result ≡ pcap_head link_type }
 {
     let mut head = Head::new();
-    put(&mut head, 0xa1b2_3c4d);
-    put(&mut head, 0x0002_0004);
-    put(&mut head, 0);
-    put(&mut head, 0);
-    put(&mut head, 262_144);
-    put(&mut head, u32::from(link_type));
+    append(&mut head, 0xa1b2_3c4d);
+    append(&mut head, 0x0002_0004);
+    append(&mut head, 0);
+    append(&mut head, 0);
+    append(&mut head, 262_144);
+    append(&mut head, u32::from(link_type));
     head
 }
 
 #[tactic(auto, unfolding(crate::specs::Written::section_head))]
 /// The head of a section of pcapng.
 fn section_head() -> Head
-    ensures { result.items ≡ section_head }
+    ensures { result ≡ section_head }
 {
     let mut head = Head::new();
-    put(&mut head, 0x0a0d_0d0a);
-    put(&mut head, 28);
-    put(&mut head, 0x1a2b_3c4d);
-    put(&mut head, 0x0001_0000);
-    put(&mut head, 0xffff_ffff);
-    put(&mut head, 0xffff_ffff);
-    put(&mut head, 28);
+    append(&mut head, 0x0a0d_0d0a);
+    append(&mut head, 28);
+    append(&mut head, 0x1a2b_3c4d);
+    append(&mut head, 0x0001_0000);
+    append(&mut head, 0xffff_ffff);
+    append(&mut head, 0xffff_ffff);
+    append(&mut head, 28);
     head
 }
 
 #[tactic(auto, unfolding(crate::specs::Written::interface_head))]
 /// The interface of a section of pcapng.
 fn interface_head(link_type: u16) -> Head
-    ensures { result.items ≡ interface_head link_type }
+    ensures { result ≡ interface_head link_type }
 {
     let mut head = Head::new();
-    put(&mut head, 1);
-    put(&mut head, 32);
-    put(&mut head, u32::from(link_type) * 65_536);
-    put(&mut head, 262_144);
-    put(&mut head, 0x0009_0001);
-    put(&mut head, 0x0900_0000);
-    put(&mut head, 0);
-    put(&mut head, 32);
+    append(&mut head, 1);
+    append(&mut head, 32);
+    append(&mut head, u32::from(link_type) * 65_536);
+    append(&mut head, 262_144);
+    append(&mut head, 0x0009_0001);
+    append(&mut head, 0x0900_0000);
+    append(&mut head, 0);
+    append(&mut head, 32);
     head
 }
 
@@ -264,34 +272,71 @@ pub fn write_record<W: Write>(
     if !is_in_time(format, nanos) {
         return Err(WriteFault::TooLate);
     }
-    let mut before = Head::new();
-    put_before(&mut before, format, nanos, size);
-    let mut behind = Head::new();
-    put_after(&mut behind, format, size);
-    write_two(writer, before.as_slice(), front)?;
-    write_two(writer, rest, behind.as_slice())
+    let mut before = [0u8; 28];
+    let head = put_before(&mut before, 0, format, nanos, size);
+    let mut behind = [0u8; 7];
+    let back = put_after(&mut behind, 0, format, size);
+    write_two(writer, &before[..head], front)?;
+    write_two(writer, rest, &behind[..back])
 }
 
 /// Puts a frame in two parts behind those of a batch, with its time in nanoseconds since 1970, and returns true, if there is
 /// room for it and a capture of this form can hold the time. Else nothing is changed.
 #[inline(always)]
 pub fn put_record(batch: &mut Batch, format: Format, nanos: u64, front: &[u8], rest: &[u8]) -> bool
-    ensures put { result ≡ true → batch.new.items ≡ batch.old.items ++ frame_record format nanos (front.now ++ rest.now) }
-    ensures room { IsTrue result ↔ ((length batch.old.items + AROUND + length front.now + length rest.now ≤ 4096)
+    ensures put { result ≡ true → batch.new ≡ batch.old ++ frame_record format nanos (front.now ++ rest.now) }
+    ensures room { IsTrue result ↔ ((length batch.old + AROUND + length front.now + length rest.now ≤ BATCH)
         × (is_in_time format nanos ≡ true)) }
     ensures kept { result ≡ false → batch.new ≡ batch.old }
 {
-    let room = batch.remaining_capacity();
-    if room < AROUND || room - AROUND < front.len() || room - AROUND - front.len() < rest.len() {
+    put_frame(&mut batch.octets, format, nanos, front, rest)
+}
+
+/// The same, behind the octets of a buffer.
+#[inline(always)]
+fn put_frame(
+    octets: &mut Buffer<BATCH>,
+    format: Format,
+    nanos: u64,
+    front: &[u8],
+    rest: &[u8],
+) -> bool
+    ensures put { result ≡ true → octets.new ≡ octets.old ++ frame_record format nanos (front.now ++ rest.now) }
+    ensures room { IsTrue result ↔ ((length octets.old + AROUND + length front.now + length rest.now ≤ BATCH)
+        × (is_in_time format nanos ≡ true)) }
+    ensures kept { result ≡ false → octets.new ≡ octets.old }
+{
+    let room = octets.room();
+    if room < AROUND + front.len() || room - AROUND - front.len() < rest.len() {
         return false;
     }
     if !is_in_time(format, nanos) {
         return false;
     }
-    let size = (front.len() + rest.len()) as u32;
-    put_before(batch, format, nanos, size);
-    put_all(batch, front);
-    put_all(batch, rest);
-    put_after(batch, format, size);
+    octets.used = put_all(&mut octets.cells, octets.used, format, nanos, front, rest);
     true
+}
+
+/// Puts a record behind the first `used` octets, and returns how many there are then.
+#[inline(always)]
+fn put_all(
+    cells: &mut [u8],
+    used: usize,
+    format: Format,
+    nanos: u64,
+    front: &[u8],
+    rest: &[u8],
+) -> usize
+    requires size { length front.now + length rest.now ≤ LONGEST_PACKET }
+    requires room { used + AROUND + length front.now + length rest.now ≤ length cells.old }
+    requires time { is_in_time format nanos ≡ true }
+    ensures put { take result cells.new ≡ take used cells.old ++ frame_record format nanos (front.now ++ rest.now) }
+    ensures used { result ≤ used + AROUND + length front.now + length rest.now }
+    ensures length { length cells.new ≡ length cells.old }
+{
+    let size = (front.len() + rest.len()) as u32;
+    let used = put_before(cells, used, format, nanos, size);
+    let used = put_at(cells, used, front);
+    let used = put_at(cells, used, rest);
+    put_after(cells, used, format, size)
 }

@@ -24,7 +24,7 @@ use Rattle.rohc_capture.specs.Standing.{entry_of, ReadsOn}
 use Rattle.rohc_decompress.specs.declared.fault.BulkFault.{BulkFault}
 use Rattle.rohc_decompress.specs.declared.fault.BulkFault.TheVariants.{Capture, Write}
 use Rattle.rohc_decompress.specs.Written.{packet_of, packet_text, feedback_of, feedback_text, TakesPacket, Work, work}
-use Rattle.rohc_decompress.specs.Run.{arrival_of, arrival_in, arrivals_in, Turn, event_of, turn_packet, turn_feedback, How, Runs, event_run, Decompresses, Breaks, Stops}
+use Rattle.rohc_decompress.specs.Run.{arrival_of, arrival_in, arrivals_in, Turn, event_of, turn_packet, turn_feedback, How, Runs, event_run, OfReading, IsLed, Decompresses, Breaks, Stops}
 
 some_is : (x y : List ℕ) → ◌≡◌ {A = Option (List ℕ)} (Some x) (Some y) → x ≡ y
 some_is x y e = cc
@@ -77,17 +77,6 @@ pub append_known-none : (known : Option (List ℕ)) (batch : List ℕ) → batch
 append_known-none None batch none = refl
 append_known-none (Some text) batch none = ap (λ l. Some (text ++ l)) none ∙ ap Some (append-nil text)
 
-kept-appends : (a b c : Option (List ℕ)) (text : List ℕ) → Keeps a b → Appends b c text → Appends a c text
-kept-appends None b c text p q = tt
-kept-appends (Some x) None c text p q = absurd p
-kept-appends (Some x) (Some y) None text p q = absurd q
-kept-appends (Some x) (Some y) (Some z) text p q = q ∙ ap (λ l. l ++ text) p
-
--- it was written, and more is written behind it
-pub behind-batch : (old poured new : Option (List ℕ)) (batch text : List ℕ) → Keeps old poured → batch ≡ [] → Appends poured new text → Appends old (append_known new batch) text
-behind-batch old poured new batch text kept none more =
-    subst (λ k. Appends old k text) (sym (append_known-none new batch none)) (kept-appends old poured new text kept more)
-
 -- ---- one record
 
 -- what is tried first and changes nothing may be left out
@@ -131,13 +120,22 @@ leads-more : (s mid t : Standing) (es : List Entry) (e : Entry) → Leads s es m
 leads-more s mid t [] e l n = (t, subst (λ m. IsNext m (Ok (Some (e, t)))) (sym l) n, refl)
 leads-more s mid t (x ∷ es) e l n = (l.0, l.1, leads-more l.0 mid t es e l.2 n)
 
--- a capture was read up to here
-abbrev pub IsLed : Option Standing → List Entry → Kind → ℕ → Option (List ℕ) → Type 0
-IsLed s es kind place rest = IfSome s (λ (s : Standing). (text : List ℕ) × (rest ≡ Some text) × Leads s es (standing kind place text))
-
 pub led-first : (kind : Kind) (place : ℕ) (rest : Option (List ℕ)) → IsLed (option_map (standing kind place) rest) [] kind place rest
 led-first kind place None = tt
 led-first kind place (Some text) = (text, refl, refl)
+
+leads-append : (s mid t : Standing) (es fs : List Entry) → Leads s es mid → Leads mid fs t → Leads s (es ++ fs) t
+leads-append s mid t [] fs l n = subst (λ m. Leads m fs t) (sym l) n
+leads-append s mid t (x ∷ es) fs l n = (l.0, l.1, leads-append l.0 mid t es fs l.2 n)
+
+-- and further
+pub led-append : (s : Option Standing) (es fs : List Entry) (kind now : Kind) (place after : ℕ) (rest left : Option (List ℕ)) → IsLed s es kind place rest →
+    IsLed (option_map (standing kind place) rest) fs now after left → IsLed s (es ++ fs) now after left
+led-append None es fs kind now place after rest left l n = tt
+led-append (Some s) es fs kind now place after None left l n = let e = l.1 in absurd (cc)
+led-append (Some s) es fs kind now place after (Some x) left l n =
+    let same : l.0 ≡ x = some_is l.0 x (sym l.1) in
+    (n.0, n.1, leads-append s (standing kind place x) (standing now after n.0) es fs (subst (λ t. Leads s es (standing kind place t)) same l.2) n.2)
 
 pub led-more : (s : Option Standing) (es : List Entry) (kind now : Kind) (place after : ℕ) (rest left : Option (List ℕ)) (r : Record) (frame : List ℕ) → IsLed s es kind place rest →
     IfSome rest (λ text. ReadsOn (standing kind place text) (Ok (Some r)) frame now after left) → IsLed s (es ++ entry_of r frame ∷ []) now after left
@@ -179,6 +177,20 @@ ends_well how s es old new ending h r = record { records = es; held = h; run = r
 pub breaks_off : (how : How) (s : Option Standing) (es : List Entry) (kind : Kind) (place : ℕ) (rest : Option (List ℕ)) (old new : Work) → IsLed s es kind place rest → Runs how es old new →
     Breaks how s old new
 breaks_off how s es kind place rest old new l r = record { records = es; led = led-here s es kind place rest l; run = r; isolated = isolated r }
+
+-- no record was read, but a fault
+pub stops-at : (how : How) (s : Option Standing) (es : List Entry) (kind now : Kind) (place after : ℕ) (rest left : Option (List ℕ)) (frame : List ℕ) (fault : BulkFault)
+    (old new : Work) (packets feedback : Option (List ℕ)) → IsLed s es kind place rest → Runs how es old new →
+    OfReading (λ r. IfSome rest (λ text. ReadsOn (standing kind place text) r frame now after left)) (Err fault) →
+    OfReading (λ r. Keeps new.packets packets) (Err fault) → OfReading (λ r. Keeps new.feedback feedback) (Err fault) →
+    Stops how s fault old (work new.concentrator packets feedback)
+stops-at how s es kind now place after rest left frame (Capture fault) old new packets feedback l run n p q =
+    let end = work new.concentrator packets feedback in
+    let kept = Runs-kept how es old new packets feedback run p q in (
+      λ k. ends_well how s es old end (Err fault) (led-fault s es kind now place after rest left frame fault l n k) kept,
+      breaks_off how s es kind place rest old end l kept,
+    )
+stops-at how s es kind now place after rest left frame Write old new packets feedback l run n p q = tt
 
 -- ---- the last batch is written
 

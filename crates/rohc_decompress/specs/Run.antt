@@ -1,4 +1,4 @@
--- A run over the records of a capture. Words: Arrival, arrivals_of; Turn; Runs; Decompresses, Stops.
+-- A run over the records of a capture. Words: Arrival, arrivals_of; Turn; Runs; IsLed, OfReading; Decompresses, Stops.
 use Rattle.std.specs.Prelude.{◌≡◌, ◌≢◌, ℕ, ◌/◌, List, [], ◌∷◌, ◌++◌, map, Bool, Option, Some, None, IfSome, Result, Ok, Err}
 use Rattle.std.specs.List.{flat_map}
 use Rattle.std.specs.Io.KnownBytes.{Appends}
@@ -9,9 +9,11 @@ use Rattle.rohc_capture.specs.declared.fault.FrameFault.{FrameFault}
 use Rattle.rohc_capture.specs.declared.fault.CaptureFault.{CaptureFault}
 use Rattle.rohc_capture.specs.declared.fault.FaultKind.TheVariants.{Read}
 use Rattle.rohc_capture.specs.declared.choice.Rule.{Rule}
+use Rattle.rohc_capture.specs.declared.reader.Kind.{Kind}
+use Rattle.rohc_capture.specs.declared.reader.Record.{Record}
 use Rattle.rohc_capture.specs.declared.writer.Format.{Format}
 use Rattle.rohc_capture.specs.Choice.{packet_in}
-use Rattle.rohc_capture.specs.Records.{Entry, Standing, Leads, Holds}
+use Rattle.rohc_capture.specs.Records.{Entry, Standing, standing, Leads, Holds}
 use Rattle.rohc_decompress.specs.declared.run.Bulk.{Bulk}
 use Rattle.rohc_decompress.specs.declared.fault.BulkFault.{BulkFault}
 use Rattle.rohc_decompress.specs.declared.fault.BulkFault.TheVariants.{Capture, Write}
@@ -76,6 +78,17 @@ pub record Runs (how : How) (es : List Entry) (old new : Work) : Type 0 where
 abbrev pub event_run : {how : How} {es : List Entry} {old new : Work} → Runs how es old new → EventRun
 event_run {how} {es} {old} {new} r =
     record { before = old.concentrator; after = new.concentrator; turns = map event_of r.turns }
+
+-- a capture was read up to here
+abbrev pub IsLed : Option Standing → List Entry → Kind → ℕ → Option (List ℕ) → Type 0
+IsLed s es kind place rest =
+    IfSome s (λ (s : Standing). (text : List ℕ) × (rest ≡ Some text) × Leads s es (standing kind place text))
+
+-- a record that was read, the end, or a fault of the capture; of a failed write nothing is said
+abbrev pub OfReading : (Result (Option Record) CaptureFault → Type 0) → Result (Option Record) BulkFault → Type 0
+OfReading P (Ok found) = P (Ok found)
+OfReading P (Err (Capture fault)) = P (Err fault)
+OfReading P (Err Write) = Unit {0}
 
 -- A capture is run to its end: its records are these, where its octets are known. Each CID of each link gets
 -- the answers of one context run alone.

@@ -1,24 +1,24 @@
 //! A run over a capture.
 
-ghost use Rattle.std.specs.Prelude.{◌≡◌, [], ◌∷◌, ◌++◌, Some, None, Ok, OnOk, IfErr, length, true, false};
+ghost use Rattle.std.specs.Prelude.{◌≡◌, List, [], ◌∷◌, ◌++◌, Some, None, Ok, OnOk, IfErr, IfSome, length, true, false};
 ghost use Rattle.std.specs.Option.{option_map};
 ghost use Rattle.std.specs.Io.KnownBytes.{append_known, Appends, Keeps};
 ghost use Rattle.rohc_context.specs.Response.{response_of};
 ghost use Rattle.rohc_feedback.specs.Element.{octets_of};
 ghost use Rattle.rohc_concentrator.specs.Report.{report_of};
 ghost use Rattle.rohc_capture.specs.Written.{head_of};
-ghost use Rattle.rohc_capture.specs.Records.{standing};
-ghost use Rattle.rohc_capture.specs.Standing.{entry_of, rest_of, place_of};
+ghost use Rattle.rohc_capture.specs.Records.{Entry, standing};
+ghost use Rattle.rohc_capture.specs.Standing.{entry_of, frame_of, rest_of, place_of, ReadsOn};
 ghost use Rattle.rohc_decompress.specs.Cut.{shown};
 ghost use Rattle.rohc_decompress.specs.Written.{packet_text, packet_of, feedback_of, feedback_text, delivered_packet, work, TakesPacket};
-ghost use Rattle.rohc_decompress.specs.Run.{how, Runs, Decompresses, Stops};
+ghost use Rattle.rohc_decompress.specs.Run.{how, Runs, OfReading, IsLed, Decompresses, Stops};
 
 use crate::cut::without_padding;
 use crate::fault::BulkFault;
 use crate::tally::{Tally, more};
 use rohc_capture::{
-    Batch, Capture, CaptureFault, FaultKind, Format, Record, Rule, packet_in, put_record,
-    write_head, write_record,
+    Batch, Capture, CaptureFault, FaultKind, Format, Record, Rule, WriteFault, packet_at_once,
+    packet_in, put_record, write_head, write_record,
 };
 use rohc_concentrator::{Answer, Concentrator};
 use rohc_context::{AtOnce, Delivered, Outcome, Reply};
@@ -31,6 +31,9 @@ const RAW_IP: u16 = 101;
 
 /// The link type of Ethernet frames.
 const ETHERNET: u16 = 1;
+
+/// The octets of the head of a capture of pcap.
+const HEAD_OF_CAPTURE: usize = 24;
 
 /// The octets of the head of nearly every packet.
 const HEAD: usize = 40;
@@ -68,16 +71,18 @@ pub fn begin<W: Write, V: Write>(
     if first.is_err() || second.is_err() {
         return Err(BulkFault::Write);
     }
-    flush(packets)?;
-    flush(feedback)
+    if flush(packets).is_err() || flush(feedback).is_err() {
+        return Err(BulkFault::Write);
+    }
+    Ok(())
 }
 
 /// Runs a capture to its end: each packet arrives on its link, at its time in milliseconds since 1970.
 ///
 /// A packet that is delivered goes to `packets`, and feedback that is due to `feedback`, each with the time of its frame.
 /// The addresses of a feedback's Ethernet frame are 02:00:00:00:00:00 and 02:00:00:00 with the link's number behind.
-/// Counts are added to `tally`. Both writers are flushed before a read that may wait. After a fault of the capture all
-/// before it was written.
+/// Counts are added to `tally`. Both writers are flushed before a read that may wait: one behind a read that gave less
+/// than was asked for. After a fault of the capture all before it was written.
 pub fn decompress<R: Read, W: Write, V: Write>(
     concentrator: &mut Concentrator,
     bulk: &Bulk<'_>,
@@ -95,7 +100,7 @@ pub fn decompress<R: Read, W: Write, V: Write>(
         (work concentrator.old (W.contents packets.old) (V.contents feedback.old))
         (work concentrator.new (W.contents packets.new) (V.contents feedback.new))) }
 {
-    let mut batch = Batch::new();
+    let mut batch = Batch::new(HEAD_OF_CAPTURE);
     let ran = take_records(
         concentrator,
         bulk,
@@ -108,7 +113,7 @@ pub fn decompress<R: Read, W: Write, V: Write>(
     if let Err(BulkFault::Write) = ran {
         return ran;
     }
-    let Ok(()) = pour(&mut batch, packets) else {
+    let Ok(()) = batch.pour(packets) else {
         return Err(BulkFault::Write);
     };
     ran
@@ -126,20 +131,63 @@ fn take_records<R: Read, W: Write, V: Write>(
 ) -> Result<(), BulkFault>
     ensures whole { OnOk result (Decompresses (how bulk.now)
         (option_map (standing capture.old.kind (place_of capture.old)) (rest_of R.remaining capture.old)) (Ok tt)
-        (work concentrator.old (append_known (W.contents packets.old) batch.old.items) (V.contents feedback.old))
-        (work concentrator.new (append_known (W.contents packets.new) batch.new.items) (V.contents feedback.new))) }
+        (work concentrator.old (append_known (W.contents packets.old) batch.old) (V.contents feedback.old))
+        (work concentrator.new (append_known (W.contents packets.new) batch.new) (V.contents feedback.new))) }
     ensures fault { IfErr result (λ fault. Stops (how bulk.now)
         (option_map (standing capture.old.kind (place_of capture.old)) (rest_of R.remaining capture.old)) fault
-        (work concentrator.old (append_known (W.contents packets.old) batch.old.items) (V.contents feedback.old))
-        (work concentrator.new (append_known (W.contents packets.new) batch.new.items) (V.contents feedback.new))) }
+        (work concentrator.old (append_known (W.contents packets.old) batch.old) (V.contents feedback.old))
+        (work concentrator.new (append_known (W.contents packets.new) batch.new) (V.contents feedback.new))) }
 {
     for _ in 0..u64::MAX {
-        let record = match capture.next() {
+        let record = match read_on(capture, batch, packets, feedback) {
             Ok(Some(record)) => record,
             Ok(None) => return Ok(()),
-            Err(fault) => return Err(BulkFault::Capture(fault)),
+            Err(fault) => return Err(fault),
         };
-        more(&mut tally.frames);
+        let frame = capture.frame();
+        let Ok(()) = take_any_frame(
+            concentrator,
+            bulk,
+            record,
+            frame,
+            batch,
+            packets,
+            feedback,
+            tally,
+        ) else {
+            return Err(BulkFault::Write);
+        };
+        let Ok(()) = take_ahead(concentrator, bulk, capture, batch, packets, feedback, tally) else {
+            return Err(BulkFault::Write);
+        };
+    }
+    Err(BulkFault::Capture(CaptureFault {
+        kind: FaultKind::Read,
+        place: u64::MAX,
+    }))
+}
+
+/// Takes the records that lie ahead, as nearly all do.
+fn take_ahead<R: Read, W: Write, V: Write>(
+    concentrator: &mut Concentrator,
+    bulk: &Bulk<'_>,
+    capture: &mut Capture<R>,
+    batch: &mut Batch,
+    packets: &mut W,
+    feedback: &mut V,
+    tally: &mut Tally,
+) -> Result<(), WriteFault>
+    ensures { OnOk result ((es : List Entry)
+        × IsLed (option_map (standing capture.old.kind (place_of capture.old)) (rest_of R.remaining capture.old)) es
+        capture.new.kind (place_of capture.new) (rest_of R.remaining capture.new)
+        × Runs (how bulk.now) es
+        (work concentrator.old (append_known (W.contents packets.old) batch.old) (V.contents feedback.old))
+        (work concentrator.new (append_known (W.contents packets.new) batch.new) (V.contents feedback.new))) }
+{
+    for _ in 0..u64::MAX {
+        let Some(record) = capture.next_ahead() else {
+            return Ok(());
+        };
         let frame = capture.frame();
         let Ok(()) = take_frame(
             concentrator,
@@ -151,59 +199,73 @@ fn take_records<R: Read, W: Write, V: Write>(
             feedback,
             tally,
         ) else {
-            return Err(BulkFault::Write);
+            return Err(WriteFault::Failed);
         };
-        let Ok(()) = settle(capture.is_ahead(), batch, packets, feedback) else {
-            return Err(BulkFault::Write);
+        let Ok(()) = batch.pour_piece(packets) else {
+            return Err(WriteFault::Failed);
         };
     }
-    Err(BulkFault::Capture(CaptureFault {
-        kind: FaultKind::Read,
-        place: u64::MAX,
-    }))
+    Ok(())
+}
+
+/// Reads a record that doesn't lie ahead, or `None` at the end. Where the read may wait, all before it is written first.
+#[inline(never)]
+fn read_on<R: Read, W: Write, V: Write>(
+    capture: &mut Capture<R>,
+    batch: &mut Batch,
+    packets: &mut W,
+    feedback: &mut V,
+) -> Result<Option<Record>, BulkFault>
+    ensures reads { OfReading (λ r. IfSome (rest_of R.remaining capture.old) (λ text.
+        ReadsOn (standing capture.old.kind (place_of capture.old) text) r
+        (frame_of capture.new) capture.new.kind (place_of capture.new) (rest_of R.remaining capture.new))) result }
+    ensures packets { OfReading (λ r. Keeps (append_known (W.contents packets.old) batch.old) (append_known (W.contents packets.new) batch.new)) result }
+    ensures feedback { OfReading (λ r. Keeps (V.contents feedback.old) (V.contents feedback.new)) result }
+{
+    let Ok(()) = settle(
+        capture.is_ahead() || capture.was_full(),
+        batch,
+        packets,
+        feedback,
+    ) else {
+        return Err(BulkFault::Write);
+    };
+    match capture.next() {
+        Ok(found) => Ok(found),
+        Err(fault) => Err(BulkFault::Capture(fault)),
+    }
 }
 
 /// Flushes a writer.
-fn flush<W: Write>(writer: &mut W) -> Result<(), BulkFault>
+fn flush<W: Write>(writer: &mut W) -> Result<(), WriteFault>
     ensures { OnOk result (Keeps (W.contents writer.old) (W.contents writer.new)) }
 {
     match writer.flush() {
         Ok(()) => Ok(()),
-        Err(_) => Err(BulkFault::Write),
+        Err(_) => Err(WriteFault::Failed),
     }
 }
 
-/// Writes the records of a batch, and empties it.
-fn pour<W: Write>(batch: &mut Batch, packets: &mut W) -> Result<(), BulkFault>
-    ensures kept { OnOk result (Keeps (append_known (W.contents packets.old) batch.old.items) (W.contents packets.new)) }
-    ensures empty { OnOk result (batch.new.items ≡ []) }
-{
-    let Ok(()) = packets.write_all(batch.as_slice()) else {
-        return Err(BulkFault::Write);
-    };
-    batch.clear();
-    Ok(())
-}
-
-/// Writes the batch and flushes both writers, unless the next record is ahead.
+/// Writes the batch and flushes both writers, unless the next read doesn't wait.
 fn settle<W: Write, V: Write>(
-    is_ahead: bool,
+    is_at_hand: bool,
     batch: &mut Batch,
     packets: &mut W,
     feedback: &mut V,
-) -> Result<(), BulkFault>
-    ensures packets { OnOk result (Keeps (append_known (W.contents packets.old) batch.old.items) (append_known (W.contents packets.new) batch.new.items)) }
+) -> Result<(), WriteFault>
+    ensures packets { OnOk result (Keeps (append_known (W.contents packets.old) batch.old) (append_known (W.contents packets.new) batch.new)) }
     ensures feedback { OnOk result (Keeps (V.contents feedback.old) (V.contents feedback.new)) }
 {
-    if is_ahead {
+    if is_at_hand {
         return Ok(());
     }
-    pour(batch, packets)?;
+    batch.pour(packets)?;
     flush(packets)?;
     flush(feedback)
 }
 
-/// Takes one frame. Nothing is written of a frame that carries nothing, or of which no rule speaks.
+/// Takes one frame. What nearly every frame carries is found without a call.
+#[inline(always)]
 fn take_frame<W: Write, V: Write>(
     concentrator: &mut Concentrator,
     bulk: &Bulk<'_>,
@@ -213,20 +275,62 @@ fn take_frame<W: Write, V: Write>(
     packets: &mut W,
     feedback: &mut V,
     tally: &mut Tally,
-) -> Result<(), BulkFault>
+) -> Result<(), WriteFault>
     ensures { OnOk result (Runs (how bulk.now) (entry_of «record».now frame.now ∷ [])
-        (work concentrator.old (append_known (W.contents packets.old) batch.old.items) (V.contents feedback.old))
-        (work concentrator.new (append_known (W.contents packets.new) batch.new.items) (V.contents feedback.new))) }
+        (work concentrator.old (append_known (W.contents packets.old) batch.old) (V.contents feedback.old))
+        (work concentrator.new (append_known (W.contents packets.new) batch.new) (V.contents feedback.new))) }
 {
-    match packet_in(bulk.rules, record.link_type, record.original, frame) {
-        Ok(Some((link, packet))) => {
-            more(&mut tally.arrivals);
+    match packet_at_once(bulk.rules, record.link_type, record.original, frame) {
+        Some((link, packet)) => {
             let nanos = record.nanos;
             take_packet(
                 concentrator,
                 bulk,
                 link,
                 nanos,
+                packet,
+                batch,
+                packets,
+                feedback,
+                tally,
+            )
+        }
+        None => take_any_frame(
+            concentrator,
+            bulk,
+            *record,
+            frame,
+            batch,
+            packets,
+            feedback,
+            tally,
+        ),
+    }
+}
+
+/// Takes any frame. Nothing is written of a frame that carries nothing, or of which no rule speaks.
+#[inline(never)]
+fn take_any_frame<W: Write, V: Write>(
+    concentrator: &mut Concentrator,
+    bulk: &Bulk<'_>,
+    record: Record,
+    frame: &[u8],
+    batch: &mut Batch,
+    packets: &mut W,
+    feedback: &mut V,
+    tally: &mut Tally,
+) -> Result<(), WriteFault>
+    ensures { OnOk result (Runs (how bulk.now) (entry_of «record» frame.now ∷ [])
+        (work concentrator.old (append_known (W.contents packets.old) batch.old) (V.contents feedback.old))
+        (work concentrator.new (append_known (W.contents packets.new) batch.new) (V.contents feedback.new))) }
+{
+    match packet_in(bulk.rules, record.link_type, record.original, frame) {
+        Ok(Some((link, packet))) => {
+            take_longer(
+                concentrator,
+                bulk,
+                link,
+                record.nanos,
                 packet,
                 batch,
                 packets,
@@ -263,10 +367,10 @@ pub fn take_packet<W: Write, V: Write>(
     packets: &mut W,
     feedback: &mut V,
     tally: &mut Tally,
-) -> Result<(), BulkFault>
+) -> Result<(), WriteFault>
     ensures { OnOk result (TakesPacket bulk.now.format bulk.now.padded link nanos packet.now
-        (work concentrator.old (append_known (W.contents packets.old) batch.old.items) (V.contents feedback.old))
-        (work concentrator.new (append_known (W.contents packets.new) batch.new.items) (V.contents feedback.new))) }
+        (work concentrator.old (append_known (W.contents packets.old) batch.old) (V.contents feedback.old))
+        (work concentrator.new (append_known (W.contents packets.new) batch.new) (V.contents feedback.new))) }
 {
     let mut answer = Answer::blank();
     let moment = nanos / 1_000_000;
@@ -308,21 +412,21 @@ fn take_longer<W: Write, V: Write>(
     packets: &mut W,
     feedback: &mut V,
     tally: &mut Tally,
-) -> Result<(), BulkFault>
+) -> Result<(), WriteFault>
     ensures { OnOk result (TakesPacket bulk.now.format bulk.now.padded link nanos packet.now
-        (work concentrator.old (append_known (W.contents packets.old) batch.old.items) (V.contents feedback.old))
-        (work concentrator.new (append_known (W.contents packets.new) batch.new.items) (V.contents feedback.new))) }
+        (work concentrator.old (append_known (W.contents packets.old) batch.old) (V.contents feedback.old))
+        (work concentrator.new (append_known (W.contents packets.new) batch.new) (V.contents feedback.new))) }
 {
     let mut answer = Answer::blank();
     concentrator.arrive_into(link, nanos / 1_000_000, packet, &mut answer);
-    take_behind(bulk, link, nanos, &answer, batch, packets, feedback, tally)
+    take_answer(bulk, link, nanos, &answer, batch, packets, feedback, tally)
 }
 
 /// Puts the record of what an answer delivers into the batch, and returns true, if that is a packet whose head has 40
 /// octets, without feedback, and there is room. Nearly every answer is one.
 #[inline(always)]
 fn put_answer(bulk: &Bulk<'_>, nanos: u64, answer: &Answer<'_>, batch: &mut Batch) -> bool
-    ensures put { result ≡ true → batch.new.items ≡ batch.old.items
+    ensures put { result ≡ true → batch.new ≡ batch.old
         ++ packet_text bulk.now.format bulk.now.padded nanos (packet_of (report_of answer.now)) }
     ensures feedback { result ≡ true → feedback_of (report_of answer.now) ≡ None }
     ensures kept { result ≡ false → batch.new ≡ batch.old }
@@ -344,7 +448,7 @@ fn put_answer(bulk: &Bulk<'_>, nanos: u64, answer: &Answer<'_>, batch: &mut Batc
 #[inline(always)]
 fn put_long(bulk: &Bulk<'_>, nanos: u64, long: &Delivered<'_>, batch: &mut Batch) -> bool
     requires { length long.now.head.items ≡ 40 }
-    ensures put { result ≡ true → batch.new.items ≡ batch.old.items
+    ensures put { result ≡ true → batch.new ≡ batch.old
         ++ packet_text bulk.now.format bulk.now.padded nanos (Some (delivered_packet long.now)) }
     ensures kept { result ≡ false → batch.new ≡ batch.old }
 {
@@ -363,9 +467,9 @@ fn take_other<W: Write, V: Write>(
     packets: &mut W,
     feedback: &mut V,
     tally: &mut Tally,
-) -> Result<(), BulkFault>
-    ensures packets { OnOk result (Appends (append_known (W.contents packets.old) batch.old.items)
-        (append_known (W.contents packets.new) batch.new.items)
+) -> Result<(), WriteFault>
+    ensures packets { OnOk result (Appends (append_known (W.contents packets.old) batch.old)
+        (append_known (W.contents packets.new) batch.new)
         (packet_text bulk.now.format bulk.now.padded answered.entry.nanos (packet_of (report_of answered.entry.answer)))) }
     ensures feedback { OnOk result (Appends (V.contents feedback.old) (V.contents feedback.new)
         (feedback_text bulk.now.format answered.entry.link answered.entry.nanos (feedback_of (report_of answered.entry.answer)))) }
@@ -375,28 +479,7 @@ fn take_other<W: Write, V: Write>(
         nanos,
         answer,
     } = answered;
-    take_behind(bulk, link, nanos, &answer, batch, packets, feedback, tally)
-}
-
-/// Writes the batch and, behind it, what an answer delivers, and counts it.
-fn take_behind<W: Write, V: Write>(
-    bulk: &Bulk<'_>,
-    link: u16,
-    nanos: u64,
-    answer: &Answer<'_>,
-    batch: &mut Batch,
-    packets: &mut W,
-    feedback: &mut V,
-    tally: &mut Tally,
-) -> Result<(), BulkFault>
-    ensures packets { OnOk result (Appends (append_known (W.contents packets.old) batch.old.items)
-        (append_known (W.contents packets.new) batch.new.items)
-        (packet_text bulk.now.format bulk.now.padded nanos (packet_of (report_of answer.now)))) }
-    ensures feedback { OnOk result (Appends (V.contents feedback.old) (V.contents feedback.new)
-        (feedback_text bulk.now.format link nanos (feedback_of (report_of answer.now)))) }
-{
-    pour(batch, packets)?;
-    take_answer(bulk, link, nanos, answer, packets, feedback, tally)
+    take_answer(bulk, link, nanos, &answer, batch, packets, feedback, tally)
 }
 
 /// Counts the feedback in a packet.
@@ -412,11 +495,13 @@ fn take_answer<W: Write, V: Write>(
     link: u16,
     nanos: u64,
     answer: &Answer<'_>,
+    batch: &mut Batch,
     packets: &mut W,
     feedback: &mut V,
     tally: &mut Tally,
-) -> Result<(), BulkFault>
-    ensures packets { OnOk result (Appends (W.contents packets.old) (W.contents packets.new)
+) -> Result<(), WriteFault>
+    ensures packets { OnOk result (Appends (append_known (W.contents packets.old) batch.old)
+        (append_known (W.contents packets.new) batch.new)
         (packet_text bulk.now.format bulk.now.padded nanos (packet_of (report_of answer.now)))) }
     ensures feedback { OnOk result (Appends (V.contents feedback.old) (V.contents feedback.new)
         (feedback_text bulk.now.format link nanos (feedback_of (report_of answer.now)))) }
@@ -424,9 +509,10 @@ fn take_answer<W: Write, V: Write>(
     match answer {
         Answer::Arrived { reply, relayed, .. } => {
             count_relayed(*relayed, tally);
-            take_reply(bulk, link, nanos, reply, packets, feedback, tally)
+            take_reply(bulk, link, nanos, reply, batch, packets, feedback, tally)
         }
         Answer::OnlyFront { relayed } => {
+            more(&mut tally.silent);
             count_relayed(*relayed, tally);
             Ok(())
         }
@@ -445,7 +531,7 @@ fn take_feedback<V: Write>(
     due: &Option<Element>,
     feedback: &mut V,
     tally: &mut Tally,
-) -> Result<(), BulkFault>
+) -> Result<(), WriteFault>
     ensures { OnOk result (Appends (V.contents feedback.old) (V.contents feedback.new)
         (feedback_text format link nanos (octets_of due.now))) }
 {
@@ -464,11 +550,13 @@ fn take_reply<W: Write, V: Write>(
     link: u16,
     nanos: u64,
     reply: &Reply<'_>,
+    batch: &mut Batch,
     packets: &mut W,
     feedback: &mut V,
     tally: &mut Tally,
-) -> Result<(), BulkFault>
-    ensures packets { OnOk result (Appends (W.contents packets.old) (W.contents packets.new)
+) -> Result<(), WriteFault>
+    ensures packets { OnOk result (Appends (append_known (W.contents packets.old) batch.old)
+        (append_known (W.contents packets.new) batch.new)
         (packet_text bulk.now.format bulk.now.padded nanos (response_of reply.now).packet)) }
     ensures feedback { OnOk result (Appends (V.contents feedback.old) (V.contents feedback.new)
         (feedback_text bulk.now.format link nanos (response_of reply.now).feedback)) }
@@ -476,7 +564,7 @@ fn take_reply<W: Write, V: Write>(
     tally.add_outcome(reply.outcome);
     take_feedback(bulk.format, link, nanos, &reply.feedback, feedback, tally)?;
     match &reply.packet {
-        Some(packet) => put_packet(bulk.format, bulk.padded, nanos, packet, packets),
+        Some(packet) => put_packet(bulk, nanos, packet, batch, packets),
         None => Ok(()),
     }
 }
@@ -493,22 +581,26 @@ fn shown<'a>(padded: bool, head: &[u8], payload: &'a [u8]) -> &'a [u8]
     }
 }
 
-/// Writes a delivered packet.
+/// Puts the record of a delivered packet into the batch, or writes it behind the batch.
 fn put_packet<W: Write>(
-    format: Format,
-    padded: bool,
+    bulk: &Bulk<'_>,
     nanos: u64,
     packet: &Delivered<'_>,
+    batch: &mut Batch,
     packets: &mut W,
-) -> Result<(), BulkFault>
-    ensures { OnOk result (Appends (W.contents packets.old) (W.contents packets.new)
-        (packet_text format padded nanos (Some (delivered_packet packet.now)))) }
+) -> Result<(), WriteFault>
+    ensures { OnOk result (Appends (append_known (W.contents packets.old) batch.old) (append_known (W.contents packets.new) batch.new)
+        (packet_text bulk.now.format bulk.now.padded nanos (Some (delivered_packet packet.now)))) }
 {
     let head = packet.head.as_slice();
-    let payload = shown(padded, head, packet.payload);
-    match write_record(packets, format, nanos, head, payload) {
+    let payload = shown(bulk.padded, head, packet.payload);
+    if put_record(batch, bulk.format, nanos, head, payload) {
+        return Ok(());
+    }
+    batch.pour(packets)?;
+    match write_record(packets, bulk.format, nanos, head, payload) {
         Ok(()) => Ok(()),
-        Err(_) => Err(BulkFault::Write),
+        Err(_) => Err(WriteFault::Failed),
     }
 }
 
@@ -519,7 +611,7 @@ fn put_feedback<V: Write>(
     nanos: u64,
     element: &[u8],
     feedback: &mut V,
-) -> Result<(), BulkFault>
+) -> Result<(), WriteFault>
     ensures { OnOk result (Appends (V.contents feedback.old) (V.contents feedback.new)
         (feedback_text format link nanos (Some element.now))) }
 {
@@ -528,6 +620,6 @@ fn put_feedback<V: Write>(
     let head = [2, 0, 0, 0, 0, 0, 2, 0, 0, 0, high, low, 0x22, 0xf1];
     match write_record(feedback, format, nanos, &head, element) {
         Ok(()) => Ok(()),
-        Err(_) => Err(BulkFault::Write),
+        Err(_) => Err(WriteFault::Failed),
     }
 }

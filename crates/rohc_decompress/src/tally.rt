@@ -7,10 +7,6 @@ use std::fmt;
 /// What a run over a capture counts. A count stays at the greatest u64.
 #[derive(Clone, Copy, Default, PartialEq, Eq)]
 pub struct Tally {
-    /// The frames that were read.
-    pub frames: u64,
-    /// The packets that arrived on a link.
-    pub arrivals: u64,
     /// The packets that were rebuilt.
     pub delivered: u64,
     /// The feedback elements that were due.
@@ -19,6 +15,8 @@ pub struct Tally {
     pub relayed: u64,
     /// The packets that were refused.
     pub refused: u64,
+    /// The packets that were taken and delivered nothing.
+    pub silent: u64,
     /// The frames of which no rule speaks.
     pub no_rule: u64,
     /// The frames with a fault, in the order of `FrameFault::ALL`.
@@ -36,8 +34,24 @@ impl Tally {
         match outcome {
             Outcome::Delivered => more(&mut self.delivered),
             Outcome::Refused(_) => more(&mut self.refused),
-            Outcome::Stored => {}
+            Outcome::Stored => more(&mut self.silent),
         }
+    }
+
+    /// The packets that arrived on a link.
+    fn arrivals(&self) -> u64 {
+        self.delivered
+            .saturating_add(self.refused)
+            .saturating_add(self.silent)
+    }
+
+    /// The frames that were read.
+    fn frames(&self) -> u64 {
+        let mut frames = self.arrivals().saturating_add(self.no_rule);
+        for count in self.faults {
+            frames = frames.saturating_add(count);
+        }
+        frames
     }
 
     /// Counts a frame with this fault.
@@ -52,7 +66,7 @@ impl Tally {
 
 impl fmt::Display for Tally {
     fn fmt<W: fmt::Write>(&self, f: &mut fmt::Formatter<W>) -> fmt::Result {
-        write!(f, "frames {} arrivals {} ", self.frames, self.arrivals)?;
+        write!(f, "frames {} arrivals {} ", self.frames(), self.arrivals())?;
         write!(
             f,
             "delivered {} feedback {} ",

@@ -1,21 +1,27 @@
-use Rattle.std.proofs.Common.{◌++◌, ◌+◌, ◌/◌, ◌%◌, ◌∙◌, ap}
+use Rattle.std.proofs.Common.{◌++◌, ◌+◌, ◌/◌, ◌%◌, ◌∙◌, ap, take}
 use Rattle.rohc_capture.specs.Written.{quad, block_length}
 use Rattle.rohc_capture.proofs.WriterLemmas.{two_parts}
 use Rattle.rohc_capture.proofs.writer.put_pcapng_front.Goals as goal
 
-pub returns : goal.returns
-returns g c =
-    let before = c.args.head.now.items in
+pub returns-clause-put : goal.returns-clause-put
+returns-clause-put c =
+    let before = take c.args.used c.args.cells.now in
+    let one = take c.put-used.result c.put-used.new.cells in
+    let two = take c.put-used-2.result c.put-used-2.new.cells in
+    let three = take c.put-used-3.result c.put-used-3.new.cells in
+    let four = take c.put-used-4.result c.put-used-4.new.cells in
+    let five = take c.put-used-5.result c.put-used-5.new.cells in
+    let six = take c.put-used-6.result c.put-used-6.new.cells in
     let kind = quad 6 in
     let block = quad (block_length c.args.size) in
     let interface = quad 0 in
     let high = quad (c.args.nanos / 4294967296) in
     let low = quad (c.args.nanos % 4294967296) in
     let size = quad c.args.size in
-    let blocks = c.put-2.ensures ∙ ap (λ m. c.put.new.head.items ++ quad (32 + c.args.size + m)) c.missing.ensures in
-    let two = two_parts before c.put.new.head.items c.put-2.new.head.items kind block c.put.ensures blocks in
-    let three = two_parts before c.put-2.new.head.items c.put-3.new.head.items (kind ++ block) interface two c.put-3.ensures in
-    let four = two_parts before c.put-3.new.head.items c.put-4.new.head.items (kind ++ block ++ interface) high three c.put-4.ensures in
-    let five = two_parts before c.put-4.new.head.items c.put-5.new.head.items (kind ++ block ++ interface ++ high) low four c.put-5.ensures in
-    let six = two_parts before c.put-5.new.head.items c.put-6.new.head.items (kind ++ block ++ interface ++ high ++ low) size five c.put-6.ensures in
-    two_parts before c.put-6.new.head.items c.put-7.new.head.items (kind ++ block ++ interface ++ high ++ low ++ size) size six c.put-7.ensures
+    let blocks = c.put-used-2.ensures.put ∙ ap (λ m. one ++ quad (32 + c.args.size + m)) c.missing.ensures in
+    let p = two_parts before one two kind block c.put-used.ensures.put blocks in
+    let q = two_parts before two three (kind ++ block) interface p c.put-used-3.ensures.put in
+    let r = two_parts before three four (kind ++ block ++ interface) high q c.put-used-4.ensures.put in
+    let s = two_parts before four five (kind ++ block ++ interface ++ high) low r c.put-used-5.ensures.put in
+    let t = two_parts before five six (kind ++ block ++ interface ++ high ++ low) size s c.put-used-6.ensures.put in
+    two_parts before six (take c.put.result c.put.new.cells) (kind ++ block ++ interface ++ high ++ low ++ size) size t c.put.ensures.put

@@ -16,10 +16,10 @@ returns-clause-whole g c =
     let contents = g.W.Write.contents in
     let feedback = g.V.Write.contents c.args.feedback.now in
     let ran = c.take_records-ran.new in
-    let new = work ran.concentrator (append_known (contents ran.packets) ran.batch.items) (g.V.Write.contents ran.feedback) in
-    let none = append_known-none (contents c.args.packets.now) c.new-batch.result.items c.new-batch.ensures in
+    let new = work ran.concentrator (append_known (contents ran.packets) ran.batch) (g.V.Write.contents ran.feedback) in
+    let none = append_known-none (contents c.args.packets.now) c.new-batch.result c.new-batch.ensures in
     on_ok_weaker c.take_records-ran.result
-    (whole-poured (how c.args.bulk.now) s (Ok tt) (work c.args.concentrator.now (contents c.args.packets.now) feedback) new (contents c.pour.new.packets) c.in-Ok.ensures.kept)
+    (whole-poured (how c.args.bulk.now) s (Ok tt) (work c.args.concentrator.now (contents c.args.packets.now) feedback) new (contents c.pour.new.writer) c.in-Ok.ensures.kept)
     (subst (λ k. OnOk c.take_records-ran.result (Decompresses (how c.args.bulk.now) s (Ok tt) (work c.args.concentrator.now k feedback) new)) none c.take_records-ran.ensures.whole)
 
 pub returns-clause-fault : goal.returns-clause-fault
@@ -29,10 +29,10 @@ returns-clause-fault g c =
     let contents = g.W.Write.contents in
     let feedback = g.V.Write.contents c.args.feedback.now in
     let ran = c.take_records-ran.new in
-    let new = work ran.concentrator (append_known (contents ran.packets) ran.batch.items) (g.V.Write.contents ran.feedback) in
-    let none = append_known-none (contents c.args.packets.now) c.new-batch.result.items c.new-batch.ensures in
+    let new = work ran.concentrator (append_known (contents ran.packets) ran.batch) (g.V.Write.contents ran.feedback) in
+    let none = append_known-none (contents c.args.packets.now) c.new-batch.result c.new-batch.ensures in
     let old = work c.args.concentrator.now (contents c.args.packets.now) feedback in
-    let after = work ran.concentrator (contents c.pour.new.packets) (g.V.Write.contents ran.feedback) in
+    let after = work ran.concentrator (contents c.pour.new.writer) (g.V.Write.contents ran.feedback) in
     IfErr-weaker c.take_records-ran.result (λ fault. Stops (how c.args.bulk.now) s fault old new) (λ fault. Stops (how c.args.bulk.now) s fault old after)
-    (λ fault. stop-poured (how c.args.bulk.now) s fault (work c.args.concentrator.now (contents c.args.packets.now) feedback) new (contents c.pour.new.packets) c.in-Ok.ensures.kept)
+    (λ fault. stop-poured (how c.args.bulk.now) s fault (work c.args.concentrator.now (contents c.args.packets.now) feedback) new (contents c.pour.new.writer) c.in-Ok.ensures.kept)
     (subst (λ k. IfErr c.take_records-ran.result (λ fault. Stops (how c.args.bulk.now) s fault (work c.args.concentrator.now k feedback) new)) none c.take_records-ran.ensures.fault)

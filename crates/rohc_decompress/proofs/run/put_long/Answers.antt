@@ -12,7 +12,7 @@ pub returns-clause-put : goal.returns-clause-put
 returns-clause-put c =
     let head = c.as_slice.result.now in
     let bulk = c.args.bulk.now in
-    let record_of : List ℕ → List ℕ → List ℕ = λ front payload. c.args.batch.now.items ++ frame_record bulk.format c.args.nanos (front ++ payload) in
+    let record_of : List ℕ → List ℕ → List ℕ = λ front payload. c.args.batch.now ++ frame_record bulk.format c.args.nanos (front ++ payload) in
     let whole : take 40 head ≡ c.args.long.now.head.items =
     take_all 40 head (omega (arith, ap length c.as_slice.ensures.value, c.requires)) ∙ c.as_slice.ensures.value in
     λ is. c.put_record.ensures.put is

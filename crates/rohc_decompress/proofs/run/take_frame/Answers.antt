@@ -1,13 +1,11 @@
-use Rattle.std.proofs.Common.{sym}
 use Rattle.std.proofs.lemmas.Result.{on_ok_weaker}
 use Rattle.rohc_capture.specs.Standing.{entry_of}
 use Rattle.rohc_decompress.specs.Run.{how}
 use Rattle.rohc_decompress.proofs.RunLemmas.{one-turn}
 use Rattle.rohc_decompress.proofs.run.take_frame.Goals as goal
 
-pub returns-in-Ok-Some : goal.returns-in-Ok-Some
-returns-in-Ok-Some g c =
+pub returns-in-Some : goal.returns-in-Some
+returns-in-Some g c =
     on_ok_weaker c.take_packet.result
-    (one-turn (how c.args.bulk.now) (entry_of c.args.record.now c.args.frame.now) c.in-Ok-Some.link c.in-Ok-Some.packet.now _ _
-    (sym (rw c.in-Ok-Some.field-0-is at c.in-Ok-Some.ensures)))
+    (one-turn (how c.args.bulk.now) (entry_of c.args.record.now c.args.frame.now) c.in-Some.link c.in-Some.packet.now _ _ c.in-Some.ensures)
     c.take_packet.ensures

@@ -11,7 +11,7 @@ pub returns-then-not-take_at_once : goal.returns-then-not-take_at_once
 returns-then-not-take_at_once g c =
     on_ok_weaker c.take_longer.result
     (takes_after c.args.bulk.now.format c.args.bulk.now.padded c.args.link c.args.nanos c.args.packet.now
-    (work c.args.concentrator.now (append_known (g.W.Write.contents c.args.packets.now) c.args.batch.now.items) (g.V.Write.contents c.args.feedback.now)) c.take_at_once.new.self _
+    (work c.args.concentrator.now (append_known (g.W.Write.contents c.args.packets.now) c.args.batch.now) (g.V.Write.contents c.args.feedback.now)) c.take_at_once.new.self _
     (c.take_at_once.ensures.stays c.if-not-take_at_once.true))
     c.take_longer.ensures
 
@@ -24,7 +24,7 @@ returns-then-put_answer g c =
     record {
       report = report;
       arrives = c.take_at_once.ensures.taken c.if-not-take_at_once.false;
-      packets = append_known-grown (append_known packets c.args.batch.now.items) packets c.args.batch.now.items c.put_answer.new.batch.items
-          (packet_text c.args.bulk.now.format c.args.bulk.now.padded c.args.nanos (packet_of report)) (Keeps-refl (append_known packets c.args.batch.now.items)) put;
+      packets = append_known-grown (append_known packets c.args.batch.now) packets c.args.batch.now c.put_answer.new.batch
+          (packet_text c.args.bulk.now.format c.args.bulk.now.padded c.args.nanos (packet_of report)) (Keeps-refl (append_known packets c.args.batch.now)) put;
       feedback = subst (λ due. Appends feedback feedback (feedback_text c.args.bulk.now.format c.args.link c.args.nanos due)) (sym (c.put_answer.ensures.feedback c.if-put_answer.true)) (Appends-nil feedback);
     }
