@@ -1,8 +1,10 @@
 """Runs `rohctl decompress` and `script` on captures made here by the words of the formats, whole, cut and changed, and on Wireshark's."""
 
 import re
+import select
 import shutil
 import struct
+import subprocess
 from collections.abc import Callable, Iterator, Sequence
 from pathlib import Path
 
@@ -284,7 +286,36 @@ def check_scripts(trial: Trial) -> None:
                 moment = int(words[3]) * 10**6
             elif words[2] == "ip":
                 wanted.append((moment, bytes.fromhex(words[3])))
-        good(trial, decompress(trial, pcap(frames, RAW), "--port", "5000", links=links), wanted, script.name)
+        framed = [(at, ethernet(0x0800, octets)) for at, octets in frames]
+        for text, link in ((pcap(frames, RAW), "raw IP"), (pcap(framed), "Ethernet"), (pcapng(framed), "pcapng")):
+            good(trial, decompress(trial, text, "--port", "5000", links=links), wanted, f"{script.name}, {link}")
+
+
+def check_long(trial: Trial) -> None:
+    """More than is written at once, from file to file: packets of any length, and now and then one that a batch has no room for."""
+    packets = [b"\x45" + bytes((size % 251,)) * (5000 if size % 400 == 7 else 20 + size * 7 % 300) for size in range(4000)]
+    frames = frames_of([ethernet(0x0800, datagram(5000, packet)) for packet in [ROHC[0], *packets]])
+    given, written = trial.scratch / "long", trial.scratch / "long.pcap"
+    for text, form in ((pcap(frames), "pcap"), (pcapng(frames), "pcapng")):
+        given.write_bytes(text)
+        ended = decompress(trial, b"", "--port", "5000=1", given, written)
+        trial.demand((ended.status, ended.said) == (0, ""), f"a long {form}: {ended.end()} {ended.said}", ended.call)
+        trial.same(f"a long {form}", repr(frames_of([REBUILT[0], *packets])), repr(list(records(written.read_bytes()))), ended.call)
+
+
+def check_live(trial: Trial) -> None:
+    """What came through a pipe is written before more comes."""
+    words = (trial.top / PROGRAM, "decompress", "--links", LINKS, "--link", "1")
+    text = pcap(frames_of([ethernet(0x22F1, packet) for packet in ROHC]))
+    wanted = pcap(frames_of(REBUILT), RAW)
+    with subprocess.Popen(words, stdin=subprocess.PIPE, stdout=subprocess.PIPE, cwd=trial.top, bufsize=0) as program:
+        assert program.stdin and program.stdout
+        program.stdin.write(text)
+        seen = b""
+        while len(seen) < len(wanted) and select.select([program.stdout], [], [], 20)[0]:
+            seen += program.stdout.read(len(wanted) - len(seen)) or b""
+        program.stdin.close()
+        trial.same("what a pipe shows while it is open", wanted.hex(), seen.hex(), Call(words, text, {}, trial.top))
 
 
 def sum_of(head: bytes) -> int:
@@ -379,5 +410,5 @@ def check_tools(trial: Trial) -> None:
 
 def check(trial: Trial) -> None:
     """All of it."""
-    for part in (check_carriers, check_lost, check_cuts, check_changes, check_blocks, check_outputs, check_scripts, check_back, check_sides, check_tools):
+    for part in (check_carriers, check_lost, check_cuts, check_changes, check_blocks, check_outputs, check_scripts, check_long, check_live, check_back, check_sides, check_tools):
         part(trial)

@@ -1,6 +1,6 @@
 //! Octets that are still to be written.
 
-ghost use Rattle.std.specs.Prelude.{◌≡◌, ◌+◌, ◌-◌, ◌≤◌, ◌++◌, length, take};
+ghost use Rattle.std.specs.Prelude.{◌≡◌, ◌+◌, ◌-◌, ◌≤◌, ◌++◌, length, take, drop};
 ghost use Rattle.std.specs.List.{slice_range};
 
 use std::marker::Model;
@@ -42,6 +42,60 @@ pub(crate) fn put_at(cells: &mut [u8], used: usize, octets: &[u8]) -> usize
 {
     cells[used..used + octets.len()].copy_from_slice(octets);
     used + octets.len()
+}
+
+/// Puts the 16 octets that stand at a place of others at that place behind the first `used`.
+#[inline(always)]
+fn put_part(cells: &mut [u8], used: usize, octets: &[u8], place: usize)
+    requires part { place + 16 ≤ length octets.now }
+    requires room { used + length octets.now ≤ length cells.old }
+    ensures put { take (used + place + 16) cells.new ≡ take (used + place) cells.old ++ take 16 (drop place octets.now) }
+    ensures length { length cells.new ≡ length cells.old }
+{
+    let _ = put_at(cells, used + place, &octets[place..place + 16]);
+}
+
+/// Where the second of three parts of 16 octets begins, of which the last begins here.
+#[inline(always)]
+fn middle_of(last: usize) -> usize
+    requires { last ≤ 32 }
+    ensures behind_first { result ≤ 16 }
+    ensures before_last { result ≤ last }
+    ensures last { last ≤ result + 16 }
+{
+    if last < 16 { last } else { 16 }
+}
+
+/// Puts 16 to 48 octets as three parts of 16, which may overlap: without a call, and with no jump by their number.
+#[inline(always)]
+fn put_parts(cells: &mut [u8], used: usize, octets: &[u8]) -> usize
+    requires least { 16 ≤ length octets.now }
+    requires most { length octets.now ≤ 48 }
+    requires room { used + length octets.now ≤ length cells.old }
+    ensures put { take result cells.new ≡ take used cells.old ++ octets.now }
+    ensures used { result ≡ used + length octets.now }
+    ensures length { length cells.new ≡ length cells.old }
+{
+    let last = octets.len() - 16;
+    let middle = middle_of(last);
+    put_part(cells, used, octets, 0);
+    put_part(cells, used, octets, middle);
+    put_part(cells, used, octets, last);
+    used + last + 16
+}
+
+/// Puts octets as `put_at` does, in less time where there are 16 to 48.
+#[inline(always)]
+pub(crate) fn put_few(cells: &mut [u8], used: usize, octets: &[u8]) -> usize
+    requires { used + length octets.now ≤ length cells.old }
+    ensures put { take result cells.new ≡ take used cells.old ++ octets.now }
+    ensures used { result ≡ used + length octets.now }
+    ensures length { length cells.new ≡ length cells.old }
+{
+    if octets.len() >= 16 && octets.len() <= 48 {
+        return put_parts(cells, used, octets);
+    }
+    put_at(cells, used, octets)
 }
 
 impl<const N: usize> Buffer<N> {
@@ -99,7 +153,7 @@ impl<const N: usize> Buffer<N> {
 
     /// Appends octets.
     #[inline(always)]
-    pub(crate) fn put_all(&mut self, octets: &[u8])
+    pub(crate) fn extend(&mut self, octets: &[u8])
         requires { length self.old + length octets.now ≤ N }
         ensures { self.new ≡ self.old ++ octets.now }
     {

@@ -5,7 +5,7 @@ ghost use Rattle.std.specs.Io.KnownBytes.{Appends};
 ghost use Rattle.rohc_capture.specs.Written.{quad, missing, pcap_head, section_head, interface_head, pcap_front, pcapng_front, pcapng_back, before_frame, after_frame, is_in_time, head_of, frame_record};
 
 use crate::batch::{BATCH, Batch};
-use crate::buffer::{Buffer, put_at};
+use crate::buffer::{Buffer, put_at, put_few};
 use std::io::Write;
 
 /// The form of a capture that is written.
@@ -42,7 +42,7 @@ fn append(head: &mut Head, number: u32)
     requires { length head.old + 4 ≤ 32 }
     ensures { head.new ≡ head.old ++ quad number }
 {
-    head.put_all(&number.to_be_bytes());
+    head.extend(&number.to_be_bytes());
 }
 
 /// Puts a number behind the first `used` octets, and returns how many there are then.
@@ -337,6 +337,6 @@ fn put_all(
     let size = (front.len() + rest.len()) as u32;
     let used = put_before(cells, used, format, nanos, size);
     let used = put_at(cells, used, front);
-    let used = put_at(cells, used, rest);
+    let used = put_few(cells, used, rest);
     put_after(cells, used, format, size)
 }
