@@ -283,7 +283,7 @@ fn take_frame<W: Write, V: Write>(
     match packet_at_once(bulk.rules, record.link_type, record.original, frame) {
         Some((link, packet)) => {
             let nanos = record.nanos;
-            take_packet(
+            take_packet::<false, W, V>(
                 concentrator,
                 bulk,
                 link,
@@ -326,7 +326,7 @@ fn take_any_frame<W: Write, V: Write>(
 {
     match packet_in(bulk.rules, record.link_type, record.original, frame) {
         Ok(Some((link, packet))) => {
-            take_longer(
+            take_packet::<true, W, V>(
                 concentrator,
                 bulk,
                 link,
@@ -355,9 +355,11 @@ fn take_any_frame<W: Write, V: Write>(
 /// Nearly every packet is taken at once, and its record put into the batch. Then the answer is lent to no function that
 /// isn't inlined, and the compiler writes a header of 40 octets to where it goes, part by part.
 ///
+/// Each of two callers has a function of its own, by `APART`, which the compiler inlines there.
+///
 /// The error is a failed write. Then the packet has arrived, and a part of what it delivers may have been written.
 #[inline(always)]
-pub fn take_packet<W: Write, V: Write>(
+pub fn take_packet<const APART: bool, W: Write, V: Write>(
     concentrator: &mut Concentrator,
     bulk: &Bulk<'_>,
     link: u16,
