@@ -32,7 +32,7 @@ impl Model for Batch {
 }
 
 impl Batch {
-    ghost use Rattle.std.specs.Prelude.{◌≡◌, ◌≤◌, [], OnOk};
+    ghost use Rattle.std.specs.Prelude.{◌≡◌, ◌<◌, ◌≤◌, [], length, OnOk};
     ghost use Rattle.std.specs.Io.KnownBytes.{append_known, Keeps};
 
     /// No records, behind so many octets of a capture.
@@ -48,7 +48,8 @@ impl Batch {
     /// How many octets the next piece has, which ends at a multiple of a piece.
     #[inline(always)]
     fn piece(&self) -> usize
-        ensures { result ≤ PIECE }
+        ensures least { 0 < result }
+        ensures most { result ≤ PIECE }
     {
         PIECE - self.place % PIECE
     }
@@ -56,7 +57,8 @@ impl Batch {
     /// Writes a piece, if there is one. The error is `Failed`, and a part may have been written.
     #[inline(always)]
     pub fn pour_piece<W: Write>(&mut self, writer: &mut W) -> Result<(), WriteFault>
-        ensures { OnOk result (Keeps (append_known (W.contents writer.old) self.old) (append_known (W.contents writer.new) self.new)) }
+        ensures less { OnOk result (PIECE ≤ length self.old → length self.new < length self.old) }
+        ensures kept { OnOk result (Keeps (append_known (W.contents writer.old) self.old) (append_known (W.contents writer.new) self.new)) }
     {
         if self.octets.len() < self.piece() {
             return Ok(());
@@ -68,7 +70,8 @@ impl Batch {
     #[cold]
     #[inline(never)]
     fn write_piece<W: Write>(&mut self, writer: &mut W) -> Result<(), WriteFault>
-        ensures { OnOk result (Keeps (append_known (W.contents writer.old) self.old) (append_known (W.contents writer.new) self.new)) }
+        ensures less { OnOk result (PIECE ≤ length self.old → length self.new < length self.old) }
+        ensures kept { OnOk result (Keeps (append_known (W.contents writer.old) self.old) (append_known (W.contents writer.new) self.new)) }
     {
         let size = self.piece();
         let Some((piece, _)) = self.octets.as_slice().split_at_checked(size) else {

@@ -1,4 +1,5 @@
--- A run over the records of a capture. Words: Arrival, arrivals_of; Turn; Runs; IsLed, OfReading; Decompresses, Stops.
+-- A run over the records of a capture. Words: Arrival, arrivals_of; Turn; Runs; IsLed, OfReading;
+-- Decompresses, Stops.
 use Rattle.std.specs.Prelude.{◌≡◌, ◌≢◌, ℕ, ◌/◌, List, [], ◌∷◌, ◌++◌, map, Bool, Option, Some, None, IfSome, Result, Ok, Err}
 use Rattle.std.specs.List.{flat_map}
 use Rattle.std.specs.Io.KnownBytes.{Appends}
@@ -85,7 +86,8 @@ IsLed s es kind place rest =
     IfSome s (λ (s : Standing). (text : List ℕ) × (rest ≡ Some text) × Leads s es (standing kind place text))
 
 -- a record that was read, the end, or a fault of the capture; of a failed write nothing is said
-abbrev pub OfReading : (Result (Option Record) CaptureFault → Type 0) → Result (Option Record) BulkFault → Type 0
+abbrev pub OfReading : (Result (Option Record) CaptureFault → Type 0) → Result (Option Record) BulkFault →
+    Type 0
 OfReading P (Ok found) = P (Ok found)
 OfReading P (Err (Capture fault)) = P (Err fault)
 OfReading P (Err Write) = Unit {0}

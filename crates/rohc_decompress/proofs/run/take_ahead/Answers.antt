@@ -36,5 +36,5 @@ loop-preserved g c =
     let poured = append_known (g.W.Write.contents c.pour_piece.new.writer) c.pour_piece.new.self in (
       i.0 ++ e ∷ [],
       led-more s i.0 here.kind next.kind (place_of here) (place_of next) (rest here) (rest next) r (frame_of next) i.1 read,
-      Runs-kept how_run (i.0 ++ e ∷ []) old took poured took.feedback runs c.in-Ok-pour_piece.ensures (Keeps-refl took.feedback),
+      Runs-kept how_run (i.0 ++ e ∷ []) old took poured took.feedback runs c.in-Ok-pour_piece.ensures.kept (Keeps-refl took.feedback),
     )
