@@ -20,8 +20,5 @@ part-put before octets one two used k e size below within room p q =
     ∙ ap (λ l. before ++ l) (sym (take-add k 16 octets))
 
 -- a part of 16 octets
-pub part-range : (xs : List ℕ) (k : ℕ) → slice_range xs k (k + 16) ≡ take 16 (drop k xs)
-part-range xs k = let e : k + 16 - k ≡ 16 = omega arith in ap (λ n. take n (drop k xs)) e
-
 pub part-length : (xs : List ℕ) (k : ℕ) → k + 16 ≤ length xs → length (take 16 (drop k xs)) ≡ 16
 part-length xs k within = omega (arith, within, length-take 16 (drop k xs), length-drop k xs)

@@ -44,6 +44,19 @@ pub(crate) fn put_at(cells: &mut [u8], used: usize, octets: &[u8]) -> usize
     used + octets.len()
 }
 
+/// The 16 octets that stand at a place. They are a value, so that the compiler knows that writing them changes nothing that
+/// is still to be read.
+#[inline(always)]
+fn part_at(octets: &[u8], place: usize) -> [u8; 16]
+    requires { place + 16 ≤ length octets.now }
+    ensures { result ≡ take 16 (drop place octets.now) }
+{
+    let Some(part) = octets[place..place + 16].first_chunk::<16>() else {
+        unreachable!();
+    };
+    *part
+}
+
 /// Puts the 16 octets that stand at a place of others at that place behind the first `used`.
 #[inline(always)]
 fn put_part(cells: &mut [u8], used: usize, octets: &[u8], place: usize)
@@ -52,7 +65,8 @@ fn put_part(cells: &mut [u8], used: usize, octets: &[u8], place: usize)
     ensures put { take (used + place + 16) cells.new ≡ take (used + place) cells.old ++ take 16 (drop place octets.now) }
     ensures length { length cells.new ≡ length cells.old }
 {
-    let _ = put_at(cells, used + place, &octets[place..place + 16]);
+    let part = part_at(octets, place);
+    let _ = put_at(cells, used + place, &part);
 }
 
 /// Where the second of three parts of 16 octets begins, of which the last begins here.

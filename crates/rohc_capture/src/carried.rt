@@ -5,7 +5,7 @@ ghost use Rattle.std.specs.Result.{result_map_both};
 ghost use Rattle.rohc_capture.specs.Carried.{load_of, carried_in};
 
 use crate::fault::FrameFault;
-use crate::frame::{Protocol, network_in, protocol_of};
+use crate::frame::{Protocol, network_in};
 use crate::octets::{after, octet, word};
 use crate::udp::{Datagram, datagram_in, form_in, segment_in};
 
@@ -32,6 +32,12 @@ pub struct Carried<'a> {
 /// The link type of Ethernet frames.
 const ETHERNET: u16 = 1;
 
+/// The EtherType of ROHC.
+const ROHC: u16 = 0x22f1;
+
+/// The EtherType of IPv4.
+const IPV4: u16 = 0x0800;
+
 /// The octets of the headers of an Ethernet frame, of IPv4 and of UDP.
 const HEADERS: usize = 42;
 
@@ -45,7 +51,7 @@ const UDP: usize = 8;
 /// tags. `None` says nothing.
 ///
 /// The lengths are looked at first, and so the compiler drops the checks of single octets.
-#[tactic(auto, unfolding(crate::specs::Carried::carried_in, crate::specs::Frame::network_in, crate::specs::Frame::ethernet, crate::specs::Frame::untagged, crate::specs::Frame::typed, crate::specs::Udp::datagram_in))]
+#[tactic(auto, unfolding(crate::specs::Carried::carried_in, crate::specs::Frame::network_in, crate::specs::Frame::ethernet, crate::specs::Frame::untagged, crate::specs::Frame::typed, crate::specs::Frame::protocol_of, crate::specs::Udp::datagram_in))]
 #[inline(always)]
 pub(crate) fn carried_at_once(link_type: u16, frame: &[u8]) -> Option<Carried<'_>>
     ensures { IfSome result (λ carried. carried_in link_type frame.now ≡ Ok (load_of carried)) }
@@ -54,34 +60,34 @@ pub(crate) fn carried_at_once(link_type: u16, frame: &[u8]) -> Option<Carried<'_
         return None;
     }
     let (kind, packet) = word(after(frame, 12).ok()?).ok()?;
-    match protocol_of(kind) {
-        Protocol::Ipv4 => {
-            let (first, _) = octet(packet).ok()?;
-            if first != PLAIN_IPV4 {
-                return None;
-            }
-            let segment = segment_in(packet).ok()?;
-            if segment.len() < UDP {
-                return None;
-            }
-            let Datagram {
-                destination,
-                payload,
-                ..
-            } = form_in(segment).ok()?;
-            Some(Carried {
-                vlan: None,
-                carrier: Carrier::Udp(destination),
-                octets: payload,
-            })
-        }
-        Protocol::Rohc => Some(Carried {
+    if kind == ROHC {
+        return Some(Carried {
             vlan: None,
             carrier: Carrier::Link,
             octets: packet,
-        }),
-        Protocol::Other => None,
+        });
     }
+    if kind != IPV4 {
+        return None;
+    }
+    let (first, _) = octet(packet).ok()?;
+    if first != PLAIN_IPV4 {
+        return None;
+    }
+    let segment = segment_in(packet).ok()?;
+    if segment.len() < UDP {
+        return None;
+    }
+    let Datagram {
+        destination,
+        payload,
+        ..
+    } = form_in(segment).ok()?;
+    Some(Carried {
+        vlan: None,
+        carrier: Carrier::Udp(destination),
+        octets: payload,
+    })
 }
 
 /// What a frame of this link type carries. The link types are those of `network_in`.

@@ -49,14 +49,6 @@ pub struct Bulk<'a> {
     pub format: Format,
 }
 
-/// An answer on a link, with the time of its frame in nanoseconds since 1970.
-#[derive(Drop)]
-struct Answered<'a> {
-    link: u16,
-    nanos: u64,
-    answer: Answer<'a>,
-}
-
 /// Writes the heads of both captures: of raw IP packets, and of feedback in Ethernet frames.
 pub fn begin<W: Write, V: Write>(
     format: Format,
@@ -295,16 +287,33 @@ fn take_frame<W: Write, V: Write>(
                 tally,
             )
         }
-        None => take_any_frame(
-            concentrator,
-            bulk,
-            *record,
-            frame,
-            batch,
-            packets,
-            feedback,
-            tally,
-        ),
+        None => {
+            // Copied field by field, so that it stays in registers on the likely way.
+            let Record {
+                nanos,
+                original,
+                interface,
+                place,
+                link_type,
+            } = *record;
+            let copy = Record {
+                nanos,
+                original,
+                interface,
+                place,
+                link_type,
+            };
+            take_any_frame(
+                concentrator,
+                bulk,
+                copy,
+                frame,
+                batch,
+                packets,
+                feedback,
+                tally,
+            )
+        }
     }
 }
 
@@ -389,16 +398,13 @@ pub fn take_packet<const APART: bool, W: Write, V: Write>(
             tally,
         );
     }
-    if put_answer(bulk, nanos, &answer, batch) {
-        more(&mut tally.delivered);
-        return Ok(());
+    match long_in(&answer) {
+        Some(long) => {
+            more(&mut tally.delivered);
+            put_at_once(bulk, nanos, long, batch, packets)
+        }
+        None => take_other(bulk, link, nanos, answer, batch, packets, feedback, tally),
     }
-    let answered = Answered {
-        link,
-        nanos,
-        answer,
-    };
-    take_other(bulk, answered, batch, packets, feedback, tally)
 }
 
 /// Takes a packet that isn't taken at once.
@@ -424,24 +430,67 @@ fn take_longer<W: Write, V: Write>(
     take_answer(bulk, link, nanos, &answer, batch, packets, feedback, tally)
 }
 
-/// Puts the record of what an answer delivers into the batch, and returns true, if that is a packet whose head has 40
-/// octets, without feedback, and there is room. Nearly every answer is one.
+/// The packet of an answer that delivers one whose head has 40 octets, without feedback for the compressor. Nearly every
+/// answer does.
 #[inline(always)]
-fn put_answer(bulk: &Bulk<'_>, nanos: u64, answer: &Answer<'_>, batch: &mut Batch) -> bool
-    ensures put { result ≡ true → batch.new ≡ batch.old
-        ++ packet_text bulk.now.format bulk.now.padded nanos (packet_of (report_of answer.now)) }
-    ensures feedback { result ≡ true → feedback_of (report_of answer.now) ≡ None }
-    ensures kept { result ≡ false → batch.new ≡ batch.old }
+fn long_in<'b, 'a>(answer: &'b Answer<'a>) -> Option<&'b Delivered<'a>>
+    ensures packet { IfSome result (λ long. packet_of (report_of answer.now) ≡ Some (delivered_packet long.now)) }
+    ensures feedback { IfSome result (λ long. feedback_of (report_of answer.now) ≡ None) }
+    ensures long { IfSome result (λ long. length long.now.head.items ≡ 40) }
 {
     let Answer::Arrived { reply, .. } = answer else {
-        return false;
+        return None;
     };
     if reply.outcome != Outcome::Delivered || reply.feedback.is_some() {
-        return false;
+        return None;
     }
     match &reply.packet {
-        Some(packet) if packet.head.len() == HEAD => put_long(bulk, nanos, packet, batch),
-        _ => false,
+        Some(long) if long.head.len() == HEAD => Some(long),
+        _ => None,
+    }
+}
+
+/// Puts the record of a packet whose head has 40 octets into the batch, or writes it behind the batch. For the latter the
+/// head is copied, so that on the likely way it stays in registers.
+#[inline(always)]
+fn put_at_once<W: Write>(
+    bulk: &Bulk<'_>,
+    nanos: u64,
+    long: &Delivered<'_>,
+    batch: &mut Batch,
+    packets: &mut W,
+) -> Result<(), WriteFault>
+    requires { length long.now.head.items ≡ 40 }
+    ensures { OnOk result (Appends (append_known (W.contents packets.old) batch.old) (append_known (W.contents packets.new) batch.new)
+        (packet_text bulk.now.format bulk.now.padded nanos (Some (delivered_packet long.now)))) }
+{
+    if put_long(bulk, nanos, long, batch) {
+        return Ok(());
+    }
+    let mut head = [0u8; HEAD];
+    head.copy_from_slice(long.head.as_slice());
+    put_behind_batch(bulk, nanos, head, long.payload, batch, packets)
+}
+
+/// Writes the batch, and behind it the record of a packet whose head has 40 octets.
+#[cold]
+#[inline(never)]
+fn put_behind_batch<W: Write>(
+    bulk: &Bulk<'_>,
+    nanos: u64,
+    head: [u8; HEAD],
+    payload: &[u8],
+    batch: &mut Batch,
+    packets: &mut W,
+) -> Result<(), WriteFault>
+    ensures { OnOk result (Appends (append_known (W.contents packets.old) batch.old) (append_known (W.contents packets.new) batch.new)
+        (packet_text bulk.now.format bulk.now.padded nanos (Some (record { head = head; payload = payload.now })))) }
+{
+    batch.pour(packets)?;
+    let payload = shown(bulk.padded, &head, payload);
+    match write_record(packets, bulk.format, nanos, &head, payload) {
+        Ok(()) => Ok(()),
+        Err(_) => Err(WriteFault::Failed),
     }
 }
 
@@ -464,7 +513,9 @@ fn put_long(bulk: &Bulk<'_>, nanos: u64, long: &Delivered<'_>, batch: &mut Batch
 #[inline(never)]
 fn take_other<W: Write, V: Write>(
     bulk: &Bulk<'_>,
-    answered: Answered<'_>,
+    link: u16,
+    nanos: u64,
+    answer: Answer<'_>,
     batch: &mut Batch,
     packets: &mut W,
     feedback: &mut V,
@@ -472,15 +523,10 @@ fn take_other<W: Write, V: Write>(
 ) -> Result<(), WriteFault>
     ensures packets { OnOk result (Appends (append_known (W.contents packets.old) batch.old)
         (append_known (W.contents packets.new) batch.new)
-        (packet_text bulk.now.format bulk.now.padded answered.entry.nanos (packet_of (report_of answered.entry.answer)))) }
+        (packet_text bulk.now.format bulk.now.padded nanos (packet_of (report_of answer.entry)))) }
     ensures feedback { OnOk result (Appends (V.contents feedback.old) (V.contents feedback.new)
-        (feedback_text bulk.now.format answered.entry.link answered.entry.nanos (feedback_of (report_of answered.entry.answer)))) }
+        (feedback_text bulk.now.format link nanos (feedback_of (report_of answer.entry)))) }
 {
-    let Answered {
-        link,
-        nanos,
-        answer,
-    } = answered;
     take_answer(bulk, link, nanos, &answer, batch, packets, feedback, tally)
 }
 

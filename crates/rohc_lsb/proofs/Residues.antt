@@ -1,8 +1,10 @@
 use Rattle.std.proofs.Common.{◌≡◌, ℕ, suc, ◌+◌, ◌-◌, ◌*◌, ◌/◌, ◌%◌, ◌<◌, ◌≤◌, ℤ, pos, negsuc, ◌+ℤ◌, refl, sym, ap, ◌∙◌, arith}
-use Rattle.std.proofs.lemmas.Nat.{mod-mul-add, mod_below}
+use Rattle.std.proofs.lemmas.Nat.{mod-mul-add, mod_below, pow-add, pow_pos}
 use Rattle.std.proofs.Math.Nat.{mod-add-mod, div-add-mod, mul-le-mul_left}
 use Rattle.std.proofs.lemmas.Int.{ints, int_rem_euclid_is}
-use Rattle.std.specs.Prelude.{unsigned_abs}
+use Rattle.std.specs.Prelude.{◌^◌, unsigned_abs}
+use Rattle.std.specs.Int.{cast_unsigned, w64}
+use Rattle.std.specs.Int.RustNames.{FitsSigned}
 use Rattle.rohc_lsb.specs.Interval.{modulo}
 
 -- v modulo m is that of a natural number some multiples of m above v
@@ -27,3 +29,12 @@ distance_back l m d below =
 pub remainder_once : (l m d e : ℕ) → d < m → e < m → (l + d) % m ≡ (l + e) % m → d ≡ e
 remainder_once l m d e d_below e_below same =
     sym (distance_back l m d d_below) ∙ ap (λ r. (r + (m - l % m)) % m) same ∙ distance_back l m e e_below
+
+-- the 64 bits of a whole number have the same remainder by a power of two
+pub remainder_of_bits : (v : ℤ) (w : ℕ) → FitsSigned w64 v → w ≤ 64 → cast_unsigned w64 v % 2 ^ w ≡ modulo v (2 ^ w)
+remainder_of_bits (pos a) w range few = sym (modulo_is (pos a) (2 ^ w) a 0 (pow_pos w) (omega (arith, ints)))
+remainder_of_bits (negsuc a) w range few =
+    let split : 64 - w + w ≡ 64 = omega arith in
+    let whole : 2 ^ (64 - w) * 2 ^ w ≡ 2 ^ 64 = sym (pow-add 2 (64 - w) w) ∙ ap (λ k. 2 ^ k) split in
+    sym (modulo_is (negsuc a) (2 ^ w) (2 ^ 64 - suc a) (2 ^ (64 - w)) (pow_pos w)
+    (omega (arith, ints, whole, range.sfits)))

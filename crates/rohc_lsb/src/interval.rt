@@ -31,10 +31,11 @@ pub(crate) fn value_meant(reference: u32, bits: Bits, p: u32) -> i64
     least + i64::from(above_least)
 }
 
-/// A whole number modulo 2^`width`, from 0 to 2^`width` - 1.
+/// A whole number modulo 2^`width`, from 0 to 2^`width` - 1. The compiler makes no division of it, as it would of
+/// `rem_euclid` where it doesn't know the width.
 pub(crate) fn remainder(value: i64, width: u8) -> u32
     requires { width ≤ 32 }
     ensures { result ≡ modulo value (2 ^ width) }
 {
-    value.rem_euclid(1i64 << width) as u32
+    (value.cast_unsigned() % (1u64 << width)) as u32
 }

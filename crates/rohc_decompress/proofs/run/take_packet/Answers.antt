@@ -15,16 +15,14 @@ returns-then-not-take_at_once g c =
     (c.take_at_once.ensures.stays c.if-not-take_at_once.true))
     c.take_longer.ensures
 
-pub returns-then-put_answer : goal.returns-then-put_answer
-returns-then-put_answer g c =
-    let packets = g.W.Write.contents c.args.packets.now in
+pub returns-in-Some : goal.returns-in-Some
+returns-in-Some g c =
     let feedback = g.V.Write.contents c.args.feedback.now in
     let report = report_of c.take_at_once.new.answer in
-    let put = c.put_answer.ensures.put c.if-put_answer.true in
-    record {
+    on_ok_weaker c.put_at_once.result (λ put. record {
       report = report;
       arrives = c.take_at_once.ensures.taken c.if-not-take_at_once.false;
-      packets = append_known-grown (append_known packets c.args.batch.now) packets c.args.batch.now c.put_answer.new.batch
-          (packet_text c.args.bulk.now.format c.args.bulk.now.padded c.args.nanos (packet_of report)) (Keeps-refl (append_known packets c.args.batch.now)) put;
-      feedback = subst (λ due. Appends feedback feedback (feedback_text c.args.bulk.now.format c.args.link c.args.nanos due)) (sym (c.put_answer.ensures.feedback c.if-put_answer.true)) (Appends-nil feedback);
-    }
+      packets = rw c.in-Some.ensures.packet put;
+      feedback = subst (λ due. Appends feedback feedback (feedback_text c.args.bulk.now.format c.args.link c.args.nanos due)) (sym c.in-Some.ensures.feedback) (Appends-nil feedback);
+    })
+    c.put_at_once.ensures
