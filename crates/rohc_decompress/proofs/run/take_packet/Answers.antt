@@ -1,9 +1,9 @@
 use Rattle.std.proofs.lemmas.Result.{on_ok_weaker}
 use Rattle.std.proofs.Common.{subst, sym}
 use Rattle.std.specs.Io.KnownBytes.{append_known, Appends}
-use Rattle.std.proofs.KnownBytes.{append_known-grown, Keeps-refl, Appends-nil}
+use Rattle.std.proofs.KnownBytes.{Appends-nil}
 use Rattle.rohc_concentrator.specs.Report.{report_of}
-use Rattle.rohc_decompress.specs.Written.{work, packet_text, packet_of, feedback_text}
+use Rattle.rohc_decompress.specs.Written.{work, feedback_text}
 use Rattle.rohc_decompress.proofs.RunLemmas.{takes_after}
 use Rattle.rohc_decompress.proofs.run.take_packet.Goals as goal
 
