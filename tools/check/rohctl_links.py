@@ -117,8 +117,8 @@ def check_good(trial: Trial) -> None:
     """What a good file sets, and the file to start from."""
     told = links(trial, "examples/two-links.toml")
     row = " ".join(told.text.splitlines()[1].split())
-    trial.same("the first link", "1 small 15 O 2/3 2/3 20 1000 5000 4960 4-7:U", row, told.call)
-    trial.demand("links 2 calls at most 16400 memory at most 5084000 octets" in told.text, "no sum of the links", told.call)
+    trial.same("the first link", "1 small 15 O 2/3 2/3 20 1000 5000 5216 4-7:U", row, told.call)
+    trial.demand("links 2 calls at most 16400 memory at most 5346400 octets" in told.text, "no sum of the links", told.call)
     trial.demand("unusual: link 2: no idle_ms: a silent call keeps its context" in told.text, "idle_ms = 0 isn't told", told.call)
     new = links(trial, "--new")
     file = trial.write("new.toml", new.text)

@@ -19,7 +19,7 @@ pub fn read_value(octets: &[u8]) -> Option<(u32, usize)>
 {
     match *octets {
         [a @ 0x00..=0x7f, ..] => Some((u32::from(a), 1)),
-        [a @ 0x80..=0xbf, b, ..] => Some((u32::from_be_bytes([0, 0, a & 0x3f, b]), 2)),
+        [a @ 0x80..=0xbf, b, ..] => Some((u32::from(a & 0x3f) * 256 + u32::from(b), 2)),
         [a @ 0xc0..=0xdf, b, c, ..] => Some((u32::from_be_bytes([0, a & 0x1f, b, c]), 3)),
         [a @ 0xe0..=0xff, b, c, d, ..] => Some((u32::from_be_bytes([a & 0x1f, b, c, d]), 4)),
         _ => None,

@@ -4,6 +4,7 @@ ghost use Rattle.std.specs.Prelude.{◌≡◌, false, ℕ, ◌≤◌, ◌+◌, �
 ghost use Rattle.rohc_frame.specs.Reading.{elements_of};
 ghost use Rattle.rohc_context.specs.Response.{response_of, delivered};
 ghost use Rattle.rohc_concentrator.specs.Report.{report_of, Arrived};
+ghost use Rattle.rohc_concentrator.specs.Taken.{IsRebuiltAlone};
 ghost use Rattle.rohc_c.specs.Relay.{FitsInRoom};
 ghost use Rattle.rohc_c.specs.Written.{whole_packet, relayed_in, StandsIn, IsPartTold, IsAnswerWritten, IsPacketWithin, IsWithin};
 
@@ -67,6 +68,18 @@ pub(crate) fn put_packet(delivered: &Delivered<'_>, place: &mut [u8]) -> usize
     head.len() + delivered.payload.len()
 }
 
+/// A head of 40 octets as a value, whose length the compiler knows.
+#[inline(always)]
+fn long_head(head: &[u8]) -> [u8; HEAD]
+    requires { length head.now ≡ 40 }
+    ensures { result ≡ head.now }
+{
+    let Some(octets) = head.first_chunk::<HEAD>() else {
+        unreachable!();
+    };
+    *octets
+}
+
 /// Writes a head of 40 octets at the start of a buffer. The compiler makes no call of a copy whose length it knows.
 #[inline(always)]
 fn put_long_head(head: &[u8], place: &mut [u8])
@@ -74,7 +87,7 @@ fn put_long_head(head: &[u8], place: &mut [u8])
     requires room { 40 ≤ length place.old }
     ensures { place.new ≡ head.entry.now ++ drop (length head.entry.now) place.old }
 {
-    place[..HEAD].copy_from_slice(head);
+    place[..HEAD].copy_from_slice(&long_head(head));
 }
 
 /// Writes a packet whose head has 40 octets into a buffer, and returns its length.
@@ -202,6 +215,22 @@ pub(crate) fn packet_in<'b, 'a>(answer: &'b Answer<'a>) -> Option<(u16, &'b Deli
         return None;
     }
     reply.packet.as_ref().map(|packet| (*cid, packet))
+}
+
+/// The CID and the packet of an answer that delivers one behind a rebuilt header, without feedback.
+#[inline(always)]
+pub(crate) fn rebuilt_in<'b, 'a>(answer: &'b Answer<'a>) -> (u16, &'b Delivered<'a>)
+    requires { IsRebuiltAlone (report_of answer.now) }
+    ensures report { report_of answer.now ≡ Arrived result.0 (delivered result.1.now.head.items result.1.now.payload.now None) [] }
+    ensures long { length result.1.now.head.items ≡ 40 }
+{
+    let Answer::Arrived { cid, reply, .. } = answer else {
+        unreachable!();
+    };
+    let Some(packet) = &reply.packet else {
+        unreachable!();
+    };
+    (*cid, packet)
 }
 
 /// Whether an answer relays feedback.

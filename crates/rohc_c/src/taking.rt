@@ -7,8 +7,9 @@ ghost use Rattle.rohc_c.specs.Calls.{HasRoom};
 ghost use Rattle.rohc_c.specs.Relay.{FitsInRoom};
 ghost use Rattle.rohc_c.specs.Written.{relayed_in, IsWithin, IsAnswerWritten};
 
-use crate::arrival::{RohcArrival, packet_in, put_long, put_packet, relays, tell_alone, write};
-use crate::room::HEAD;
+use crate::arrival::{
+    RohcArrival, packet_in, put_long, put_packet, rebuilt_in, relays, tell_alone, write,
+};
 use rohc_concentrator::{Answer, Concentrator};
 use rohc_context::AtOnce;
 
@@ -44,32 +45,26 @@ pub(crate) fn take_packet(
             arrival,
         );
     }
-    match packet_in(&answer) {
-        Some((cid, long)) if long.head.len() == HEAD => {
-            *arrival = tell_alone(cid, put_long(long, packet));
-        }
-        _ => write_other(answer, packet, feedback, relayed, arrival),
-    }
+    let (cid, rebuilt) = rebuilt_in(&answer);
+    *arrival = tell_alone(cid, put_long(rebuilt, packet));
 }
 
-/// Writes an answer of another shape.
-#[cold]
-#[inline(never)]
-fn write_other(
-    answer: Answer<'_>,
-    packet: &mut [u8],
-    feedback: &mut [u8],
-    relayed: &mut [u8],
-    arrival: &mut RohcArrival,
+/// Takes one packet that isn't taken at once as a rebuilt one. If its first octet isn't that of a UO-0, no packet is taken at
+/// once that begins so.
+#[inline(always)]
+fn arrive<'a>(
+    concentrator: &mut Concentrator,
+    link: u16,
+    moment: u64,
+    octets: &'a [u8],
+    answer: &mut Answer<'a>,
 )
-    requires head { 40 ≤ length packet.old }
-    requires packet { IsWithin (length packet.old - 40) (report_of answer) }
-    requires feedback { 8 ≤ length feedback.old }
-    requires relayed { FitsInRoom (relayed_in (report_of answer)) (length relayed.old) }
-    ensures { IsAnswerWritten (report_of answer.entry)
-        (record { packet = packet.new; feedback = feedback.new; relayed = relayed.new }) arrival.new }
+    ensures { Arrives concentrator.old link moment octets.entry.now (report_of answer.new) concentrator.new }
 {
-    *arrival = write(&answer, packet, feedback, relayed);
+    match octets {
+        [0x00..=0x7f, ..] => concentrator.arrive_into(link, moment, octets, answer),
+        _ => concentrator.arrive_by_step(link, moment, octets, answer),
+    }
 }
 
 /// Takes one packet of a link that isn't taken at once, and writes the answer into the struct and the buffers.
@@ -90,7 +85,7 @@ fn take_longer(
         × IsAnswerWritten report (record { packet = packet.new; feedback = feedback.new; relayed = relayed.new }) arrival.new }
 {
     let mut answer = Answer::blank();
-    concentrator.arrive_into(link, moment, octets, &mut answer);
+    arrive(concentrator, link, moment, octets, &mut answer);
     *arrival = match packet_in(&answer) {
         Some((cid, delivered)) if !relays(&answer) => {
             tell_alone(cid, put_packet(delivered, packet))

@@ -46,8 +46,8 @@ pub(crate) fn has_room_for_many(
         && are_within(packets, octets.len(), room.len())
 }
 
-/// Takes one packet, and writes its answer into its part of the room. It is inlined: a call costs a tenth of an arrival.
-#[inline(always)]
+/// Takes one packet, and writes its answer into its part of the room. The compiler inlines it after it has optimized it
+/// alone; told to inline it always, it would do so before.
 fn take_one(
     concentrator: &mut Concentrator,
     packet: &RohcPacket,

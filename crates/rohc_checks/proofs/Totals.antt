@@ -1,6 +1,6 @@
 -- The Internet checksum, two octets at a time.
 use Rattle.std.specs.Int.{w16, from_le_bytes, to_be_bytes}
-use Rattle.std.proofs.Common.{◌≡◌, ◌==◌, ℕ, suc, ◌+◌, ◌-◌, ◌*◌, ◌/◌, ◌%◌, ◌^◌, ◌<◌, ◌≤◌, if◌then◌else◌, List, [], ◌∷◌, length, get_or, take, take_all, drop, add-zero, zero-add, sym, ap, ◌∙◌, arith, sum}
+use Rattle.std.proofs.Common.{◌≡◌, ◌==◌, ℕ, suc, ◌+◌, ◌-◌, ◌*◌, ◌/◌, ◌%◌, ◌<◌, ◌≤◌, if◌then◌else◌, List, [], ◌∷◌, length, get_or, take, take_all, drop, add-zero, zero-add, sym, ap, ◌∙◌, arith, sum}
 use Rattle.std.proofs.lemmas.List.Sums.{sum_by-cons}
 use Rattle.std.proofs.lemmas.Bool.Decides.{nat_tests}
 use Rattle.rohc_checks.specs.Sum.{header_sum, words}
@@ -72,21 +72,20 @@ unfolding words
 header_sum-end [] total none fits = sym (header_sum-one total fits)
 header_sum-end (octet ∷ octets) total none fits = cc
 
--- A total of words with their octets exchanged, with its carries brought round three times, and the octets of what
--- is left exchanged again: modulo 65,535, 256 times a word is the word with its octets exchanged.
-pub header_sum-exchanged : (total once twice thrice turns : ℕ) (all : List ℕ) → 0 < total → total < 2 ^ 35
-    → once ≡ total % 65536 + total / 65536 → twice ≡ once % 65536 + once / 65536 → thrice ≡ twice % 65536 + twice / 65536
-    → 0 < sum all → sum all + turns * 65535 ≡ total * 256
-    → from_le_bytes w16 (to_be_bytes w16 (65535 - thrice)) ≡ header_sum all
+-- The octets of what is left of a total of words with their octets exchanged, exchanged again: modulo 65,535, 256
+-- times a word is the word with its octets exchanged.
+pub header_sum-exchanged : (total n : ℕ) (all : List ℕ) → 0 < n → n < 65536 → n % 65535 ≡ total % 65535
+    → 0 < sum all → sum all % 65535 ≡ total * 256 % 65535
+    → from_le_bytes w16 (to_be_bytes w16 (65535 - n)) ≡ header_sum all
 unfolding complement header_sum
-header_sum-exchanged total once twice thrice turns all some fits e f g words-some same =
-    exchanged thrice (omega arith)
-    ∙ sym (turned (sum all) thrice (thrice / 256) (thrice % 256) (total / 65536 + once / 65536 + twice / 65536) turns words-some
-    (omega arith) (omega arith) (omega arith) (omega arith) (omega arith))
+header_sum-exchanged total n all some fits left words-some same =
+    exchanged n fits
+    ∙ sym (turned (sum all) n (n / 256) (n % 256) words-some
+    some (omega arith) (omega arith) (omega arith) (omega (arith, left, same)))
   where
     exchanged : (n : ℕ) → n < 65536 → from_le_bytes w16 (to_be_bytes w16 (65535 - n)) ≡ 65535 - (n % 256 * 256 + n / 256)
     exchanged n h = omega arith
 
-    turned : (s n high low k turns : ℕ) → 0 < s → 0 < n → n ≡ high * 256 + low → high < 256 → low < 256 → s + turns * 65535 ≡ (n + k * 65535) * 256
+    turned : (s n high low : ℕ) → 0 < s → 0 < n → n ≡ high * 256 + low → high < 256 → low < 256 → s % 65535 ≡ n * 256 % 65535
         → complement s ≡ 65535 - (low * 256 + high)
-    turned s n high low k turns p q e one two same = grind (arith, nat_tests)
+    turned s n high low p q e one two same = grind (arith, nat_tests)

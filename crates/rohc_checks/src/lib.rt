@@ -7,4 +7,4 @@ mod sum;
 mod tables;
 
 pub use crc::{crc3, crc7, crc8};
-pub use sum::{internet_sum, sum_of_exchanged};
+pub use sum::{internet_sum, sum_of_exchanged, with_carries};

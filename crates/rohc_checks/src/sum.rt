@@ -1,20 +1,26 @@
 //! The Internet checksum (RFC 791 3.1; RFC 1071 1).
 
-ghost use Rattle.std.specs.Prelude.{◌≡◌, ℕ, ◌+◌, ◌*◌, ◌^◌, ◌<◌, ◌≤◌, [], ◌∷◌, List, length, sum};
+ghost use Rattle.std.specs.Prelude.{◌≡◌, ℕ, ◌*◌, ◌%◌, ◌<◌, ◌∷◌, List, sum};
 ghost use Rattle.rohc_checks.specs.Sum.{header_sum, words};
+
+/// The one's complement sum of any 16-bit words, from their plain sum: the carries are brought round.
+pub fn with_carries(total: u32) -> u16
+    ensures rest { result % 65535 ≡ total % 65535 }
+    ensures some { 0 < total → 0 < result }
+{
+    let once = total % 65_536 + total / 65_536;
+    let twice = once % 65_536 + once / 65_536;
+    twice as u16
+}
 
 /// The Internet checksum of any 16-bit words, from the sum of these words with their two octets exchanged, or from
 /// any number of the same rest by 65,535: the complement of the one's complement sum, which is the same in either
 /// order of octets (RFC 1071 2 B). Neither sum is 0.
-pub fn sum_of_exchanged(total: u64) -> u16
+pub fn sum_of_exchanged(total: u32) -> u16
     requires some { 0 < total }
-    requires fits { total < 2 ^ 35 }
-    ensures { (all : List ℕ) (turns : ℕ) → 0 < sum all → sum all + turns * 65535 ≡ total * 256 → result ≡ header_sum all }
+    ensures { (all : List ℕ) → 0 < sum all → sum all % 65535 ≡ total * 256 % 65535 → result ≡ header_sum all }
 {
-    let once = (total % 65_536 + total / 65_536) as u32;
-    let twice = once % 65_536 + once / 65_536;
-    let thrice = twice % 65_536 + twice / 65_536;
-    u16::from_le_bytes((0xffff - thrice as u16).to_be_bytes())
+    u16::from_le_bytes((0xffff - with_carries(total)).to_be_bytes())
 }
 
 /// The Internet checksum of `octets`: the complement of the one's complement sum of their 16-bit

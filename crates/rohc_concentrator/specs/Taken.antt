@@ -1,11 +1,11 @@
--- What an arrival does to the records of its link. Words: TakesOnLink, Stays, IsFor; MayBeTaken, IsMissed.
+-- What an arrival does to the records of its link. Words: TakesOnLink, Stays, IsFor, IsRebuiltAlone; MayBeTaken, IsMissed.
 use Rattle.std.specs.Prelude.{◌≡◌, ◌≢◌, ◌<◌, ℕ, List, [], Option, Some, IfSome, Ok}
 use Rattle.indexmap.specs.IndexMap.{keys}
 use Rattle.rohc_frame.specs.declared.header.HeadKind.TheVariants.{Other}
 use Rattle.rohc_frame.specs.Header.{Header}
 use Rattle.rohc_frame.specs.Parts.{header_parts}
 use Rattle.rohc_context.specs.Record.{Record}
-use Rattle.rohc_context.specs.Response.{Response}
+use Rattle.rohc_context.specs.Response.{Response, IsRebuilt}
 use Rattle.rohc_context.specs.declared.at_once.AtOnce.{AtOnce}
 use Rattle.rohc_context.specs.AtOnce.{NeedsStep}
 use Rattle.rohc_concentrator.specs.declared.setting.LinkSetting.{LinkSetting}
@@ -34,6 +34,10 @@ pub record Stays (old new : LinkRecords) : Type 0 where
 -- the answer is one of this CID's context, without relayed feedback
 abbrev pub IsFor : ℕ → Report → Type 0
 IsFor cid report = (response : Response) × (report ≡ Arrived cid response [])
+
+-- it delivers a packet behind a rebuilt header, without feedback
+abbrev pub IsRebuiltAlone : Report → Type 0
+IsRebuiltAlone report = (cid : ℕ) × (response : Response) × (report ≡ Arrived cid response []) × IsRebuilt response
 
 -- the packet is a header of kind Other with nothing before it, and begins as a UO-0 does (RFC 3095 5.7.1)
 pub record MayBeTaken (s : LinkSetting) (octets : List ℕ) (h : Header) : Type 0 where

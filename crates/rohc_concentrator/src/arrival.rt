@@ -2,7 +2,7 @@
 
 use crate::answer::{Answer, NoLink};
 use crate::concentrator::Concentrator;
-use crate::link::{arrive_on, take_short};
+use crate::link::{arrive_on, take_any, take_short};
 use crate::place::{place_by_hash, stands_at};
 use crate::records::LinkRecords;
 use indexmap::IndexMap;
@@ -14,7 +14,7 @@ impl Concentrator {
     ghost use Rattle.rohc_concentrator.specs.Report.{report_of, IsAnswered};
     ghost use Rattle.rohc_concentrator.specs.Events.{Arrives};
     ghost use Rattle.rohc_concentrator.specs.Bears.{borne};
-    ghost use Rattle.rohc_concentrator.specs.Taken.{IsFor, IsMissed};
+    ghost use Rattle.rohc_concentrator.specs.Taken.{IsFor, IsRebuiltAlone, IsMissed};
 
     /// Takes one packet of a link, and returns the answer. `moment` is its arrival time in milliseconds.
     ///
@@ -66,6 +66,35 @@ impl Concentrator {
         arrive_on(records, moment, octets, answer);
     }
 
+    /// Takes a packet as `arrive_into` does, by the whole step of its context. It is for packets that `take_at_once` didn't
+    /// take, and doesn't try that once more.
+    pub fn arrive_by_step<'a>(
+        &mut self,
+        link: u16,
+        moment: u64,
+        octets: &'a [u8],
+        answer: &mut Answer<'a>,
+    )
+        ensures answer { IsAnswered (setting_at self.old link) (record_at self.old link) moment octets.entry.now
+            (report_of answer.new) (record_at self.new link) }
+        ensures settings { KeepsSettings self.old self.new }
+        ensures others { KeepsOthers self.old self.new link (borne (setting_at self.old link) octets.entry.now) }
+        ensures order { KeepsOrder self.old self.new link (borne (setting_at self.old link) octets.entry.now) }
+    {
+        let hint = self.places.hint(link);
+        let place = if stands_at(&self.links, hint, link) {
+            hint
+        } else {
+            let Some(found) = place_by_hash(&self.links, link) else {
+                *answer = Answer::Refused(Refusal::NoLink);
+                return;
+            };
+            found
+        };
+        let (_, records) = self.links.pair_mut(place);
+        take_any(records, moment, octets, answer);
+    }
+
     /// Takes a packet as `arrive_into` does and returns true, if nothing stands before its header, its first octet is that
     /// of a UO-0, it is one of `which`, and its context takes it at once, as nearly every packet of a call is. Then the answer is that of a
     /// CID's context, without relayed feedback. Otherwise it returns false: then all settings and records stay as they
@@ -84,6 +113,7 @@ impl Concentrator {
     ) -> bool
         ensures taken { result ≡ true → Arrives self.old link moment octets.entry.now (report_of answer.new) self.new }
         ensures alone { result ≡ true → (cid : ℕ) × IsFor cid (report_of answer.new) }
+        ensures rebuilt { result ≡ true → which ≡ AtOnce.Rebuilt → IsRebuiltAlone (report_of answer.new) }
         ensures missed { result ≡ false → IfSome (setting_at self.old link) (λ s. IsMissed which s (record_at self.old link) moment octets.entry.now) }
         ensures stays { result ≡ false → KeepsAll self.old self.new }
     {

@@ -4,13 +4,13 @@ ghost use Rattle.std.specs.Prelude.{◌≡◌, ◌≢◌, ◌≤◌, ℕ, None, 
 ghost use Rattle.indexmap.specs.IndexMap.{get, keys};
 ghost use Rattle.rohc_frame.specs.declared.header.HeadKind.TheVariants.{Other};
 ghost use Rattle.rohc_frame.specs.Reading.{header_of};
-ghost use Rattle.rohc_context.specs.Response.{response_of};
+ghost use Rattle.rohc_context.specs.Response.{response_of, IsRebuilt};
 ghost use Rattle.rohc_context.specs.Record.{record_of};
 ghost use Rattle.rohc_context.specs.AtOnce.{NeedsStep};
 ghost use Rattle.rohc_concentrator.specs.Setting.{settings_of};
 ghost use Rattle.rohc_concentrator.specs.Tables.{record_in, KeepsPlace, IsPlaceOf};
 ghost use Rattle.rohc_concentrator.specs.Report.{report_of, OwnStep};
-ghost use Rattle.rohc_concentrator.specs.Taken.{TakesOnLink, Stays, IsFor, IsMissed};
+ghost use Rattle.rohc_concentrator.specs.Taken.{TakesOnLink, Stays, IsFor, IsRebuiltAlone, IsMissed};
 
 use crate::answer::Answer;
 use crate::place::{Places, place_by_hash, stands_at};
@@ -50,6 +50,7 @@ pub(crate) fn take_short<'a>(
 ) -> bool
     ensures taken { result ≡ true → TakesOnLink records.old moment octets.entry.now (report_of answer.new) records.new }
     ensures alone { result ≡ true → (cid : ℕ) × IsFor cid (report_of answer.new) }
+    ensures rebuilt { result ≡ true → which ≡ AtOnce.Rebuilt → IsRebuiltAlone (report_of answer.new) }
     ensures missed { result ≡ false → IsMissed which records.old.setting (record_in records.old) moment octets.entry.now }
     ensures stays { result ≡ false → Stays records.old records.new }
 {
@@ -92,7 +93,12 @@ fn prepare(answer: &mut Answer<'_>, cid: u16)
 /// Takes any packet, and writes the answer. Few packets get here.
 #[cold]
 #[inline(never)]
-fn take_any<'a>(records: &mut LinkRecords, moment: u64, octets: &'a [u8], answer: &mut Answer<'a>)
+pub(crate) fn take_any<'a>(
+    records: &mut LinkRecords,
+    moment: u64,
+    octets: &'a [u8],
+    answer: &mut Answer<'a>,
+)
     ensures { TakesOnLink records.old moment octets.entry.now (report_of answer.new) records.new }
 {
     let settings = &records.setting.settings;
@@ -109,11 +115,10 @@ fn take_any<'a>(records: &mut LinkRecords, moment: u64, octets: &'a [u8], answer
         return;
     };
     // The reply is written into the answer in place.
-    *answer = Answer::Arrived {
-        cid: forward.cid,
-        reply: Reply::refused(Refusal::NoContext),
-        relayed,
-    };
+    prepare(answer, forward.cid);
+    if let Answer::Arrived { relayed: held, .. } = answer {
+        *held = relayed;
+    }
     if let Answer::Arrived { reply, .. } = answer {
         arrive_at(records, moment, &forward, reply);
     }
@@ -134,6 +139,7 @@ fn take_at<'a>(
     ensures others { (cid : ℕ) → cid ≢ forward.now.cid → record_in records.new cid ≡ record_in records.old cid }
     ensures setting { records.new.setting ≡ records.old.setting }
     ensures order { keys records.new.contexts ≡ keys records.old.contexts }
+    ensures rebuilt { result ≡ true → which ≡ AtOnce.Rebuilt → IsRebuilt (response_of reply.new) }
     ensures missed { result ≡ false → forward.now.kind ≡ Other → IfSome (record_in records.old forward.now.cid)
         (λ r. NeedsStep which records.old.setting.settings.idle_ms moment r (header_of forward.now)) }
     ensures stays { result ≡ false → record_in records.new forward.now.cid ≡ record_in records.old forward.now.cid }

@@ -1,5 +1,5 @@
--- A reply as plain data. Words: Packet, Response; response_of; delivered, stored, failed, refused.
-use Rattle.std.specs.Prelude.{ℕ, List, Option, Some, None}
+-- A reply as plain data. Words: Packet, Response; response_of; delivered, IsRebuilt, stored, failed, refused.
+use Rattle.std.specs.Prelude.{◌≡◌, ℕ, List, length, Option, Some, None}
 use Rattle.rohc_context.specs.declared.refusal.Refusal.{Refusal}
 use Rattle.rohc_context.specs.declared.reply.Delivered.{Delivered}
 use Rattle.rohc_context.specs.declared.reply.Outcome.{Outcome}
@@ -32,6 +32,10 @@ delivered head payload feedback = record {
   feedback = feedback;
   outcome = outcomes.Delivered;
 }
+
+-- a packet is delivered behind a rebuilt header, without feedback
+abbrev pub IsRebuilt : Response → Type 0
+IsRebuilt r = (head payload : List ℕ) × (length head ≡ 40) × (r ≡ delivered head payload None)
 
 -- the context was made or renewed, without a packet
 abbrev pub stored : Option (List ℕ) → Response

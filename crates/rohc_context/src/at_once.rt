@@ -21,7 +21,7 @@ impl Context {
     ghost use Rattle.rohc_frame.specs.Reading.{header_of};
     ghost use Rattle.rohc_context.specs.declared.settings.Settings.{Settings as Set};
     ghost use Rattle.rohc_context.specs.Record.{record_of};
-    ghost use Rattle.rohc_context.specs.Response.{response_of};
+    ghost use Rattle.rohc_context.specs.Response.{response_of, IsRebuilt};
     ghost use Rattle.rohc_context.specs.Step.{LoneStep};
     ghost use Rattle.rohc_context.specs.AtOnce.{NeedsStep};
 
@@ -43,6 +43,7 @@ impl Context {
     ) -> bool
         ensures taken { result ≡ true → (s : Set) → s.idle_ms ≡ idle_ms → LoneStep (Some (record_of self.old)) s moment (header_of forward.now)
             (response_of reply.new) (Some (record_of self.new)) }
+        ensures rebuilt { result ≡ true → which ≡ AtOnce.Rebuilt → IsRebuilt (response_of reply.new) }
         ensures missed { result ≡ false → (forward.now.kind ≢ HeadKind.Other) ⊎ NeedsStep which idle_ms moment (record_of self.old) (header_of forward.now) }
         ensures stays { result ≡ false → self.new ≡ self.old }
     {

@@ -139,6 +139,7 @@ impl FullContext {
         let stays = FullContext {
             fixed: self.fixed,
             reference: self.reference,
+            prepared: self.prepared,
             previous: self.previous,
             windows: (window, self.windows.1),
         };

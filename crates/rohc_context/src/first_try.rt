@@ -14,6 +14,7 @@ use rohc_header::{Dynamic, LONGEST_PAYLOAD, put_header};
 impl FullContext {
     ghost use Rattle.std.specs.Prelude.{◌≡◌, ◌≢◌, ◌≤◌, ◌⊎◌, ℕ, List, length, Some, None, Ok, true, false};
     ghost use Rattle.rohc_header.specs.Original.{IsOriginal, longest_payload};
+    ghost use Rattle.rohc_header.specs.Prepared.{IsPrepared};
     ghost use Rattle.rohc_chain.specs.Good.{IsGoodDynamic};
     ghost use Rattle.rohc_frame.specs.Reading.{header_of};
     ghost use Rattle.rohc_forms.specs.Packets.{content, is_extended};
@@ -21,7 +22,7 @@ impl FullContext {
     ghost use Rattle.rohc_context.specs.declared.state.State.TheVariants.{Full as Level};
     ghost use Rattle.rohc_context.specs.Window.{and_outcome, outcomes};
     ghost use Rattle.rohc_context.specs.Record.{FullContext as Left, reference_of, previous_of, state_of};
-    ghost use Rattle.rohc_context.specs.Response.{response_of, delivered};
+    ghost use Rattle.rohc_context.specs.Response.{response_of, delivered, IsRebuilt};
     ghost use Rattle.rohc_context.specs.Saved.{AreRegisters};
     ghost use Rattle.rohc_context.specs.NextReference.{with_numbers};
     ghost use Rattle.rohc_context.specs.Explains.{Explained};
@@ -33,7 +34,7 @@ impl FullContext {
     /// this check, of the width that packets of this format carry. If not, what `reply` holds means nothing.
     ///
     /// The payload is at most 65,495 octets. The registers of the reference are those of a header with these
-    /// fields.
+    /// fields, and what is prepared stays of it.
     #[inline(always)]
     pub(crate) fn rebuild<'a>(
         &self,
@@ -46,6 +47,7 @@ impl FullContext {
         requires payload { length payload.now ≤ longest_payload }
         requires good { IsGoodDynamic moving.now }
         requires registers { AreRegisters self.now.fixed moving.now self.now.reference.saved }
+        requires prepared { IsPrepared self.now.fixed moving.now self.now.prepared }
         ensures { (octets : List ℕ) × IsOriginal self.now.fixed moving.now (length payload.entry.now) octets
             × (response_of reply.new ≡ delivered octets payload.entry.now None)
             × (result ≡ true → check_for kind octets ≡ check) × (result ≡ false → check_for kind octets ≢ check) }
@@ -59,7 +61,13 @@ impl FullContext {
         let Some(Delivered { head, .. }) = &mut reply.packet else {
             unreachable!();
         };
-        put_header(head, &self.fixed, moving, payload.len() as u16);
+        put_header(
+            head,
+            &self.fixed,
+            &self.prepared,
+            moving,
+            payload.len() as u16,
+        );
         check_of(head.as_slice(), self.reference.saved, kind) == check
     }
 
@@ -71,7 +79,7 @@ impl FullContext {
             (record { moving = with_numbers self.old.reference.moving moving.now; carries_sum = self.old.reference.carries_sum })
             (Some (reference_of self.old.reference)) (and_outcome false (outcomes self.old.windows.0)) }
     {
-        self.previous = Some(Previous::of(&self.reference));
+        Previous::keep(&mut self.previous, &self.reference);
         self.reference.moving.sn = moving.sn;
         self.reference.moving.ts = moving.ts;
         self.reference.moving.id = moving.id;
@@ -92,6 +100,7 @@ impl FullContext {
             × (response_of reply.new ≡ delivered h.octets form.now.payload.now None)
             × (state_of (Level self.new) ≡ updated self.old.fixed (reference_of self.old.reference) (outcomes self.old.windows.0)
             (record { content = content form.now; reference = reference_of self.old.reference; header = h })) }
+        ensures rebuilt { result ≡ true → IsRebuilt (response_of reply.new) }
         ensures misses { result ≡ false → Misses self.old.fixed (unshifted (reference_of self.old.reference)) (content form.now) }
         ensures stays { result ≡ false → self.new ≡ self.old }
     {
@@ -139,6 +148,7 @@ impl FullContext {
             (said_under (header_of forward.now) (reference_of self.old.reference)) (Ok a))
             × (response_of reply.new ≡ delivered a.header.octets a.content.payload None)
             × (state_of (Level self.new) ≡ updated self.old.fixed (reference_of self.old.reference) (outcomes self.old.windows.0) a) }
+        ensures rebuilt { result ≡ true → IsRebuilt (response_of reply.new) }
         ensures missed { result ≡ false → (is_extended (header_of forward.now) self.old.reference.moving.rnd ≡ true)
             ⊎ MissesFirst self.old.fixed (reference_of self.old.reference) (said_under (header_of forward.now) (reference_of self.old.reference)) }
         ensures stays { result ≡ false → self.new ≡ self.old }

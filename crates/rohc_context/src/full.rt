@@ -8,7 +8,7 @@ use crate::state::{FullContext, State};
 use crate::window::Window;
 use arrayvec::ArrayVec;
 use rohc_frame::Forward;
-use rohc_header::{Dynamic, Header, Static};
+use rohc_header::{Dynamic, Header, Prepared, Static};
 
 impl FullContext {
     ghost use Rattle.std.specs.Prelude.{◌≡◌, ◌≤◌, ℕ, Some, length};
@@ -39,10 +39,12 @@ impl FullContext {
         ensures { (moment : ℕ) → Delivers settings.now moment (header_of forward.now) fixed moving payload.entry.now (outcomes window)
             (response_of result.1) (Some (record { accepted = moment; state = state_of result.0 })) }
     {
-        let header = Header::build(&fixed, &moving, payload.len()).unwrap();
+        let prepared = Prepared::of(&fixed, &moving);
+        let header = Header::with_prepared(&fixed, &prepared, &moving, payload.len()).unwrap();
         let context = FullContext {
             fixed,
             reference: first_reference(&moving, header.registers()),
+            prepared,
             previous: None,
             windows: (window, Window::empty()),
         };

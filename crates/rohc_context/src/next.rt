@@ -1,6 +1,6 @@
 //! The reference after an accepted packet, and the previous reference.
 
-ghost use Rattle.std.specs.Prelude.{◌≡◌, option_map};
+ghost use Rattle.std.specs.Prelude.{◌≡◌, false, option_map};
 ghost use Rattle.std.specs.Option.{ForSome};
 ghost use Rattle.rohc_header.specs.declared.fields.Static.{Static};
 ghost use Rattle.rohc_chain.specs.Good.{IsGoodDynamic};
@@ -95,11 +95,12 @@ pub(crate) fn kept_previous(
     requires near { SharesNumbering held.now.moving accepted.now.reference.moving }
     requires sum { next.now.carries_sum ≡ accepted.now.reference.carries_sum }
     requires marker { next.now.moving.marker ≡ accepted.now.reference.moving.marker }
+    ensures apart { ForSome result (λ p. p.alike ≡ false) }
     ensures is { ForSome result (λ p. (fields_by next.now.moving p ≡ accepted.now.reference.moving) × (p.saved ≡ accepted.now.reference.saved)) }
     ensures reference { option_map (previous_by next.now) result ≡ kept_previous (reference_of held.now) next.now.moving (reference_of accepted.now.reference) }
 {
     if is_same_numbering(&held.moving, &next.moving) {
-        Some(Previous::of(&accepted.reference))
+        Some(Previous::of(&accepted.reference, false))
     } else {
         None
     }

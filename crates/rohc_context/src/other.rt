@@ -22,7 +22,7 @@ use crate::window::Window;
 use arrayvec::ArrayVec;
 use rohc_forms::{Form, read_form};
 use rohc_frame::Forward;
-use rohc_header::LONGEST_PAYLOAD;
+use rohc_header::{LONGEST_PAYLOAD, Prepared};
 
 /// Decodes a packet of kind Other with the reference's RND, UDP checksum and stride. It is a fault if the rebuilt
 /// packet would be too long.
@@ -150,8 +150,10 @@ impl FullContext {
             return Err(Fault::Unfit);
         };
         let next = next_reference(form, &accepted);
+        let prepared = Prepared::of(&self.fixed, &next.moving);
         self.previous = kept_previous(&self.reference, &next, &accepted);
         self.reference = next;
+        self.prepared = prepared;
         self.windows.0.push(false);
         let packet = packet(&accepted, form);
         *reply = Reply::delivered(packet.head, packet.payload, None);
@@ -192,9 +194,11 @@ impl StaticContext {
         let Some(accepted) = attempt(&self.fixed, reference, 0, &form) else {
             return Err(Fault::Unfit);
         };
+        let next = next_reference(&form, &accepted);
         let context = FullContext {
             fixed: self.fixed,
-            reference: next_reference(&form, &accepted),
+            reference: next,
+            prepared: Prepared::of(&self.fixed, &next.moving),
             previous: None,
             windows: (Window::empty(), Window::empty()),
         };

@@ -1,7 +1,8 @@
 //! References: what packets of kind Other are decoded against.
 
-ghost use Rattle.std.specs.Prelude.{◌≡◌};
-ghost use Rattle.rohc_context.specs.Previous.{fields_by};
+ghost use Rattle.std.specs.Prelude.{◌≡◌, true, Some, option_map};
+ghost use Rattle.std.specs.Option.{ForSome};
+ghost use Rattle.rohc_context.specs.Previous.{fields_by, whole_by, IsAlike};
 
 use rohc_header::Dynamic;
 
@@ -45,14 +46,17 @@ pub(crate) struct Previous {
     /// The registers of the 3-bit and the 7-bit check after the static octets of headers with these
     /// fields.
     pub saved: (u8, u8),
+    /// That it differs from the reference in numbers alone: Identification, UDP checksum, sequence number and timestamp.
+    /// If it isn't set, it may differ in no more all the same.
+    pub alike: bool,
 }
 
 impl Previous {
-    /// What is kept of this reference.
-    #[inline(always)]
-    pub(crate) fn of(reference: &Reference) -> Previous
+    /// What is kept of this reference. `alike` is whether the next one will differ from it in numbers alone.
+    pub(crate) fn of(reference: &Reference, alike: bool) -> Previous
         ensures fields { fields_by reference.now.moving result ≡ reference.now.moving }
         ensures saved { result.saved ≡ reference.now.saved }
+        ensures alike { result.alike ≡ alike }
     {
         let moving = &reference.moving;
         Previous {
@@ -67,6 +71,43 @@ impl Previous {
             padding: moving.padding,
             extension: moving.extension,
             saved: reference.saved,
+            alike,
+        }
+    }
+
+    /// Keeps this reference as the previous one, with all its fields.
+    #[cold]
+    #[inline(never)]
+    fn keep_whole(kept: &mut Option<Previous>, reference: &Reference)
+        ensures { option_map (whole_by reference.now.moving) kept.new ≡ Some (reference.now.moving, reference.now.saved) }
+    {
+        *kept = Some(Previous::of(reference, true));
+    }
+
+    /// Takes the numbers of this reference, from which the previous one differs in numbers alone.
+    #[inline(always)]
+    pub(crate) fn take_numbers(&mut self, reference: &Reference)
+        requires alike { IsAlike reference.now self.old }
+        ensures fields { fields_by reference.now.moving self.new ≡ reference.now.moving }
+        ensures saved { self.new.saved ≡ reference.now.saved }
+    {
+        let moving = &reference.moving;
+        self.id = moving.id;
+        self.udp_sum = moving.udp_sum;
+        self.sn = moving.sn;
+        self.ts = moving.ts;
+    }
+
+    /// Keeps this reference as the previous one, before one that differs from it in numbers alone. If the one before it
+    /// did so too, numbers are all that is written.
+    #[inline(always)]
+    pub(crate) fn keep(kept: &mut Option<Previous>, reference: &Reference)
+        requires near { ForSome kept.old (λ p. p.alike ≡ true → IsAlike reference.now p) }
+        ensures { option_map (whole_by reference.now.moving) kept.new ≡ Some (reference.now.moving, reference.now.saved) }
+    {
+        match kept {
+            Some(previous) if previous.alike => previous.take_numbers(reference),
+            _ => Previous::keep_whole(kept, reference),
         }
     }
 

@@ -18,7 +18,7 @@ use crate::reference::{Previous, Reference};
 use crate::state::{FullContext, NoContext, State, StaticContext};
 use crate::window::Window;
 use rohc_bits::{Cursor, reading};
-use rohc_header::{Dynamic, Header, Static};
+use rohc_header::{Dynamic, Header, Prepared, Static};
 
 /// Reads a number of 8 bits.
 fn octet(cursor: &mut Cursor<'_>) -> Result<u8, ContextFault>
@@ -350,13 +350,14 @@ fn kept_of(reference: &Reference, moving: Dynamic, saved: (u8, u8)) -> Previous
     requires marker { moving.marker ≡ reference.now.moving.marker }
     ensures fields { fields_by reference.now.moving result ≡ moving }
     ensures saved { result.saved ≡ saved }
+    ensures apart { result.alike ≡ false }
 {
     let whole = Reference {
         moving,
         saved,
         ..*reference
     };
-    Previous::of(&whole)
+    Previous::of(&whole, false)
 }
 
 /// Reads a previous reference, if there is one, and computes its registers.
@@ -373,6 +374,7 @@ fn previous_if(
         (previous_by has (reference_of reference.now) cursor.old) }
     ensures kept { IfOk result (λ p. ForSome p (λ p.
         IsKept fixed.now (fields_by reference.now.moving p) p.saved)) }
+    ensures apart { IfOk result (λ p. ForSome p (λ p. p.alike ≡ false)) }
 {
     if !has {
         return Ok(None);
@@ -396,6 +398,7 @@ fn previous(
         (previous_at (reference_of reference.now) cursor.old) }
     ensures kept { IfOk result (λ p. ForSome p (λ p.
         IsKept fixed.now (fields_by reference.now.moving p) p.saved)) }
+    ensures apart { IfOk result (λ p. ForSome p (λ p. p.alike ≡ false)) }
 {
     let has = flag(cursor)?;
     previous_if(has, cursor, fixed, reference)
@@ -438,6 +441,7 @@ fn full_context(cursor: &mut Cursor<'_>) -> Result<State, ContextFault>
     Ok(State::Full(FullContext {
         fixed,
         reference,
+        prepared: Prepared::of(&fixed, &reference.moving),
         previous,
         windows: (window, Window::empty()),
     }))

@@ -1,15 +1,16 @@
 //! The states of a context (RFC 3095 4.3.2).
 
-ghost use Rattle.std.specs.Prelude.{◌≡◌, ◌<◌, ◌^◌};
+ghost use Rattle.std.specs.Prelude.{◌≡◌, ◌<◌, ◌^◌, true};
 ghost use Rattle.std.specs.Option.{ForSome};
 ghost use Rattle.std.proofs.Props.{props};
 ghost use Rattle.rohc_chain.specs.Good.{IsGoodStatic, IsGoodDynamic};
+ghost use Rattle.rohc_header.specs.Prepared.{IsPrepared};
 ghost use Rattle.rohc_context.specs.Saved.{IsKept};
-ghost use Rattle.rohc_context.specs.Previous.{fields_by};
+ghost use Rattle.rohc_context.specs.Previous.{fields_by, IsAlike};
 
 use crate::reference::{Previous, Reference};
 use crate::window::Window;
-use rohc_header::Static;
+use rohc_header::{Prepared, Static};
 
 /// What is kept of a context of profile 0x0001 in No Context.
 #[derive(Clone, Copy)]
@@ -39,13 +40,17 @@ pub(crate) struct FullContext {
     pub fixed: Static,
     /// The reference, against which packets are decoded.
     pub reference: Reference,
+    /// What stays of headers with the reference's fields.
+    pub prepared: Prepared,
     /// The previous reference, if the last packet left RND, NBO and stride as they were.
     pub previous: Option<Previous>,
     /// The outcomes that lead to Static Context, and a window that stays empty.
     pub windows: (Window, Window),
     ghost good: { IsGoodStatic fixed },
     ghost kept: { IsKept fixed reference.moving reference.saved } by { Prim.hlevel props },
+    ghost stays: { IsPrepared fixed reference.moving prepared } by { Prim.hlevel props },
     ghost kept_before: { ForSome previous (λ p. IsKept fixed (fields_by reference.moving p) p.saved) } by { Prim.hlevel props },
+    ghost near: { ForSome previous (λ p. p.alike ≡ true → IsAlike reference p) } by { Prim.hlevel props },
     ghost one_window: { windows.1.length ≡ 0 },
 }
 

@@ -1,10 +1,12 @@
 -- The checks of a header's ranges in turn are those of its static and of its dynamic octets.
-use Rattle.std.proofs.Common.{◌≡◌, ℕ, zero, suc, ◌+◌, ◌-◌, ◌^◌, ◌<◌, ◌≤◌, Bool, List, [], ◌∷◌, ◌++◌, length, get_or, take, drop, bit_and, bit_xor, refl, ap, sym, ◌∙◌, arith}
+use Rattle.std.proofs.Common.{◌≡◌, ℕ, zero, suc, ◌+◌, ◌-◌, ◌^◌, ◌<◌, ◌≤◌, Bool, List, [], ◌∷◌, ◌++◌, length, get_or, take, drop, bit_and, bit_xor, refl, ap, ◌∙◌, arith}
 use Rattle.rohc_checks.specs.Division.{check, degree, poly3, poly7}
-use Rattle.rohc_checks.proofs.Division.{check-append}
 use Rattle.rohc_header.specs.Check.{all_ones, static_octets, dynamic_octets}
+use Rattle.rohc_header.specs.declared.polynomial.Polynomial.{Polynomial}
+use Rattle.rohc_header.specs.declared.polynomial.Polynomial.TheVariants.{Three, Seven}
+use Rattle.rohc_header.specs.Polynomial.{coefficients}
 use Rattle.rohc_header.proofs.Split.{static_ranges, dynamic_ranges}
-use Rattle.rohc_header.proofs.SevenOctets.{HasPeriod, xored, AreSmall, all_small, folded}
+use Rattle.rohc_header.proofs.SevenOctets.{HasPeriod, xored, AreSmall, all_small, folded, folded_longer, period3, period7}
 use Rattle.std.proofs.Math.Seq.{drop-cons}
 use Rattle.std.proofs.lemmas.Nat.{and_le_r, pow_pos}
 use Rattle.std.specs.Int.Bits.{xor_zero_l}
@@ -16,14 +18,6 @@ ones3 = refl
 pub ones7 : all_ones poly7 ≡ 127
 unfolding poly7
 ones7 = refl
-
--- the check of four texts in turn is that of the whole
-four_checked : (poly : List Bool) (reg : ℕ) (a b c d : List ℕ)
-    → check poly (check poly (check poly (check poly reg a) b) c) d ≡ check poly reg (a ++ (b ++ (c ++ d)))
-four_checked poly reg a b c d =
-    check-append poly (check poly (check poly reg a) b) c d
-    ∙ check-append poly (check poly reg a) b (c ++ d)
-    ∙ check-append poly reg a (b ++ (c ++ d))
 
 -- a register under its mask
 pub masked : (k reg mask : ℕ) → mask ≡ 2 ^ k - 1 → bit_and reg mask < 2 ^ k
@@ -66,10 +60,40 @@ dynamic_folded poly reg octets h low forty small =
     (all_small second (small 5, (small 10, (small 11, (small 24, (small 25, (small 26, (small 27, tt))))))))
     (all_small last (small 29, (small 30, (small 31, (small 32, (small 33, (small 34, (small 35, tt)))))))))
 
-pub static_checked : (poly : List Bool) (reg : ℕ) (octets : List ℕ)
-    → check poly (check poly (check poly (check poly (check poly reg (take 2 (drop 0 octets))) (take 4 (drop 6 octets))) (take 12 (drop 12 octets))) (take 1 (drop 28 octets))) (take 4 (drop 36 octets))
-    ≡ check poly reg (static_octets octets)
-static_checked poly reg octets =
-    four_checked poly (check poly reg (take 2 (drop 0 octets))) (take 4 (drop 6 octets)) (take 12 (drop 12 octets)) (take 1 (drop 28 octets)) (take 4 (drop 36 octets))
-    ∙ check-append poly reg (take 2 (drop 0 octets)) (take 4 (drop 6 octets) ++ (take 12 (drop 12 octets) ++ (take 1 (drop 28 octets) ++ take 4 (drop 36 octets))))
-    ∙ ap (check poly reg) (sym (static_ranges octets))
+-- the static octets, one by one
+static_are : (octets : List ℕ) → length octets ≡ 40
+    → let at : ℕ → ℕ = λ k. get_or octets k 0 in
+    static_octets octets ≡ at 0 ∷ at 1 ∷ at 6 ∷ at 7 ∷ at 8 ∷ at 9 ∷ at 12 ∷ at 13 ∷ at 14 ∷ at 15 ∷ at 16 ∷ at 17 ∷ at 18 ∷ at 19 ∷ at 20 ∷ at 21 ∷ at 22 ∷ at 23 ∷ at 28 ∷ at 36 ∷ at 37 ∷ at 38 ∷ at 39 ∷ []
+unfolding placed
+static_are octets forty =
+    static_ranges octets
+    ∙ rw (placed_are 2 0 octets (omega arith), placed_are 4 6 octets (omega arith), placed_are 12 12 octets (omega arith), placed_are 1 28 octets (omega arith), placed_are 4 36 octets (omega arith)) refl
+
+-- the static octets in sevens from their end, added without carry
+pub static_folded : (poly : List Bool) (reg : ℕ) (octets : List ℕ) → HasPeriod poly → reg < 2 ^ degree poly → length octets ≡ 40 → ((k : ℕ) → get_or octets k 0 < 256)
+    → let at : ℕ → ℕ = λ k. get_or octets k 0 in
+    check poly 0 (
+    bit_xor (bit_xor (at 6) (at 15)) (at 22) ∷ bit_xor (bit_xor (at 7) (at 16)) (at 23) ∷ bit_xor (bit_xor (at 8) (at 17)) (at 28)
+    ∷ bit_xor (bit_xor (at 9) (at 18)) (at 36) ∷ bit_xor (bit_xor (at 12) (at 19)) (at 37)
+    ∷ bit_xor (bit_xor (bit_xor (bit_xor reg (at 0)) (at 13)) (at 20)) (at 38) ∷ bit_xor (bit_xor (bit_xor (at 1) (at 14)) (at 21)) (at 39) ∷ []
+    ) ≡ check poly reg (static_octets octets)
+unfolding AreSmall xored
+static_folded poly reg octets h low forty small =
+    let at : ℕ → ℕ = λ k. get_or octets k 0 in
+    let second : List ℕ = at 6 ∷ at 7 ∷ at 8 ∷ at 9 ∷ at 12 ∷ at 13 ∷ at 14 ∷ [] in
+    let third : List ℕ = at 15 ∷ at 16 ∷ at 17 ∷ at 18 ∷ at 19 ∷ at 20 ∷ at 21 ∷ [] in
+    let last : List ℕ = at 22 ∷ at 23 ∷ at 28 ∷ at 36 ∷ at 37 ∷ at 38 ∷ at 39 ∷ [] in
+    let all : static_octets octets ≡ at 0 ∷ at 1 ∷ second ++ (third ++ last) = static_are octets forty in
+    rw (← xor_zero_l (at 6), ← xor_zero_l (at 7), ← xor_zero_l (at 8), ← xor_zero_l (at 9), ← xor_zero_l (at 12), all)
+    (folded_longer poly reg (at 0) (at 1) second third last h low (small 0) (small 1) refl refl refl
+    (all_small second (small 6, (small 7, (small 8, (small 9, (small 12, (small 13, (small 14, tt))))))))
+    (all_small third (small 15, (small 16, (small 17, (small 18, (small 19, (small 20, (small 21, tt))))))))
+    (all_small last (small 22, (small 23, (small 28, (small 36, (small 37, (small 38, (small 39, tt)))))))))
+
+-- for each polynomial of a header's check
+pub period_of : (p : Polynomial) → HasPeriod (coefficients p)
+period_of Three = period3
+period_of Seven = period7
+
+pub ones_below : (poly : List Bool) → all_ones poly < 2 ^ degree poly
+ones_below poly = omega (arith, pow_pos (degree poly))

@@ -6,10 +6,6 @@ use Rattle.rohc_checks.specs.Sum.{words}
 cons : (x : ℕ) (xs : List ℕ) → sum (x ∷ xs) ≡ x + sum xs
 cons x xs = sum_by-cons (λ y. y) x xs
 
--- the turns of 65,535 by which 256 times two words with their octets exchanged differ from the words
-abbrev pub turns : List ℕ → ℕ
-turns octets = get_or octets 1 0 + get_or octets 2 0 * 256 + get_or octets 3 0 * 65537
-
 -- an address has two words
 pub two : (l : List ℕ) → length l ≡ 4 → get_or l 0 0 * 256 + get_or l 1 0 + (get_or l 2 0 * 256 + get_or l 3 0) ≡ sum (words l)
 unfolding words
@@ -53,5 +49,19 @@ front tos len id df ttl rest =
       cons (len / 256 * 256 + len % 256) third,
       cons (id / 256 * 256 + id % 256) fourth,
       cons (df * 256 + 0) fifth,
+      cons (ttl * 256 + 17) (words rest),
+    )
+
+-- the words among them that stay, and those behind
+pub staying : (tos df ttl : ℕ) (rest : List ℕ)
+    → 0x45 * 256 + tos + df * 256 + (ttl * 256 + 17) + sum (words rest) ≡ sum (words (0x45 ∷ tos ∷ df ∷ 0 ∷ ttl ∷ 17 ∷ rest))
+unfolding words
+staying tos df ttl rest =
+    let third : List ℕ = (ttl * 256 + 17) ∷ words rest in
+    let second : List ℕ = (df * 256 + 0) ∷ third in
+    omega (
+      arith,
+      cons (0x45 * 256 + tos) second,
+      cons (df * 256 + 0) third,
       cons (ttl * 256 + 17) (words rest),
     )

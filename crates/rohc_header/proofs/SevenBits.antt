@@ -210,6 +210,18 @@ both_shifted w s x y within first second =
 halves : (a b c d : ℕ) → a < 2 ^ 16 → c < 2 ^ 16 → bit_xor (b * 2 ^ 16 + a) (d * 2 ^ 16 + c) ≡ bit_xor b d * 2 ^ 16 + bit_xor a c
 halves a b c d low small = xor_block 16 b d a c low small
 
+-- a number of less than eight bits is added to the first of two octets
+pub low_octet : (first second reg m : ℕ) → first < 2 ^ 8 → reg < 2 ^ 8 → m ≡ first + second * 256 → bit_xor m reg ≡ bit_xor first reg + second * 256
+low_octet first second reg m small low e =
+    let one : m ≡ second * 2 ^ 8 + first = omega (arith, e) in
+    let other : reg ≡ 0 * 2 ^ 8 + reg = omega arith in
+    let whole : second * 2 ^ 8 + bit_xor first reg ≡ bit_xor first reg + second * 256 = omega arith in
+    ap (λ n. bit_xor n reg) one
+    ∙ ap (λ n. bit_xor (second * 2 ^ 8 + first) n) other
+    ∙ xor_block 8 second 0 first reg small low
+    ∙ ap (λ n. n * 2 ^ 8 + bit_xor first reg) (xor_zero_r second)
+    ∙ whole
+
 pub low_half : (a b c d m n : ℕ) → a < 2 ^ 16 → c < 2 ^ 16 → m ≡ b * 2 ^ 16 + a → n ≡ d * 2 ^ 16 + c → bit_xor m n % 65536 ≡ bit_xor a c
 low_half a b c d m n low small first second =
     rw (first, second) (omega (arith, halves a b c d low small, xor_lt 16 a c low small))

@@ -27,6 +27,7 @@ pub record HasPeriod (poly : List Bool) : Type 0 where
   pub keeps : (a b : ℕ) → a < 256 → b < 256 → keeps_sum (table_of poly) a b ≡ true
   pub stays : (reg : ℕ) → reg < 2 ^ degree poly → stays poly reg ≡ true
   pub zeros : check poly 0 (replicate 4 0) ≡ 0
+  pub zero : check poly 0 (0 ∷ []) ≡ 0
 
 -- octets added without carry
 unfoldable pub xored : List ℕ → List ℕ → List ℕ
@@ -145,6 +146,41 @@ folded poly reg p q r second last h low small_p small_q small_r seven also small
     ∙ check-append poly begun second last
     ∙ check-append poly reg (p ∷ q ∷ r ∷ []) (second ++ last)
 
+-- twenty-three octets likewise
+pub folded_longer : (poly : List Bool) (reg p q : ℕ) (second third last : List ℕ) → HasPeriod poly → reg < 2 ^ degree poly → p < 256 → q < 256
+    → length second ≡ 7 → length third ≡ 7 → length last ≡ 7
+    → All (λ octet. octet < 256) second → All (λ octet. octet < 256) third → All (λ octet. octet < 256) last
+    → check poly 0 (xored (xored (xored (0 ∷ 0 ∷ 0 ∷ 0 ∷ 0 ∷ bit_xor reg p ∷ q ∷ []) second) third) last) ≡ check poly reg (p ∷ q ∷ second ++ (third ++ last))
+unfolding AreSmall
+folded_longer poly reg p q second third last h low small_p small_q seven also too small less least =
+    let wide : reg < 256 = omega (arith, pow_mono h.narrow) in
+    let first : List ℕ = 0 ∷ 0 ∷ 0 ∷ 0 ∷ 0 ∷ bit_xor reg p ∷ q ∷ [] in
+    let zero_small : 0 < 256 = omega arith in
+    let first_small : All (λ octet. octet < 256) first = all_small first (zero_small, (zero_small, (zero_small, (zero_small, (zero_small, (xor_lt 8 reg p wide small_p, (small_q, tt))))))) in
+    let none : 0 < 2 ^ degree poly = omega arith in
+    let begun = check poly reg (p ∷ q ∷ []) in
+    let two = xored first second in
+    let two_length : length two ≡ 7 = length-xored first second (sym seven) in
+    let two_small = xored-small first second first_small small in
+    added poly 0 0 (xored two third) last h none none (length-xored two third (two_length ∙ sym also) ∙ two_length ∙ sym too) (xored-small two third two_small less) least
+    ∙ ap (λ x. bit_xor x (check poly 0 last)) (
+    added poly 0 0 two third h none none (two_length ∙ sym also) two_small less
+    ∙ ap (λ x. bit_xor x (check poly 0 third)) (
+    added poly 0 0 first second h none none (sym seven) first_small small
+    ∙ ap (λ x. bit_xor x (check poly 0 second)) (
+    sym (check-append poly 0 (0 ∷ []) (0 ∷ 0 ∷ 0 ∷ 0 ∷ bit_xor reg p ∷ q ∷ []))
+    ∙ ap (λ zero. check poly zero (0 ∷ 0 ∷ 0 ∷ 0 ∷ bit_xor reg p ∷ q ∷ [])) h.zero
+    ∙ leading poly reg p (q ∷ []) h low small_p
+    )
+    ∙ sym (seven_octets poly begun second h (check-lt poly reg (p ∷ q ∷ [])) seven small)
+    )
+    ∙ sym (seven_octets poly (check poly begun second) third h (check-lt poly begun second) also less)
+    )
+    ∙ sym (seven_octets poly (check poly (check poly begun second) third) last h (check-lt poly (check poly begun second) third) too least)
+    ∙ check-append poly (check poly begun second) third last
+    ∙ check-append poly begun second (third ++ last)
+    ∙ check-append poly reg (p ∷ q ∷ []) (second ++ (third ++ last))
+
 -- ---- The two polynomials, computed
 
 pub table3 : CRC3 ≡ table_of poly3
@@ -189,12 +225,21 @@ zeros7 : check poly7 0 (replicate 4 0) ≡ 0
 unfolding check bits number poly7 xor add_front divided remainder
 zeros7 = refl
 
+zero3 : check poly3 0 (0 ∷ []) ≡ 0
+unfolding check bits number poly3 xor add_front divided remainder
+zero3 = refl
+
+zero7 : check poly7 0 (0 ∷ []) ≡ 0
+unfolding check bits number poly7 xor add_front divided remainder
+zero7 = refl
+
 pub period3 : HasPeriod poly3
 unfolding poly3
 period3 = record {
   narrow = omega arith;
   keeps = λ a b low small. rw (← table3) (sum_at CRC3 a b sums3 low small);
   zeros = zeros3;
+  zero = zero3;
   stays = λ reg low. agree_below_at (stays poly3) (λ _. true) 8 reg stay3 low;
 }
 
@@ -204,6 +249,7 @@ period7 = record {
   narrow = omega arith;
   keeps = λ a b low small. rw (← table7) (sum_at CRC7 a b sums7 low small);
   zeros = zeros7;
+  zero = zero7;
   stays = λ reg low. agree_below_at (stays poly7) (λ _. true) 128 reg stay7 low;
 }
 

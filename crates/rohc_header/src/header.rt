@@ -1,14 +1,16 @@
 //! Rebuilt headers and their checks.
 
-ghost use Rattle.std.specs.Prelude.{◌≡◌, ◌+◌, ◌*◌, ◌<◌, ◌≤◌, ◌↔◌, length, get_or, bit_xor, IfSome, IsNone};
+ghost use Rattle.std.specs.Prelude.{◌≡◌, [], ◌+◌, ◌*◌, ◌<◌, ◌≤◌, ◌↔◌, length, get_or, bit_xor, IfSome, IsNone};
 ghost use Rattle.rohc_checks.specs.Division.{check, poly3, poly7};
 ghost use Rattle.rohc_header.specs.Original.{IsOriginal, longest_payload};
 ghost use Rattle.rohc_header.specs.Polynomial.{coefficients};
+ghost use Rattle.rohc_header.specs.Prepared.{IsPrepared};
 ghost use Rattle.rohc_header.specs.Check.{all_ones, header_check, static_octets, dynamic_octets};
 
 use crate::parts::{Octets, put_ip, put_rtp, put_udp};
 use crate::polynomial::Polynomial::{self, Seven, Three};
-use crate::{Dynamic, Static, field};
+use crate::prepared::Prepared;
+use crate::{Dynamic, Static};
 use arrayvec::ArrayVec;
 use rohc_checks::{crc3, crc7};
 
@@ -30,11 +32,26 @@ impl Header {
         ensures header { IfSome result (λ header. IsOriginal fixed.now moving.now payload_len header.octets) }
         ensures none { IsNone result ↔ (longest_payload < payload_len) }
     {
+        Header::with_prepared(fixed, &Prepared::of(fixed, moving), moving, payload_len)
+    }
+
+    /// Rebuilds a header as `build` does, where what stays of such headers is at hand.
+    pub fn with_prepared(
+        fixed: &Static,
+        prepared: &Prepared,
+        moving: &Dynamic,
+        payload_len: usize,
+    ) -> Option<Header>
+        requires prepared { IsPrepared fixed.now moving.now prepared.now }
+        requires narrow { moving.now.payload_type < 128 }
+        ensures header { IfSome result (λ header. IsOriginal fixed.now moving.now payload_len header.octets) }
+        ensures none { IsNone result ↔ (longest_payload < payload_len) }
+    {
         if payload_len > LONGEST_PAYLOAD {
             return None;
         }
         let mut octets = Octets::new();
-        put_header(&mut octets, fixed, moving, payload_len as u16);
+        put_header(&mut octets, fixed, prepared, moving, payload_len as u16);
         let octets = octets.into_inner().unwrap();
         Some(Header { octets })
     }
@@ -78,14 +95,23 @@ impl Header {
     }
 
     /// The register after the static octets, starting from all ones.
+    ///
+    /// As for the dynamic octets in `check7_after`, they are added without carry in groups of seven, counted from their
+    /// end. Both polynomials divide x^56 + 1.
     fn static_register(&self, polynomial: Polynomial) -> u8
         ensures { result ≡ check (coefficients polynomial) (all_ones (coefficients polynomial)) (static_octets self.now.octets) }
     {
-        let reg = crc(polynomial, ones(polynomial), &self.octets[field::UP_TO_TOS]);
-        let reg = crc(polynomial, reg, &self.octets[field::FRAGMENT_TO_PROTOCOL]);
-        let reg = crc(polynomial, reg, &self.octets[field::ADDRESSES_AND_PORTS]);
-        let reg = crc(polynomial, reg, &self.octets[field::RTP_FLAGS]);
-        crc(polynomial, reg, &self.octets[field::SSRC])
+        let octets = &self.octets;
+        let folded = [
+            octets[6] ^ octets[15] ^ octets[22],
+            octets[7] ^ octets[16] ^ octets[23],
+            octets[8] ^ octets[17] ^ octets[28],
+            octets[9] ^ octets[18] ^ octets[36],
+            octets[12] ^ octets[19] ^ octets[37],
+            ones(polynomial) ^ octets[0] ^ octets[13] ^ octets[20] ^ octets[38],
+            octets[1] ^ octets[14] ^ octets[21] ^ octets[39],
+        ];
+        crc(polynomial, 0x00, &folded)
     }
 
     /// The check, from the register after the static octets.
@@ -97,19 +123,45 @@ impl Header {
 }
 
 /// Writes the header of a packet with these fields and `payload_len` octets of payload, in place of what `octets`
-/// holds. `payload_len` is at most 65,495, and the payload type is below 128.
+/// holds. `prepared` is what stays of such headers, `payload_len` is at most 65,495, and the payload type is below 128.
 #[inline(always)]
-pub fn put_header(octets: &mut ArrayVec<u8, 40>, fixed: &Static, moving: &Dynamic, payload_len: u16)
+pub fn put_header(
+    octets: &mut ArrayVec<u8, 40>,
+    fixed: &Static,
+    prepared: &Prepared,
+    moving: &Dynamic,
+    payload_len: u16,
+)
+    requires prepared { IsPrepared fixed.now moving.now prepared.now }
+    requires fits { payload_len ≤ longest_payload }
+    requires narrow { moving.now.payload_type < 128 }
+    ensures { IsOriginal fixed.now moving.now payload_len octets.new.items }
+{
+    octets.clear();
+    append_header(octets, fixed, prepared, moving, payload_len);
+}
+
+/// Writes a header as `put_header` does into `octets`, which holds none yet.
+#[inline(always)]
+pub fn append_header(
+    octets: &mut ArrayVec<u8, 40>,
+    fixed: &Static,
+    prepared: &Prepared,
+    moving: &Dynamic,
+    payload_len: u16,
+)
+    requires empty { octets.old.items ≡ [] }
+    requires prepared { IsPrepared fixed.now moving.now prepared.now }
     requires fits { payload_len ≤ longest_payload }
     requires narrow { moving.now.payload_type < 128 }
     ensures { IsOriginal fixed.now moving.now payload_len octets.new.items }
 {
     // Copied first, so that the compiler knows that the fields don't overlap the octets.
     let fixed = *fixed;
-    octets.clear();
-    put_ip(octets, &fixed, moving, payload_len);
+    let prepared = *prepared;
+    put_ip(octets, &fixed, &prepared, moving, payload_len);
     put_udp(octets, &fixed, moving, payload_len);
-    put_rtp(octets, &fixed, moving);
+    put_rtp(octets, &fixed, &prepared, moving);
 }
 
 /// The 3-bit check of a header's 40 octets, from the register `reg` after its static octets (RFC 3095 5.9.2).
@@ -123,7 +175,7 @@ pub fn check3_after(octets: &[u8], reg: u8) -> u8
     ensures { result ≡ check poly3 reg (dynamic_octets octets.now) }
 {
     let reg = reg & 0x07;
-    let total_length = word(octets[2] ^ reg, octets[3]) << 4;
+    let total_length = added_first(octets[2], octets[3], reg) << 4;
     let id = word(octets[4], octets[5]) << 6;
     let ip_checksum_and_sn = (word(octets[10], octets[11]) ^ word(octets[30], octets[31])) << 1;
     let (udp_length_and_ts, udp_sum_and_ts) = added(
@@ -160,6 +212,14 @@ fn word(first: u8, second: u8) -> u32
     ensures { result ≡ first + second * 256 }
 {
     u32::from(u16::from_le_bytes([first, second]))
+}
+
+/// Two octets as `word` gives them, with a register of three bits added to the first without carry.
+fn added_first(first: u8, second: u8, reg: u8) -> u32
+    requires { reg < 8 }
+    ensures { result ≡ bit_xor first reg + second * 256 }
+{
+    word(first, second) ^ u32::from(reg)
 }
 
 /// The first words of both, added without carry, and so the second words. A word's first octet is in its low bits.

@@ -1,6 +1,6 @@
 //! W-LSB decoding: the value that low bits mean in their interpretation interval (RFC 3095 4.5.1).
 
-ghost use Rattle.std.specs.Prelude.{◌≡◌, ℤ, ◌^◌, ◌<◌, ◌≤◌, pos};
+ghost use Rattle.std.specs.Prelude.{◌≡◌, ℤ, ◌^◌, ◌<◌, ◌≤◌, pos, ◌+ℤ◌, ◌-ℤ◌, ◌≤ℤ◌};
 ghost use Rattle.rohc_bits.specs.LowBits.{low_bits};
 ghost use Rattle.rohc_lsb.specs.Interval.{LiesInInterval, modulo};
 
@@ -26,9 +26,18 @@ pub fn interval_value(reference: u32, bits: Bits, p: u32, width: u8) -> u32
 pub(crate) fn value_meant(reference: u32, bits: Bits, p: u32) -> i64
     ensures { LiesInInterval (pos reference) (low_bits bits) p result }
 {
+    i64::from(reference) + steps_meant(reference, bits, p)
+}
+
+/// How many steps the number that the bits mean is after the reference. It may be before it.
+pub(crate) fn steps_meant(reference: u32, bits: Bits, p: u32) -> i64
+    ensures meant { LiesInInterval (pos reference) (low_bits bits) p (pos reference +ℤ result) }
+    ensures least { (pos 0 -ℤ pos (2 ^ 32)) ≤ℤ result }
+    ensures greatest { result ≤ℤ pos (2 ^ 32) }
+{
     let least = i64::from(reference) - i64::from(p);
     let above_least = remainder(i64::from(bits.value) - least, bits.count);
-    least + i64::from(above_least)
+    i64::from(above_least) - i64::from(p)
 }
 
 /// A whole number modulo 2^`width`, from 0 to 2^`width` - 1. The compiler makes no division of it, as it would of

@@ -5,7 +5,7 @@ ghost use Rattle.rohc_bits.specs.LowBits.{low_bits};
 ghost use Rattle.rohc_lsb.specs.Interval.{p_of_sn};
 ghost use Rattle.rohc_lsb.specs.Fields.{AgreesInSn};
 
-use crate::interval::{remainder, value_meant};
+use crate::interval::{remainder, steps_meant};
 use rohc_bits::Bits;
 
 /// The offset p of the interpretation interval for `k` bits of a sequence number: how far the interval
@@ -30,7 +30,8 @@ pub fn sn_value(reference: u16, shift: u32, bits: Bits) -> (u16, i32)
     requires shift { shift ≤ 65536 }
     ensures { AgreesInSn reference shift (low_bits bits) result.0 result.1 }
 {
-    let value = value_meant(u32::from(reference) + shift, bits, sn_shift(bits.count));
-    let steps = value - i64::from(reference);
+    let moved_on = u32::from(reference) + shift;
+    let steps = i64::from(shift) + steps_meant(moved_on, bits, sn_shift(bits.count));
+    let value = i64::from(reference) + steps;
     (remainder(value, 16) as u16, steps as i32)
 }

@@ -8,7 +8,7 @@ use std::io;
 use std::io::Write;
 
 /// How many octets a call takes at most (docs/OPERATING.md).
-pub(crate) const CALL: u64 = 310;
+pub(crate) const CALL: u64 = 326;
 
 /// From this on a window is long.
 const LONG: u8 = 17;

@@ -1,6 +1,6 @@
 //! Each check of one octet by the division that defines it, and sums of totals.
 
-use rohc_checks::{crc3, crc7, crc8, sum_of_exchanged};
+use rohc_checks::{crc3, crc7, crc8, sum_of_exchanged, with_carries};
 
 // A polynomial and the places of its check, each as a number. The highest power is the lowest bit.
 type Division = (u16, u8);
@@ -43,13 +43,15 @@ fn by_division((polynomial, places): Division, reg: u8, octet: u8) -> u16 {
     left
 }
 
-// The words of the example of RFC 1071 3 have the sum 1f2dc with their octets exchanged. Of the others, carries come round
-// once, twice and three times.
+// The words of the example of RFC 1071 3 have the sum 2ddf0, and 1f2dc with their octets exchanged. Of the others, carries
+// come round once and twice: ffff0002 is ffff + 0002 = 10001, and 1 + 1 = 2.
 #[test]
 fn sums_of_exchanged_words(rt: HostRuntime) {
     assert_eq!(rt; sum_of_exchanged(0x0001_f2dc), 0x220d);
     assert_eq!(rt; sum_of_exchanged(0xffff), 0x0000);
     assert_eq!(rt; sum_of_exchanged(0x0001_0000), 0xfeff);
     assert_eq!(rt; sum_of_exchanged(0x0001_fffe), 0x0000);
-    assert_eq!(rt; sum_of_exchanged(0x0001_0000_ffff), 0xfeff);
+    assert_eq!(rt; sum_of_exchanged(0xffff_0002), 0xfdff);
+    assert_eq!(rt; with_carries(0x0002_ddf0), 0xddf2);
+    assert_eq!(rt; with_carries(0x0001_f2dc), 0xf2dd);
 }

@@ -110,7 +110,7 @@ fn a_packet_is_taken_at_once_or_later(rt: HostRuntime) {
     let mut concentrator = made(&rt, rt.alloc(), link_1(0));
     let mut answer = Answer::blank();
     assert!(rt; !concentrator.take_at_once(AtOnce::Any, 1, 0, WHOLE_IR, &mut answer));
-    concentrator.arrive_into(1, 0, WHOLE_IR, &mut answer);
+    concentrator.arrive_by_step(1, 0, WHOLE_IR, &mut answer);
     assert_eq!(rt; cid_and_outcome(&answer), Some((0, DELIVERED)));
     answer = Answer::blank();
     assert!(rt; concentrator.take_at_once(AtOnce::Rebuilt, 1, 0, b"\x10\xac", &mut answer));

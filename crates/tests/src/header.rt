@@ -1,7 +1,9 @@
 //! The other ways to a header's octets and to its checks.
 
 use arrayvec::ArrayVec;
-use rohc_header::{Dynamic, Header, Static, check3_after, check7_after, put_header};
+use rohc_header::{
+    Dynamic, Header, Prepared, Static, append_header, check3_after, check7_after, put_header,
+};
 
 /// The static fields of the examples' calls.
 const FIXED: Static = Static {
@@ -45,8 +47,17 @@ const CHECK7: u8 = 0x7c;
 fn a_header_is_put_in_another_place(rt: HostRuntime) {
     let mut octets = ArrayVec::new();
     octets.push(0xff);
-    put_header(&mut octets, &FIXED, &MOVING, 1);
+    let prepared = Prepared::of(&FIXED, &MOVING);
+    put_header(&mut octets, &FIXED, &prepared, &MOVING, 1);
     assert_eq!(rt; octets.as_slice(), OCTETS.as_slice());
+    let mut fresh = ArrayVec::new();
+    append_header(&mut fresh, &FIXED, &prepared, &MOVING, 1);
+    assert_eq!(rt; fresh.as_slice(), OCTETS.as_slice());
+    let header = Header::with_prepared(&FIXED, &prepared, &MOVING, 1).expect(
+        &rt,
+        "a short payload",
+    );
+    assert_eq!(rt; header.octets, OCTETS);
 }
 
 #[test]

@@ -1,4 +1,4 @@
-use Rattle.std.proofs.Common.{◌≡◌, length, take, drop, ◌-◌, ◌+◌, arith, ap, ◌∙◌}
+use Rattle.std.proofs.Common.{◌≡◌, length, take, drop, ◌+◌, arith, ap, ◌∙◌}
 use Rattle.std.proofs.lemmas.List.{length-drop, length-take-le}
 use Rattle.std.proofs.lemmas.Slice.{take-put_mid}
 use Rattle.rohc_c.proofs.PayloadLemmas.{part_written}

@@ -3,6 +3,3 @@ use Rattle.rohc_concentrator.proofs.link.take_any.Goals as goal
 
 pub returns-in-Err : goal.returns-in-Err
 returns-in-Err c = search rules
-
-pub returns-in-Arrived : goal.returns-in-Arrived
-returns-in-Arrived c = search rules

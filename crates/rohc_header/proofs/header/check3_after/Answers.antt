@@ -20,7 +20,7 @@ returns c =
     let first = bit_xor (at 2) reg in
     let all_small : AreSmall (first ∷ at 3 ∷ at 4 ∷ at 5 ∷ at 10 ∷ at 11 ∷ at 24 ∷ at 25 ∷ at 26 ∷ at 27 ∷ at 29 ∷ at 30 ∷ at 31 ∷ at 32 ∷ at 33 ∷ at 34 ∷ at 35 ∷ []) = (xor_lt 8 (at 2) reg (small 2) (omega (arith, low)), (small 3, (small 4, (small 5, (small 10, (small 11, (small 24, (small 25, (small 26, (small 27, (small 29, (small 30, (small 31, (small 32, (small 33, (small 34, (small 35, tt))))))))))))))))) in
     c.crc3.ensures
-    ∙ rw (c.word-total_length.ensures, c.word-id.ensures, c.word.ensures, c.word-2.ensures, c.added-udp_length_and_ts.ensures.first, c.added-udp_length_and_ts.ensures.second, c.from-marker_and_type.ensures)
+    ∙ rw (c.added_first-total_length.ensures, c.word-id.ensures, c.word.ensures, c.word-2.ensures, c.added-udp_length_and_ts.ensures.first, c.added-udp_length_and_ts.ensures.second, c.from-marker_and_type.ensures)
     (ap (λ n. check poly3 0 (sevens n * 2 ∷ [])) (shifted first (at 3) (at 4) (at 5) (at 10) (at 11) (at 24) (at 25) (at 26) (at 27) (at 29) (at 30) (at 31) (at 32) (at 33) (at 34) (at 35) all_small))
     ∙ seventeen_found first (at 3) (at 4) (at 5) (at 10) (at 11) (at 24) (at 25) (at 26) (at 27) (at 29) (at 30) (at 31) (at 32) (at 33) (at 34) (at 35) all_small
     ∙ register_added reg (at 2) (at 3 ∷ at 4 ∷ at 5 ∷ at 10 ∷ at 11 ∷ at 24 ∷ at 25 ∷ at 26 ∷ at 27 ∷ at 29 ∷ at 30 ∷ at 31 ∷ at 32 ∷ at 33 ∷ at 34 ∷ at 35 ∷ []) low (small 2)

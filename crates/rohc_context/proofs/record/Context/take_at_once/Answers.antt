@@ -1,4 +1,4 @@
-use Rattle.std.proofs.Common.{rules, ◌-◌, sym, ap}
+use Rattle.std.proofs.Common.{rules, ◌≡◌, true, false, ◌-◌, sym, ap, ◌∙◌}
 use Rattle.rohc_frame.specs.Reading.{header_of}
 use Rattle.rohc_context.specs.Record.{reference_of, previous_of, record_of, state_of}
 use Rattle.rohc_context.specs.declared.state.State.TheVariants.{Full}
@@ -25,4 +25,11 @@ returns-clause-taken c = λ test s is.
       | in-Plain+else-eq w ↦
           rw (w.self-is, w.reply-is) (lone_normal s c.args.moment header c.args.self.now.accepted before _
           (ap state_of w.in-Plain.is) (search rules) (rw is (sym c.if-not-counts.ensures)) w.deliver_normal.ensures)
+    ]
+
+pub returns-clause-rebuilt : goal.returns-clause-rebuilt
+returns-clause-rebuilt c = λ test rebuilt.
+    elim c.match-self.branch [
+      | in-Full+else-not-take_unextended w ↦ rw w.reply-is (w.take_unextended.ensures.rebuilt w.if-not-take_unextended.false)
+      | in-Plain+else-eq w ↦ absurd (let apart : false ≡ true = sym w.if-eq.false ∙ (rw rebuilt at w.eq.ensures) in cc)
     ]

@@ -1,7 +1,5 @@
-use Rattle.std.proofs.Common.{ap}
-use Rattle.std.specs.Prelude.{unwrap_or}
 use Rattle.rohc_context.proofs.Registers.{kept_next}
-use Rattle.rohc_context.proofs.PreviousLemmas.{kept_by}
+use Rattle.rohc_context.proofs.PreviousLemmas.{kept_by, alike}
 use Rattle.rohc_context.proofs.state.FullContext.follow.Goals as goal
 
 pub invariant_of-self : goal.invariant_of-self
@@ -10,7 +8,18 @@ invariant_of-self c =
     record {
       good = context.good;
       kept = kept_next context.fixed context.reference.moving c.args.moving.now context.reference.saved context.kept c.requires;
-      kept_before = λ p e. kept_by context.fixed context.reference.moving p context.reference c.of.result (ap (λ x. unwrap_or x c.of.result) e)
-          c.of.ensures.fields c.of.ensures.saved context.kept;
+      stays = context.stays;
+      kept_before = kept_by context.fixed context.reference _ c.keep.ensures context.kept;
+      near = λ p e _.
+          let is = alike context.reference _ c.keep.ensures p e in
+          record {
+            tos = is.tos;
+            ttl = is.ttl;
+            payload_type = is.payload_type;
+            df = is.df;
+            padding = is.padding;
+            extension = is.extension;
+            saved = is.saved;
+          };
       one_window = context.one_window;
     }

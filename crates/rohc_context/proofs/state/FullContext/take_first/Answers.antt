@@ -4,6 +4,7 @@ use Rattle.rohc_context.specs.Record.{reference_of}
 use Rattle.rohc_context.specs.Window.{outcomes}
 use Rattle.rohc_context.proofs.Registers.{kept_registers}
 use Rattle.rohc_context.proofs.AtOnceLemmas.{follows}
+use Rattle.rohc_context.proofs.PreparedLemmas.{prepared_meant}
 use Rattle.rohc_context.proofs.state.FullContext.take_first.Goals as goal
 
 pub rebuild-requires-clause-registers : goal.rebuild-requires-clause-registers
@@ -32,3 +33,12 @@ returns-clause-taken c = λ _.
       c.follow.ensures ∙ follows context.fixed (reference_of context.reference) (content c.args.form.now) c.meant-moving.result c.rebuild.ensures.0 (outcomes context.windows.0)
           (ap (option_map values_by) c.requires.plain) context.kept.unmarked means,
     )
+
+pub rebuild-requires-clause-prepared : goal.rebuild-requires-clause-prepared
+rebuild-requires-clause-prepared c =
+    let context = c.args.self.now in
+    prepared_meant context.fixed (reference_of context.reference) 0 (content c.args.form.now) c.meant-moving.result context.prepared
+    c.meant-moving.ensures.means (ap (option_map values_by) c.requires.plain) context.stays
+
+pub returns-clause-rebuilt : goal.returns-clause-rebuilt
+returns-clause-rebuilt c = λ _. (c.rebuild.ensures.0, c.args.form.now.payload.now, c.rebuild.ensures.1.forty, c.rebuild.ensures.2)

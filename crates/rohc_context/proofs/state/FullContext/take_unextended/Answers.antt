@@ -22,3 +22,6 @@ returns-clause-taken c = λ fits.
       taken.2,
       taken.3,
     )
+
+pub returns-clause-rebuilt : goal.returns-clause-rebuilt
+returns-clause-rebuilt c = c.take_first.ensures.rebuilt

@@ -21,6 +21,6 @@ returns-clause-taken c =
           (ap (λ r. record { content = form; reference = reference_of r; header = explained_of accepted.header }) c.in-Some.ensures.reference)),
       c.packet.ensures.head,
       c.packet.ensures.payload,
-      promoted_is c.args.self.now.fixed (reference_of c.next_reference.result) (outcomes c.empty.result) a c.next_reference.ensures.reference c.empty.ensures.none,
-      c.next_reference.ensures.reference,
+      promoted_is c.args.self.now.fixed (reference_of c.next_reference-next.result) (outcomes c.empty.result) a c.next_reference-next.ensures.reference c.empty.ensures.none,
+      c.next_reference-next.ensures.reference,
     )
