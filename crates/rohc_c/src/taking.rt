@@ -49,8 +49,8 @@ pub(crate) fn take_packet(
     *arrival = tell_alone(cid, put_long(rebuilt, packet));
 }
 
-/// Takes one packet that isn't taken at once as a rebuilt one. If its first octet isn't that of a UO-0, no packet is taken at
-/// once that begins so.
+/// Takes one packet that isn't taken at once as a rebuilt one. If its first octet isn't that of a UO-0, it goes by the whole
+/// step: of such packets only Normal ones behind an Add-CID octet would be taken at once.
 #[inline(always)]
 fn arrive<'a>(
     concentrator: &mut Concentrator,

@@ -7,6 +7,7 @@ ghost use Rattle.rohc_checks.specs.Sum.{header_sum, words};
 pub fn with_carries(total: u32) -> u16
     ensures rest { result % 65535 ≡ total % 65535 }
     ensures some { 0 < total → 0 < result }
+    ensures none { total ≡ 0 → result ≡ 0 }
 {
     let once = total % 65_536 + total / 65_536;
     let twice = once % 65_536 + once / 65_536;

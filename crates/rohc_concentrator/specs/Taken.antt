@@ -1,4 +1,5 @@
--- What an arrival does to the records of its link. Words: TakesOnLink, Stays, IsFor, IsRebuiltAlone; MayBeTaken, IsMissed.
+-- What an arrival does to the records of its link.
+-- Words: TakesOnLink, Stays, IsFor, IsRebuiltAlone; MayBeTaken, IsMissed.
 use Rattle.std.specs.Prelude.{◌≡◌, ◌≢◌, ◌<◌, ℕ, List, [], Option, Some, IfSome, Ok}
 use Rattle.indexmap.specs.IndexMap.{keys}
 use Rattle.rohc_frame.specs.declared.header.HeadKind.TheVariants.{Other}
@@ -37,7 +38,8 @@ IsFor cid report = (response : Response) × (report ≡ Arrived cid response [])
 
 -- it delivers a packet behind a rebuilt header, without feedback
 abbrev pub IsRebuiltAlone : Report → Type 0
-IsRebuiltAlone report = (cid : ℕ) × (response : Response) × (report ≡ Arrived cid response []) × IsRebuilt response
+IsRebuiltAlone report =
+    (cid : ℕ) × (response : Response) × (report ≡ Arrived cid response []) × IsRebuilt response
 
 -- the packet is a header of kind Other with nothing before it, and begins as a UO-0 does (RFC 3095 5.7.1)
 pub record MayBeTaken (s : LinkSetting) (octets : List ℕ) (h : Header) : Type 0 where

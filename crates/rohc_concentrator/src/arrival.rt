@@ -3,7 +3,7 @@
 use crate::answer::{Answer, NoLink};
 use crate::concentrator::Concentrator;
 use crate::link::{arrive_on, take_any, take_short};
-use crate::place::{place_by_hash, stands_at};
+use crate::place::{place_by_hash, place_of, stands_at};
 use crate::records::LinkRecords;
 use indexmap::IndexMap;
 use rohc_context::{AtOnce, Refusal};
@@ -67,7 +67,7 @@ impl Concentrator {
     }
 
     /// Takes a packet as `arrive_into` does, by the whole step of its context. It is for packets that `take_at_once` didn't
-    /// take, and doesn't try that once more.
+    /// take, and spares them its look.
     pub fn arrive_by_step<'a>(
         &mut self,
         link: u16,
@@ -81,24 +81,18 @@ impl Concentrator {
         ensures others { KeepsOthers self.old self.new link (borne (setting_at self.old link) octets.entry.now) }
         ensures order { KeepsOrder self.old self.new link (borne (setting_at self.old link) octets.entry.now) }
     {
-        let hint = self.places.hint(link);
-        let place = if stands_at(&self.links, hint, link) {
-            hint
-        } else {
-            let Some(found) = place_by_hash(&self.links, link) else {
-                *answer = Answer::Refused(Refusal::NoLink);
-                return;
-            };
-            found
+        let Some(place) = place_of(&self.links, &self.places, link) else {
+            *answer = Answer::Refused(Refusal::NoLink);
+            return;
         };
         let (_, records) = self.links.pair_mut(place);
         take_any(records, moment, octets, answer);
     }
 
     /// Takes a packet as `arrive_into` does and returns true, if nothing stands before its header, its first octet is that
-    /// of a UO-0, it is one of `which`, and its context takes it at once, as nearly every packet of a call is. Then the answer is that of a
-    /// CID's context, without relayed feedback. Otherwise it returns false: then all settings and records stay as they
-    /// were, what `answer` holds means nothing, and `arrive_into` takes the packet.
+    /// of a UO-0, it is one of `which`, and its context takes it at once, as nearly every packet of a call is. Then the
+    /// answer is that of a CID's context, without relayed feedback. Otherwise it returns false: then all settings and
+    /// records stay as they were, what `answer` holds means nothing, and `arrive_into` takes the packet.
     ///
     /// It is the head of `arrive_into`. A caller who copies the packet right away tries it first, and so lets the compiler
     /// write the header where the copy goes.

@@ -13,7 +13,7 @@ ghost use Rattle.rohc_concentrator.specs.Report.{report_of, OwnStep};
 ghost use Rattle.rohc_concentrator.specs.Taken.{TakesOnLink, Stays, IsFor, IsRebuiltAlone, IsMissed};
 
 use crate::answer::Answer;
-use crate::place::{Places, place_by_hash, stands_at};
+use crate::place::{place_by_hash, place_of, stands_at};
 use crate::records::LinkRecords;
 use crate::setting::mode_in;
 use indexmap::IndexMap;
@@ -175,7 +175,7 @@ fn arrive_at<'a>(
     ensures setting { records.new.setting ≡ records.old.setting }
     ensures order { KeepsPlace (keys records.old.contexts) (keys records.new.contexts) forward.now.cid (record_in records.old forward.now.cid) }
 {
-    let Some(place) = record_place(&records.contexts, &records.places, forward.cid) else {
+    let Some(place) = place_of(&records.contexts, &records.places, forward.cid) else {
         return first_at(records, moment, forward, reply);
     };
     // Copied whole here, since `settings_of` writes them field by field.
@@ -185,18 +185,6 @@ fn arrive_at<'a>(
     }
     let (_, context) = records.contexts.pair_mut(place);
     context.step(&settings, moment, forward, reply);
-}
-
-/// The place of a CID's record among those of the link, if it has one.
-fn record_place(contexts: &IndexMap<u16, Context>, places: &Places, cid: u16) -> Option<usize>
-    ensures there { IfSome result (λ place. IsPlaceOf contexts.now place cid) }
-    ensures absent { result ≡ None → get nat_eq contexts.now cid ≡ None }
-{
-    let hint = places.hint(cid);
-    if stands_at(contexts, hint, cid) {
-        return Some(hint);
-    }
-    place_by_hash(contexts, cid)
 }
 
 /// Takes an arrival for a CID without a record, which a first IR makes. The answer overwrites what `reply` held.

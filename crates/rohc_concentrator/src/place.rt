@@ -29,6 +29,18 @@ pub(crate) fn place_by_hash<V>(map: &IndexMap<u16, V>, key: u16) -> Option<usize
     map.get_index_of(&key)
 }
 
+/// The place of a key's entry, if it has one: where it was put, or by its hash.
+pub(crate) fn place_of<V>(map: &IndexMap<u16, V>, places: &Places, key: u16) -> Option<usize>
+    ensures there { IfSome result (λ place. IsPlaceOf map.now place key) }
+    ensures absent { result ≡ None → get nat_eq map.now key ≡ None }
+{
+    let hint = places.hint(key);
+    if stands_at(map, hint, key) {
+        return Some(hint);
+    }
+    place_by_hash(map, key)
+}
+
 /// Where the entry of each key was put. A place is only a hint, since the map may have been emptied: the key that stands
 /// there is compared. So it is kept in 16 bits.
 #[derive(Drop)]
@@ -64,6 +76,7 @@ impl Places {
         }
         Ok(())
     }
+
     /// Keeps where each entry of a map stands, with no more memory than that takes.
     pub(crate) fn renew<V>(&mut self, map: &IndexMap<u16, V>) {
         let mut needed = 0;

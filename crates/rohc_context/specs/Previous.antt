@@ -1,4 +1,5 @@
--- The previous reference, as it is kept beside the reference. Words: fields_by, whole_by, SharesNumbering, IsAlike.
+-- The previous reference, as it is kept beside the reference.
+-- Words: fields_by, whole_by, SharesNumbering, IsAlike.
 use Rattle.std.specs.Prelude.{◌≡◌, ℕ}
 use Rattle.rohc_header.specs.declared.fields.Dynamic.{Dynamic}
 use Rattle.rohc_context.specs.declared.reference.Previous.{Previous}

@@ -19,8 +19,8 @@ pub(crate) struct Reference {
 }
 
 /// What is kept of the previous reference beside the reference: the fields in which the two may differ. RND, NBO, the
-/// stride and whether packets carry a UDP checksum are the same for both. Its numbers and flags stand as those of
-/// `Dynamic` do, so that they are copied together.
+/// stride and whether packets carry a UDP checksum are the same for both. Its numbers stand as those of `Dynamic` do, so
+/// that neighbours are copied together.
 #[derive(Clone, Copy)]
 pub(crate) struct Previous {
     /// The type of service (TOS).
@@ -46,8 +46,8 @@ pub(crate) struct Previous {
     /// The registers of the 3-bit and the 7-bit check after the static octets of headers with these
     /// fields.
     pub saved: (u8, u8),
-    /// That it differs from the reference in numbers alone: Identification, UDP checksum, sequence number and timestamp.
-    /// If it isn't set, it may differ in no more all the same.
+    /// Set only if it differs from the reference in numbers alone: Identification, UDP checksum, sequence number and
+    /// timestamp. It may be unset and differ in no more all the same.
     pub alike: bool,
 }
 

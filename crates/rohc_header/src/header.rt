@@ -1,6 +1,6 @@
 //! Rebuilt headers and their checks.
 
-ghost use Rattle.std.specs.Prelude.{◌≡◌, [], ◌+◌, ◌*◌, ◌<◌, ◌≤◌, ◌↔◌, length, get_or, bit_xor, IfSome, IsNone};
+ghost use Rattle.std.specs.Prelude.{◌≡◌, ◌+◌, ◌*◌, ◌<◌, ◌≤◌, ◌↔◌, length, get_or, bit_xor, IfSome, IsNone};
 ghost use Rattle.rohc_checks.specs.Division.{check, poly3, poly7};
 ghost use Rattle.rohc_header.specs.Original.{IsOriginal, longest_payload};
 ghost use Rattle.rohc_header.specs.Polynomial.{coefficients};
@@ -137,28 +137,10 @@ pub fn put_header(
     requires narrow { moving.now.payload_type < 128 }
     ensures { IsOriginal fixed.now moving.now payload_len octets.new.items }
 {
-    octets.clear();
-    append_header(octets, fixed, prepared, moving, payload_len);
-}
-
-/// Writes a header as `put_header` does into `octets`, which holds none yet.
-#[inline(always)]
-pub fn append_header(
-    octets: &mut ArrayVec<u8, 40>,
-    fixed: &Static,
-    prepared: &Prepared,
-    moving: &Dynamic,
-    payload_len: u16,
-)
-    requires empty { octets.old.items ≡ [] }
-    requires prepared { IsPrepared fixed.now moving.now prepared.now }
-    requires fits { payload_len ≤ longest_payload }
-    requires narrow { moving.now.payload_type < 128 }
-    ensures { IsOriginal fixed.now moving.now payload_len octets.new.items }
-{
     // Copied first, so that the compiler knows that the fields don't overlap the octets.
     let fixed = *fixed;
     let prepared = *prepared;
+    octets.clear();
     put_ip(octets, &fixed, &prepared, moving, payload_len);
     put_udp(octets, &fixed, moving, payload_len);
     put_rtp(octets, &fixed, &prepared, moving);

@@ -2,7 +2,7 @@
 
 use arrayvec::ArrayVec;
 use rohc_header::{
-    Dynamic, Header, Prepared, Static, append_header, check3_after, check7_after, put_header,
+    Dynamic, Header, Prepared, Static, check3_after, check7_after, put_header,
 };
 
 /// The static fields of the examples' calls.
@@ -50,9 +50,6 @@ fn a_header_is_put_in_another_place(rt: HostRuntime) {
     let prepared = Prepared::of(&FIXED, &MOVING);
     put_header(&mut octets, &FIXED, &prepared, &MOVING, 1);
     assert_eq!(rt; octets.as_slice(), OCTETS.as_slice());
-    let mut fresh = ArrayVec::new();
-    append_header(&mut fresh, &FIXED, &prepared, &MOVING, 1);
-    assert_eq!(rt; fresh.as_slice(), OCTETS.as_slice());
     let header = Header::with_prepared(&FIXED, &prepared, &MOVING, 1).expect(
         &rt,
         "a short payload",

@@ -1,37 +1,36 @@
 use Rattle.std.proofs.Common.{◌≡◌, Some, refl, ◌∙◌}
-use Rattle.rohc_concentrator.specs.Tables.{setting_at, IsPlaceOf}
+use Rattle.rohc_concentrator.specs.Tables.{setting_at}
 use Rattle.rohc_concentrator.specs.Bears.{borne}
-use Rattle.rohc_concentrator.proofs.PlaceLemmas.{at_place, lent_at}
+use Rattle.rohc_concentrator.proofs.PlaceLemmas.{lent_at}
 use Rattle.rohc_concentrator.proofs.LinkPlaceLemmas.{settings_stay, others_stay, order_stays, answer_by}
 use Rattle.rohc_concentrator.proofs.concentrator.Concentrator.arrive_by_step.Goals as goal
-use Rattle.rohc_concentrator.proofs.concentrator.Concentrator.arrive_by_step.Goals.{then-stands_at, else-stands_at+in-Some}
 
 pub returns-clause-answer : goal.returns-clause-answer
 returns-clause-answer c =
-    let there : IsPlaceOf c.args.self.now.links c.if-stands_at.place c.args.link = elim c.if-stands_at.branch [ then-stands_at w ↦ at_place refl w.place-is (c.stands_at.ensures w.if-stands_at.true) | else-stands_at+in-Some w ↦ at_place refl w.place-is w.in-Some.ensures.there ] in
+    let there = c.in-Some.ensures.there in
     let lent = c.pair_mut-records.ensures in
-    let at = lent_at c.args.self.now.links c.if-stands_at.place c.args.link there _ _ lent.value in
-    answer_by c.args.self.now c.if-stands_at.place c.args.link c.pair_mut-records.result.1.now c.take_any.new.records lent.unique at c.args.moment c.args.octets.now _ c.take_any.ensures.answer
+    let at = lent_at c.args.self.now.links c.in-Some.place c.args.link there _ _ lent.value in
+    answer_by c.args.self.now c.in-Some.place c.args.link c.pair_mut-records.result.1.now c.take_any.new.records lent.unique at c.args.moment c.args.octets.now _ c.take_any.ensures.answer
 
 pub returns-clause-settings : goal.returns-clause-settings
 returns-clause-settings c =
-    let there : IsPlaceOf c.args.self.now.links c.if-stands_at.place c.args.link = elim c.if-stands_at.branch [ then-stands_at w ↦ at_place refl w.place-is (c.stands_at.ensures w.if-stands_at.true) | else-stands_at+in-Some w ↦ at_place refl w.place-is w.in-Some.ensures.there ] in
+    let there = c.in-Some.ensures.there in
     let lent = c.pair_mut-records.ensures in
-    let at = lent_at c.args.self.now.links c.if-stands_at.place c.args.link there _ _ lent.value in
-    settings_stay c.args.self.now c.if-stands_at.place c.args.link _ _ lent.unique at c.take_any.ensures.setting
+    let at = lent_at c.args.self.now.links c.in-Some.place c.args.link there _ _ lent.value in
+    settings_stay c.args.self.now c.in-Some.place c.args.link _ _ lent.unique at c.take_any.ensures.setting
 
 pub returns-clause-others : goal.returns-clause-others
 returns-clause-others c =
-    let there : IsPlaceOf c.args.self.now.links c.if-stands_at.place c.args.link = elim c.if-stands_at.branch [ then-stands_at w ↦ at_place refl w.place-is (c.stands_at.ensures w.if-stands_at.true) | else-stands_at+in-Some w ↦ at_place refl w.place-is w.in-Some.ensures.there ] in
+    let there = c.in-Some.ensures.there in
     let lent = c.pair_mut-records.ensures in
-    let at = lent_at c.args.self.now.links c.if-stands_at.place c.args.link there _ _ lent.value in
+    let at = lent_at c.args.self.now.links c.in-Some.place c.args.link there _ _ lent.value in
     let its : borne (setting_at c.args.self.now c.args.link) c.args.octets.now ≡ borne (Some c.pair_mut-records.result.1.now.setting) c.args.octets.now = rw at.1 refl in
-    others_stay c.args.self.now c.if-stands_at.place c.args.link _ _ lent.unique at _ (λ cid is. c.take_any.ensures.others cid (λ same. is (its ∙ same)))
+    others_stay c.args.self.now c.in-Some.place c.args.link _ _ lent.unique at _ (λ cid is. c.take_any.ensures.others cid (λ same. is (its ∙ same)))
 
 pub returns-clause-order : goal.returns-clause-order
 returns-clause-order c =
-    let there : IsPlaceOf c.args.self.now.links c.if-stands_at.place c.args.link = elim c.if-stands_at.branch [ then-stands_at w ↦ at_place refl w.place-is (c.stands_at.ensures w.if-stands_at.true) | else-stands_at+in-Some w ↦ at_place refl w.place-is w.in-Some.ensures.there ] in
+    let there = c.in-Some.ensures.there in
     let lent = c.pair_mut-records.ensures in
-    let at = lent_at c.args.self.now.links c.if-stands_at.place c.args.link there _ _ lent.value in
+    let at = lent_at c.args.self.now.links c.in-Some.place c.args.link there _ _ lent.value in
     let its : borne (setting_at c.args.self.now c.args.link) c.args.octets.now ≡ borne (Some c.pair_mut-records.result.1.now.setting) c.args.octets.now = rw at.1 refl in
-    order_stays c.args.self.now c.if-stands_at.place c.args.link _ _ lent.unique at _ (rw its c.take_any.ensures.order)
+    order_stays c.args.self.now c.in-Some.place c.args.link _ _ lent.unique at _ (rw its c.take_any.ensures.order)

@@ -11,7 +11,6 @@ returns c =
     record {
       middle = ap (λ df. df ∷ 0 ∷ moving.ttl ∷ 17 ∷ []) c.flag.ensures;
       rtp = omega (arith, c.flag-2.ensures, c.flag-3.ensures);
-      some = c.with_carries.ensures.some (omega arith);
       rest =
           omega (
             arith,
