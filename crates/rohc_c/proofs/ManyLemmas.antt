@@ -1,9 +1,12 @@
--- An answer's part of a room, and its buffers.
-use Rattle.std.proofs.Common.{◌≡◌, ℕ, ◌+◌, ◌≤◌, List, ◌++◌, length, take, drop, arith, ap, ◌∙◌}
+-- An answer's part of a room, and its buffers; the room for all answers; the one struct of an answer.
+use Rattle.std.proofs.Common.{◌≡◌, ℕ, ◌+◌, ◌*◌, ◌≤◌, List, [], ◌∷◌, ◌++◌, length, take, drop, sum_by, arith, refl, ap, ◌∙◌}
 use Rattle.std.proofs.lemmas.List.{take_at, drop_at, take_all, length-drop}
+use Rattle.std.proofs.lemmas.List.Sums.{sum_by-cons}
+use Rattle.std.proofs.Math.ListN.{set}
 use Rattle.std.proofs.Math.Seq.{take-append-le, drop-append-le}
 use Rattle.rohc_c.specs.Many.{needed, buffers_in}
 use Rattle.rohc_c.specs.Written.{Buffers}
+use Rattle.rohc_c.specs.declared.many.RohcPacket.{RohcPacket}
 
 pub buffers_are : (count : ℕ) (p f r : List ℕ) → length p ≡ count + 40 → length f ≡ 8 → length r ≡ count
     → ◌≡◌ {A = Buffers} (buffers_in count (p ++ (f ++ r))) (record { packet = p; feedback = f; relayed = r })
@@ -27,3 +30,14 @@ buffers_front count part rest size =
     let relayed : take count (drop 8 (drop from (part ++ rest))) ≡ take count (drop 8 (drop from part)) =
     ap (take count) third ∙ take-append-le count (drop 8 (drop from part)) rest left in
     λ i. record { packet = take-append-le from part rest first i; feedback = feedback i; relayed = relayed i }
+
+-- the room for all answers, from the octets of all packets
+pub needed_by_all : (ps : List RohcPacket) → sum_by (λ p. needed p.count) ps ≡ 2 * sum_by (λ p. p.count) ps + 48 * length ps
+needed_by_all [] = refl
+needed_by_all (p ∷ ps) =
+    omega (arith, needed_by_all ps, sum_by-cons (λ (q : RohcPacket). needed q.count) p ps, sum_by-cons (λ (q : RohcPacket). q.count) p ps)
+
+pub one_set : {A : Type 0} (own : List A) (answer : A) → length own ≡ 1 → set own 0 answer ≡ answer ∷ []
+one_set (a ∷ []) answer one = refl
+one_set [] answer one = absurd (omega (arith, one))
+one_set (a ∷ b ∷ own) answer one = absurd (omega (arith, one))

@@ -1,6 +1,5 @@
--- Many arrivals in one call. Words: octets_of; needed, buffers_in, are_within; HasRoomForMany;
--- HaveArrived.
-use Rattle.std.specs.Prelude.{◌≡◌, ℕ, ◌+◌, ◌-◌, ◌≤◌, length, List, [], ◌∷◌, take, drop, Bool, true, ◌&&◌, nat_le}
+-- Many arrivals in one call. Words: octets_of; needed, buffers_in; LieWithin, HasRoomForMany; HaveArrived.
+use Rattle.std.specs.Prelude.{◌≡◌, ℕ, ◌+◌, ◌≤◌, length, List, [], ◌∷◌, take, drop, All, sum_by}
 use Rattle.rohc_concentrator.specs.declared.concentrator.Concentrator.{Concentrator}
 use Rattle.rohc_concentrator.specs.Report.{Report}
 use Rattle.rohc_concentrator.specs.Events.{Arrives}
@@ -24,11 +23,9 @@ buffers_in count room = record {
   relayed = take count (drop 8 (drop (count + 40) room));
 }
 
--- each packet lies within so many octets, and there is room for all answers
-abbrev pub are_within : List RohcPacket → (most room : ℕ) → Bool
-are_within [] most room = true
-are_within (p ∷ ps) most room =
-    nat_le (p.at + p.count) most && nat_le (needed p.count) room && are_within ps most (room - needed p.count)
+-- each packet lies within so many octets
+abbrev pub LieWithin : List RohcPacket → ℕ → Type 0
+LieWithin packets most = All (λ p. p.at + p.count ≤ most) packets
 
 -- there are at most 1,024 packets, and as many structs at least; each packet lies within the octets, and
 -- there is room for all answers
@@ -36,7 +33,8 @@ pub record HasRoomForMany (packets : List RohcPacket) (octets room : List ℕ) (
     Type 0 where
   pub few : length packets ≤ 1024
   pub structs : length packets ≤ length answers
-  pub within : are_within packets (length octets) (length room) ≡ true
+  pub within : LieWithin packets (length octets)
+  pub fits : sum_by (λ p. needed p.count) packets ≤ length room
 
 -- packets arrive one after the other, and the answer to each is written as that of a single call, in its own
 -- part of the room

@@ -1,10 +1,10 @@
 //! Many arrivals on the concentrator, one after the other.
 
-ghost use Rattle.std.specs.Prelude.{◌≡◌, ◌+◌, ◌≤◌, ◌↔◌, IsTrue, length, true};
+ghost use Rattle.std.specs.Prelude.{◌≡◌, ◌+◌, ◌≤◌, ◌↔◌, IsTrue, length, sum_by};
 ghost use Rattle.rohc_concentrator.specs.Report.{Report};
 ghost use Rattle.rohc_concentrator.specs.Events.{Arrives};
 ghost use Rattle.rohc_c.specs.Written.{IsAnswerWritten};
-ghost use Rattle.rohc_c.specs.Many.{octets_of, needed, buffers_in, are_within, HasRoomForMany, HaveArrived};
+ghost use Rattle.rohc_c.specs.Many.{octets_of, needed, buffers_in, LieWithin, HasRoomForMany, HaveArrived};
 
 use crate::arrival::RohcArrival;
 use crate::many::RohcPacket;
@@ -15,21 +15,19 @@ use rohc_concentrator::Concentrator;
 /// The most packets that one call takes.
 const MANY: usize = 1024;
 
-/// Whether each packet lies within so many octets, and there is room for all answers.
-pub(crate) fn are_within(packets: &[RohcPacket], most: usize, room: usize) -> bool
-    ensures { result ≡ are_within packets.now most room }
+/// Whether each packet lies within so many octets, and they have at most `left` octets.
+fn are_within(packets: &[RohcPacket], most: usize, left: usize) -> bool
+    ensures within { IsTrue result → LieWithin packets.now most }
+    ensures count { IsTrue result → sum_by (λ p. p.count) packets.now ≤ left }
+    ensures only { LieWithin packets.now most → sum_by (λ p. p.count) packets.now ≤ left → IsTrue result }
 {
     let Some((packet, later)) = packets.split_first() else {
         return true;
     };
-    if packet.at > most || packet.count > most - packet.at {
+    if packet.at > most || packet.count > most - packet.at || packet.count > left {
         return false;
     }
-    if room < HEAD + FEEDBACK || packet.count > (room - (HEAD + FEEDBACK)) / 2 {
-        return false;
-    }
-    let needed = packet.count + HEAD + (FEEDBACK + packet.count);
-    are_within(later, most, room - needed)
+    are_within(later, most, left - packet.count)
 }
 
 /// Whether there are few enough packets, each lies within the octets, and there is room for all answers.
@@ -41,9 +39,14 @@ pub(crate) fn has_room_for_many(
 ) -> bool
     ensures { IsTrue result ↔ HasRoomForMany packets.now octets.now room.now answers.now }
 {
-    packets.len() <= MANY
-        && packets.len() <= answers.len()
-        && are_within(packets, octets.len(), room.len())
+    if packets.len() > MANY || packets.len() > answers.len() {
+        return false;
+    }
+    let apart = packets.len() * (HEAD + FEEDBACK);
+    if room.len() < apart {
+        return false;
+    }
+    are_within(packets, octets.len(), (room.len() - apart) / 2)
 }
 
 /// Takes one packet, and writes its answer into its part of the room. The compiler inlines it after it has optimized it
@@ -82,17 +85,17 @@ pub(crate) fn take_many(
     room: &mut [u8],
     answers: &mut [RohcArrival],
 )
-    requires within { are_within packets.now (length octets.now) (length room.old) ≡ true }
+    requires within { LieWithin packets.now (length octets.now) }
+    requires room { sum_by (λ p. needed p.count) packets.now ≤ length room.old }
     requires answers { length packets.now ≤ length answers.old }
     ensures { HaveArrived concentrator.old packets.now octets.now room.new answers.new concentrator.new }
 {
     let Some((packet, later)) = packets.split_first() else {
         return;
     };
-    let Some((answer, others)) = answers.split_first_mut() else {
-        return;
-    };
+    // Not `split_first_mut`, which would look at their number once more.
+    let (own, others) = answers.split_at_mut(1);
     let (part, rest) = room.split_at_mut(packet.count + HEAD + (FEEDBACK + packet.count));
-    take_one(concentrator, packet, octets, part, answer);
+    take_one(concentrator, packet, octets, part, &mut own[0]);
     take_many(concentrator, later, octets, rest, others);
 }

@@ -6,8 +6,8 @@ ghost use Rattle.rohc_capture.specs.Carried.{load_of, carried_in};
 
 use crate::fault::FrameFault;
 use crate::frame::{Protocol, network_in};
-use crate::octets::{after, octet, word};
-use crate::udp::{Datagram, datagram_in, form_in, segment_in};
+use crate::octets::{after, word};
+use crate::udp::{datagram_at_once, datagram_in};
 
 /// What the octets are carried by.
 #[derive(Clone, Copy, PartialEq, Eq)]
@@ -32,61 +32,48 @@ pub struct Carried<'a> {
 /// The link type of Ethernet frames.
 const ETHERNET: u16 = 1;
 
+/// The link type of IP packets without a header before them.
+const RAW_IP: u16 = 101;
+
+/// The link type of such packets of IPv4 alone.
+const RAW_IPV4: u16 = 228;
+
 /// The EtherType of ROHC.
 const ROHC: u16 = 0x22f1;
 
 /// The EtherType of IPv4.
 const IPV4: u16 = 0x0800;
 
-/// The octets of the headers of an Ethernet frame, of IPv4 and of UDP.
-const HEADERS: usize = 42;
-
-/// The first octet of an IPv4 header without options.
-const PLAIN_IPV4: u8 = 0x45;
-
-/// The octets of the header of UDP.
-const UDP: usize = 8;
-
-/// What nearly every frame carries: a ROHC packet, or the payload of a UDP datagram over IPv4, in an Ethernet frame without
-/// tags. `None` says nothing.
-///
-/// The lengths are looked at first, and so the compiler drops the checks of single octets.
-#[tactic(auto, unfolding(crate::specs::Carried::carried_in, crate::specs::Frame::network_in, crate::specs::Frame::ethernet, crate::specs::Frame::untagged, crate::specs::Frame::typed, crate::specs::Frame::protocol_of, crate::specs::Udp::datagram_in))]
+/// What nearly every frame carries: a ROHC packet in an Ethernet frame without tags, or the payload of a UDP datagram over
+/// IPv4 in such a frame or by itself. `None` says nothing.
+#[tactic(auto, unfolding(crate::specs::Carried::carried_in, crate::specs::Frame::network_in, crate::specs::Frame::ethernet, crate::specs::Frame::untagged, crate::specs::Frame::typed, crate::specs::Frame::protocol_of))]
 #[inline(always)]
 pub(crate) fn carried_at_once(link_type: u16, frame: &[u8]) -> Option<Carried<'_>>
     ensures { IfSome result (λ carried. carried_in link_type frame.now ≡ Ok (load_of carried)) }
 {
-    if link_type != ETHERNET || frame.len() < HEADERS {
-        return None;
-    }
-    let (kind, packet) = word(after(frame, 12).ok()?).ok()?;
-    if kind == ROHC {
-        return Some(Carried {
-            vlan: None,
-            carrier: Carrier::Link,
-            octets: packet,
-        });
-    }
-    if kind != IPV4 {
-        return None;
-    }
-    let (first, _) = octet(packet).ok()?;
-    if first != PLAIN_IPV4 {
-        return None;
-    }
-    let segment = segment_in(packet).ok()?;
-    if segment.len() < UDP {
-        return None;
-    }
-    let Datagram {
-        destination,
-        payload,
-        ..
-    } = form_in(segment).ok()?;
+    let packet = match link_type {
+        RAW_IP | RAW_IPV4 => frame,
+        ETHERNET => {
+            let (kind, packet) = word(after(frame, 12).ok()?).ok()?;
+            if kind == ROHC {
+                return Some(Carried {
+                    vlan: None,
+                    carrier: Carrier::Link,
+                    octets: packet,
+                });
+            }
+            if kind != IPV4 {
+                return None;
+            }
+            packet
+        }
+        _ => return None,
+    };
+    let datagram = datagram_at_once(packet)?;
     Some(Carried {
         vlan: None,
-        carrier: Carrier::Udp(destination),
-        octets: payload,
+        carrier: Carrier::Udp(datagram.destination),
+        octets: datagram.payload,
     })
 }
 

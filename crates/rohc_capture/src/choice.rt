@@ -63,8 +63,8 @@ pub fn choose<'a>(rules: &[Rule], carried: &Carried<'a>) -> Option<(u16, &'a [u8
     None
 }
 
-/// What `packet_in` gives for nearly every frame: the link and the packet, by itself or in a UDP datagram over IPv4, in an
-/// Ethernet frame without tags. `None` says nothing.
+/// What `packet_in` gives for nearly every frame: the link and the packet, in a frame that `carried_at_once` looks into. `None`
+/// says nothing.
 #[tactic(auto, unfolding(crate::specs::Choice::packet_in))]
 #[inline(always)]
 pub fn packet_at_once<'a>(

@@ -1,6 +1,6 @@
 //! A UDP datagram over IPv4.
 
-ghost use Rattle.std.specs.Prelude.{◌≡◌};
+ghost use Rattle.std.specs.Prelude.{◌≡◌, Ok, IfSome};
 ghost use Rattle.std.specs.Result.{result_map_both};
 ghost use Rattle.rohc_capture.specs.Udp.{segment_in, form_of, form_in, datagram_in};
 
@@ -17,6 +17,15 @@ pub struct Datagram<'a> {
     /// The octets after the UDP header, up to the UDP length.
     pub payload: &'a [u8],
 }
+
+/// The octets of an IPv4 header without options, and of the header of UDP.
+const HEADERS: usize = 28;
+
+/// The first octet of an IPv4 header without options.
+const PLAIN_IPV4: u8 = 0x45;
+
+/// The octets of the header of UDP.
+const UDP: usize = 8;
 
 /// What follows the IP header, up to the packet's total length, if that is a whole UDP datagram.
 #[tactic(auto, unfolding(crate::specs::Udp::segment_in))]
@@ -77,4 +86,23 @@ pub fn datagram_in(packet: &[u8]) -> Result<Datagram<'_>, FrameFault>
     ensures { result_map_both form_of (λ e. e) result ≡ datagram_in packet.now }
 {
     form_in(segment_in(packet)?)
+}
+
+/// What `datagram_in` gives for nearly every packet: the datagram behind an IPv4 header without options. `None` says
+/// nothing.
+///
+/// The lengths are looked at first, and so the compiler drops the checks of single octets.
+#[tactic(auto, unfolding(crate::specs::Udp::datagram_in))]
+#[inline(always)]
+pub(crate) fn datagram_at_once(packet: &[u8]) -> Option<Datagram<'_>>
+    ensures { IfSome result (λ datagram. datagram_in packet.now ≡ Ok (form_of datagram)) }
+{
+    if packet.len() < HEADERS || packet[0] != PLAIN_IPV4 {
+        return None;
+    }
+    let segment = segment_in(packet).ok()?;
+    if segment.len() < UDP {
+        return None;
+    }
+    form_in(segment).ok()
 }

@@ -4,6 +4,7 @@ pub mod FaultLemmas
 pub mod BitLemmas
 pub mod SpelledLemmas
 pub mod FoundLemmas
+pub mod FourOctets
 pub mod TextLemmas
 pub mod GoodLemmas
 pub mod EachLemmas

@@ -1,6 +1,6 @@
 -- The places of a packet's fields, for those who show packets. A packet's octets are its first octet and
 -- those behind its CID octets. Words: ir_places, ir_dyn_places; ShowsIr, ShowsCutIr, ShowsIrDyn.
-use Rattle.std.specs.Prelude.{◌≡◌, ℕ, List, [], ◌∷◌, ◌++◌, map, take, Bool, true}
+use Rattle.std.specs.Prelude.{◌≡◌, ℕ, List, [], ◌∷◌, ◌++◌, map, take, true}
 use Rattle.rohc_bits.specs.Places.{Place, places, shown_at}
 use Rattle.rohc_frame.specs.Header.{Header}
 use Rattle.rohc_frame.specs.declared.header.CidKind.TheVariants.{Small}

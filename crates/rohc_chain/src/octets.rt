@@ -28,17 +28,19 @@ pub(crate) fn word(cursor: &mut Cursor<'_>) -> Result<u16, ChainRefusal>
 }
 
 /// Takes the next four octets as they are.
-#[tactic(auto, unfolding(crate::specs::Octets::four_octets_at))]
+#[tactic(auto, using(crate::proofs::FourOctets::four_taken, crate::proofs::FourOctets::four_short))]
 #[inline(always)]
 pub(crate) fn four_octets(cursor: &mut Cursor<'_>) -> Result<[u8; 4], ChainRefusal>
     ensures reads { Reads result cursor.new (read four_octets_at cursor.old) }
     ensures shorter { length cursor.new ≤ length cursor.old }
 {
-    let a = octet(cursor)?;
-    let b = octet(cursor)?;
-    let c = octet(cursor)?;
-    let d = octet(cursor)?;
-    Ok([a, b, c, d])
+    let Some(front) = cursor.take(4) else {
+        return Err(ChainRefusal::Truncated);
+    };
+    let Some(octets) = front.first_chunk::<4>() else {
+        unreachable!();
+    };
+    Ok(*octets)
 }
 
 /// Takes the next four octets as a number, most significant octet first.

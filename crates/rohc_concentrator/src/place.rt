@@ -1,11 +1,20 @@
 //! Where an entry of a map stands, tried where it was put before its key is looked up.
 
-ghost use Rattle.std.specs.Prelude.{◌≡◌, None, true, IfSome, nat_eq};
+ghost use Rattle.std.specs.Prelude.{◌≡◌, ◌<◌, None, true, IfSome, nat_eq};
 ghost use Rattle.indexmap.specs.IndexMap.{get};
 ghost use Rattle.rohc_concentrator.specs.Tables.{IsPlaceOf};
 
 use indexmap::IndexMap;
 use std::alloc::{AllocError, Global};
+
+/// For how many keys room is made so that this key, counted from 0, has some: for those of a link of small CIDs, or in
+/// steps of 64. So it is seldom made.
+fn room_for(key: usize) -> usize
+    requires { key < 65536 }
+    ensures { key < result }
+{
+    if key < 16 { 16 } else { (key / 64 + 1) * 64 }
+}
 
 /// Whether the entry at this place is this key's.
 #[inline(always)]
@@ -69,7 +78,7 @@ impl Places {
     pub(crate) fn keep(&mut self, key: u16, place: usize) -> Result<(), AllocError> {
         let index = usize::from(key);
         if index >= self.hints.len() {
-            self.hints.resize(index + 1, 0)?;
+            self.hints.resize(room_for(index), 0)?;
         }
         if let Some(hint) = self.hints.get_mut(index) {
             *hint = (place % 65_536) as u16;

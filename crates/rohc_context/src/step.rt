@@ -103,11 +103,11 @@ impl Context {
     {
         let counts = self.counts(settings.idle_ms, moment);
         match forward.kind {
-            HeadKind::Ir { .. } => *reply = self.renew(settings, moment, forward, counts),
+            HeadKind::Ir { .. } => self.renew(settings, moment, forward, counts, reply),
             HeadKind::IrDyn | HeadKind::Other if !counts => {
                 *reply = Reply::refused(Refusal::NoContext);
             }
-            HeadKind::IrDyn => *reply = self.refresh(settings, moment, forward),
+            HeadKind::IrDyn => self.refresh(settings, moment, forward, reply),
             HeadKind::Other => self.update(settings, moment, forward, reply),
         }
     }
@@ -128,7 +128,7 @@ impl Context {
         if counts { Some(self.state) } else { None }
     }
 
-    /// Takes an IR, whether the record counts or not.
+    /// Takes an IR, whether the record counts or not, and writes the answer into the reply.
     #[tactic(auto, unfolding(crate::specs::Record::record_of))]
     #[inline(never)]
     fn renew<'a>(
@@ -137,42 +137,49 @@ impl Context {
         moment: u64,
         forward: &Forward<'a>,
         counts: bool,
-    ) -> Reply<'a>
+        reply: &mut Reply<'a>,
+    )
         requires kind { IsIr forward.now.kind }
         requires good { AreGood settings.now }
         ensures { Renews settings.now moment (header_of forward.now) (if counts then Some (record_of self.old) else None) (Some (record_of self.old))
-            (ir_at (header_of forward.now)) (response_of result) (Some (record_of self.new)) }
+            (ir_at (header_of forward.now)) (response_of reply.new) (Some (record_of self.new)) }
     {
         let renewed = renewal(settings, forward, self.counting(counts));
         match renewed {
-            Ok((state, reply)) => {
+            Ok((state, made)) => {
                 self.state = state;
                 self.accepted = moment;
-                reply
+                *reply = made;
             }
             Err(fault) => {
                 if counts {
-                    self.end(settings, moment, forward, fault)
+                    self.end(settings, moment, forward, fault, reply);
                 } else {
-                    Reply::refused(fault.refusal())
+                    *reply = Reply::refused(fault.refusal());
                 }
             }
         }
     }
 
-    /// Takes an IR-DYN. The record counts.
+    /// Takes an IR-DYN, and writes the answer into the reply. The record counts.
     #[tactic(auto, unfolding(crate::specs::Record::record_of))]
     #[inline(never)]
-    fn refresh<'a>(&mut self, settings: &Settings, moment: u64, forward: &Forward<'a>) -> Reply<'a>
+    fn refresh<'a>(
+        &mut self,
+        settings: &Settings,
+        moment: u64,
+        forward: &Forward<'a>,
+        reply: &mut Reply<'a>,
+    )
         requires kind { IsIrDyn forward.now.kind }
         requires good { AreGood settings.now }
-        ensures { Turn settings.now moment (header_of forward.now) KindIrDyn (Some (record_of self.old)) (Some (record_of self.old)) (response_of result) (Some (record_of self.new)) }
+        ensures { Turn settings.now moment (header_of forward.now) KindIrDyn (Some (record_of self.old)) (Some (record_of self.old)) (response_of reply.new) (Some (record_of self.new)) }
     {
         match &self.state {
-            State::NoContext(_) => self.refuse_low(settings, moment, forward),
+            State::NoContext(_) => self.refuse_low(settings, moment, forward, reply),
             State::Plain => {
                 let refusal = plain_refusal(forward);
-                self.end(settings, moment, forward, Fault::from(refusal))
+                self.end(settings, moment, forward, Fault::from(refusal), reply);
             }
             State::Static(context) => {
                 let refreshed = refresh(
@@ -182,7 +189,7 @@ impl Context {
                     context.reference,
                     Window::empty(),
                 );
-                self.settle(settings, moment, forward, refreshed)
+                self.settle(settings, moment, forward, refreshed, reply);
             }
             State::Full(context) => {
                 let refreshed = refresh(
@@ -192,12 +199,12 @@ impl Context {
                     Some(context.reference),
                     context.windows.0.and(false),
                 );
-                self.settle(settings, moment, forward, refreshed)
+                self.settle(settings, moment, forward, refreshed, reply);
             }
         }
     }
 
-    /// Applies what an IR-DYN leads to, or its refusal. The record counts.
+    /// Applies what an IR-DYN leads to, or its refusal, and writes the answer into the reply. The record counts.
     #[tactic(auto, unfolding(crate::specs::Record::record_of))]
     fn settle<'a>(
         &mut self,
@@ -205,20 +212,21 @@ impl Context {
         moment: u64,
         forward: &Forward<'a>,
         refreshed: Result<(State, Reply<'a>), ChainRefusal>,
-    ) -> Reply<'a>
+        reply: &mut Reply<'a>,
+    )
         requires good { AreGood settings.now }
-        ensures reply { IfOk refreshed.entry (λ x. response_of result ≡ response_of x.1) }
+        ensures reply { IfOk refreshed.entry (λ x. response_of reply.new ≡ response_of x.1) }
         ensures record { IfOk refreshed.entry (λ x. record_of self.new ≡ record { accepted = moment; state = state_of x.0 }) }
         ensures refused { IfErr refreshed.entry (λ e. Ends settings.now moment (header_of forward.now) (Some (record_of self.old)) (Some (record_of self.old))
-            (fault_of_chain e) (response_of result) (Some (record_of self.new))) }
+            (fault_of_chain e) (response_of reply.new) (Some (record_of self.new))) }
     {
         match refreshed {
-            Ok((state, reply)) => {
+            Ok((state, made)) => {
                 self.state = state;
                 self.accepted = moment;
-                reply
+                *reply = made;
             }
-            Err(refusal) => self.end(settings, moment, forward, Fault::from(refusal)),
+            Err(refusal) => self.end(settings, moment, forward, Fault::from(refusal), reply),
         }
     }
 
@@ -241,11 +249,11 @@ impl Context {
                 reply.deliver_normal(forward.first, forward.rest);
                 self.accepted = moment;
             }
-            State::NoContext(_) => *reply = self.refuse_low(settings, moment, forward),
-            State::Static(_) => *reply = self.promote(settings, moment, forward),
+            State::NoContext(_) => self.refuse_low(settings, moment, forward, reply),
+            State::Static(_) => self.promote(settings, moment, forward, reply),
             State::Full(context) => match context.update(settings, passed, forward, reply) {
                 Ok(()) => self.accepted = moment,
-                Err(fault) => *reply = self.end(settings, moment, forward, fault),
+                Err(fault) => self.end(settings, moment, forward, fault, reply),
             },
         }
     }
@@ -253,20 +261,26 @@ impl Context {
     /// Takes a packet of kind Other in Static Context: a UOR-2 against the reference, if there is one.
     #[tactic(auto, unfolding(crate::specs::Record::record_of))]
     #[inline(never)]
-    fn promote<'a>(&mut self, settings: &Settings, moment: u64, forward: &Forward<'a>) -> Reply<'a>
+    fn promote<'a>(
+        &mut self,
+        settings: &Settings,
+        moment: u64,
+        forward: &Forward<'a>,
+        reply: &mut Reply<'a>,
+    )
         requires kind { IsOther forward.now.kind }
         requires good { AreGood settings.now }
         requires state { is_static self.old.state ≡ true }
-        ensures { Turn settings.now moment (header_of forward.now) KindOther (Some (record_of self.old)) (Some (record_of self.old)) (response_of result) (Some (record_of self.new)) }
+        ensures { Turn settings.now moment (header_of forward.now) KindOther (Some (record_of self.old)) (Some (record_of self.old)) (response_of reply.new) (Some (record_of self.new)) }
     {
         let State::Static(context) = &self.state else {
-            return self.refuse_low(settings, moment, forward);
+            return self.refuse_low(settings, moment, forward, reply);
         };
         let Some(reference) = &context.reference else {
-            return self.refuse_low(settings, moment, forward);
+            return self.refuse_low(settings, moment, forward, reply);
         };
         if !is_uor_2(forward.first) {
-            return self.refuse_low(settings, moment, forward);
+            return self.refuse_low(settings, moment, forward, reply);
         }
         match context.promote(reference, forward) {
             Ok((context, packet)) => {
@@ -274,9 +288,9 @@ impl Context {
                 let feedback = due.feedback(settings.mode, forward);
                 self.state = State::Full(context);
                 self.accepted = moment;
-                Reply::delivered(packet.head, packet.payload, feedback)
+                *reply = Reply::delivered(packet.head, packet.payload, feedback);
             }
-            Err(fault) => self.end(settings, moment, forward, fault),
+            Err(fault) => self.end(settings, moment, forward, fault, reply),
         }
     }
 
@@ -288,14 +302,15 @@ impl Context {
         settings: &Settings,
         moment: u64,
         forward: &Forward<'a>,
-    ) -> Reply<'a>
+        reply: &mut Reply<'a>,
+    )
         requires good { AreGood settings.now }
         ensures { Fails settings.now (header_of forward.now) (record_of self.old) IsStateTooLow
-            (after_low_state settings.now moment (record_of self.old).state) (response_of result) (Some (record_of self.new)) }
+            (after_low_state settings.now moment (record_of self.old).state) (response_of reply.new) (Some (record_of self.new)) }
     {
         let (state, due) = self.state.after_low_state(settings, moment);
         self.state = state;
-        Reply::failed(Refusal::StateTooLow, due.feedback(settings.mode, forward))
+        *reply = Reply::failed(Refusal::StateTooLow, due.feedback(settings.mode, forward));
     }
 
     /// Applies a fault of an arrival. The record counts.
@@ -307,17 +322,18 @@ impl Context {
         moment: u64,
         forward: &Forward<'a>,
         fault: Fault,
-    ) -> Reply<'a>
+        reply: &mut Reply<'a>,
+    )
         requires good { AreGood settings.now }
         ensures { Ends settings.now moment (header_of forward.now) (Some (record_of self.old)) (Some (record_of self.old)) fault
-            (response_of result) (Some (record_of self.new)) }
+            (response_of reply.new) (Some (record_of self.new)) }
     {
         match fault {
-            Fault::Refused(refusal) => Reply::refused(refusal),
+            Fault::Refused(refusal) => *reply = Reply::refused(refusal),
             Fault::Unfit => {
                 let (state, due) = self.state.after_check(settings, moment);
                 self.state = state;
-                Reply::failed(Refusal::Check, due.feedback(settings.mode, forward))
+                *reply = Reply::failed(Refusal::Check, due.feedback(settings.mode, forward));
             }
         }
     }

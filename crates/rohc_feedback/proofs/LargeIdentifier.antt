@@ -1,19 +1,15 @@
 use Rattle.std.proofs.Common.{◌≡◌, ℕ, ◌+◌, ◌-◌, ◌/◌, ◌%◌, ◌<◌, ◌≤◌, true, false, List, [], ◌∷◌, ◌++◌, length, take, drop, take_all, refl, sym, ap, ◌∙◌, length-drop, ⊎_elim, arith}
 use Rattle.std.proofs.Math.Seq.{drop-append_seam}
-use Rattle.std.specs.Prelude.{Option, Some, None, IfSome, nat_lt}
-use Rattle.arrayvec.specs.ArrayVec.{ArrayVec}
+use Rattle.std.specs.Prelude.{Option, Some, None, nat_lt}
 use Rattle.std.proofs.lemmas.Bool.Decides.{nat_tests}
 use Rattle.std.proofs.lemmas.Bool.{cases_lt}
-use Rattle.std.proofs.lemmas.List.Elements.{All-nil, All-cons, All-head, All-tail}
+use Rattle.std.proofs.lemmas.List.Elements.{All-nil, All-cons}
 use Rattle.rohc_bits.specs.Spelling.{IsSpelled}
 use Rattle.rohc_bits.proofs.Arithmetic.{spelled_as, is_spelled}
 use Rattle.rohc_frame.specs.declared.header.CidKind.TheVariants.{Large}
 use Rattle.rohc_feedback.specs.Element.{identifier_octets}
 
--- The shortest spelling of a large identifier is the one that the definition gives.
-
-abbrev pub IsShortest : List ℕ → ℕ → Type 0
-IsShortest text cid = (other : List ℕ) → IsSpelled other cid → length text ≤ length other
+-- The octets of a large identifier that the definition gives spell it, no fewer do, and they are read as it.
 
 one_octet : (cid : ℕ) → cid < 128 → IsSpelled (cid ∷ []) cid
 one_octet cid low =
@@ -26,43 +22,6 @@ two_octets cid high low =
     (All-cons P (128 + cid / 256) (cid % 256 ∷ []) (omega arith) (All-cons P (cid % 256) [] (omega arith) (All-nil P)))
     (omega arith, omega arith)
 
--- by how many octets the shortest has
-is_one : (text : List ℕ) (cid : ℕ) → cid < 128 → IsSpelled text cid → length text ≤ 1 → text ≡ cid ∷ []
-is_one [] cid low is short = absurd (spelled_as [] cid is)
-is_one (a ∷ []) cid low is short = let e = (spelled_as (a ∷ []) cid is).1 in cc
-is_one (a ∷ b ∷ text) cid low is short = absurd (omega arith)
-
-is_two : (text : List ℕ) (cid : ℕ) → 128 ≤ cid → IsSpelled text cid → length text ≤ 2 → text ≡ (128 + cid / 256) ∷ (cid % 256) ∷ []
-is_two [] cid high is short = absurd (spelled_as [] cid is)
-is_two (a ∷ []) cid high is short = let s = spelled_as (a ∷ []) cid is in absurd (omega arith)
-is_two (a ∷ b ∷ []) cid high is short =
-    let P : ℕ → Type 0 = λ octet. octet < 256 in
-    let octet : b < 256 = All-head P b [] (All-tail P a (b ∷ []) is.octets) in
-    let s = spelled_as (a ∷ b ∷ []) cid is in
-    let first : a ≡ 128 + cid / 256 = omega arith in
-    let second : b ≡ cid % 256 = omega arith in
-    cc
-is_two (a ∷ b ∷ c ∷ text) cid high is short = absurd (omega arith)
-
-large_octets : (text : List ℕ) (cid : ℕ) → cid ≤ 16383 → IsSpelled text cid → IsShortest text cid → text ≡ identifier_octets Large cid
-large_octets text cid fits is shortest = ⊎_elim
-    (λ (low : cid < 128).
-    let test : nat_lt cid 128 ≡ true = grind (arith, nat_tests) in
-    rw test (is_one text cid low is (shortest (cid ∷ []) (one_octet cid low))))
-    (λ (high : 128 ≤ cid).
-    let test : nat_lt cid 128 ≡ false = grind (arith, nat_tests) in
-    rw test (is_two text cid high is (shortest ((128 + cid / 256) ∷ (cid % 256) ∷ []) (two_octets cid high fits))))
-    (cases_lt cid 128)
-
--- so it is what is written
-pub written_octets : (written : Option (ArrayVec ℕ)) (text : ArrayVec ℕ) (value cid : ℕ) → written ≡ Some text → value ≡ cid → cid ≤ 16383 →
-    IfSome written (λ t. IsSpelled t.items value) → IfSome written (λ t. IsShortest t.items value) → text.items ≡ identifier_octets Large cid
-written_octets written text value cid is same fits spelled shortest =
-    large_octets text.items cid fits (rw (is, same) at spelled) (rw (is, same) at shortest)
-
-pub identifier_length : (cid : ℕ) → length (identifier_octets Large cid) ≤ 2
-identifier_length cid = grind (arith, nat_tests)
-
 -- the definition's octets spell the identifier
 pub spelled_identifier : (cid : ℕ) → cid ≤ 16383 → IsSpelled (identifier_octets Large cid) cid
 spelled_identifier cid fits = ⊎_elim
@@ -72,6 +31,26 @@ spelled_identifier cid fits = ⊎_elim
     (λ (high : 128 ≤ cid).
     let test : nat_lt cid 128 ≡ false = grind (arith, nat_tests) in
     rw test (two_octets cid high fits))
+    (cases_lt cid 128)
+
+-- no octet spells nothing, and one octet spells less than 128
+some_octets : (text : List ℕ) (cid : ℕ) → IsSpelled text cid → 1 ≤ length text
+some_octets [] cid is = absurd (spelled_as [] cid is)
+some_octets (a ∷ text) cid is = omega arith
+
+more_octets : (text : List ℕ) (cid : ℕ) → 128 ≤ cid → IsSpelled text cid → 2 ≤ length text
+more_octets [] cid high is = absurd (spelled_as [] cid is)
+more_octets (a ∷ []) cid high is = let s = spelled_as (a ∷ []) cid is in absurd (omega (arith, high, s.0, s.1))
+more_octets (a ∷ b ∷ text) cid high is = omega arith
+
+pub shortest : (cid : ℕ) (text : List ℕ) → IsSpelled text cid → length (identifier_octets Large cid) ≤ length text
+shortest cid text is = ⊎_elim
+    (λ (low : cid < 128).
+    let test : nat_lt cid 128 ≡ true = grind (arith, nat_tests) in
+    rw test (some_octets text cid is))
+    (λ (high : 128 ≤ cid).
+    let test : nat_lt cid 128 ≡ false = grind (arith, nat_tests) in
+    rw test (more_octets text cid high is))
     (cases_lt cid 128)
 
 -- what is read where the octets of an identifier stand in front of feedback

@@ -10,7 +10,6 @@ ghost use Rattle.rohc_feedback.specs.Element.{IsMeaning, acknowledgement, ack_oc
 
 use crate::meaning::{Reading, Word};
 use arrayvec::ArrayVec;
-use rohc_bits::write_value;
 use rohc_checks::crc8;
 use rohc_frame::CidKind;
 
@@ -113,8 +112,7 @@ pub(crate) fn write(size: CidKind, reading: Reading) -> Element
     ensures { result.items ≡ octets_of_meaning size reading }
 {
     let mut data = Data::new();
-    data.try_extend_from_slice(&identifier(size, reading.cid))
-        .unwrap();
+    push_identifier(&mut data, size, reading.cid);
     match reading.word {
         Word::Ack => push_acknowledgement(&mut data, 0, reading.sn),
         Word::Nack => push_acknowledgement(&mut data, 1, reading.sn),
@@ -181,20 +179,22 @@ fn element(octets: &[u8]) -> Element
     element
 }
 
-/// The CID octets that precede feedback.
+/// Appends the CID octets that precede feedback: an Add-CID octet unless the CID is 0, or the CID in one octet or two.
 #[tactic(auto, using(crate::proofs::Spelled::add_cid_of))]
-fn identifier(size: CidKind, cid: u16) -> ArrayVec<u8, 4>
-    requires { cid ≤ greatest_cid size }
-    ensures octets { result.items ≡ identifier_octets size cid }
-    ensures short { length result.items ≤ 2 }
+fn push_identifier(octets: &mut Data, size: CidKind, cid: u16)
+    requires empty { octets.old.items ≡ [] }
+    requires within { cid ≤ greatest_cid size }
+    ensures items { octets.new.items ≡ identifier_octets size cid }
+    ensures short { length octets.new.items ≤ 2 }
 {
     match size {
-        CidKind::Small if cid == 0 => ArrayVec::new(),
-        CidKind::Small => {
-            let mut octets = ArrayVec::new();
-            octets.push(0xe0 + cid as u8);
-            octets
+        CidKind::Small if cid == 0 => {}
+        CidKind::Small => octets.push(0xe0 + cid as u8),
+        CidKind::Large if cid < 128 => octets.push(cid as u8),
+        CidKind::Large => {
+            let [high, low] = cid.to_be_bytes();
+            octets.push(0x80 + high);
+            octets.push(low);
         }
-        CidKind::Large => write_value(u32::from(cid)).unwrap(),
     }
 }

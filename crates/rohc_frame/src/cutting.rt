@@ -183,22 +183,24 @@ fn large_plain<'a>(max_cid: u16, octets: &'a [u8]) -> Option<Forward<'a>>
     ensures kind { IfSome result (λ forward. forward.kind ≡ HeadKind.Other) }
     ensures only { IsNone result → (h : Header) → large_parts max_cid octets.entry.now ≡ Ok (Some h) → IsOther h.kind → ⊥ }
 {
-    let (first, behind) = octets.split_first()?;
-    if *first >= 0xe0 {
-        return None;
-    }
-    let Ok((cid, count)) = large_identifier(behind) else {
-        return None;
+    let (first, cid, cid_octets, rest) = match octets {
+        [first @ 0x00..=0xdf, cid @ 0x00..=0x7f, rest @ ..] => {
+            (*first, u16::from(*cid), &octets[1..2], rest)
+        }
+        [first @ 0x00..=0xdf, high @ 0x80..=0xbf, low, rest @ ..] => {
+            let cid = u16::from(high % 64) * 256 + u16::from(*low);
+            (*first, cid, &octets[1..3], rest)
+        }
+        _ => return None,
     };
     if max_cid < cid {
         return None;
     }
-    let (cid_octets, rest) = behind.split_at(count);
     Some(Forward {
         cid,
         size: CidKind::Large,
         kind: HeadKind::Other,
-        first: *first,
+        first,
         cid_octets,
         rest,
     })

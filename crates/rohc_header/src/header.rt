@@ -70,7 +70,9 @@ impl Header {
         self.check7_from(self.static_register(Seven))
     }
 
-    /// The registers of the 3-bit and the 7-bit check after the header's static octets.
+    /// The registers of the 3-bit and the 7-bit check after the header's static octets. It isn't inlined, so that it reads
+    /// the octets one by one where they lie.
+    #[inline(never)]
     pub fn registers(&self) -> (u8, u8)
         ensures three { result.0 ≡ check poly3 (all_ones poly3) (static_octets self.now.octets) }
         ensures seven { result.1 ≡ check poly7 (all_ones poly7) (static_octets self.now.octets) }

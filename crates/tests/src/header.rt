@@ -1,9 +1,7 @@
 //! The other ways to a header's octets and to its checks.
 
 use arrayvec::ArrayVec;
-use rohc_header::{
-    Dynamic, Header, Prepared, Static, check3_after, check7_after, put_header,
-};
+use rohc_header::{Dynamic, Header, Prepared, Static, check3_after, check7_after, put_header};
 
 /// The static fields of the examples' calls.
 const FIXED: Static = Static {

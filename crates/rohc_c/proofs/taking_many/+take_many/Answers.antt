@@ -1,8 +1,11 @@
-use Rattle.std.proofs.Common.{rules, ◌≡◌, ◌∷◌, length, sym, subst}
+use Rattle.std.proofs.Common.{rules, ◌≡◌, ◌+◌, ◌≤◌, ◌∷◌, All, length, sum_by, sym, subst, arith}
 use Rattle.std.proofs.lemmas.List.{drop_at}
+use Rattle.std.proofs.lemmas.List.Elements.{All-tail}
+use Rattle.std.proofs.lemmas.List.Sums.{sum_by-cons}
+use Rattle.rohc_c.specs.declared.many.RohcPacket.{RohcPacket}
 use Rattle.rohc_c.specs.Many.{needed, HaveArrived}
 use Rattle.rohc_c.specs.Written.{Buffers, IsAnswerWritten}
-use Rattle.rohc_c.proofs.ManyLemmas.{buffers_front}
+use Rattle.rohc_c.proofs.ManyLemmas.{buffers_front, one_set}
 use Rattle.rohc_c.proofs.taking_many.+take_many.Goals as goal
 
 pub returns : goal.returns
@@ -15,10 +18,28 @@ returns t c =
     let mid = c.take_one.new.concentrator in
     let split : c.args.packets.now ≡ p ∷ later = search rules in
     let size : length part ≡ needed p.count = search rules in
-    rw split (
+    let own = one_set c.split_at_mut-own.result.0.now c.take_one.new.answer (search rules) in
+    rw (split, own) (
       mid,
       one.0,
       one.1,
       subst (λ (b : Buffers). IsAnswerWritten one.0 b c.take_one.new.answer) (sym (buffers_front p.count part rest size)) one.2,
       subst (λ r. HaveArrived mid later c.args.octets.now r c.take_many.new.answers c.take_many.new.concentrator) (sym (drop_at part rest (needed p.count) size)) c.take_many.ensures,
+    )
+
+pub take_many-requires : goal.take_many-requires
+take_many-requires t c =
+    let p = c.in-Some.packet.now in
+    let later = c.in-Some.later.now in
+    let octets = c.args.octets.now in
+    let Lies : RohcPacket → Type 0 = λ q. q.at + q.count ≤ length octets in
+    let split : c.args.packets.now ≡ p ∷ later = search rules in (
+      search rules,
+      (
+        All-tail Lies p later (subst (λ ps. All Lies ps) split c.requires.within),
+        (
+          omega (arith, sum_by-cons (λ (q : RohcPacket). needed q.count) p later, subst (λ ps. sum_by (λ (q : RohcPacket). needed q.count) ps ≤ length c.args.room.now) split c.requires.room, c.split_at_mut-part.ensures.back_len),
+          search rules,
+        ),
+      ),
     )

@@ -40,5 +40,5 @@ returns-in-Err c =
     let h = header_of c.args.forward.now in
     promotes (state_of c.args.self.now.state) context.fixed (reference_of c.in-Some.reference) (outcomes context.windows.0) (outcomes context.windows.1)
     (static_is c.args.self.now.state context c.in-Some.reference c.in-Static.is c.in-Some.is)
-    c.args.self.now.accepted c.args.moment c.args.settings.now h c.args.forward.now.first (Err c.in-Err.fault) (response_of c.end.result) (Some (record_of c.end.new.self))
+    c.args.self.now.accepted c.args.moment c.args.settings.now h c.args.forward.now.first (Err c.in-Err.fault) (response_of c.end.new.reply) (Some (record_of c.end.new.self))
     (sym c.is_uor_2.ensures ∙ c.if-not-is_uor_2.false) c.in-Err.ensures.fault c.end.ensures

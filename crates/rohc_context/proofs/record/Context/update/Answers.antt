@@ -33,6 +33,6 @@ returns-in-Err c =
     let found = ap (λ st. Some (record { accepted = accepted; state = state_of st })) same in
     updates (state_of c.args.self.now.state) context.fixed (reference_of context.reference) (previous_of context) (outcomes context.windows.0) (ap state_of c.in-Full.is)
     accepted c.args.moment c.saturating_sub-passed.result c.args.settings.now h c.args.forward.now.first (Err c.in-Err.fault)
-    (response_of c.end.result) (Some (record_of c.end.new.self))
+    (response_of c.end.new.reply) (Some (record_of c.end.new.self))
     c.saturating_sub-passed.ensures c.in-Err.ensures.fault
-    (subst (λ r. Ends c.args.settings.now c.args.moment h r r c.in-Err.fault (response_of c.end.result) (Some (record_of c.end.new.self))) found c.end.ensures)
+    (subst (λ r. Ends c.args.settings.now c.args.moment h r r c.in-Err.fault (response_of c.end.new.reply) (Some (record_of c.end.new.self))) found c.end.ensures)
