@@ -12,7 +12,7 @@ from trial import Trial
 
 SCRIPTS = (
     ("examples/worked/two-calls-and-noise", "examples/worked/links-1.toml", ("1 0", "2 300")),
-    ("examples/memory/growing-tables", "examples/memory/growing-tables.toml", ("1 0", "1 4", "1 8", "1 9", "2 300")),
+    ("examples/memory/growing-tables", "examples/memory/growing-tables.toml", ("1 0", "1 9", "2 300", "2 400")),
 )
 MEMORY = "memory"
 
