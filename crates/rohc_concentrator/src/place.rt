@@ -1,6 +1,6 @@
 //! Where an entry of a map stands, tried where it was put before its key is looked up.
 
-ghost use Rattle.std.specs.Prelude.{◌≡◌, ◌<◌, None, true, IfSome, nat_eq};
+ghost use Rattle.std.specs.Prelude.{◌≡◌, ◌+◌, ◌<◌, ◌≤◌, None, true, IfSome, nat_eq};
 ghost use Rattle.indexmap.specs.IndexMap.{get};
 ghost use Rattle.rohc_concentrator.specs.Tables.{IsPlaceOf};
 
@@ -11,7 +11,8 @@ use std::alloc::{AllocError, Global};
 /// steps of 64. So it is seldom made.
 fn room_for(key: usize) -> usize
     requires { key < 65536 }
-    ensures { key < result }
+    ensures room { key < result }
+    ensures few { result ≤ key + 64 }
 {
     if key < 16 { 16 } else { (key / 64 + 1) * 64 }
 }

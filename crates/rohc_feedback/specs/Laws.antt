@@ -1,5 +1,5 @@
--- Laws of feedback elements: no two meanings have the same octets, all are written by some function, and a large
--- CID is spelled as short as it can be.
+-- Laws of feedback elements: no two meanings have the same octets, all are written by some function, and a
+-- large CID is spelled as short as it can be.
 use Rattle.std.specs.Prelude.{◌≡◌, ◌≤◌, ◌↔◌, ◌⊎◌, ℕ, List, Option, length}
 use Rattle.rohc_bits.specs.Spelling.{IsSpelled}
 use Rattle.rohc_frame.specs.declared.header.CidKind.{CidKind}

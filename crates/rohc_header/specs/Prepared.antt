@@ -11,8 +11,8 @@ use Rattle.rohc_header.specs.Original.{octet, flag, addresses}
 abbrev pub middle_octets : (df : Bool) (ttl : ℕ) → List ℕ
 middle_octets df ttl = octet (flag df 0x40) ++ octet 0 ++ octet ttl ++ octet 17
 
--- These octets, RTP's first octet, and the sum of the words of the IPv4 header that the fields fill. The words'
--- octets are exchanged in the sum, which is 256 times as much modulo 65,535.
+-- These octets, RTP's first octet, and the sum of the words of the IPv4 header that the fields fill. The
+-- octets of the words are exchanged in the sum, which is 256 times as much modulo 65,535.
 pub record StaysIn (fixed : Static) (tos ttl : ℕ) (df padding extension : Bool) (p : Prepared) :
     Type 0 where
   pub middle : p.middle ≡ middle_octets df ttl
