@@ -1,6 +1,6 @@
 //! A window onto a reader: octets that were read and not yet passed.
 
-ghost use Rattle.std.specs.Prelude.{◌≡◌, ◌+◌, ◌-◌, ◌≤◌, length, take, vec_len, IfOk, OnErr};
+ghost use Rattle.std.specs.Prelude.{◌≡◌, ◌+◌, ◌-◌, ◌≤◌, length, take, vec_len, vec_capacity, IfOk, OnErr};
 ghost use Rattle.std.specs.List.{slice_range};
 ghost use Rattle.std.specs.Io.KnownBytes.{Keeps, Consumes, IsAtEnd};
 
@@ -27,7 +27,7 @@ pub(crate) struct Window<R> {
     is_full: bool,
     ghost ordered: { start ≤ end },
     ghost within: { end ≤ vec_len octets },
-    ghost room: { vec_len octets ≡ 1048576 + 131072 },
+    ghost room: { 1048576 + 131072 ≤ vec_capacity octets },
 }
 
 /// Moves the octets from `start` to `end` to the front, and reads a piece behind them. Returns how many octets it has.
@@ -53,7 +53,8 @@ impl<R: Read> Window<R> {
     ghost use Rattle.rohc_capture.specs.Window.{ahead_of, text_in, StaysKnown, counted};
     ghost use Rattle.rohc_capture.specs.declared.fault.FaultKind.TheVariants as faults;
 
-    /// A window onto a reader, before its first octet. It has room for the longest block, and a piece behind it.
+    /// A window onto a reader, before its first octet. Memory is asked for the longest block and a piece behind it, and used
+    /// as blocks need it.
     pub(crate) fn new(alloc: Global, reader: R) -> Result<Window<R>, AllocError>
     where
         R: Drop,
@@ -63,7 +64,7 @@ impl<R: Read> Window<R> {
     {
         Ok(Window {
             reader,
-            octets: vec![in alloc; 0u8; LONGEST + PIECE]?,
+            octets: Vec::with_capacity(alloc, LONGEST + PIECE)?,
             start: 0,
             end: 0,
             place: 0,
@@ -92,6 +93,24 @@ impl<R: Read> Window<R> {
         &self.octets[self.start..self.end]
     }
 
+    /// Makes the octets at least so many.
+    fn make_room(&mut self, count: usize)
+        requires { count ≤ LONGEST + PIECE }
+        ensures room { count ≤ vec_len self.new.octets }
+        ensures ahead { ahead_of self.new ≡ ahead_of self.old }
+        ensures start { self.new.start ≡ self.old.start }
+        ensures end { self.new.end ≡ self.old.end }
+        ensures reader { self.new.reader ≡ self.old.reader }
+        ensures place { self.new.place ≡ self.old.place }
+    {
+        if self.octets.len() >= count {
+            return;
+        }
+        let Ok(()) = self.octets.resize(count, 0) else {
+            unreachable!();
+        };
+    }
+
     /// Reads some octets more, and returns whether there may be more still.
     fn more(&mut self) -> Result<bool, FaultKind>
         requires { length (ahead_of self.old) ≤ LONGEST }
@@ -102,6 +121,7 @@ impl<R: Read> Window<R> {
         ensures full { self.new.is_full ≡ nat_eq (length (ahead_of self.new)) (length (ahead_of self.old) + PIECE) }
     {
         let held = self.end - self.start;
+        self.make_room(held + PIECE);
         let read = refill(
             &mut self.reader,
             self.octets.as_mut_slice(),

@@ -244,7 +244,7 @@ pub(crate) fn read_request<'a, R: Print + Eprint + AllocGlobal>(
     rt: &R,
     words: &'a [String],
 ) -> Result<Request<'a>, Ending> {
-    let Ok(command) = command(rt.alloc()) else {
+    let Ok(command) = command(rt.alloc(), words) else {
         return Err(Ending::Memory);
     };
     match command.try_get_matches_from(words) {

@@ -1,18 +1,18 @@
 //! The subcommands that read packets: `decompress`, `script`, `report` and `explain`.
 
-use crate::options::{Word, argument, flag, subcommand, valued, with_words};
+use crate::options::{Given, Word, argument, flag, subcommand, valued, with_words};
 use clap::Command;
-use std::alloc::{AllocError, Global};
+use std::alloc::AllocError;
 
 /// A subcommand with these words, and before them the options that say which link a frame belongs to.
 fn with_rules<'a>(
-    alloc: Global,
+    given: Given<'_>,
     name: &'static str,
     about: &'static str,
     words: &[Word],
 ) -> Result<Command<'a>, AllocError> {
     let rules = subcommand(
-        alloc,
+        given,
         name,
         about,
         &[
@@ -33,13 +33,13 @@ fn with_rules<'a>(
             ),
         ],
     )?;
-    with_words(alloc, rules, words)
+    with_words(given, rules, words)
 }
 
 /// The subcommand `decompress`.
-pub(crate) fn decompress_words<'a>(alloc: Global) -> Result<Command<'a>, AllocError> {
+pub(crate) fn decompress_words<'a>(given: Given<'_>) -> Result<Command<'a>, AllocError> {
     with_rules(
-        alloc,
+        given,
         "decompress",
         "Turn a capture of ROHC packets into a capture of IP packets",
         &[
@@ -55,9 +55,9 @@ pub(crate) fn decompress_words<'a>(alloc: Global) -> Result<Command<'a>, AllocEr
 }
 
 /// The subcommand `script`.
-pub(crate) fn script_words<'a>(alloc: Global) -> Result<Command<'a>, AllocError> {
+pub(crate) fn script_words<'a>(given: Given<'_>) -> Result<Command<'a>, AllocError> {
     with_rules(
-        alloc,
+        given,
         "script",
         "Turn a capture of ROHC packets into a script, or a script into a capture",
         &[
@@ -84,9 +84,9 @@ pub(crate) fn script_words<'a>(alloc: Global) -> Result<Command<'a>, AllocError>
 }
 
 /// The subcommand `report`.
-pub(crate) fn report_words<'a>(alloc: Global) -> Result<Command<'a>, AllocError> {
+pub(crate) fn report_words<'a>(given: Given<'_>) -> Result<Command<'a>, AllocError> {
     with_rules(
-        alloc,
+        given,
         "report",
         "Write a page of HTML that shows what became of each call of a script or a capture",
         &[
@@ -108,9 +108,9 @@ pub(crate) fn report_words<'a>(alloc: Global) -> Result<Command<'a>, AllocError>
 }
 
 /// The subcommand `explain`.
-pub(crate) fn explain_words<'a>(alloc: Global) -> Result<Command<'a>, AllocError> {
+pub(crate) fn explain_words<'a>(given: Given<'_>) -> Result<Command<'a>, AllocError> {
     subcommand(
-        alloc,
+        given,
         "explain",
         "Tell of each packet its fields, its context, its tries, its answer and the usual cause",
         &[

@@ -1,8 +1,8 @@
 //! The subcommands that ask a running gateway.
 
-use crate::options::{Word, argument, subcommand, valued, with_words};
+use crate::options::{Given, Word, argument, subcommand, valued, with_words};
 use clap::Command;
-use std::alloc::{AllocError, Global};
+use std::alloc::AllocError;
 
 /// The option that names the gateway.
 fn control() -> Word {
@@ -21,18 +21,18 @@ fn link() -> Word {
 
 /// With a subcommand that asks a running gateway.
 fn asking<'a>(
-    alloc: Global,
+    given: Given<'_>,
     command: Command<'a>,
     name: &'static str,
     about: &'static str,
     words: &[Word],
 ) -> Result<Command<'a>, AllocError> {
-    let asked = subcommand(alloc, name, about, &[control()])?;
-    command.subcommand(with_words(alloc, asked, words)?)
+    let asked = subcommand(given, name, about, &[control()])?;
+    command.subcommand(with_words(given, asked, words)?)
 }
 
 /// With the subcommands that ask a gateway as a whole.
-fn with_whole<'a>(alloc: Global, command: Command<'a>) -> Result<Command<'a>, AllocError> {
+fn with_whole<'a>(given: Given<'_>, command: Command<'a>) -> Result<Command<'a>, AllocError> {
     let mut command = command;
     for (name, about) in [
         ("status", "Tell what a rohc-gateway is doing"),
@@ -41,40 +41,40 @@ fn with_whole<'a>(alloc: Global, command: Command<'a>) -> Result<Command<'a>, Al
         ("reload", "Have a rohc-gateway read its links again"),
         ("drain", "Have a rohc-gateway take no new call"),
     ] {
-        command = asking(alloc, command, name, about, &[])?;
+        command = asking(given, command, name, about, &[])?;
     }
     Ok(command)
 }
 
 /// The subcommands that ask a running gateway.
 pub(crate) fn with_gateway<'a>(
-    alloc: Global,
+    given: Given<'_>,
     command: Command<'a>,
 ) -> Result<Command<'a>, AllocError> {
-    let command = with_whole(alloc, command)?;
+    let command = with_whole(given, command)?;
     let command = asking(
-        alloc,
+        given,
         command,
         "reset",
         "Have a rohc-gateway forget a link's contexts, or one",
         &[link(), valued("cid", "NUMBER", "The CID of the one")],
     )?;
     let command = asking(
-        alloc,
+        given,
         command,
         "watch",
         "Have a rohc-gateway log each packet of a call for a while",
         &[argument("CALL", "The link and the CID of the call, L/C").required()],
     )?;
     let command = asking(
-        alloc,
+        given,
         command,
         "contexts",
         "Tell the contexts of a link",
         &[link()],
     )?;
     asking(
-        alloc,
+        given,
         command,
         "calls",
         "Tell the calls of a link, the longest silent first",

@@ -166,25 +166,42 @@ impl Word {
     }
 }
 
-/// A command with these words more.
+/// The words that were given, and the memory for what is built of them.
+#[derive(Clone, Copy)]
+pub(crate) struct Given<'w> {
+    pub(crate) alloc: Global,
+    pub(crate) words: &'w [String],
+}
+
+impl Given<'_> {
+    /// Whether one of the words is this name.
+    fn names(&self, name: &str) -> bool {
+        self.words.iter().any(|word| word.as_str() == name)
+    }
+}
+
+/// A subcommand with these words more. One that isn't named is never asked for them, and stays without.
 pub(crate) fn with_words<'a>(
-    alloc: Global,
+    given: Given<'_>,
     command: Command<'a>,
     words: &[Word],
 ) -> Result<Command<'a>, AllocError> {
     let mut command = command;
+    if !given.names(command.get_name()) {
+        return Ok(command);
+    }
     for word in words {
-        command = command.arg(word.arg(alloc)?)?;
+        command = command.arg(word.arg(given.alloc)?)?;
     }
     Ok(command)
 }
 
-/// A subcommand with these words.
+/// A subcommand with these words, if it is named.
 pub(crate) fn subcommand<'a>(
-    alloc: Global,
+    given: Given<'_>,
     name: &'static str,
     about: &'static str,
     words: &[Word],
 ) -> Result<Command<'a>, AllocError> {
-    with_words(alloc, Command::new(alloc, name).about(about), words)
+    with_words(given, Command::new(given.alloc, name).about(about), words)
 }

@@ -2,14 +2,14 @@
 
 use crate::captures::{decompress_words, explain_words, report_words, script_words};
 use crate::gateway::with_gateway;
-use crate::options::{argument, flag, subcommand, valued};
+use crate::options::{Given, argument, flag, subcommand, valued};
 use clap::Command;
 use std::alloc::{AllocError, Global};
 
 /// The subcommand `totals`.
-fn totals<'a>(alloc: Global) -> Result<Command<'a>, AllocError> {
+fn totals<'a>(given: Given<'_>) -> Result<Command<'a>, AllocError> {
     subcommand(
-        alloc,
+        given,
         "totals",
         "Count the answer lines of rohcd replay, by call, by link and of all",
         &[
@@ -25,9 +25,9 @@ fn totals<'a>(alloc: Global) -> Result<Command<'a>, AllocError> {
 }
 
 /// The subcommand `links`.
-fn links<'a>(alloc: Global) -> Result<Command<'a>, AllocError> {
+fn links<'a>(given: Given<'_>) -> Result<Command<'a>, AllocError> {
     subcommand(
-        alloc,
+        given,
         "links",
         "Tell all faults of a links file, or what a good one sets",
         &[
@@ -39,9 +39,9 @@ fn links<'a>(alloc: Global) -> Result<Command<'a>, AllocError> {
 }
 
 /// The subcommand `diff`.
-fn diff<'a>(alloc: Global) -> Result<Command<'a>, AllocError> {
+fn diff<'a>(given: Given<'_>) -> Result<Command<'a>, AllocError> {
     subcommand(
-        alloc,
+        given,
         "diff",
         "Tell the first difference of each call in two answers, or two traces, of one script",
         &[
@@ -53,9 +53,9 @@ fn diff<'a>(alloc: Global) -> Result<Command<'a>, AllocError> {
 }
 
 /// The subcommand `plan`.
-fn plan_words<'a>(alloc: Global) -> Result<Command<'a>, AllocError> {
+fn plan_words<'a>(given: Given<'_>) -> Result<Command<'a>, AllocError> {
     subcommand(
-        alloc,
+        given,
         "plan",
         "Tell what k and n mean on a link, what memory calls take, or how to spread links",
         &[
@@ -71,9 +71,9 @@ fn plan_words<'a>(alloc: Global) -> Result<Command<'a>, AllocError> {
 }
 
 /// The subcommand `trace`.
-fn trace<'a>(alloc: Global) -> Result<Command<'a>, AllocError> {
+fn trace<'a>(given: Given<'_>) -> Result<Command<'a>, AllocError> {
     subcommand(
-        alloc,
+        given,
         "trace",
         "Write each line of a script with its number, and its answers behind it",
         &[
@@ -84,9 +84,9 @@ fn trace<'a>(alloc: Global) -> Result<Command<'a>, AllocError> {
 }
 
 /// The subcommand `spread`.
-fn spread_words<'a>(alloc: Global) -> Result<Command<'a>, AllocError> {
+fn spread_words<'a>(given: Given<'_>) -> Result<Command<'a>, AllocError> {
     subcommand(
-        alloc,
+        given,
         "spread",
         "Write the rules that bring each datagram to the process of its link",
         &[
@@ -102,9 +102,9 @@ fn spread_words<'a>(alloc: Global) -> Result<Command<'a>, AllocError> {
 }
 
 /// The subcommand `verify`.
-fn verify<'a>(alloc: Global) -> Result<Command<'a>, AllocError> {
+fn verify<'a>(given: Given<'_>) -> Result<Command<'a>, AllocError> {
     subcommand(
-        alloc,
+        given,
         "verify",
         "Tell whether installed files are as they were packed",
         &[
@@ -146,19 +146,19 @@ const NAMES: [Name; 11] = [
 ];
 
 /// A subcommand with its words.
-fn words_of<'a>(alloc: Global, name: Name) -> Result<Command<'a>, AllocError> {
+fn words_of<'a>(given: Given<'_>, name: Name) -> Result<Command<'a>, AllocError> {
     match name {
-        Name::Totals => totals(alloc),
-        Name::Trace => trace(alloc),
-        Name::Links => links(alloc),
-        Name::Diff => diff(alloc),
-        Name::Explain => explain_words(alloc),
-        Name::Plan => plan_words(alloc),
-        Name::Decompress => decompress_words(alloc),
-        Name::Script => script_words(alloc),
-        Name::Report => report_words(alloc),
-        Name::Spread => spread_words(alloc),
-        Name::Verify => verify(alloc),
+        Name::Totals => totals(given),
+        Name::Trace => trace(given),
+        Name::Links => links(given),
+        Name::Diff => diff(given),
+        Name::Explain => explain_words(given),
+        Name::Plan => plan_words(given),
+        Name::Decompress => decompress_words(given),
+        Name::Script => script_words(given),
+        Name::Report => report_words(given),
+        Name::Spread => spread_words(given),
+        Name::Verify => verify(given),
     }
 }
 
@@ -175,11 +175,12 @@ fn program<'a>(alloc: Global) -> Result<Command<'a>, AllocError> {
     )
 }
 
-/// The parser of the command line.
-pub fn command<'a>(alloc: Global) -> Result<Command<'a>, AllocError> {
+/// The parser of a command line of these words.
+pub fn command<'a>(alloc: Global, words: &[String]) -> Result<Command<'a>, AllocError> {
+    let given = Given { alloc, words };
     let mut command = program(alloc)?;
     for name in &NAMES {
-        command = command.subcommand(words_of(alloc, *name)?)?;
+        command = command.subcommand(words_of(given, *name)?)?;
     }
-    with_gateway(alloc, command)
+    with_gateway(given, command)
 }
