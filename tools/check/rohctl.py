@@ -318,6 +318,9 @@ def check_ends(trial: Trial) -> None:
                   ("status", "--help"), ("reset", "--help")):
         ended = call(trial, *words)
         trial.demand(ended.status == 0 and ended.text != "", f"rohctl {words}: {ended.end()}", ended.call)
+    for name, option in (("totals", "--follow"), ("decompress", "--padded"), ("plan", "--split"), ("reset", "--cid")):
+        helped, own = call(trial, "help", name), call(trial, name, "--help")
+        trial.demand(helped.text == own.text and option in own.text, f"help {name}: {helped.end()}", helped.call)
     for words in ((), ("frob",), ("trace",), ("links",), ("diff", "a"), ("totals", "--json", "--prometheus"), ("totals", "a", "b"), ("stop",),
                   ("reset", "--control", "x"), ("reset", "--control", "x", "--link", "70000"), ("spread", LINKS)):
         ended = call(trial, *words)

@@ -8,7 +8,7 @@ use rohc_capture::{Capture, CaptureFault, FaultKind, Format};
 use rohc_concentrator::Concentrator;
 use rohc_decompress::{Bulk, BulkFault, Tally, begin, decompress};
 use rohctl_ground::{Ending, Screen, Target, concentrator_of, make_target};
-use std::io::{Read, Write};
+use std::io::{self, Read, Write};
 use std::rt::Files;
 
 /// What is asked of `decompress`.
@@ -83,6 +83,21 @@ fn run_to<S: Read, F: Write + Drop, P: Write + Drop, V: Write>(
     }
 }
 
+/// Runs a capture into these targets. For feedback that nobody asked for the compiler leaves out the writing.
+fn run_to_both<S: Read, F: Write + Drop, P: Write + Drop>(
+    links: &mut Concentrator,
+    bulk: &Bulk<'_>,
+    capture: &mut Capture<S>,
+    packets: &mut Target<F, P>,
+    feedback: &mut Target<F, P>,
+    tally: &mut Tally,
+) -> Result<(), BulkFault> {
+    match feedback {
+        Target::Nothing => run_to(links, bulk, capture, packets, &mut io::sink(), tally),
+        asked => run_to(links, bulk, capture, packets, asked, tally),
+    }
+}
+
 /// Runs the capture that is asked for.
 fn run_bulk<R>(
     rt: &R,
@@ -98,7 +113,7 @@ where
     let mut packets = make_target(rt, asked.output)?;
     let mut feedback = target_of(rt, asked.feedback)?;
     let mut tally = Tally::default();
-    let ran = run_to(
+    let ran = run_to_both(
         &mut links,
         bulk,
         &mut capture,
