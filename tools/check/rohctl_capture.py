@@ -303,6 +303,32 @@ def check_long(trial: Trial) -> None:
         trial.same(f"a long {form}", repr(frames_of([REBUILT[0], *packets])), repr(list(records(written.read_bytes()))), ended.call)
 
 
+def plain_ir(cid: int, payload: bytes) -> bytes:
+    """An IR of profile 0x0000 under a large CID of two octets (RFC 3095 5.10.1; 5.9.1 for the check)."""
+    head = struct.pack(">BHB", 0xFC, 0x8000 | cid, 0)
+    register = 0xFF
+    for octet in head:
+        register ^= octet
+        for _ in range(8):
+            register = register >> 1 ^ (0xE0 if register & 1 else 0)
+    return head + bytes((register,)) + payload
+
+
+def check_many(trial: Trial) -> None:
+    """Packets of thousands of contexts in no order, which are looked at ahead, and some of links and CIDs that have none."""
+    links = trial.scratch / "many.toml"
+    links.write_text((trial.top / LINKS).read_text().replace('"small"', '"large"').replace("max_cid = 15", "max_cid = 16383"))
+    cids = [200 + place * 2557 % 6000 for place in range(6000)]
+    payloads = [struct.pack(">BHH", 0x45, cid, turn) for turn in range(3) for cid in (cids, sorted(cids), cids[::-1])[turn]]
+    packets = [plain_ir(int.from_bytes(payload[1:3]), payload) for payload in payloads[: len(cids)]]
+    packets += [payload[:1] + struct.pack(">H", 0x8000 | int.from_bytes(payload[1:3])) + payload[1:] for payload in payloads[len(cids) :]]
+    frames = frames_of([datagram(5000, b"\0\x01" + packet) for packet in packets])
+    strange = [datagram(5000, b"\0\x02" + packets[-1]), datagram(5000, b"\0\x01\x45\x01\x45"), datagram(5001, b""), b"\x45"]
+    given = [*frames[:-1], *((frames[-1][0], octets) for octets in strange), frames[-1]]
+    for text, form in ((pcap(given, RAW), "pcap"), (pcapng(given, RAW), "pcapng")):
+        good(trial, decompress(trial, text, "--port", "5000", links=links), list(zip(moments(len(payloads)), payloads, strict=True)), f"many calls, {form}")
+
+
 def check_live(trial: Trial) -> None:
     """What came through a pipe is written before more comes."""
     words = (trial.top / PROGRAM, "decompress", "--links", LINKS, "--link", "1")
@@ -410,5 +436,5 @@ def check_tools(trial: Trial) -> None:
 
 def check(trial: Trial) -> None:
     """All of it."""
-    for part in (check_carriers, check_lost, check_cuts, check_changes, check_blocks, check_outputs, check_scripts, check_long, check_live, check_back, check_sides, check_tools):
+    for part in (check_carriers, check_lost, check_cuts, check_changes, check_blocks, check_outputs, check_scripts, check_long, check_many, check_live, check_back, check_sides, check_tools):
         part(trial)

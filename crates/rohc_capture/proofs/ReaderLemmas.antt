@@ -1,5 +1,5 @@
 -- What a capture's octets say, by those of them that are ahead.
-use Rattle.std.proofs.Common.{◌≡◌, ◌≢◌, ℕ, ◌+◌, ◌<◌, ◌≤◌, ◌%◌, min, List, [], ◌∷◌, ◌++◌, length, take, drop, Bool, true, false, Option, Some, None, IfSome, Ok, Err, arith, refl, sym, ◌∙◌, ap, subst, append-nil, length-append, length-drop, length-take}
+use Rattle.std.proofs.Common.{◌≡◌, ◌≢◌, ℕ, ◌+◌, ◌<◌, ◌≤◌, ◌%◌, ◌⊎◌, inl, inr, nat_le, min, List, [], ◌∷◌, ◌++◌, length, take, drop, Bool, true, false, Option, Some, None, IfSome, Ok, Err, arith, refl, sym, ◌∙◌, ap, subst, append-nil, length-append, length-drop, length-take}
 use Rattle.std.specs.Io.KnownBytes.{Keeps, IsAtEnd, prepend_known}
 use Rattle.rohc_capture.specs.declared.number.ByteOrder.{ByteOrder}
 use Rattle.rohc_capture.specs.declared.number.ByteOrder.TheVariants.{Big}
@@ -10,10 +10,13 @@ use Rattle.rohc_capture.specs.Pcap.{magic_of, file_in, record_in}
 use Rattle.rohc_capture.specs.declared.fault.FaultKind.{FaultKind}
 use Rattle.rohc_capture.specs.declared.fault.FaultKind.TheVariants.{Read, NotACapture, CutOff, TooLong}
 use Rattle.rohc_capture.specs.Records.{Next, standing, head_at, longest, record_at, placed, next_in_pcap, is_number, is_section}
-use Rattle.rohc_capture.specs.declared.reader.Kind.TheVariants.{Pcap}
+use Rattle.rohc_capture.specs.declared.reader.Kind.{Kind}
+use Rattle.rohc_capture.specs.declared.reader.Kind.TheVariants.{Unknown, Pcap, Pcapng}
 use Rattle.rohc_capture.specs.Window.{counted}
+use Rattle.rohc_capture.specs.Coming.{Ahead, first_of, IsComing}
 use Rattle.std.proofs.lemmas.Bool.{le-leb, lt-leb}
-use Rattle.std.proofs.lemmas.List.{drop-append-le, take-append-le}
+use Rattle.std.proofs.lemmas.Bool.Decides.{nat_tests}
+use Rattle.std.proofs.lemmas.List.{drop-append-le, take-append-le, length-take-le}
 
 -- the link type and the octets behind it, of the numbers behind the magic number
 abbrev link_of : ByteOrder → Bool → List ℕ → Option PcapHead
@@ -265,3 +268,44 @@ begins-good (Some x) (Some y) left ahead behind head place after k enough e p q 
       p,
       ap (prepend_known behind) r ∙ ap (λ l. Some (l ++ y)) q ∙ ap (λ l. Some l) (sym (ap (drop 24) (sym k) ∙ drop-append-le 24 ahead y enough)),
     )
+
+-- ---- a frame that lies ahead
+
+abbrev frame_ahead : PcapHead → List ℕ → Option Ahead
+frame_ahead head text = first_of (record_at head 0 text)
+
+-- a fault, unless the front has 16 octets
+short_or : (head : PcapHead) (text : List ℕ) → (16 ≤ length text → frame_ahead head text ≡ None) → frame_ahead head text ≡ None
+short_or head text whole = by (nat_le 16 (length text)) refl
+  where
+    by : (b : Bool) → nat_le 16 (length text) ≡ b → frame_ahead head text ≡ None
+    by true e = whole (grind (arith, nat_tests))
+    by false e = ap first_of (record-short head 0 text (grind (arith, nat_tests)))
+
+pub ahead-none : (head : PcapHead) (text : List ℕ) → record_in head text ≡ None → first_of (record_at head 0 text) ≡ None
+ahead-none head text e = short_or head text (λ enough. ap first_of (record-none head 0 text enough e))
+
+-- too long, or cut off
+pub ahead-not : (head : PcapHead) (text : List ℕ) (r : RecordHead) → record_in head text ≡ Some r →
+    (longest < 16 + r.captured) ⊎ (length text < 16 + r.captured) → first_of (record_at head 0 text) ≡ None
+ahead-not head text r e (inl long) = short_or head text (λ enough. ap first_of (record-long head 0 text r enough e long))
+ahead-not head text r e (inr few) = short_or head text (λ enough. by (nat_le (16 + r.captured) longest) refl enough)
+  where
+    by : (b : Bool) → nat_le (16 + r.captured) longest ≡ b → 16 ≤ length text → frame_ahead head text ≡ None
+    by true within enough = ap first_of (record-cut head 0 text r enough e (grind (arith, nat_tests)) few)
+    by false long enough = ap first_of (record-long head 0 text r enough e (grind (arith, nat_tests)))
+
+pub ahead-whole : (head : PcapHead) (text : List ℕ) (r : RecordHead) (frame : List ℕ) → record_in head text ≡ Some r → 16 + r.captured ≤ longest →
+    16 + r.captured ≤ length text → frame ≡ take r.captured (drop 16 text) →
+    Some (record { link_type = head.link_type; original = r.original; frame = frame; all = 16 + r.captured }) ≡ first_of (record_at head 0 text)
+ahead-whole head text r frame e within whole same =
+    let rest : r.captured ≤ length (drop 16 text) = omega (arith, length-drop 16 text) in
+    let size : length (take r.captured (drop 16 text)) ≡ r.captured = length-take-le r.captured (drop 16 text) rest in
+    let enough : 16 ≤ length text = omega arith in
+    rw (same) (rw (record-whole head 0 text r enough e within whole) (rw (size) refl))
+
+-- where nothing lies ahead, no frame does
+pub ahead-nothing : (kind : Kind) (text : List ℕ) → length text ≡ 0 → IsComing kind text None
+ahead-nothing Unknown text empty = refl
+ahead-nothing (Pcap head) text empty = sym (ap first_of (record-short head 0 text (omega (arith, empty))))
+ahead-nothing (Pcapng order) text empty = tt

@@ -11,3 +11,4 @@ pub mod Written
 pub mod Window
 pub mod Records
 pub mod Standing
+pub mod Coming

@@ -25,6 +25,6 @@ pub use carried::{Carried, Carrier, carried_in};
 pub use choice::{Rule, choose, packet_at_once, packet_in};
 pub use fault::{CaptureFault, FRAME_FAULTS, FaultKind, FrameFault};
 pub use frame::{Network, Protocol, network_in};
-pub use reader::{Capture, Record};
+pub use reader::{Capture, Coming, Record};
 pub use udp::{Datagram, datagram_in};
 pub use writer::{Format, WriteFault, put_record, write_head, write_record};

@@ -3,7 +3,9 @@
 ghost use Rattle.std.specs.Prelude.{◌≡◌, ◌≢◌, ◌+◌, ◌≤◌, ℕ, List, [], length, drop, true, false, Some, None, Ok, Err, IfOk, IfErr, IfSome, IfNone, OnOk, OnErr};
 ghost use Rattle.rohc_capture.specs.declared.reader.Kind.TheVariants as kinds;
 ghost use Rattle.rohc_capture.specs.Window.{ahead_of, text_in, StaysKnown};
-ghost use Rattle.rohc_capture.specs.Records.{standing, is_section};
+ghost use Rattle.std.specs.Option.{option_map};
+ghost use Rattle.rohc_capture.specs.Records.{standing, is_section, record_at};
+ghost use Rattle.rohc_capture.specs.Coming.{seen, first_of, IsComing};
 ghost use Rattle.rohc_capture.specs.Standing.{frame_of, rest_of, place_of, at_place, is_whole, IsBegun, ReadsOn, BeginsAs};
 
 use crate::block::{
@@ -91,6 +93,19 @@ pub struct Record {
     pub link_type: u16,
 }
 
+/// A frame that lies ahead.
+#[derive(Clone, Copy)]
+pub struct Coming<'a> {
+    /// The link type, as captures number them.
+    pub link_type: u16,
+    /// How many octets the frame had.
+    pub original: u32,
+    /// Its octets that were captured.
+    pub frame: &'a [u8],
+    /// All octets of its record.
+    pub all: usize,
+}
+
 /// The record before the first.
 const NO_RECORD: Record = Record {
     nanos: 0,
@@ -155,6 +170,25 @@ fn body_of(block: &[u8]) -> &[u8] {
         }
         _ => &[],
     }
+}
+
+/// The frame of the record at the front of these octets of a capture of pcap, if the record is whole.
+#[inline(always)]
+fn coming_in(head: PcapHead, octets: &[u8]) -> Option<Coming<'_>>
+    ensures { option_map seen result ≡ first_of (record_at head 0 octets.now) }
+{
+    let record = record_in(head, octets)?;
+    let captured = record.captured as usize;
+    let all = RECORD_HEAD + captured;
+    if all > LONGEST || all > octets.len() {
+        return None;
+    }
+    Some(Coming {
+        link_type: head.link_type,
+        original: record.original,
+        frame: &octets[RECORD_HEAD..all],
+        all,
+    })
 }
 
 impl<R: Read> Capture<R> {
@@ -228,6 +262,20 @@ impl<R: Read> Capture<R> {
                 None => rest,
             },
             None => &[],
+        }
+    }
+
+    /// The frame of the record that begins `passed` octets behind the record that was read last, if it lies ahead whole, and in a
+    /// capture of pcapng in a block of a packet with a time. Nothing is passed.
+    #[inline(always)]
+    pub fn coming(&self, passed: usize) -> Option<Coming<'_>>
+        ensures { IsComing self.now.kind (drop passed (drop self.now.span.all (ahead_of self.now.window))) (option_map seen result) }
+    {
+        let octets = self.window.ahead().get(self.span.all..)?.get(passed..)?;
+        match self.kind {
+            Kind::Unknown => None,
+            Kind::Pcap(head) => coming_in(head, octets),
+            Kind::Pcapng(order) => self.coming_in_blocks(order, octets),
         }
     }
 
@@ -421,16 +469,38 @@ impl<R: Read> Capture<R> {
         Some(record)
     }
 
+    /// The block at the front of these octets, if it is whole and one of a packet with a time, with its head and its interface.
+    fn packet_block<'a>(
+        &self,
+        order: ByteOrder,
+        octets: &'a [u8],
+    ) -> Option<(&'a [u8], PacketHead, Interface)> {
+        let block = block_in(order, octets)?;
+        let head = enhanced_in(order, body_of(block))?;
+        let interface = *self.interfaces.get(head.interface as usize)?;
+        if head.captured as usize > block.len().saturating_sub(PACKET_HEAD + 4) {
+            return None;
+        }
+        Some((block, head, interface))
+    }
+
+    /// The frame in such a block.
+    fn coming_in_blocks<'a>(&self, order: ByteOrder, octets: &'a [u8]) -> Option<Coming<'a>> {
+        let (block, head, interface) = self.packet_block(order, octets)?;
+        let end = PACKET_HEAD + head.captured as usize;
+        Some(Coming {
+            link_type: interface.link_type,
+            original: head.original,
+            frame: block.get(PACKET_HEAD..end)?,
+            all: block.len(),
+        })
+    }
+
     /// The record of the block that lies ahead, if it is whole and one of a packet with a time, and where its octets lie.
     fn block_ahead(&self, order: ByteOrder) -> Option<(Record, Span)> {
         let rest = self.window.ahead().get(self.span.all..)?;
-        let block = block_in(order, rest)?;
-        let head = enhanced_in(order, body_of(block))?;
-        let interface = *self.interfaces.get(head.interface as usize)?;
+        let (block, head, interface) = self.packet_block(order, rest)?;
         let captured = head.captured as usize;
-        if captured > block.len().saturating_sub(PACKET_HEAD + 4) {
-            return None;
-        }
         let record = Record {
             nanos: nanos_of(head.ticks?, interface.resolution),
             original: head.original,

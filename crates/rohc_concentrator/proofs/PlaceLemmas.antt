@@ -1,5 +1,6 @@
 use Rattle.std.proofs.Common.{◌≡◌, ◌≢◌, ℕ, zero, suc, ◌<◌, List, [], ◌∷◌, get_or, position, Option, Some, None, ap, sym, subst, refl, ◌∙◌, false, nat_eq, slice_get, unwrap_or, is_some, IfSome, true≢false, arith}
-use Rattle.std.proofs.lemmas.Option.{slice_get-get_or}
+use Rattle.std.proofs.lemmas.Option.{slice_get-get_or, slice_get-map}
+use Rattle.std.specs.Option.{option_map}
 use Rattle.std.proofs.lemmas.List.Quantifiers.{position-Some}
 use Rattle.std.specs.Map.{keys_of, values_of}
 use Rattle.std.proofs.lemmas.Bool.Decides.{nat_tests}
@@ -65,3 +66,7 @@ pub lent_at : {V S : Type 0} (m : HashMap ℕ V S) (place key : ℕ) → IsPlace
 lent_at m place key is other value lent =
     let same = same_value (slice_get m.entries place) key other is.value value is.entry lent in
     (is.entry ∙ ap (λ v. Some (key, v)) same, is.found ∙ ap Some same)
+
+-- where the entry of a key stands among the entries, the key stands among the keys
+pub key_stands : {V S : Type 0} (m : HashMap ℕ V S) (place key : ℕ) → IsPlaceOf m place key → slice_get (keys m) place ≡ Some key
+key_stands {V} m place key is = slice_get-map (λ (e : ℕ × V). e.0) m.entries place ∙ ap (option_map (λ (e : ℕ × V). e.0)) is.entry

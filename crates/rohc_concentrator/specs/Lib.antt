@@ -13,3 +13,4 @@ pub mod Isolation
 pub mod Honest
 pub mod Laws
 pub mod Cut
+pub mod Ahead

@@ -2,6 +2,7 @@
 //! context alone takes one step.
 #![tactic(auto)]
 
+pub mod ahead;
 pub mod answer;
 pub mod arrival;
 pub mod concentrator;

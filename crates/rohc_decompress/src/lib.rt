@@ -2,6 +2,7 @@
 //! captured, and what the concentrator delivers is written with that time.
 #![tactic(auto)]
 
+mod ahead;
 mod cut;
 mod fault;
 mod run;

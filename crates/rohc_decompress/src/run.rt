@@ -13,6 +13,7 @@ ghost use Rattle.rohc_decompress.specs.Cut.{shown};
 ghost use Rattle.rohc_decompress.specs.Written.{packet_text, packet_of, feedback_of, feedback_text, delivered_packet, work, TakesPacket};
 ghost use Rattle.rohc_decompress.specs.Run.{how, Runs, OfReading, IsLed, Decompresses, Stops};
 
+use crate::ahead::Look;
 use crate::cut::without_padding;
 use crate::fault::BulkFault;
 use crate::tally::{Tally, more};
@@ -130,6 +131,7 @@ fn take_records<R: Read, W: Write, V: Write>(
         (work concentrator.old (append_known (W.contents packets.old) batch.old) (V.contents feedback.old))
         (work concentrator.new (append_known (W.contents packets.new) batch.new) (V.contents feedback.new))) }
 {
+    let mut look = Look::new();
     for _ in 0..u64::MAX {
         let record = match read_on(capture, batch, packets, feedback) {
             Ok(Some(record)) => record,
@@ -149,6 +151,7 @@ fn take_records<R: Read, W: Write, V: Write>(
         ) else {
             return Err(BulkFault::Write);
         };
+        look.ahead(concentrator, bulk.rules, capture);
         let Ok(()) = take_ahead(concentrator, bulk, capture, batch, packets, feedback, tally) else {
             return Err(BulkFault::Write);
         };

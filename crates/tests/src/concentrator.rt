@@ -9,7 +9,7 @@ use arrayvec::ArrayVec;
 use rohc_concentrator::{
     Answer, CidRange, Concentrator, LinkRecords, LinkSetting, NoLink, SetupFault,
 };
-use rohc_context::{AtOnce, Mode, Outcome, Refusal, Settings};
+use rohc_context::{AtOnce, Mode, Outcome, Profile, Refusal, Settings};
 use std::alloc::{AllocError, Global};
 use std::fmt::InlineText;
 use std::process::Abort;
@@ -174,6 +174,33 @@ fn an_idle_record_counts_as_none(rt: HostRuntime) {
     for arrival in IDLE {
         compare_outcomes(&rt, &mut concentrator, &[arrival]);
         assert!(rt; concentrator.has_context(1, 0));
+    }
+}
+
+/// Packets of links and CIDs for which there is no context to be seen: of another link, of another CID, and an IR.
+const NOT_SEEN: [(u16, &[u8]); 3] = [
+    (2, b"\xe1\x45\xab"),
+    (1, b"\xe2\x45\xab"),
+    (1, b"\xe1\xfc\x00"),
+];
+
+#[test]
+fn a_context_is_seen_ahead(rt: HostRuntime) {
+    let mut concentrator = made(&rt, rt.alloc(), link_1(0));
+    let packets: [(&[u8], usize); 2] = [(b"\xe1\x45\xab", 0), (b"\x45\xab", 1)];
+    for (packet, _) in packets {
+        assert!(rt; concentrator.context_ahead(1, packet).is_none());
+    }
+    compare_outcomes(&rt, &mut concentrator, &IRS);
+    for (packet, wanted) in packets {
+        let seen = concentrator.context_ahead(1, packet);
+        assert_eq!(rt;
+            seen.map(|(place, context)| (place, context.profile())),
+            Some((wanted, Profile::Uncompressed))
+        );
+    }
+    for (link, packet) in NOT_SEEN {
+        assert!(rt; concentrator.context_ahead(link, packet).is_none());
     }
 }
 
