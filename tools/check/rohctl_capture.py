@@ -9,6 +9,7 @@ from collections.abc import Callable, Iterator, Sequence
 from pathlib import Path
 
 from program import Call, Ended, run
+from random_script import check8
 from trial import Trial
 
 PROGRAM = "crates/rohctl/out/rohctl"
@@ -304,14 +305,9 @@ def check_long(trial: Trial) -> None:
 
 
 def plain_ir(cid: int, payload: bytes) -> bytes:
-    """An IR of profile 0x0000 under a large CID of two octets (RFC 3095 5.10.1; 5.9.1 for the check)."""
+    """An IR of profile 0x0000 under a large CID of two octets (RFC 3095 5.10.1)."""
     head = struct.pack(">BHB", 0xFC, 0x8000 | cid, 0)
-    register = 0xFF
-    for octet in head:
-        register ^= octet
-        for _ in range(8):
-            register = register >> 1 ^ (0xE0 if register & 1 else 0)
-    return head + bytes((register,)) + payload
+    return head + bytes((check8(head),)) + payload
 
 
 def check_many(trial: Trial) -> None:
