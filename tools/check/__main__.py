@@ -4,10 +4,12 @@ import sys
 from inspect import cleandoc, getdoc
 from os import X_OK, access
 from pathlib import Path
+from subprocess import CalledProcessError
 
 import proofs_table
 from registry import CHECKS, PROGRAM, TOP, Check, Needs
 from run import Order, run_checks
+from since import fast, since
 from table import faults, page
 
 BY_NAME = {check.name: check for check in CHECKS}
@@ -52,6 +54,26 @@ def show_help(check: Check) -> int:
     return 0
 
 
+def run_since(commit: str) -> int:
+    """Runs the checks that can notice what changed since a commit, and ends by naming what it left out."""
+    try:
+        choice = since(TOP, commit)
+    except CalledProcessError as fault:
+        return refuse(f"since {commit}: {fault.stderr.strip()}")
+    status = run_checks(*ordered(choice.words))
+    print(*choice.left_out, sep="\n")
+    return status
+
+
+def ordered(
+    words: dict[str, tuple[str, ...]], program: Path = TOP / PROGRAM, is_given: bool = False
+) -> tuple[list[Check], Order]:
+    """The checks of these names in their order, and what is asked of them."""
+    checks = [check for check in CHECKS if check.name in words]
+    is_all = all(check in checks for check in CHECKS if check.is_in_all)
+    return checks, Order(words, program, is_given, is_all)
+
+
 def read(words: list[str]) -> dict[str, tuple[str, ...]] | str:
     """The names of checks, each with the words behind it, or what is wrong."""
     chosen: dict[str, tuple[str, ...]] = {}
@@ -76,6 +98,11 @@ def main(words: list[str]) -> int:
         return show_table()
     if words == ["--proofs"]:
         return write_proofs()
+    sys.stdout.reconfigure(errors="replace")  # type: ignore[union-attr]
+    if words == ["fast"]:
+        return run_checks(*ordered(fast()))
+    if len(words) == 2 and words[0] == "since":
+        return run_since(words[1])
     if len(words) == 2 and words[0] in BY_NAME and words[1] == "--help":
         return show_help(BY_NAME[words[0]])
     is_given = words[:1] == ["--program"]
@@ -85,10 +112,7 @@ def main(words: list[str]) -> int:
     chosen = read(words[2:] if is_given else words)
     if isinstance(chosen, str):
         return refuse(chosen)
-    names = chosen or {name: () for name in BY_NAME}
-    checks = [check for check in CHECKS if check.name in names]
-    sys.stdout.reconfigure(errors="replace")  # type: ignore[union-attr]
-    return run_checks(checks, Order(names, program, is_given, not chosen))
+    return run_checks(*ordered(chosen or {check.name: () for check in CHECKS if check.is_in_all}, program, is_given))
 
 
 if __name__ == "__main__":

@@ -2,16 +2,18 @@
 
 - A code block after a line `<!-- run -->` is a command in bash. Its output must be the code block that follows with
   nothing but empty lines between, or nothing if none does. It runs in a folder in which `bin/rohcd` and `rohcd` are the
-  program and `examples` is the repository's. The commands of one document share that folder.
+  program, `bin/rohctl` and `rohctl` are rohctl, and `examples` is the repository's. The commands of one document share
+  that folder.
 - A code block after a line `<!-- beside LINKS SCRIPT -->` has each line of that script beside the answers that the
   program gives to it with those links, and how many octets stand at the end of each. `..` stands for octets that are
   cut out.
-- README.md has at most 1,200 words, and each document that it names is a link.
+- README.md has at most 900 words, and each document that it names is a link. Its table of speed has the least and the
+  greatest ratios of docs/PERFORMANCE.md, and its package has the version.
 - Each link, each anchor, and each file or folder of the repository that a document names is there.
 - Each function and each clause of docs/PROOFS.md stands in the sources. So does each name of code there and in six other
   documents.
 - The examples of docs/EXAMPLES.md are those of tools/worked_examples.txt, each of which says what it shows, and
-  examples/worked has all of them.
+  examples/worked and crates/worked have what tools/expand_examples.py writes of them.
 - The manual pages have each key, each fault of the links file, each status's text and each refusal with its number.
 - The causes of refusals stand in the order of the refusals' numbers.
 - What documents say of the number of scripts, of test data and of refusals is true.
@@ -39,7 +41,7 @@ import proofs_table
 from refusals import refusal_names
 from trial import Trial
 
-README_WORDS = 1200
+README_WORDS = 900
 # Documents in which each name between back quotes must stand in the sources, except paths and octets.
 NAMING = [f"docs/{name}.md" for name in "PROOFS PROMISES THREATS DEFINITIONS ARCHITECTURE DECISIONS".split()]
 EDITS = ("must-fail*/*.edit", "statements/*.edit")
@@ -58,6 +60,31 @@ def check_readme(top: Path) -> Iterator[str]:
             yield f"README.md: the link {shown} leads to {target}"
     for name in re.findall(r"[\w/]+\.md\b", link.sub("", text)):
         yield f"README.md: names {name}, and it isn't a link"
+
+
+def range_of(ratios: Sequence[str]) -> str:
+    """The least and the greatest of these numbers, or the one that there is."""
+    ends = sorted({min(ratios, key=float), max(ratios, key=float)}, key=float)
+    return " to ".join(ends)
+
+
+def check_speed(top: Path) -> Iterator[str]:
+    """Finds ratios in README.md that aren't those of docs/PERFORMANCE.md, and packages of another version."""
+    text = documents(top)["README.md"]
+    rows = re.findall(r"^\| ([\w, ]+)((?: \| \d+){4})((?: \| \d\.\d\d){3}) \|$", documents(top)["docs/PERFORMANCE.md"], re.MULTILINE)
+    ratios = {load: ratios.split(" | ")[1:] for load, _, ratios in rows}
+    hostile = ratios.pop("hostile", [])
+    if not ratios or not hostile:
+        yield "docs/PERFORMANCE.md: there are no ratios"
+        return
+    names = ("from Rattle", "through C", "through C, 32 packets in a call")
+    for name, honest, worst in zip(names, zip(*ratios.values()), hostile):
+        row = f"| {name} | {range_of(honest)} | {worst} |"
+        if row not in text:
+            yield f"README.md lacks the row {row}"
+    version = (top / "VERSION").read_text().strip()
+    if f"/polorowan_{version}_amd64.deb" not in text:
+        yield f"README.md installs no package of version {version}"
 
 
 def fault_of_help(top: Path, script: Path) -> str | None:
@@ -199,8 +226,8 @@ def plain_words(text: str) -> list[str]:
 
 
 def check_examples(top: Path) -> Iterator[str]:
-    """Compares docs/EXAMPLES.md, tools/worked_examples.txt and examples/worked. Each example has a comment below its name. What
-    the document shows of an example, its text and its block, is the same."""
+    """Compares docs/EXAMPLES.md, tools/worked_examples.txt, examples/worked and crates/worked. Each example has a comment
+    below its name. What the document shows of an example, its text and its block, is the same."""
     short, text = (top / "tools/worked_examples.txt").read_text(), documents(top)["docs/EXAMPLES.md"]
     kept = sections(short, r"= (\S+)$")
     told = {name: plain_words(" ".join(line[1:] for line in lines if line.startswith("#"))) for name, lines in kept.items()}
@@ -222,15 +249,16 @@ def check_examples(top: Path) -> Iterator[str]:
         folder = Path(room)
         (folder / "tools").mkdir()
         (folder / "examples/worked").mkdir(parents=True)
-        for name in "expand_examples.py", "worked_examples.txt":
-            shutil.copy(top / "tools" / name, folder / "tools")
+        given = [top / "tools" / name for name in ("expand_examples.py", "worked_examples.txt")]
+        for file in [*given, *top.glob("examples/worked/links-*.toml")]:
+            shutil.copy(file, folder / file.relative_to(top))
         ended = run(Call((folder / "tools/expand_examples.py",)))
         if ended.status != 0:
             yield f"tools/expand_examples.py: {ended.end()}"
-        for file in sorted((folder / "examples/worked").iterdir()):
-            there = top / "examples/worked" / file.name
-            if not there.exists() or there.read_text() != file.read_text():
-                yield f"examples/worked/{file.name} isn't what tools/expand_examples.py writes"
+        for file in sorted(file.relative_to(folder) for file in folder.glob("*/worked/**/*") if file.is_file()):
+            there = top / file
+            if not there.exists() or there.read_text() != (folder / file).read_text():
+                yield f"{file} isn't what tools/expand_examples.py writes"
 
 
 def check_manual(top: Path) -> Iterator[str]:
@@ -299,6 +327,7 @@ def check_tested(top: Path) -> Iterator[str]:
 
 CHECKS = (
     check_readme,
+    check_speed,
     check_help,
     check_links,
     check_proofs,

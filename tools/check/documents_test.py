@@ -10,30 +10,34 @@ from trial import Trial
 
 Plant = tuple[str, str, str, str]
 
-BESIDE = "README.md: isn't what examples/worked/two-calls-and-noise.script is answered: "
+BESIDE = "examples/README.md: isn't what examples/worked/two-calls-and-noise.script is answered: "
 
 # What must be said, the file, and the text that is replaced there by another. These faults need the program.
 ON_PROGRAM: tuple[Plant, ...] = (
     ("README.md:", "README.md", "29000300004011", "29000300004012"),
+    ("README.md:", "README.md", "answer: delivered, 2", "answer: delivered, 3"),
     ("docs/ROHCTL.md:", "docs/ROHCTL.md", "head -n 2", "head -n 3"),
     ("docs/ROHCTL.md:", "docs/ROHCTL.md", "s/NoContext/Check/", "s/NoContext/Empty/"),
     ("status 4", "docs/OPERATING.md", "< examples/worked/two-calls-and-noise.script > all", "< . > all"),
     ("a mark without a command", "docs/FORMATS.md", "Octets are hexadecimal.", "<!-- run -->\nOctets are hexadecimal."),
-    (BESIDE, "README.md", "2 300 ip 450102 ", "2 300 ip 450103 "),
-    (BESIDE, "README.md", "arrive 1 20 10ac ", "arrive 1 20 10ad "),
-    (BESIDE, "README.md", "fd012b40..0980a0ab      42", "fd012b40..0980a0ab      43"),
-    (BESIDE, "README.md", "fd012b40..", "fd012b41.."),
-    (BESIDE, "README.md", "..00000001ac", "..00000001ad"),
-    (BESIDE, "README.md", "..00000001ac          41", "..00000001ac          40"),
-    (BESIDE, "README.md", "e2fc008145aa ", ".. "),
-    ("README.md: shows 0 rows", "README.md", "noise.script -->\n", "noise.script -->\nText.\n"),
-    ("README.md: shows 9 rows", "README.md", "\noops                                     - - refused BadLine", ""),
+    (BESIDE, "examples/README.md", "2 300 ip 450102 ", "2 300 ip 450103 "),
+    (BESIDE, "examples/README.md", "arrive 1 20 10ac ", "arrive 1 20 10ad "),
+    (BESIDE, "examples/README.md", "fd012b40..0980a0ab      42", "fd012b40..0980a0ab      43"),
+    (BESIDE, "examples/README.md", "fd012b40..", "fd012b41.."),
+    (BESIDE, "examples/README.md", "..00000001ac", "..00000001ad"),
+    (BESIDE, "examples/README.md", "..00000001ac          41", "..00000001ac          40"),
+    (BESIDE, "examples/README.md", "e2fc008145aa ", ".. "),
+    ("examples/README.md: shows 0 rows", "examples/README.md", "noise.script -->\n", "noise.script -->\nText.\n"),
+    ("examples/README.md: shows 9 rows", "examples/README.md", "\noops                                     - - refused BadLine", ""),
 )
 
 # The same without the program.
 IN_WORDS: tuple[Plant, ...] = (
     ("names docs/PROVED.md", "README.md", "(docs/PROOFS.md)", "(docs/PROVED.md)"),
-    ("words, more than 1200", "README.md", "## Licence", "word " * 1200),
+    ("words, more than 900", "README.md", "## Versions", "word " * 900),
+    ("lacks the row | through C | 1.05 to 1.12 | 1.20 |", "README.md", "1.05 to 1.12", "1.05 to 1.11"),
+    ("lacks the row | from Rattle | 0.90 to 0.93 | 0.85 |", "docs/PERFORMANCE.md", "| 0.91 |", "| 0.90 |"),
+    ("installs no package of version 1.0.0", "README.md", "polorowan_1.0.0", "polorowan_1.0.1"),
     (
         "names docs/THREATS.md, and it isn't a link",
         "README.md",
@@ -48,7 +52,7 @@ IN_WORDS: tuple[Plant, ...] = (
     ),
     ("tools/soak.py: --help doesn't say", "tools/soak.py", "\"--help\"", "\"--helps\""),
     ("bin/sources: --help doesn't say", "bin/sources", "# usage: bin/sources", "# bin/sources"),
-    ("bin/rohcd: --help starts the toolchain", "bin/rohcd", ". \"$(dirname \"$(realpath \"$0\")\")/usage.sh\"", ""),
+    ("bin/rohc-gateway: --help starts the toolchain", "bin/launch.sh", "= --help ]", "= --helps ]"),
     ("leads to pictures/calls.svg", "docs/OPERATING.md", "pictures/call.svg", "pictures/calls.svg"),
     ("no such heading", "docs/OPERATING.md", "#how-a-call-comes-back", "#how-a-call-returns"),
     ("names docs/PROVED.md", "README.md", "(docs/PROOFS.md)", "(docs/PROVED.md)"),
@@ -73,9 +77,12 @@ IN_WORDS: tuple[Plant, ...] = (
     ("first-uo-1 isn't the example", "docs/EXAMPLES.md", "### first-uo-0", "### first-uo-1"),
     ("first-uo-0 isn't told as", "docs/EXAMPLES.md", "A UO-0: SN 2 in four bits", "A UO-0: SN 2 in five bits"),
     ("says nothing of late-packet", "tools/worked_examples.txt", "# A UO-0 that is late by one:", "> reset 1\n= x\n#"),
-    ("doesn't count 41 examples", "tools/worked_examples.txt", "= late-packet", "= another\n# A copy.\n\n= late-packet"),
+    ("doesn't count 51 examples", "tools/worked_examples.txt", "= late-packet", "= another\n# A copy.\n\n= late-packet"),
     ("examples/worked/plain-call.answers", "examples/worked/plain-call.answers", "f100", "f101"),
     ("examples/worked/plain-call.answers", "tools/worked_examples.txt", "1 0 feedback f100", "1 0 feedback f101"),
+    ("crates/worked/stdout", "crates/worked/stdout", "6003 2007", "6003 2008"),
+    ("crates/worked/data/examples.txt", "crates/worked/data/examples.txt", "? contexts 1", "? contexts 2"),
+    ("crates/worked/data/links-2.toml", "crates/worked/data/links-2.toml", "idle_ms = 5000", "idle_ms = 5001"),
     ("lacks an item of idle_ms", "man/rohc-links.5", ".It Li idle_ms", ".It Li idle"),
     ("lacks an item of 27 StateTooLow", "man/rohc-script.5", ".It 27 Li StateTooLow", ".It 26 Li StateTooLow"),
     (
@@ -113,7 +120,7 @@ IN_WORDS: tuple[Plant, ...] = (
     ("there is no row of the status 4 closed", "man/rohcd.1", "rohcd: write", "rohcd: closed"),
     ("there is no row of the refusal NoCheck", "man/rohc-script.5", ".It 28 Li Check", ".It 28 Li NoCheck"),
     ("there is no check serves", "tools/check/registry.py", "\"gate program launcher\")", "\"gate serves\")"),
-    ("there is no row of the check bodies", "tools/check/registry.py", "\"gate bodies\"", "\"gate\""),
+    ("there is no row of the check bodies", "tools/check/registry.py", "\"gate bodies bites\"", "\"gate bites\""),
     ("states.svg", "docs/pictures/states.svg", "Full Context", "Whole Context"),
     ("lossy-link.svg", "docs/RESULTS.md", "   1%       0    19741", "   1%       0    18741"),
     ("leaves its frame", "tools/draw_pictures.py", "\"no record\"", "\"no record of this link and this CID\""),

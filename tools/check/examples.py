@@ -2,11 +2,12 @@
 
 Each packet of a worked example is cut before each of its octets: without a context, and after worked example whole-ir.
 Each answer must be of a defined kind, and the example that runs behind its cuts must be answered as expected. Two long
-examples, with a packet of 65,497 octets and a line of 200,000, are made here. Names of examples behind `examples` run
-these alone.
+examples, with a packet of 65,497 octets and a line of 200,000, aren't kept in the repository, but written out first.
+Names of examples behind `examples` run these alone.
 """
 
 import re
+import sys
 from collections.abc import Iterator
 from dataclasses import dataclass
 from pathlib import Path
@@ -104,15 +105,11 @@ def cuts_are_answered(trial: Trial, example: Example, packet: str) -> bool:
 
 
 def make_long(trial: Trial) -> Path:
-    """The examples that aren't kept in the repository: a packet of 65,497 octets, and a line of 200,000."""
-    worked = trial.top / WORKED
-    texts = {file.name: file.read_text() for file in worked.glob("*.*")}
-    last = texts["first-uo-0.answers"].splitlines()[-1]
-    trial.write("long/too-long.script", f"arrive 1 0 {WHOLE_IR}\narrive 1 0 10{'0' * 130_992}\narrive 1 0 10ac\n")
-    trial.write("long/too-long.answers", f"{texts['whole-ir.answers']}1 0 refused TooLong\n{last}\n")
-    trial.write("long/long-line.script", "0" * 200_000 + "\n" + texts["plain-call.script"])
-    trial.write("long/long-line.answers", "- - refused LongLine\n" + texts["plain-call.answers"])
-    return trial.scratch / "long"
+    """The examples that aren't kept in the repository, since their lines are long."""
+    folder = trial.scratch / "long"
+    folder.mkdir(parents=True, exist_ok=True)
+    trial.must_run(sys.executable, "-B", "tools/expand_examples.py", folder)
+    return folder
 
 
 def check(trial: Trial) -> None:

@@ -1,12 +1,11 @@
-"""Runs bin/rohcd with a proved program and without one.
+"""Runs bin/rohcd with a proved program and without one, and then bin/rohctl and bin/rohc-gateway.
 
-In both it must behave as the program: each word and status, answers to a line before the next is sent, and a script of
+In both bin/rohcd must behave as the program: each word and status, answers to a line before the next is sent, and a script of
 three megabytes. Status 5 is the lack of memory, which only the program itself can be put to (`poverty`).
 """
 
 import os
 import shutil
-import stat
 import subprocess
 import threading
 import time
@@ -18,12 +17,11 @@ from hashlib import sha256
 from pathlib import Path
 
 from ends import is_live
+from launcher_tools import NOT_BUILT, WITHOUT_TOOLCHAIN, check_tools, may_run
 from program import Call, Ended, Word, run
 from trial import Trial
 
 NO_PROOFS = "bin/rohcd: this build has no proofs, and is slow (bin/rohcd --build makes the proved program)"
-WITHOUT_TOOLCHAIN = "/usr/bin:/bin"
-NOT_BUILT = "no proved program stands, and rt"
 WAIT = 30
 SECONDS = 1200
 LONG_SCRIPT = 2_800_000
@@ -37,12 +35,6 @@ mkdir -p out && cp "{1}" out/rohcd
 echo 'rohcd: command line'
 exit 2
 """
-
-
-def may_run(file: Path) -> Path:
-    """A file that is made executable."""
-    file.chmod(file.stat().st_mode | stat.S_IXUSR | stat.S_IXGRP | stat.S_IXOTH)
-    return file
 
 
 @dataclass
@@ -300,5 +292,6 @@ def check(trial: Trial) -> None:
     make_long(trial)
     check_proved(trial)
     check_unproved(trial)
+    check_tools(trial)
     if not trial.wrongs:
-        trial.say("the launcher: as expected")
+        trial.say("the launchers: as expected")

@@ -5,6 +5,7 @@ from dataclasses import dataclass
 from enum import Enum
 from pathlib import Path
 
+import bites
 import bodies
 import closed
 import closed_test
@@ -60,6 +61,7 @@ class Check:
     """A check, its function, and what it shows. Words behind its name are names of its parts, which it must know.
 
     Without the tool that it names it is left out. One that can do without the program runs without it if it is asked for.
+    One that isn't in all is run only if it is asked for, since another check shows the same.
     """
 
     name: str
@@ -70,6 +72,7 @@ class Check:
     without_tool: str = ""
     knows: Callable[[Path, str], bool] = knows_none
     can_do_without: bool = False
+    is_in_all: bool = True
 
 
 NOTHING, TOOLCHAIN, ON_PROGRAM = Needs
@@ -121,7 +124,14 @@ CHECKS = (
         "gate",
         TOOLCHAIN,
         gate,
-        "all proofs, the tests in the crates, the wrong bodies of must-fail; it leaves the program",
+        "all proofs, the tests in the crates, the worked examples, the wrong bodies of must-fail; it leaves the program",
+    ),
+    Check(
+        "bites",
+        TOOLCHAIN,
+        bites.check,
+        "at most 60 wrong bodies and wrong definitions are refused for their meaning, and their twins proved",
+        knows=bodies.is_crate,
     ),
     Check(
         "library",
@@ -129,6 +139,14 @@ CHECKS = (
         library.check,
         "the library from C, Python, Rust and Go, and under stress; proves rohc_c once more, unless the gate ran just before",
         can_do_without=True,
+    ),
+    Check(
+        "callers",
+        ON_PROGRAM,
+        library.check_callers,
+        "the header, the callers in C and the package in Python, with the library in out; part of library",
+        can_do_without=True,
+        is_in_all=False,
     ),
     Check(
         "program", ON_PROGRAM, ends.check, "the statuses, the faults of the links file, an open pipe, calls over sockets"
@@ -197,7 +215,7 @@ CHECKS = (
         knows=packages.is_part,
     ),
     Check("poverty", ON_PROGRAM, poverty.check, "each request for memory refused in turn"),
-    Check("launcher", ON_PROGRAM, launcher.check, "bin/rohcd with a proved program and without one"),
+    Check("launcher", ON_PROGRAM, launcher.check, "bin/rohcd, bin/rohctl and bin/rohc-gateway with a proved program and without one"),
     Check("install", ON_PROGRAM, installation.check, "bin/install, the completion, tools/link_lines.py on faulty files"),
     Check(
         "documents",
@@ -260,14 +278,16 @@ TESTED = (
     Tested("Command", "rohctl spread", "gate rohctl spread"),
     Tested("Command", "rohctl status, stop, save, reload, drain, reset, contexts, calls, watch", "gate gateway"),
     Tested("Command", "rohc-gateway run, check", "gate gateway"),
-    Tested("Command", "bin/rohcd", "launcher"),
+    Tested("Command", "bin/rohcd, bin/rohctl, bin/rohc-gateway", "launcher"),
+    Tested("Command", "bin/lib", "library callers"),
     Tested("Command", "cluster/up, cluster/down", "cluster"),
     Tested("Command", "bin/install, completion", "library install"),
     Tested("Command", "bin/package, rohctl verify", "packages"),
     Tested("Text", "documents", "words documents documents_test"),
     Tested("Text", "manual pages", "manual words"),
     Tested("Text", "scripts", "shell python words"),
-    Tested("Text", "wrong bodies", "gate bodies"),
-    Tested("Text", "vectors, answers", "model"),
+    Tested("Text", "wrong bodies", "gate bodies bites"),
+    Tested("Text", "vectors, worked examples", "gate model words"),
+    Tested("Text", "answers of whole scripts", "examples model"),
     Tested("Text", "the closed step", "closed closed_test"),
 )

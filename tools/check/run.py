@@ -136,5 +136,6 @@ def run_checks(checks: list[Check], order: Order) -> int:
     results += [*gates, *run_on_program(by_needs[Needs.PROGRAM], replace(order, over_gate=over_gate))]
     tell_table(results)
     for gate in gates:
-        say(gate.last)
+        if gate.last:
+            say(gate.last)
     return int(any(result.failed for result in results))
