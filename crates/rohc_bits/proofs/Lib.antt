@@ -3,6 +3,7 @@ pub mod BitLists
 pub mod Fronts
 pub mod Values
 pub mod Widths
+mod Appended
 pub mod ReadingLemmas
 pub mod Steps
 pub mod ValueSteps

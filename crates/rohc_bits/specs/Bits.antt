@@ -1,5 +1,5 @@
 -- Octets, and bits as truth values, most significant first.
-use Rattle.std.specs.Prelude.{◌==◌, ℕ, zero, suc, ◌+◌, ◌/◌, ◌%◌, ◌^◌, ◌<◌, Bool, if◌then◌else◌, List, [], ◌∷◌, length}
+use Rattle.std.specs.Prelude.{◌==◌, ℕ, zero, suc, ◌+◌, ◌/◌, ◌%◌, ◌^◌, ◌<◌, ◌-◌, Bool, if◌then◌else◌, List, [], ◌∷◌, length, drop}
 use Rattle.std.specs.List.{flat_map}
 
 -- an octet is a number of eight bits
@@ -19,3 +19,7 @@ number (b ∷ bs) = (if b then 2 ^ length bs else 0) + number bs
 -- the bits of a text, octet by octet
 abbrev pub bits_of : List ℕ → List Bool
 bits_of text = flat_map (bits 8) text
+
+-- the last k of a list, or all where there are fewer
+abbrev pub last_of : {A : Type 0} → ℕ → List A → List A
+last_of k xs = drop (length xs - k) xs

@@ -1,6 +1,7 @@
 //! Bit strings: a number together with its width in bits.
 
-ghost use Rattle.std.specs.Prelude.{◌≡◌, ◌<◌, ◌≤◌, ◌+◌, ◌*◌, ◌^◌, ◌%◌, min};
+ghost use Rattle.std.specs.Prelude.{◌≡◌, ◌<◌, ◌≤◌, ◌+◌, ◌*◌, ◌^◌, ◌%◌, ◌++◌, min};
+ghost use Rattle.rohc_bits.specs.Bits.{bits, last_of};
 
 /// The `count` least significant bits of a field.
 #[derive(Clone, Copy, Debug, PartialEq, Eq)]
@@ -31,6 +32,7 @@ impl Bits {
         requires fits { value < 2 ^ count }
         ensures value { result.value ≡ (self.value * 2 ^ count + value) % 2 ^ 32 }
         ensures count { result.count ≡ min (self.count + count) 32 }
+        ensures bits { bits result.count result.value ≡ last_of 32 (bits self.count self.value ++ bits count value) }
     {
         Bits::new(
             joined(self.value, value, count),

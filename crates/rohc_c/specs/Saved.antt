@@ -55,7 +55,7 @@ abbrev pub IsSavedAs : Concentrator → (link moment : ℕ) → SavedLink → Ty
 IsSavedAs k link moment (Saved octets) =
     (s : LinkSetting) × (setting_at k link ≡ Some s) × (octets.items ≡ saved_link moment k s)
 IsSavedAs k link moment NoLink = setting_at k link ≡ None
-IsSavedAs k link moment NoMemory = Unit {0}
+IsSavedAs k link moment NoMemory = (s : LinkSetting) × (setting_at k link ≡ Some s)
 
 -- what is told of a restore, for C
 abbrev pub told : Restored → RohcRestored

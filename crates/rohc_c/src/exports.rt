@@ -1,6 +1,7 @@
 //! The functions that C calls.
 
 ghost use Rattle.std.specs.Prelude.{◌≡◌, ◌≢◌, ◌≤◌, ◌⊎◌, ◌↔◌, length, IsTrue, Some, None, true, false, IfSome, IsSome};
+ghost use Rattle.rohc_concentrator.specs.declared.setting.LinkSetting.{LinkSetting};
 ghost use Rattle.rohc_concentrator.specs.Tables.{setting_at};
 ghost use Rattle.rohc_c.specs.Setup.{IsNew, IsNewFault, fault_number, fault_place};
 ghost use Rattle.rohc_c.specs.declared.setup.NewFault.{NewFault};
@@ -321,6 +322,7 @@ pub extern "C" fn polorowan_save_link(
     ensures short { result ≡ 2 → IfSome gateway.old.handle.concentrator (λ k. IsLinkTooLong k link moment octets.old length.new) }
     ensures absent { (result ≡ 1) ↔ (gateway.old.handle.concentrator ≡ None) }
     ensures unknown_link { result ≡ 4 → IfSome gateway.old.handle.concentrator (λ k. setting_at k link ≡ None) }
+    ensures poor { result ≡ 3 → IfSome gateway.old.handle.concentrator (λ k. (s : LinkSetting) × (setting_at k link ≡ Some s)) }
     ensures kept { gateway.new ≡ gateway.old }
     ensures untouched { result ≢ 0 → octets.new ≡ octets.old }
     ensures unknown { (result ≡ 1) ⊎ (result ≡ 3) ⊎ (result ≡ 4) → length.new ≡ length.old }

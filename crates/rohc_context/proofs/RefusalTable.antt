@@ -10,7 +10,7 @@ use Rattle.rohc_context.specs.declared.refusal.Refusal.{Refusal}
 use Rattle.rohc_context.specs.declared.refusal.TheConstants.{ALL}
 use Rattle.rohc_context.specs.declared.refusal.Refusal.TheVariants.{Empty}
 use Rattle.rohc_context.specs.Refusal.{number_of, name_of, StandAtNumbers}
-use Rattle.rohc_context.specs.RefusalLaws.{HasNumbers, HasEachNumber, NumbersDiffer, NamesDiffer}
+use Rattle.rohc_context.specs.RefusalLaws.{HasNumbers, NumbersDiffer, NamesDiffer}
 
 -- each stands at its number
 pub stand_at_numbers : StandAtNumbers ALL
@@ -48,14 +48,17 @@ counted n (x ∷ rs) (suc k) r all at =
 pub number_at : (k : ℕ) (r : Refusal) → slice_get ALL k ≡ Some r → number_of r ≡ k + 1
 number_at k r at = counted 1 ALL k r refl at ∙ omega arith
 
-pub has_numbers : HasNumbers
-has_numbers r = search rules
+from_1_to_30 : (r : Refusal) → (1 ≤ number_of r) × (number_of r ≤ 30)
+from_1_to_30 r = search rules
 
-pub has_each_number : HasEachNumber
-has_each_number n low high =
-    let at : slice_get ALL (n - 1) ≡ Some (get_or ALL (n - 1) Empty) = slice_get-get_or ALL (n - 1) Empty (omega arith) in
+named : (n : ℕ) → (1 ≤ n) × (n ≤ 30) → (r : Refusal) × (number_of r ≡ n)
+named n within =
+    let at : slice_get ALL (n - 1) ≡ Some (get_or ALL (n - 1) Empty) = slice_get-get_or ALL (n - 1) Empty (omega (arith, within.0, within.1)) in
     let number = number_at (n - 1) (get_or ALL (n - 1) Empty) at in
-    (get_or ALL (n - 1) Empty, omega (arith, number))
+    (get_or ALL (n - 1) Empty, omega (arith, number, within.0))
+
+pub has_numbers : HasNumbers
+has_numbers n = (named n, λ found. subst (λ m. (1 ≤ m) × (m ≤ 30)) found.1 (from_1_to_30 found.0))
 
 pub numbers_differ : NumbersDiffer
 numbers_differ q r e =

@@ -17,13 +17,9 @@ use Rattle.rohc_context.specs.Step.{LoneStep}
 
 -- ---- Numbers and names
 
--- the numbers are 1 to 30
+-- the numbers are 1 to 30, and no others
 abbrev pub HasNumbers : Type 0
-HasNumbers = (r : Refusal) → (1 ≤ number_of r) × (number_of r ≤ 30)
-
--- each of these is a number
-abbrev pub HasEachNumber : Type 0
-HasEachNumber = (n : ℕ) → 1 ≤ n → n ≤ 30 → (r : Refusal) × (number_of r ≡ n)
+HasNumbers = (n : ℕ) → ((1 ≤ n) × (n ≤ 30)) ↔ ((r : Refusal) × (number_of r ≡ n))
 
 -- no two refusals have one number
 abbrev pub NumbersDiffer : Type 0

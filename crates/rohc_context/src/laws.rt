@@ -4,7 +4,7 @@ ghost use Rattle.rohc_context.specs.Counts.{WindowsCount, FallsFromFull, FallsFr
 ghost use Rattle.rohc_context.specs.Modes.{IsSilentInU, KeepsPrevious, HasOneTry, PlainAtOnce, FitsAtOnce, SavesByReference, KeepsFlags, MeansOneUnrefused};
 ghost use Rattle.rohc_context.specs.Waits.{NacksAfterWait, WaitsToNack, IdleIsNone, CountsUntilIdle, TriesAfterWait, WaitsToTry};
 ghost use Rattle.rohc_context.specs.Laws.{HasAnswer, HasNoOther, LeavesGood, BeginsByIr, LeavesNone, NeverPoor, KeepsGood, KeepsRefused, LendsPayload, ChecksChange, LowStatesChange, LowStatesRefuse, ComesToOne, MeansOne, TakesPlain, DeliversHonest, PromotesHonest, DeliversWritten, HasWritten};
-ghost use Rattle.rohc_context.specs.RefusalLaws.{HasNumbers, HasEachNumber, NumbersDiffer, NamesDiffer, FoundByFraming, FoundInChains, FoundInForms, FoundByContexts, RefusesByRow, KeepsByRow, HasFinder};
+ghost use Rattle.rohc_context.specs.RefusalLaws.{HasNumbers, NumbersDiffer, NamesDiffer, FoundByFraming, FoundInChains, FoundInForms, FoundByContexts, RefusesByRow, KeepsByRow, HasFinder};
 ghost use Rattle.rohc_context.specs.SavedLaws.{ComesBack, RecordIsSpelled};
 
 /// A step from good values has exactly one answer, and exactly one record after it, or none.
@@ -148,7 +148,6 @@ pub fn saved_comes_back()
 /// The numbers of the refusals are 1 to 30, each once, and no two refusals have one name.
 pub fn refusals_numbered()
     ensures numbers { HasNumbers }
-    ensures each { HasEachNumber }
     ensures differ { NumbersDiffer }
     ensures names { NamesDiffer }
 {}

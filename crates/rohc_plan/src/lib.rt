@@ -2,6 +2,7 @@
 #![tactic(auto)]
 
 mod chain;
+pub mod laws;
 mod outcomes;
 mod split;
 

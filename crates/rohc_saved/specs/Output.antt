@@ -36,10 +36,11 @@ pub record IsPut (held holding : Option (List ℕ)) (text : List ℕ) (out : Out
   pub taken : IsTaken out.stopped held holding text out.written
   pub hashed : Holds256 out.hasher text
 
--- the fault of a save: a part was written
-abbrev pub SaveFails : Option (List ℕ) → Option (List ℕ) → List ℕ → SaveFault → Type 0
-SaveFails held holding text NoLink = ⊥
-SaveFails held holding text (Write written) = IsPartWritten held holding text written
+-- the fault of a save: a write failed, and the writer took a part
+pub record SaveFails (held holding : Option (List ℕ)) (text : List ℕ) (fault : SaveFault) : Type 0 where
+  pub written : ℕ
+  pub fault_is : fault ≡ Write written
+  pub part : IsPartWritten held holding text written
 
 -- the link of this setting alone was saved, if there is such a link
 abbrev pub SavesLink : (moment : ℕ) → Concentrator → Option LinkSetting → (held holding : Option (List ℕ))

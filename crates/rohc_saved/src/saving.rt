@@ -168,10 +168,7 @@ pub fn save<W: Write>(
     ensures fault { IfErr result (SaveFails (W.contents writer.old) (W.contents writer.new)
         (saved_form moment concentrator.now)) }
 {
-    match write_all(concentrator, moment, writer) {
-        Ok(written) => Ok(written),
-        Err(written) => Err(SaveFault::Write { written }),
-    }
+    write_all(concentrator, moment, writer).map_err(|written| SaveFault::Write { written })
 }
 
 /// Writes one link of a concentrator in the same form.
