@@ -3,11 +3,12 @@
 //! It stands apart from `main`, so that tests can call it.
 #![tactic(auto)]
 
+pub mod buffered;
 mod command;
 mod links_file;
 pub mod program;
-mod tied;
 pub mod udp;
 
+pub use buffered::replay_buffered;
 pub use program::run;
 pub use udp::UdpFront;

@@ -1,15 +1,14 @@
 //! The program, from the words after its name to how it ends.
 
+use crate::buffered::replay_buffered;
 use crate::command::{Request, read_request};
 use crate::links_file::links_of;
-use crate::tied::{TiedInput, TiedOutput};
 use crate::udp::UdpFront;
 use rohc_end::End;
-use rohc_replay::{RunFault, replay};
+use rohc_replay::RunFault;
 use rohc_serve::serve;
-use std::cell::RefCell;
 use std::io;
-use std::io::{BufWriter, Write};
+use std::io::BufWriter;
 use std::net::Net;
 use std::rt::Files;
 use std::time::Clock;
@@ -37,27 +36,16 @@ where
 }
 
 /// Runs the script on standard input, and writes its answers to standard output.
-///
-/// Answers are written out before the program waits for more input. After a failed read the buffered answers are
-/// flushed, and the end is still `Read`.
 fn run_replay<R: Files + Input + Print + AllocGlobal>(rt: &R, links: &str) -> Result<(), End> {
     let (_, mut concentrator) = links_of(rt, links)?;
-    let Ok(buffered) = BufWriter::new(rt.alloc(), io::writer(rt)) else {
+    let Ok(mut writer) = BufWriter::new(rt.alloc(), io::writer(rt)) else {
         return Err(End::Memory);
     };
-    let output = RefCell::new(buffered);
-    let mut reader = TiedInput {
-        input: rt.reader(),
-        output: &output,
-    };
-    let mut writer = TiedOutput { output: &output };
-    match replay(rt.alloc(), &mut concentrator, &mut reader, &mut writer) {
+    let mut reader = rt.reader();
+    match replay_buffered(rt.alloc(), &mut concentrator, &mut reader, &mut writer) {
         Ok(_) => Ok(()),
         Err(RunFault::NoMemory) => Err(End::Memory),
-        Err(RunFault::Read { .. }) => {
-            let _ = writer.flush();
-            Err(End::Read)
-        }
+        Err(RunFault::Read { .. }) => Err(End::Read),
         Err(RunFault::Write { .. }) => Err(End::Write),
     }
 }

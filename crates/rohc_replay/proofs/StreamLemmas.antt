@@ -315,6 +315,22 @@ Replays-end c flushed seen counts e kept = record {
   tally = e.tally;
 }
 
+-- a flush keeps what was written, so the replay stands where it stood
+pub StandsInScript-flushed : (c : ReplayChange) (flushed : Option (List ℕ)) (seen kept : List ℕ) (long : Bool) (counts : Counts) →
+    StandsInScript c seen kept long counts → Keeps c.holding flushed → StandsInScript (change c.before c.held c.after flushed) seen kept long counts
+StandsInScript-flushed c flushed seen kept long counts s same = record {
+  finished = s.finished;
+  rest = s.rest;
+  splits = s.splits;
+  is_kept = s.is_kept;
+  lines = s.lines;
+  are_lines = s.are_lines;
+  answers = s.answers;
+  run = s.run;
+  taken = (Appends-kept c.held c.holding flushed (flat_map text_of s.answers) s.taken.0 same, s.taken.1);
+  tally = s.tally;
+}
+
 -- Where the writer stops.
 
 -- the kept line is the last of the lines, and its answers are taken in part

@@ -27,12 +27,13 @@ const LAST_READ: u64 = 1 << 40;
 /// Runs a script from the reader on the concentrator, and writes its answers to the writer. Returns the number
 /// of good lines and of others.
 ///
-/// Each line is run when it ends, and its answers are offered to the writer before the next line is run. One
-/// flush follows the last line.
+/// Each line is run when it ends, and its answers are offered to the writer before the next line is run. The
+/// writer is flushed before each read call except the first, so that no answer waits for more input, and once after
+/// the last line.
 ///
 /// Two buffers, one for a line and one for a packet, are allocated before the first read. After that only an
-/// accepted first IR asks for memory. Each error of a read, a write or the flush is a fault. So are a write
-/// that takes no octets and the 2^40th read call.
+/// accepted first IR asks for memory. Each error of a read, a write or the last flush is a fault. So are a write
+/// that takes no octets and the 2^40th read call. An error of an earlier flush is ignored.
 pub fn replay<R: Read, W: Write>(
     alloc: Global,
     concentrator: &mut Concentrator,
@@ -103,6 +104,8 @@ fn run_script<R: Read, W: Write>(
         };
         move_to_front(line, end, next.len);
         front = next;
+        // If the flush fails, the read goes on. The writer keeps what it has, and its next write or flush fails.
+        let _ = writer.flush();
     }
     Err(counts.read_fault())
 }

@@ -1,5 +1,7 @@
 //! What is read and written by name: files, and standard input and output for `-`.
 
+ghost use Rattle.rohctl_ground.specs.Streams.{source_remaining, target_contents};
+
 use crate::ending::Ending;
 use std::io::{BufWriter, Printer, Read, Write};
 use std::rt::Files;
@@ -26,6 +28,8 @@ pub enum Source<F, I> {
 }
 
 impl<F: Read, I: Read> Read for Source<F, I> {
+    ghost remaining = { source_remaining F.remaining I.remaining };
+
     fn read(&mut self, buf: &mut [u8]) -> io::Result<usize> {
         match self {
             Source::File(file) => file.read(buf),
@@ -46,6 +50,8 @@ pub enum Target<F: Write + Drop, P: Write + Drop> {
 }
 
 impl<F: Write + Drop, P: Write + Drop> Write for Target<F, P> {
+    ghost contents = { target_contents F.contents P.contents };
+
     fn write(&mut self, buf: &[u8]) -> io::Result<usize> {
         match self {
             Target::File(file) => file.write(buf),
@@ -129,6 +135,8 @@ impl<'a, R: Eprint, S: Read> Told<'a, R, S> {
 }
 
 impl<R: Eprint, S: Read> Read for Told<'_, R, S> {
+    ghost remaining = { λ told. S.remaining told.source };
+
     fn read(&mut self, buf: &mut [u8]) -> io::Result<usize> {
         let count = self.source.read(buf)?;
         self.octets = self.octets.saturating_add(count as u64);

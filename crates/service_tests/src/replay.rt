@@ -1,6 +1,9 @@
 //! Worked examples through `replay`, with their tallies.
 
+mod buffered;
+mod calls;
 mod faults;
+mod honest;
 mod lines;
 
 use crate::examples::LINKS;
@@ -75,6 +78,7 @@ impl Read for Pieces<'_> {
 #[derive(Clone, Copy, PartialEq, Eq)]
 enum Tired {
     Fails,
+    FailsOnce,
     TakesNone,
     TakesOneThenFails,
 }
@@ -97,6 +101,10 @@ impl Write for Taker {
         } else {
             match self.tired {
                 Tired::Fails => return Err(Error::from(ErrorKind::TimedOut)),
+                Tired::FailsOnce => {
+                    self.calls_left = usize::MAX;
+                    return Err(Error::from(ErrorKind::TimedOut));
+                }
                 Tired::TakesNone => 0,
                 Tired::TakesOneThenFails => {
                     self.tired = Tired::Fails;
@@ -185,7 +193,8 @@ fn steady_reader(text: &[u8], size: usize) -> Pieces<'_> {
 /// many bad.
 type Example = (&'static str, &'static str, &'static str, u64, u64);
 
-const EXAMPLES: [Example; 3] = [
+const EXAMPLES: [Example; 4] = [
+    ("empty script", "", "", 0, 0),
     (
         "plain call",
         "arrive 1 0 fc00b745aa\n",

@@ -1,6 +1,6 @@
 use Rattle.std.proofs.Common.{[], ◌++◌, slice_range, arith}
 use Rattle.std.proofs.KnownBytes.{Consumes-nil, Consumes-trans}
-use Rattle.rohc_replay.proofs.StreamLemmas.{StandsInScript-first}
+use Rattle.rohc_replay.proofs.StreamLemmas.{StandsInScript-first, StandsInScript-flushed}
 use Rattle.rohc_replay.proofs.PieceLemmas.{whole_text, StandsInScript-kept, StandsInScript-before, StandsInScript-moved, StopsWithin-piece}
 use Rattle.rohc_replay.proofs.FaultLemmas.{fails_writing}
 use Rattle.rohc_replay.specs.Run.{change, Replays, WriteOrFlushFails}
@@ -32,7 +32,7 @@ loop-preserved g c =
       read = (
         before.0 ++ slice_range c.read_more.new.line c.loop.front.len c.in-Ok.end,
         Consumes-trans _ _ _ _ _ before.1 got.read,
-        StandsInScript-moved _ c.read_more.new.line c.move_to_front.new.line _ _ _ _ _ got.within.0 ran.used got.within.1 c.move_to_front.ensures before.0 stands,
+        StandsInScript-flushed _ _ _ _ _ _ (StandsInScript-moved _ c.read_more.new.line c.move_to_front.new.line _ _ _ _ _ got.within.0 ran.used got.within.1 c.move_to_front.ensures before.0 stands) c.flush.ensures.bytes,
       );
     }
 
