@@ -4,5 +4,5 @@ use Rattle.rohc_concentrator.proofs.concentrator.Concentrator.add_link.Goals as 
 
 pub returns-in-Ok-clause-added : goal.returns-in-Ok-clause-added
 returns-in-Ok-clause-added c =
-    adds_by c.args.self.now (record { links = c.insert.new.self; places = c.keep.new.self }) c.args.setting _ refl c.in-Ok.ensures.updates c.in-Ok.ensures.entries
+    adds_by c.args.self.now (record c.args.self.now { links = c.insert.new.self; places = c.keep.new.self }) c.args.setting _ refl c.in-Ok.ensures.updates c.in-Ok.ensures.entries
     (search rules) (search rules) (search rules) (λ cid. search rules) (search rules)
