@@ -1,21 +1,40 @@
 #!/usr/bin/env python3
 """Writes the worked examples out as scripts and their answers.
 
-usage: tools/expand_examples.py
+usage: tools/expand_examples.py [FOLDER]
 
-It reads worked_examples.txt beside it, and writes examples/worked/NAME.script and NAME.answers. It knows the rows alone,
-and nothing of how a decompressor comes by an answer.
+It reads worked_examples.txt beside it, and writes examples/worked/NAME.script and NAME.answers. All examples, with their
+questions, go to crates/worked, which the gate runs: to data/examples.txt, with the links files and the hostile lines
+beside it, and their answers to stdout. Scripts with lines of 100,000 octets and more aren't kept in the repository:
+with FOLDER only these are written, to that folder. It knows only the rows, and nothing of how a decompressor comes by
+an answer.
 """
 
 import pathlib
 import re
+import shutil
 import sys
+from dataclasses import dataclass, replace
 
 HERE = pathlib.Path(__file__).resolve().parent
-TARGET = HERE.parent / "examples" / "worked"
+SCRIPTS = HERE.parent / "examples" / "worked"
+PROGRAM = HERE.parent / "crates" / "worked"
 
 STATIC_CHAIN = "40110a0000010a0000021388138a00000001"
 DYNAMIC_CHAIN = "004000012000000090000001000000a0000980a0"
+
+SCRIPT_LINE = ">"
+QUESTION = "?"
+
+
+@dataclass(frozen=True)
+class Turn:
+    """A line of a script, or a question, with its answers, and how often it stands there."""
+
+    mark: str
+    line: str
+    times: int
+    answers: tuple[str, ...] = ()
 
 
 def header(fields):
@@ -37,20 +56,21 @@ def written_out(line):
     return " ".join(words[:3] + [octets.replace(" ", "")])
 
 
-def turn_of(line):
-    """A line of a script, its answers, which are none yet, and how often it stands there."""
+def turn_of(mark, line):
+    """A turn, which has no answers yet."""
     times = re.search(r" \*(\d+)$", line)
-    return written_out(line[: times.start()] if times else line), "", int(times[1]) if times else 1
+    line = line[: times.start()] if times else line
+    return Turn(mark, written_out(line) if mark == SCRIPT_LINE else line, int(times[1]) if times else 1)
 
 
 def answered(turn, line):
     """The turn with one more line of answers."""
-    script_line, answers, times = turn
-    return script_line, answers + (line if " refused " in line else written_out(line)) + "\n", times
+    is_whole = turn.mark == QUESTION or " refused " in line
+    return replace(turn, answers=(*turn.answers, line if is_whole else written_out(line)))
 
 
 def read_examples(text):
-    """The turns of each example by its name: lines of the script, each with its answers and how often it comes."""
+    """The turns of each example by its name."""
     examples = {}
     for line in text.splitlines():
         if not line or line.startswith("#"):
@@ -59,25 +79,94 @@ def read_examples(text):
             turns = examples[line[2:]] = []
         elif line.startswith("+ "):
             turns.extend(examples[line[2:]])
-        elif line.startswith("> "):
-            turns.append(turn_of(line[2:]))
+        elif line.startswith(("> ", "? ")):
+            turns.append(turn_of(line[0], line[2:]))
         else:
             turns[-1] = answered(turns[-1], line)
     return examples
+
+
+def has_script(turns):
+    """Whether an example has a script, which may be empty, and not questions only."""
+    return not turns or any(turn.mark == SCRIPT_LINE for turn in turns)
+
+
+def is_flooded(turns):
+    """Whether hostile lines stand between those of an example."""
+    return any(turn.mark == QUESTION and turn.line.startswith("hostile_lines ") for turn in turns)
+
+
+def is_long(turns):
+    """Whether a line of an example is too long to be kept whole."""
+    return any("{" in turn.line for turn in turns)
+
+
+def script(turns):
+    """The script of an example."""
+    text = "".join(f"{turn.line}\n" * turn.times for turn in turns if turn.mark == SCRIPT_LINE).replace("$\n", "")
+    return re.sub(r"\{(\w+)\*(\d+)\}", lambda found: found[1] * int(found[2]), text)
+
+
+def texts(lines):
+    """These lines, each ended by a newline."""
+    return "".join(f"{line}\n" for line in lines)
+
+
+def script_answers(turns):
+    """The answers to the script of an example."""
+    return "".join(texts(turn.answers) * turn.times for turn in turns if turn.mark == SCRIPT_LINE)
+
+
+def given(name, turns):
+    """What crates/worked reads of an example."""
+    return f"= {name}\n" + "".join(f"{turn.mark} {turn.line}\n" * turn.times for turn in turns)
+
+
+def wanted(name, turns):
+    """What crates/worked must write of an example: its questions and all answers, and how many lines of its script are
+    events and how many are bad."""
+    text, counts = f"= {name}\n", [0, 0]
+    for turn in turns:
+        if turn.mark == QUESTION:
+            text += f"? {turn.line}\n"
+        else:
+            counts[texts(turn.answers).startswith("- - refused ")] += turn.times
+        text += texts(turn.answers) * turn.times
+    return text + f"events {counts[0]} bad {counts[1]}\n"
+
+
+def write_scripts(folder, examples, long):
+    """Writes the scripts of the long examples, or of all others, and their answers."""
+    for name, turns in examples.items():
+        if has_script(turns) and not is_flooded(turns) and is_long(turns) == long:
+            (folder / f"{name}.script").write_text(script(turns))
+            (folder / f"{name}.answers").write_text(script_answers(turns))
+
+
+def write_program(examples):
+    """Writes what crates/worked reads, and what it must write."""
+    data = PROGRAM / "data"
+    data.mkdir(parents=True, exist_ok=True)
+    (data / "examples.txt").write_text("".join(given(*example) for example in examples.items()))
+    (data / "hostile-lines.script").write_text(script(examples["hostile-lines"]))
+    for links in SCRIPTS.glob("links-*.toml"):
+        shutil.copyfile(links, data / links.name)
+    (PROGRAM / "stdout").write_text("".join(wanted(*example) for example in examples.items()))
 
 
 def main():
     if sys.argv[1:] == ["--help"]:
         print(__doc__.strip())
         return
-    if sys.argv[1:]:
+    folders = [pathlib.Path(word) for word in sys.argv[1:]]
+    if len(folders) > 1 or not all(folder.is_dir() for folder in folders):
         sys.exit(__doc__)
     examples = read_examples((HERE / "worked_examples.txt").read_text())
-    for name, turns in examples.items():
-        script = "".join(f"{line}\n" * times for line, _, times in turns)
-        answers = "".join(told * times for _, told, times in turns)
-        (TARGET / f"{name}.script").write_text(script.replace("$\n", ""))
-        (TARGET / f"{name}.answers").write_text(answers)
+    if folders:
+        write_scripts(folders[0], examples, True)
+        return
+    write_scripts(SCRIPTS, examples, False)
+    write_program(examples)
 
 
 if __name__ == "__main__":
