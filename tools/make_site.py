@@ -126,6 +126,12 @@ def items(name: str, mark: str) -> str:
     return "".join(f"<li>{inline(' '.join(item.split(chr(10) + chr(10))[0].split()))}</li>\n" for item in found)
 
 
+def paragraph(name: str, head: str) -> str:
+    """The paragraph of a section of README.md that begins with these bold words, without them."""
+    found = section(name).split(f"**{head}** ", 1)[1].split("\n\n", 1)[0]
+    return f"<p>{inline(' '.join(found.split()))}</p>"
+
+
 def picture(name: str, caption: str) -> str:
     """A picture, in the page itself."""
     octets = base64.b64encode((TOP / f"docs/pictures/{name}.svg").read_bytes()).decode()
@@ -135,7 +141,8 @@ def picture(name: str, caption: str) -> str:
 
 def page(rohctl: Path) -> str:
     """The page."""
-    lead = " ".join((TOP / "README.md").read_text().split("\n\n")[1].split()).rstrip(":") + "."
+    lead = " ".join((TOP / "README.md").read_text().split("\n\n")[1].split())
+    proved = "What is proved, and what is not"
     return f"""<!doctype html>
 <html lang="en">
 <head>
@@ -154,15 +161,14 @@ def page(rohctl: Path) -> str:
 <span id="place" aria-live="polite"></span></nav>
 {steps(rohctl)}
 </div>
-<h2>The promises</h2>
+<h2>What is proved</h2>
 <ol>
-{items("The promises", r"[0-9][.]")}</ol>
+{items(proved, r"[0-9][.]")}</ol>
 <h2>What is not proved</h2>
+{paragraph(proved, "Not proved.")}
+<h2>What is in it</h2>
 <ul>
-{items("What is not proved", "-")}</ul>
-<h2>Three programs</h2>
-<ul>
-{items("Three programs", "-")}</ul>
+{items("What is in it", "-")}</ul>
 <h2>Pictures</h2>
 {"".join(picture(name, caption) for name, caption in PICTURES.items())}<script>{SCRIPT}</script>
 </body>

@@ -63,6 +63,13 @@ class Library:
         worked = self.trial.top / WORKED
         return with_links("two-calls-and-noise", worked, worked)[0]
 
+    def copy_built(self) -> bool:
+        """Copies the library that bin/lib left in out, if it is there."""
+        files = list((self.trial.top / "out").glob("libpolorowan.*"))
+        for file in files:
+            shutil.copy(file, self.folder)
+        return any(file.suffix == ".a" for file in files)
+
     def make(self) -> None:
         """Builds it."""
         environment = {"POLOROWAN_OVER_GATE": "1" if self.trial.over_gate else ""}
@@ -234,6 +241,24 @@ def check_shipped(library: Library) -> None:
     example = library.call_of_example
     links = library.links(example.links)
     shipping.check(library.trial, library.folder, links, example.script, example.answers.read_bytes())
+
+
+def check_callers(trial: Trial) -> None:
+    """The header, the callers in C and the package in Python, with the library that bin/lib left in out."""
+    library = Library(trial)
+    if not library.copy_built():
+        trial.leave_out("out has no library, the callers in C and Python were not run (bin/lib builds it)")
+        return
+    try:
+        check_header(library)
+        make_long(trial)
+        all_answers(library, library.build("-std=c99 -O2", "examples/gateway.c", "gateway"))
+        must_end_well(library, library.build(EDGES, "tools/library_calls.c", "calls"))
+        must_end_well(library, library.build(COUNTING, "tools/library_memory.c", "memory"))
+        must_end_well(library, library.build(f"{RUNNING} -O2", "tools/library_running.c", "running"))
+        check_beside(library)
+    except NotBuilt:
+        trial.say("callers: a caller isn't built, so the rest wasn't tried")
 
 
 def check(trial: Trial) -> None:
