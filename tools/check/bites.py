@@ -1,14 +1,14 @@
 """Has the prover try wrong bodies, wrong definitions and twins.
 
 It must refuse each wrong body and each wrong definition for its meaning: not because it can't be compiled, nor only
-because a proof file names something that it removes, nor only because the prover reached a limit. It must prove each
-twin. At most 60 are tried: half from the crates that changed since the newest commit that is four hours older than HEAD,
-the rest from at most five other crates, drawn by the commit's hash. Each twin is tried with its edit. Names of crates
-behind `bites` try all edits of these.
+because a proof file names something that it removes or cites a goal that it removes. A refusal that only a limit of the
+prover explains counts if the twin is proved: its shape is the same, and within the limits. The prover must prove each
+twin. At most 60 are tried: half from the crates that changed since the newest commit that is
+four hours older than HEAD, the rest from at most five other crates, drawn by the commit's hash. Each twin is tried with
+its edit. Right after the gate, the libraries below these crates are taken as the gate left them. Names of crates behind
+`bites` try all edits of these.
 """
 
-import re
-import shutil
 import subprocess
 import sys
 import tempfile
@@ -19,26 +19,14 @@ from hashlib import sha256
 from os import cpu_count
 from pathlib import Path
 
-from edits import FOLDERS, GATE, REFUSED, STATEMENTS, Edit, crates_with_edits, edits
+from edits import REFUSED, STATEMENTS, Edit, crates_with_edits, edits
+from prover import Answer, Crates, Outcome, Room
 from trial import Trial
 
 TOP = Path(__file__).resolve().parent.parent.parent
 # How many are tried, how many of these from crates that changed, and from how many other crates the rest are drawn.
 MOST, MOST_CHANGED, MOST_OTHERS = 60, 30, 5
 HOURS = 4
-
-# What `rt must-fail` says of an edit, and what is wrong with it.
-SAID = re.compile(r"(?:rt: )?must-fail (\w+/\S+\.edit): (.*)")
-FAULTS = {
-    "refused, as it must be (only because a proof file names": "refused only because a proof file names what it removes",
-    "refused, as it must be (only by a limit": "refused only by a limit of the prover",
-    "BAD EDIT": "not compiled",
-    "NOT REFUSED": "PROVED",
-    "NOT TRIED": "not tried",
-}
-REFUSED_WELL = "refused, as it must be"
-# A proof file cites a goal that there is no more, since the edit changed the branches before it.
-LOST_GOAL = re.compile(r"`goal\.[\w+-]+`: module")
 
 
 @dataclass(frozen=True)
@@ -52,88 +40,67 @@ class Verdict:
     @property
     def line(self) -> str:
         """The verdict as a line."""
-        kind = "twin " if self.edit.file.parent.name not in REFUSED else ""
-        return f"{kind}{self.edit.title}: {self.text}"
+        return f"{'twin ' if self.edit.is_twin else ''}{self.edit.title}: {self.text}"
 
 
-def copy_crates(top: Path, room: Path) -> None:
-    """Copies the crates without their edits."""
-    for name in ("crates.txt", "HANDLES"):
-        shutil.copy(top / name, room)
-    shutil.copytree(top / "crates", room / "crates", ignore=shutil.ignore_patterns("out", *FOLDERS))
+def verdict_on(edit: Edit, answer: Answer) -> Verdict:
+    """What the prover made of a crate with an edit, as a verdict on the edit."""
+    if edit.is_twin:
+        is_right = answer.outcome is Outcome.PROVED
+        return Verdict(edit, is_right, "proved" if is_right else f"NOT proved: {answer.text}")
+    if answer.outcome is Outcome.REFUSED:
+        return Verdict(edit, True, answer.text)
+    return Verdict(edit, False, f"NOT refused for its meaning: {answer.outcome.value}: {answer.text}")
 
 
-def said_by(folder: Path, *words: str) -> tuple[int, str]:
-    """The status of a command in a folder, and what it said."""
-    ran = subprocess.run(words, cwd=folder, stdout=subprocess.PIPE, stderr=subprocess.STDOUT, text=True, errors="replace")
-    return ran.returncode, ran.stdout
+def answer_to(room: Room, edit: Edit) -> Answer:
+    """What the prover makes of a crate with an edit: of the modules in which it shows, or else of the whole crate."""
+    answer = room.check(edit.texts(), edit.modules)
+    is_whole = edit.is_twin or not edit.modules or answer.outcome is not Outcome.PROVED
+    return answer if is_whole else room.check(edit.texts())
 
 
-def prove(folder: Path) -> str:
-    """Has the prover prove the crate in a folder. Returns the first error, or nothing if it is proved."""
-    status, text = said_by(folder, "rt", "check", "--jobs", "1")
-    errors = [line for line in text.splitlines() if ": error" in line or "error[" in line]
-    return "" if status == 0 else (errors or [f"status {status}: {text[-300:]}"])[0][:300]
+def try_one(room: Room, edit: Edit) -> Iterator[Verdict]:
+    """Has the prover try an edit in a room of its crate, and then its twin."""
+    try:
+        answer, of_twin = answer_to(room, edit), answer_to(room, edit.twin) if edit.has_twin else None
+    except ValueError as fault:
+        yield Verdict(edit, False, f"NOT applied: {fault}")
+        return
+    is_by_shape = of_twin is None or of_twin.outcome is not Outcome.PROVED
+    if answer.outcome is Outcome.BY_LIMITS and not is_by_shape:
+        answer = Answer(Outcome.REFUSED, f"within the limits its twin is proved; {answer.text}")
+    yield verdict_on(edit, answer)
+    if of_twin:
+        yield verdict_on(edit.twin, of_twin)
 
 
-def verdict_on(edit: Edit, said: str) -> Verdict:
-    """What is said of an edit, as a verdict on it."""
-    fault = next((fault for start, fault in FAULTS.items() if said.startswith(start)), "")
-    if LOST_GOAL.search(said):
-        fault = "refused because a proof file cites a goal that it removes"
-    if fault:
-        return Verdict(edit, False, f"NOT refused for its meaning: {fault}: {said[:300]}")
-    return Verdict(edit, said.startswith(REFUSED_WELL), said.removeprefix(f"{REFUSED_WELL}: "))
+def try_crate(crates: Crates, chosen: Sequence[Edit]) -> list[Verdict]:
+    """Has the prover prove the modules of a crate in which these edits show, and then try them and their twins in turn."""
+    by_edit = [edit.modules for edit in chosen]
+    modules = sorted({module for some in by_edit for module in some}) if all(by_edit) else []
+    with tempfile.TemporaryDirectory(prefix="rohc-bites-") as folder:
+        room = Room.made(crates, chosen[0].crate.name, Path(folder))
+        answer = room.check({}, modules)
+        if answer.outcome is not Outcome.PROVED:
+            return [Verdict(edit, False, f"NOT tried: without it {answer.outcome.value}: {answer.text}") for edit in chosen]
+        return [verdict for edit in chosen for verdict in try_one(room, edit)]
 
 
-def try_edits(room: Path, chosen: Sequence[Edit]) -> Iterator[Verdict]:
-    """Has the prover try these edits over the crates of a room, those of many crates side by side."""
-    left = {edit.title: edit for edit in chosen}
-    for edit in chosen:
-        there = room / "crates" / edit.crate.name / GATE
-        there.mkdir(exist_ok=True)
-        shutil.copy(edit.file, there)
-    status, text = said_by(room, "rt", "must-fail", *sorted({edit.crate.name for edit in chosen}))
-    for line in text.splitlines():
-        said = SAID.match(line)
-        if said and said[1] in left:
-            yield verdict_on(left.pop(said[1]), said[2])
-    for edit in left.values():
-        yield Verdict(edit, False, f"NOT tried: rt must-fail ended with status {status}: {text[-300:]}")
+def try_all(top: Path, chosen: Sequence[Edit], over_gate: bool = False) -> Iterator[Verdict]:
+    """Has the prover try these edits and their twins, those of different crates side by side.
 
-
-def prove_twins(top: Path, twins: Sequence[Edit]) -> list[Verdict]:
-    """Has the prover prove these twins of one crate, one after another, in a room of their own."""
-    found = []
-    with tempfile.TemporaryDirectory(prefix="rohc-twins-") as room:
-        copy_crates(top, Path(room))
-        for twin in twins:
-            folder = Path(room) / "crates" / twin.crate.name
-            before = {path: (folder / path).read_text() for path in twin.paths}
-            for path, text in twin.texts().items():
-                (folder / path).write_text(text)
-            error = prove(folder)
-            found.append(Verdict(twin, not error, f"NOT proved: {error}" if error else "proved"))
-            for path, text in before.items():
-                (folder / path).write_text(text)
-    return found
-
-
-def try_all(top: Path, chosen: Sequence[Edit]) -> Iterator[Verdict]:
-    """Has the prover try these edits, and then prove their twins, those of different crates side by side.
-
-    Their crates are proved first, and that room stays: what the prover keeps there serves all that follows.
+    The libraries below their crates are built first, unless the gate has just left them.
     """
-    crates = sorted({edit.crate.name for edit in chosen})
-    twins = [edit.twin for edit in chosen if edit.has_twin]
-    by_crate = [[twin for twin in twins if twin.crate.name == crate] for crate in crates]
-    with tempfile.TemporaryDirectory(prefix="rohc-bites-") as room, ThreadPoolExecutor(cpu_count() or 1) as pool:
-        copy_crates(top, Path(room))
-        errors = dict(zip(crates, pool.map(lambda crate: prove(Path(room) / "crates" / crate), crates)))
-        sound = [edit for edit in chosen if not errors[edit.crate.name]]
-        yield from (Verdict(edit, False, f"NOT tried: {errors[edit.crate.name]}") for edit in chosen if edit not in sound)
-        yield from try_edits(Path(room), sound) if sound else ()
-        for found in pool.map(lambda some: prove_twins(top, some), filter(None, by_crate)):
+    crates = Crates(top)
+    names = sorted({edit.crate.name for edit in chosen})
+    errors = [] if over_gate and crates.are_of_gate(names) else crates.build_below(names)
+    if errors:
+        yield from (Verdict(edit, False, f"NOT tried: {errors[0]}") for edit in chosen)
+        return
+    by_crate = [[edit for edit in chosen if edit.crate.name == name] for name in names]
+    with ThreadPoolExecutor(cpu_count() or 1) as pool:
+        for found in pool.map(lambda some: try_crate(crates, some), by_crate):
             yield from found
 
 
@@ -193,7 +160,7 @@ def check(trial: Trial) -> None:
         trial.leave_out("git knows no commit here, no wrong body was drawn")
         return
     chosen = edits(trial.top, trial.words, REFUSED) if trial.words else draw(trial.top)
-    for verdict in try_all(trial.top, chosen):
+    for verdict in try_all(trial.top, chosen, trial.over_gate):
         trial.demand(verdict.is_right, verdict.line)
     crates = sorted({edit.crate.name for edit in chosen})
     if trial.demand(bool(chosen), "no wrong body was drawn") and not trial.wrongs:

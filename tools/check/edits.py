@@ -58,6 +58,11 @@ class Edit:
         return self.file.parent.name == STATEMENTS
 
     @property
+    def is_twin(self) -> bool:
+        """Whether it is a twin, which the prover must prove."""
+        return self.file.parent.name == TWINS
+
+    @property
     def pairs(self) -> list[Pair]:
         """What it changes, in its order."""
         found, path, old = [], "", ""
@@ -76,6 +81,18 @@ class Edit:
     def paths(self) -> list[str]:
         """The files that it changes."""
         return sorted({pair.path for pair in self.pairs})
+
+    @property
+    def modules(self) -> list[str]:
+        """The modules in which it shows: those that it changes, or those that name its word. None of it stands for all."""
+        if self.is_statement:
+            word = self.file.name.partition(".")[0]
+            files = [file for file in self.crate.glob("src/**/*.rt") if re.search(rf"\b{word}\b", file.read_text())]
+            paths = [str(file.relative_to(self.crate)) for file in files]
+        else:
+            paths = self.paths
+        found = sorted({module_of(path) for path in paths})
+        return [] if "" in found else found
 
     @property
     def added(self) -> Counter[str]:
@@ -139,6 +156,12 @@ class Edit:
             yield f"NOT with a twin: it adds {words}; crates/{self.crate.name}/twins lacks {self.file.name}"
         elif self.has_twin and self.twin.added != self.added:
             yield f"NOT alike: it adds {dict(self.added)}, and its twin {dict(self.twin.added)}"
+
+
+def module_of(path: str) -> str:
+    """The module that a file of src/ holds, by its path below the crate. The root has no name."""
+    name = path.removeprefix("src/").removesuffix(".rt").removesuffix("/mod").replace("/", "::")
+    return "" if name in ("lib", "main") else name
 
 
 @cache

@@ -1,8 +1,8 @@
 """Chooses the fast checks, or those that can notice what changed since a commit.
 
-All checks that need nothing are chosen. If the sources of a crate changed, so are the gate, which proves that crate and
-those above it and takes the others as they were kept, and the checks of the programs that stand on it. Of each crate that
-changed, all wrong bodies, wrong definitions and twins are tried. A check is also chosen if a file changed that it reads.
+All checks that need nothing are chosen. If the sources of a crate changed, so are the gate, which proves every crate from
+nothing, and the checks of the programs that stand on that crate. Of each crate that changed, all wrong bodies, wrong
+definitions and twins are tried. A check is also chosen if a file changed that it reads.
 """
 
 import re
