@@ -31,14 +31,13 @@ class Wide:
     """A check of 3 or 7 bits. Its register is narrower than an octet."""
 
     def __init__(self, ones, polynomial):
-        self.ones, self.polynomial = ones, polynomial
+        self.ones = ones
+        self.after = [check([octet], 0, polynomial) for octet in range(256)]
 
     def of(self, octets):
         register = self.ones
         for octet in octets:
-            for bit in range(8):
-                out = (register ^ octet >> bit) & 1
-                register = register >> 1 ^ (self.polynomial if out else 0)
+            register = self.after[register ^ octet]
         return register
 
 
