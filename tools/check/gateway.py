@@ -18,36 +18,20 @@ from concurrent.futures import ThreadPoolExecutor
 from pathlib import Path
 
 from cluster import Arrival, made_arrivals
+import gateway_wrong
 from gateway_run import BATCH, LOOPBACK, PROGRAM, Gateway, Receivers, replayed, samples
 from program import Ended
 from random_script import check8
 from trial import Trial
 
 ROHCTL = "crates/rohctl/out/rohctl"
-PARTS = ("words", "calls", "killed", "reloaded", "asked", "watched", "hostile", "flood", "poor", "files")
+PARTS = ("words", "wrong", "calls", "killed", "reloaded", "asked", "watched", "hostile", "flood", "poor", "files")
 LINKS = range(1, 21)
 KILLS = 20
 SLOW = 40
 WATCHED = 100
 FLOOD = 200_000
-
-# Gateway files that are refused, and what `check` says of each.
-FAULTS = (
-    ("port = 4000\n", ["gateway: links: missing"]),
-    ('links = "links.toml"\n', ["gateway: port: missing"]),
-    ('links = "links.toml"\nport = 0\n', ["gateway:2: port: wrong value"]),
-    ('links = "links.toml"\nport = 4000\nprot = 4001\n', ["gateway:3: prot: unknown key"]),
-    ('links = "links.toml"\nport = 4000\ntimed_port = 4000\n', ["gateway:3: timed_port: the same port as port"]),
-    ('links = "links.toml"\nport = 4000\nsave_seconds = 5\n', ["gateway:3: save_seconds: wants state"]),
-    ("links =\n", ["gateway:1: not TOML"]),
-    ('links = "none.toml"\nport = 4000\n', ["links: Unreadable"]),
-    ('links = "bad.toml"\nport = 4000\n', ["links: BadSetting entry 1"]),
-    ('links = 5\nport = "x"\nmetrics_port = 70000\n', [
-        "gateway:1: links: wrong value",
-        "gateway:2: port: wrong value",
-        "gateway:3: metrics_port: wrong value",
-    ]),
-)  # fmt: skip
+UNSAVED = "the gateway continues, and the file of the last save stays"
 
 # What is no good request, and the status of its answer; 0 if the connection ends without one.
 REQUESTS = (
@@ -89,23 +73,19 @@ def check_words(trial: Trial) -> None:
         ended = trial.ran(program, *words)
         trial.demand(ended.status == status and text in ended.all, f"{words}: {ended.end()}", ended.call)
     with Receivers() as receivers:
-        good = receivers.links([1])
-        trial.write("words/links.toml", good)
-        trial.write("words/bad.toml", good.replace("max_cid = 15", "max_cid = 16"))
-        for text, wanted in FAULTS:
-            file = trial.write("words/gateway.toml", text)
-            ended = trial.ran(program, "check", file)
-            fits = ended.status == 1 and ended.text.splitlines() == wanted
-            trial.demand(fits, f"check of {text!r}: {ended.status} {ended.all!r}, wanted {wanted}", ended.call)
-            ended = trial.ran(program, "run", file, seconds=20)
-            trial.demand(ended.status == 3, f"run of {text!r}: {ended.end()}", ended.call)
+        trial.write("words/links.toml", receivers.links([1]))
         file = trial.write("words/gateway.toml", 'links = "links.toml"\nport = 4000\nstate = "calls"\n')
         ended = trial.ran(program, "check", file)
         trial.demand((ended.status, ended.text) == (0, "good\n"), f"check of a good file: {ended.end()}", ended.call)
         trial.write("words/calls", b"no calls")
         ended = trial.ran(program, "run", file, seconds=20)
-        trial.demand(ended.status == 3 and "state" in ended.said, f"a bad state: {ended.end()}", ended.call)
+        trial.demand(ended.status == 3 and "words/calls: " in ended.said, f"a bad state: {ended.end()}", ended.call)
         trial.demand((trial.scratch / "words/calls").read_bytes() == b"no calls", "a refused state was overwritten")
+
+
+def check_wrong(trial: Trial) -> None:
+    """Wrong calls, wrong files and taken ports."""
+    gateway_wrong.check(trial)
 
 
 def counted(lines: list[list[str]], arrivals: list[Arrival]) -> Counter[tuple[str, str]]:
@@ -207,7 +187,7 @@ def check_reloaded(trial: Trial) -> None:
                 before = gateway.links
                 gateway.write_links(before.replace("max_cid = 15", "max_cid = 16", 1))
                 told = gateway.ask("POST", "/reload")
-                trial.demand(told.status == 409 and told.json == {"fault": "BadSetting"}, f"a bad links file: {told}")
+                trial.demand(told.status == 409 and told.json["fault"] == "BadSetting", f"a bad links file: {told}")
                 gateway.write_links(before)
         trial.say(f"reloaded: {len(steps)} times, and six times refused, {len(steady)} arrivals as one replay answers")
 
@@ -223,14 +203,14 @@ def check_asked(trial: Trial) -> None:
     with Receivers() as receivers, Gateway(trial, trial.scratch / "asked", receivers.links(LINKS)) as gateway:
         gateway.send(Arrival(1, 5, first))
         trial.demand(receivers.wait({"deliver": 1, "feedback": 1}), "asked: the first packet isn't delivered")
-        row = {"link": 1, "cid": 0, "profile": "Uncompressed", "state": "FullContext", "accepted": 5}
+        row = {"link": 1, "cid": 0, "profile": "0x0000", "state": "full", "accepted": 5}
         for word in ("contexts", "calls"):
             told = asked(trial, gateway, word, "--link", "1")
             trial.demand(told.is_good and json.loads(told.text) == row, f"rohctl {word}: {told.all}", told.call)
         for words, status, wanted in (
             (("reload",), 0, {"added": 0, "changed": 0, "removed": 0, "contexts_gone": 0}),
             (("drain",), 0, {"draining": True}),
-            (("reset", "--link", "999"), 1, {"fault": "NoLink"}),
+            (("reset", "--link", "999"), 1, {"fault": "NoLink", "text": "link 999 is not in the links file"}),
             (("reset", "--link", "1", "--cid", "1"), 0, {"gone": 0}),
         ):
             told = asked(trial, gateway, *words)
@@ -360,7 +340,9 @@ def check_full(trial: Trial) -> None:
         trial.demand(receivers.wait({"deliver": 15}), "full: no packets")
         for path in ("/save", "/stop"):
             told = gateway.ask("POST", path)
-            trial.demand((told.status, told.json) == (500, {"fault": "Save"}), f"full: {path}: {told}")
+            wanted = {"fault": "Save", "text": f"{gateway.folder}/calls.new: File too large (os error 27); {UNSAVED}"}
+            trial.demand((told.status, told.json) == (500, wanted), f"full: {path}: {told}")
+            trial.demand(f"<3>rohc-gateway: save failed: {wanted['text']}" in gateway.said, f"full: {path}: {gateway.said}")
         trial.demand((gateway.folder / "calls").read_bytes() == saved, "full: the last good file is gone")
         trial.demand(gateway.ask("GET", "/ready").status == 200, "full: it stopped")
         failed = [count for name, _, count in samples(gateway.metrics()) if name == "polorowan_failed_saves_total"]

@@ -1,16 +1,24 @@
 //! Answers over HTTP/1.1 (RFC 9112).
 
 use rohc_station::{ReloadReport, RequestFault};
+use rohc_text::write_json_text;
 use std::alloc::{AllocError, Global};
 use std::io;
 use std::io::Write;
+
+/// How many faults of a links file are shown and logged.
+pub(crate) const MOST_FAULTS: usize = 20;
+
+/// What follows when a links file is refused.
+pub(crate) const REFUSED: &str =
+    "the gateway continues with the old links; its next start will refuse this file";
 
 /// What kind of text a body is.
 #[derive(Clone, Copy)]
 pub(crate) enum Kind {
     /// One object of JSON.
     Object,
-    /// An object of JSON a line.
+    /// One object of JSON per line.
     Lines,
     /// The text format of Prometheus.
     Metrics,
@@ -59,14 +67,53 @@ impl Reply {
         })
     }
 
-    /// A fault of this name.
-    pub(crate) fn fault(alloc: Global, status: u16, name: &str) -> io::Result<Reply> {
-        Reply::object(status, format!(in alloc; "{{\"fault\":\"{name}\"}}\n"))
+    /// A fault of this name, with a text for a reader.
+    pub(crate) fn fault(alloc: Global, status: u16, name: &str, text: &str) -> io::Result<Reply> {
+        let mut body = Vec::new(alloc);
+        write!(&mut body, "{{\"fault\":\"{name}\",\"text\":")?;
+        write_json_text(&mut body, text)?;
+        writeln!(&mut body, "}}")?;
+        Ok(Reply {
+            status,
+            kind: Kind::Object,
+            body,
+        })
     }
 
     /// A fault of a request.
     pub(crate) fn refused(alloc: Global, fault: RequestFault) -> io::Result<Reply> {
-        Reply::fault(alloc, fault.status(), fault.name())
+        Reply::fault(alloc, fault.status(), fault.name(), fault.text())
+    }
+
+    /// A request for a link that the links file doesn't have.
+    pub(crate) fn no_link(alloc: Global, link: u16) -> io::Result<Reply> {
+        let text = format!(in alloc; "link {link} is not in the links file")?;
+        Reply::fault(alloc, 404, "NoLink", text.as_str())
+    }
+
+    /// A links file that is refused by this name: its first faults, how many more it has, and what follows.
+    pub(crate) fn links_refused(
+        alloc: Global,
+        name: &str,
+        file: &str,
+        faults: &str,
+    ) -> io::Result<Reply> {
+        let mut body = Vec::new(alloc);
+        write!(&mut body, "{{\"fault\":\"{name}\",\"file\":")?;
+        write_json_text(&mut body, file)?;
+        write!(&mut body, ",\"text\":[")?;
+        for (place, line) in faults.lines().take(MOST_FAULTS).enumerate() {
+            let comma = if place == 0 { "" } else { "," };
+            write!(&mut body, "{comma}")?;
+            write_json_text(&mut body, line)?;
+        }
+        let more = faults.lines().count().saturating_sub(MOST_FAULTS);
+        writeln!(&mut body, "],\"more\":{more},\"note\":\"{REFUSED}\"}}")?;
+        Ok(Reply {
+            status: 409,
+            kind: Kind::Object,
+            body,
+        })
     }
 
     /// What a reload did.

@@ -1,6 +1,7 @@
 //! `check`: all that is wrong, and nothing is changed.
 
-use crate::setup::{Lines, NoStart, read_start};
+use crate::lines::Lines;
+use crate::setup::{NoStart, read_start};
 use rohc_gateway_file::{Ending, Options};
 use std::rt::Files;
 
@@ -8,18 +9,16 @@ use std::rt::Files;
 fn say_good<R: Print>(rt: &R) -> Result<Ending, Ending> {
     match println!(rt; "good") {
         Ok(()) => Ok(Ending::Good),
-        Err(_) => Err(Ending::Write),
+        Err(e) => Err(Ending::Write(e)),
     }
 }
 
 /// Says what is wrong.
 fn say_wrong<R: Print>(rt: &R, lines: &Lines) -> Result<Ending, Ending> {
-    for line in &lines.all {
-        if println!(rt; "{line}").is_err() {
-            return Err(Ending::Write);
-        }
+    match print!(rt; "{}", lines.as_str()) {
+        Ok(()) => Ok(Ending::Findings),
+        Err(e) => Err(Ending::Write(e)),
     }
-    Ok(Ending::Findings)
 }
 
 /// Says all that is wrong with a gateway file, its links file and its state file, a line each, or `good`.

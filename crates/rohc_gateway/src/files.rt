@@ -1,10 +1,11 @@
 //! The files of a gateway: read whole, and written so that a good one always stands.
 
-use rohc_links::{Links, LinksFault, read_links};
+use rohc_text::Why;
+use std::alloc::Global;
 use std::fs::{File, OpenFile};
 use std::io::{ErrorKind, Read, Write};
 use std::rt::Files;
-use std::{fs, io};
+use std::{fmt, fs, io};
 
 /// The longest gateway file or links file, in octets.
 const LONGEST_TEXT: u64 = 1_048_576;
@@ -12,70 +13,107 @@ const LONGEST_TEXT: u64 = 1_048_576;
 /// The longest state file, in octets: 256 links of 16,384 contexts take less.
 const LONGEST_STATE: u64 = 1_073_741_824;
 
-/// Reads a file of at most so many octets.
-fn read_file<R: Files + AllocGlobal>(rt: &R, path: &str, longest: u64) -> io::Result<Vec<u8>> {
+/// Why a file can't be read.
+#[derive(Clone, Copy)]
+pub(crate) enum Unread {
+    /// The system says why.
+    System(io::Error),
+    /// It has more than this many octets.
+    Long(u64),
+    /// It is no UTF-8.
+    NotUtf8,
+}
+
+impl Unread {
+    /// Whether there was no memory.
+    pub(crate) fn is_memory(&self) -> bool {
+        match self {
+            Unread::System(error) => error.kind() == ErrorKind::OutOfMemory,
+            _ => false,
+        }
+    }
+}
+
+impl fmt::Display for Unread {
+    fn fmt<W: fmt::Write>(&self, f: &mut fmt::Formatter<W>) -> fmt::Result {
+        match self {
+            Unread::System(error) => write!(f, "{}", Why(error)),
+            Unread::Long(longest) => write!(f, "longer than {longest} octets"),
+            Unread::NotUtf8 => f.write_str("not UTF-8"),
+        }
+    }
+}
+
+impl From<io::Error> for Unread {
+    fn from(error: io::Error) -> Unread {
+        Unread::System(error)
+    }
+}
+
+/// Reads a file of at most this many octets.
+fn read_file<R: Files + AllocGlobal>(rt: &R, path: &str, longest: u64) -> Result<Vec<u8>, Unread> {
     let file = fs::open(rt, path)?;
     let mut octets = Vec::new(rt.alloc());
     let mut limited = file.take(longest.saturating_add(1));
     limited.read_to_end(&mut octets)?;
     if octets.len() as u64 > longest {
-        return Err(io::Error::from(ErrorKind::FileTooLarge));
+        return Err(Unread::Long(longest));
     }
     Ok(octets)
 }
 
 /// Reads the text of a gateway file or a links file.
-pub(crate) fn read_text<R: Files + AllocGlobal>(rt: &R, path: &str) -> io::Result<String> {
+pub(crate) fn read_text<R: Files + AllocGlobal>(rt: &R, path: &str) -> Result<String, Unread> {
     let octets = read_file(rt, path, LONGEST_TEXT)?;
-    String::from_utf8(octets).map_err(|_| io::Error::from(ErrorKind::InvalidData))
-}
-
-/// Why there are no links.
-#[derive(Drop)]
-pub(crate) enum UnreadLinks {
-    /// The file can't be read.
-    Unreadable,
-    /// There is no memory.
-    Memory,
-    /// The file has this fault.
-    Fault(LinksFault),
-}
-
-/// Reads a links file.
-pub(crate) fn read_links_file<R: Files + AllocGlobal>(
-    rt: &R,
-    path: &str,
-) -> Result<Links, UnreadLinks> {
-    let text = match read_text(rt, path) {
-        Ok(text) => text,
-        Err(e) if e.kind() == ErrorKind::OutOfMemory => return Err(UnreadLinks::Memory),
-        Err(_) => return Err(UnreadLinks::Unreadable),
-    };
-    match read_links(rt.alloc(), text.as_str()) {
-        Ok(links) => Ok(links),
-        Err(LinksFault::NoMemory) => Err(UnreadLinks::Memory),
-        Err(fault) => Err(UnreadLinks::Fault(fault)),
-    }
+    String::from_utf8(octets).map_err(|_| Unread::NotUtf8)
 }
 
 /// Reads a state file; `None` if there is none.
 pub(crate) fn read_state<R: Files + AllocGlobal>(
     rt: &R,
     path: &str,
-) -> io::Result<Option<Vec<u8>>> {
+) -> Result<Option<Vec<u8>>, Unread> {
     match read_file(rt, path, LONGEST_STATE) {
         Ok(octets) => Ok(Some(octets)),
-        Err(e) if e.kind() == ErrorKind::NotFound => Ok(None),
-        Err(e) => Err(e),
+        Err(Unread::System(error)) if error.kind() == ErrorKind::NotFound => Ok(None),
+        Err(unread) => Err(unread),
     }
 }
 
 /// The folder of a file.
-fn folder_of(path: &str) -> &str {
+pub(crate) fn folder_of(path: &str) -> &str {
     match path.rfind("/") {
         Some(0) => "/",
         Some(place) => path.get(..place).unwrap_or("."),
         None => ".",
+    }
+}
+
+/// Why a file isn't written.
+#[derive(Drop)]
+pub(crate) enum Unwritten {
+    /// The system says why, for this file or folder.
+    System { path: String, error: io::Error },
+    /// There is no memory.
+    Memory,
+}
+
+impl Unwritten {
+    /// Why this file or folder isn't written.
+    fn new(alloc: Global, path: &str, error: io::Error) -> Unwritten {
+        match String::from_str(alloc, path) {
+            Ok(path) if error.kind() != ErrorKind::OutOfMemory => Unwritten::System { path, error },
+            _ => Unwritten::Memory,
+        }
+    }
+}
+
+impl fmt::Display for Unwritten {
+    fn fmt<W: fmt::Write>(&self, f: &mut fmt::Formatter<W>) -> fmt::Result {
+        match self {
+            Unwritten::System { path, error } => write!(f, "{path}: {}", Why(error)),
+            Unwritten::Memory => f.write_str("out of memory"),
+        }
     }
 }
 
@@ -86,15 +124,28 @@ fn write_synced<R: Files>(rt: &R, path: &str, octets: &[u8]) -> io::Result<()> {
     file.sync_all()
 }
 
+/// Syncs a folder.
+fn sync_folder<R: Files>(rt: &R, path: &str) -> io::Result<()> {
+    File::open(rt, path)?.sync_all()
+}
+
 /// Puts octets into a file, so that whatever happens either the old file stands whole or the new one: they
 /// are written to a file beside it, which is synced and takes its name. Then the folder is synced.
 pub(crate) fn replace_file<R: Files + AllocGlobal>(
     rt: &R,
     path: &str,
     octets: &[u8],
-) -> io::Result<()> {
-    let beside = format!(in rt.alloc(); "{path}.new")?;
-    write_synced(rt, beside.as_str(), octets)?;
-    fs::rename(rt, beside.as_str(), path)?;
-    File::open(rt, folder_of(path))?.sync_all()
+) -> Result<(), Unwritten> {
+    let alloc = rt.alloc();
+    let Ok(beside) = format!(in alloc; "{path}.new") else {
+        return Err(Unwritten::Memory);
+    };
+    write_synced(rt, beside.as_str(), octets).map_err(|e| Unwritten::new(
+        alloc,
+        beside.as_str(),
+        e,
+    ))?;
+    fs::rename(rt, beside.as_str(), path).map_err(|e| Unwritten::new(alloc, path, e))?;
+    let folder = folder_of(path);
+    sync_folder(rt, folder).map_err(|e| Unwritten::new(alloc, folder, e))
 }

@@ -1,18 +1,19 @@
 //! A gateway: a station behind its sockets.
 
-use crate::answers::{Kind, Reply};
+use crate::answers::{Kind, MOST_FAULTS, REFUSED, Reply};
 use crate::clock::Moments;
 use crate::connection::{Connection, Progress};
-use crate::files::{UnreadLinks, read_links_file, replace_file};
+use crate::files::{Unwritten, replace_file};
+use crate::lines::Lines;
+use crate::links_file::{NoLinks, read_links_file};
 use crate::sending::send_all;
 use crate::sockets::MOST_CONNECTIONS;
 use crate::watch::{LONGEST, MOST_PACKETS, Watch};
 use mio::net::UdpSocket;
 use rohc_concentrator::NoLink;
 use rohc_gateway_file::{Config, VERSION};
-use rohc_links::Links;
 use rohc_station::{
-    Asked, GatewayFigures, ReloadFault, Request, RequestFault, Station, write_calls,
+    Asked, GatewayFigures, ReloadFault, ReloadReport, Request, RequestFault, Station, write_calls,
     write_contexts, write_metrics,
 };
 use std::io;
@@ -22,6 +23,9 @@ use std::time::Clock;
 
 /// The most datagrams that are taken from a socket before connections are looked at.
 const BATCH: u32 = 256;
+
+/// What follows when a save fails.
+const UNSAVED: &str = "the gateway continues, and the file of the last save stays";
 
 /// A gateway.
 #[derive(Drop)]
@@ -46,10 +50,38 @@ pub(crate) struct Gateway<'a> {
     pub(crate) connections: Vec<Option<Connection>>,
 }
 
-/// Tells why a links file isn't taken.
-fn refuse_links<R: Eprint + AllocGlobal>(rt: &R, status: u16, name: &str) -> io::Result<Reply> {
-    let _ = eprintln!(rt; "<4>rohc-gateway: reload refused: {name}");
-    Reply::fault(rt.alloc(), status, name)
+/// Logs the first faults of a links file that is refused, and what follows.
+fn log_refused<R: Eprint>(rt: &R, name: &str, file: &str, faults: &str) {
+    for line in faults.lines().take(MOST_FAULTS) {
+        let _ = eprintln!(rt; "<4>rohc-gateway: {line}");
+    }
+    if faults.lines().count() > MOST_FAULTS {
+        let _ = eprintln!(rt; "<4>rohc-gateway: rohctl links {file} shows more");
+    }
+    let _ = eprintln!(rt; "<4>rohc-gateway: reload refused: {name}; {REFUSED}");
+}
+
+/// Refuses a links file by this name, and says why.
+fn refuse_links<R: Eprint + AllocGlobal>(
+    rt: &R,
+    name: &str,
+    file: &str,
+    lines: &Lines,
+) -> io::Result<Reply> {
+    log_refused(rt, name, file, lines.as_str());
+    Reply::links_refused(rt.alloc(), name, file, lines.as_str())
+}
+
+/// Logs why the contexts aren't saved.
+fn log_unsaved<R: Eprint>(rt: &R, unwritten: &Unwritten) {
+    let _ = eprintln!(rt; "<3>rohc-gateway: save failed: {unwritten}; {UNSAVED}");
+}
+
+/// Says that a reload had no memory.
+fn refuse_for_memory<R: Eprint + AllocGlobal>(rt: &R) -> io::Result<Reply> {
+    let text = "out of memory; new links may be missing until a reload succeeds";
+    let _ = eprintln!(rt; "<3>rohc-gateway: reload refused: {text}");
+    Reply::fault(rt.alloc(), 500, "NoMemory", text)
 }
 
 impl Gateway<'_> {
@@ -107,7 +139,7 @@ impl Gateway<'_> {
     pub(crate) fn save<R: Files + Clock + AllocGlobal>(
         &mut self,
         rt: &R,
-    ) -> io::Result<Option<usize>> {
+    ) -> Result<Option<usize>, Unwritten> {
         let Some(path) = &self.config.state else {
             return Ok(None);
         };
@@ -115,7 +147,7 @@ impl Gateway<'_> {
         let mut octets = Vec::new(rt.alloc());
         let saved = match self.station.save(moment, &mut octets) {
             Ok(_) => replace_file(rt, path.as_str(), octets.as_slice()),
-            Err(_) => Err(io::Error::from(ErrorKind::OutOfMemory)),
+            Err(_) => Err(Unwritten::Memory),
         };
         match saved {
             Ok(()) => {
@@ -143,38 +175,45 @@ impl Gateway<'_> {
             return;
         }
         self.next_save = moment.saturating_add(u64::from(seconds).saturating_mul(1000));
-        if self.save(rt).is_err() {
-            let _ = eprintln!(rt; "<3>rohc-gateway: save failed");
+        if let Err(unwritten) = self.save(rt) {
+            log_unsaved(rt, &unwritten);
         }
     }
 
-    /// Takes the links file anew.
+    /// Reads the links file again.
     fn reload<R: Files + Eprint + AllocGlobal>(&mut self, rt: &R) -> io::Result<Reply> {
-        let path = match &self.config.links {
+        let config = self.config;
+        let path = match &config.links {
             Some(path) => path.as_str(),
             None => "",
         };
-        match read_links_file(rt, path) {
-            Ok(links) => self.take_links(rt, links),
-            Err(UnreadLinks::Unreadable) => refuse_links(rt, 409, "Unreadable"),
-            Err(UnreadLinks::Memory) => refuse_links(rt, 500, "NoMemory"),
-            Err(UnreadLinks::Fault(fault)) => refuse_links(rt, 409, fault.name()),
+        match self.reload_from(rt, path) {
+            Ok(report) => {
+                let _ = eprintln!(rt;
+                    "<6>rohc-gateway: reloaded: {} added, {} changed, {} removed, {} contexts removed",
+                    report.added, report.changed, report.removed, report.contexts_gone
+                );
+                Reply::reloaded(rt.alloc(), &report)
+            }
+            Err(NoLinks::Refused(name, lines)) => refuse_links(rt, name, path, &lines),
+            Err(NoLinks::Memory) => refuse_for_memory(rt),
         }
     }
 
-    /// Takes these links in place of those that are there.
-    fn take_links<R: Eprint + AllocGlobal>(&mut self, rt: &R, links: Links) -> io::Result<Reply> {
+    /// Accepts the links of the file at this path in place of those that are there.
+    fn reload_from<R: Files + AllocGlobal>(
+        &mut self,
+        rt: &R,
+        path: &str,
+    ) -> Result<ReloadReport, NoLinks> {
         let alloc = rt.alloc();
+        let (text, links) = read_links_file(rt, path)?;
         match self.station.reload(alloc, links) {
-            Ok(report) => {
-                let _ = eprintln!(rt;
-                    "<6>rohc-gateway: reloaded: {} added, {} changed, {} removed, {} contexts gone",
-                    report.added, report.changed, report.removed, report.contexts_gone
-                );
-                Reply::reloaded(alloc, &report)
+            Ok(report) => Ok(report),
+            Err(ReloadFault::Settings(fault)) => {
+                Err(NoLinks::refused(alloc, path, text.as_str(), fault.name()))
             }
-            Err(ReloadFault::Settings(fault)) => refuse_links(rt, 409, fault.name()),
-            Err(ReloadFault::NoMemory) => refuse_links(rt, 500, "NoMemory"),
+            Err(ReloadFault::NoMemory) => Err(NoLinks::Memory),
         }
     }
 
@@ -187,9 +226,10 @@ impl Gateway<'_> {
         let alloc = rt.alloc();
         let saved = match self.save(rt) {
             Ok(saved) => saved,
-            Err(_) => {
-                let _ = eprintln!(rt; "<3>rohc-gateway: save failed");
-                return Reply::fault(alloc, 500, "Save");
+            Err(unwritten) => {
+                log_unsaved(rt, &unwritten);
+                let text = format!(in alloc; "{unwritten}; {UNSAVED}")?;
+                return Reply::fault(alloc, 500, "Save", text.as_str());
             }
         };
         self.is_stopped = stops;
@@ -199,7 +239,10 @@ impl Gateway<'_> {
             }
             (Some(octets), false) => format!(in alloc; "{{\"saved\":{octets}}}\n"),
             (None, true) => format!(in alloc; "{{\"stopped\":true,\"saved\":null}}\n"),
-            (None, false) => return Reply::fault(alloc, 409, "NoState"),
+            (None, false) => {
+                let text = "there is no state file; expected the key state in the gateway file";
+                return Reply::fault(alloc, 409, "NoState", text);
+            }
         };
         Reply::object(200, text)
     }
@@ -209,14 +252,14 @@ impl Gateway<'_> {
         let alloc = rt.alloc();
         match self.station.reset(link, cid) {
             Ok(gone) => Reply::object(200, format!(in alloc; "{{\"gone\":{gone}}}\n")),
-            Err(NoLink) => Reply::fault(alloc, 404, "NoLink"),
+            Err(NoLink) => Reply::no_link(alloc, link),
         }
     }
 
     /// Takes no new call from now on.
     fn drain<R: Eprint + AllocGlobal>(&mut self, rt: &R) -> io::Result<Reply> {
         self.figures.draining = true;
-        let _ = eprintln!(rt; "<6>rohc-gateway: draining");
+        let _ = eprintln!(rt; "<6>rohc-gateway: draining: no new call is accepted");
         Reply::object(200, format!(in rt.alloc(); "{{\"draining\":true}}\n"))
     }
 
@@ -229,7 +272,7 @@ impl Gateway<'_> {
     ) -> io::Result<Reply> {
         let alloc = rt.alloc();
         if !self.station.concentrator().tables().contains_key(&link) {
-            return Reply::fault(alloc, 404, "NoLink");
+            return Reply::no_link(alloc, link);
         }
         self.watch = Some(Watch::new(link, cid, self.moments.now(rt)));
         let _ = eprintln!(rt; "<6>rohc-gateway: watch {link}/{cid} begins");
@@ -284,7 +327,7 @@ impl Gateway<'_> {
     fn contexts<R: AllocGlobal>(&self, rt: &R, link: u16, by_age: bool) -> io::Result<Reply> {
         let alloc = rt.alloc();
         if !self.station.concentrator().tables().contains_key(&link) {
-            return Reply::fault(alloc, 404, "NoLink");
+            return Reply::no_link(alloc, link);
         }
         let mut body = Vec::new(alloc);
         if by_age {

@@ -7,6 +7,9 @@ mod clock;
 mod connection;
 mod files;
 mod gateway;
+mod lines;
+mod links_file;
+mod outputs;
 mod run;
 mod sending;
 mod setup;
@@ -50,7 +53,10 @@ fn main(rt: HostRuntime) -> ExitCode {
             Ok(ending) => ending,
             Err(ending) => ending,
         },
-        Err(e) if e.kind() == io::ErrorKind::InvalidData => Ending::CommandLine,
+        Err(e) if e.kind() == io::ErrorKind::InvalidData => {
+            let _ = eprintln!(rt; "error: a word of the command line is not UTF-8; expected UTF-8");
+            Ending::CommandLine
+        }
         Err(_) => Ending::Memory,
     };
     let _ = eprint!(rt; "{ending}");

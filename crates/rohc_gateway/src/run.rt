@@ -3,13 +3,15 @@
 use crate::clock::Moments;
 use crate::connection::{Connection, Stream};
 use crate::gateway::Gateway;
-use crate::setup::{Lines, NoStart, Start, read_start};
+use crate::lines::Lines;
+use crate::setup::{NoStart, Start, read_start};
 use crate::sockets::{CONTROL, METRICS, MOST_CONNECTIONS, PLAIN, Sockets, TIMED, remove_control};
 use mio::net::{TcpListener, UnixListener};
 use mio::{Events, Poll, Token};
 use rohc_gateway_file::{Config, Ending, Options};
 use rohc_saved::Restored;
 use rohc_station::{GatewayFigures, Station};
+use rohc_text::Why;
 use std::alloc::{AllocError, Global};
 use std::io;
 use std::net::Net;
@@ -243,7 +245,27 @@ fn tell_end<R: Eprint>(rt: &R, served: io::Result<()>) -> Result<Ending, Ending>
             let _ = eprintln!(rt; "<6>rohc-gateway: stopped");
             Ok(Ending::Good)
         }
-        Err(_) => Err(Ending::Socket),
+        Err(e) => {
+            let _ = eprintln!(rt;
+                "<3>rohc-gateway: waiting for datagrams failed: {}",
+                Why(&e)
+            );
+            Err(Ending::Socket)
+        }
+    }
+}
+
+/// Opens the sockets, or says which one can't be opened, and why.
+fn opened<R>(rt: &R, config: &Config) -> Result<Sockets, Ending>
+where
+    R: Files + Net + Eprint + AllocGlobal,
+{
+    match Sockets::open(rt, config) {
+        Ok(sockets) => Ok(sockets),
+        Err(fault) => {
+            let _ = eprintln!(rt; "<3>rohc-gateway: {fault}");
+            Err(Ending::Socket)
+        }
     }
 }
 
@@ -258,7 +280,7 @@ where
     R: Files + Net + Clock + Eprint + AllocGlobal,
 {
     let links = gateway.station.concentrator().tables().len();
-    let mut sockets = Sockets::open(rt, config).map_err(|_| Ending::Socket)?;
+    let mut sockets = opened(rt, config)?;
     let _ = eprintln!(rt; "<6>rohc-gateway: started: {links} links, {contexts} contexts restored");
     let served = serve(rt, gateway, &mut sockets);
     if let Some(path) = &config.control {
@@ -290,7 +312,7 @@ where
 
 /// Says why a gateway doesn't start.
 fn say_wrong<R: Eprint>(rt: &R, lines: &Lines) {
-    for line in &lines.all {
+    for line in lines.as_str().lines() {
         let _ = eprintln!(rt; "<3>rohc-gateway: {line}");
     }
 }

@@ -1,12 +1,15 @@
 //! What a gateway starts from: its file, its links and its saved contexts.
 
-use crate::files::{UnreadLinks, read_links_file, read_state, read_text};
+use crate::files::{read_state, read_text};
+use crate::lines::Lines;
+use crate::links_file::{NoLinks, read_links_file};
+use crate::outputs::write_overwritten;
 use rohc_concentrator::{Concentrator, SetupFault};
-use rohc_gateway_file::{Config, ConfigFault, Options, Unread, read_config};
-use rohc_links::{Links, LinksFault};
+use rohc_gateway_file::{Config, Options, Reading, read_config};
+use rohc_links::Links;
 use rohc_saved::{Restored, SavedFault, restore};
-use std::alloc::{AllocError, Global};
-use std::io::{self, ErrorKind};
+use std::alloc::Global;
+use std::io::{self, ErrorKind, Write};
 use std::rt::Files;
 
 /// What a gateway starts from.
@@ -28,126 +31,44 @@ pub(crate) enum NoStart {
     Memory,
 }
 
-/// All that is wrong, a line each.
-#[derive(Drop)]
-pub(crate) struct Lines {
-    alloc: Global,
-    pub(crate) all: Vec<String>,
-}
-
-impl Lines {
-    /// No lines.
-    pub(crate) fn new(alloc: Global) -> Lines {
-        Lines {
-            alloc,
-            all: Vec::new(alloc),
-        }
-    }
-
-    /// Adds a line.
-    fn add(&mut self, line: String) -> Result<(), AllocError> {
-        self.all.push(line)?;
-        Ok(())
-    }
-
-    /// Adds a line that says that a file can't be read. Want of memory is the error.
-    fn add_unreadable(&mut self, line: &str, e: &io::Error) -> Result<(), AllocError> {
-        if e.kind() == ErrorKind::OutOfMemory {
-            return Err(AllocError);
-        }
-        self.add(String::from_str(self.alloc, line)?)
-    }
-
-    /// Adds what is wrong with the gateway file as a whole. Want of memory is the error.
-    fn add_unread(&mut self, unread: &Unread) -> Result<(), AllocError> {
-        match unread {
-            Unread::Memory => Err(AllocError),
-            Unread::NotToml(line) => self.add(format!(in self.alloc; "gateway:{line}: not TOML")?),
-        }
-    }
-
-    /// Adds a fault of a key of the gateway file.
-    fn add_config_fault(&mut self, fault: &ConfigFault) -> Result<(), AllocError> {
-        let ConfigFault { line, key, wrong } = fault;
-        let text = match line {
-            Some(line) => format!(in self.alloc; "gateway:{line}: {key}: {wrong}"),
-            None => format!(in self.alloc; "gateway: {key}: {wrong}"),
-        };
-        self.add(text?)
-    }
-
-    /// Adds all faults of keys of the gateway file.
-    fn add_config_faults(&mut self, faults: &[ConfigFault]) -> Result<(), AllocError> {
-        for fault in faults {
-            self.add_config_fault(fault)?;
-        }
-        Ok(())
-    }
-
-    /// Adds what is wrong with the links file. Want of memory is the error.
-    fn add_unread_links(&mut self, unread: &UnreadLinks) -> Result<(), AllocError> {
-        match unread {
-            UnreadLinks::Memory => Err(AllocError),
-            UnreadLinks::Unreadable => self.add(String::from_str(self.alloc, "links: Unreadable")?),
-            UnreadLinks::Fault(fault) => self.add_links_fault(fault),
-        }
-    }
-
-    /// Adds a fault of the links file.
-    fn add_links_fault(&mut self, fault: &LinksFault) -> Result<(), AllocError> {
-        let alloc = self.alloc;
-        let name = fault.name();
-        let line = match fault {
-            LinksFault::UnknownKey { entry } => format!(in alloc; "links: {name} entry {entry}"),
-            LinksFault::BadKey { entry, key } => {
-                format!(in alloc; "links: {name} entry {entry} key {}", key.name())
-            }
-            _ => format!(in alloc; "links: {name}"),
-        };
-        self.add(line?)
-    }
-
-    /// Adds a fault of the links' settings. Want of memory is the error.
-    fn add_setup_fault(&mut self, fault: &SetupFault) -> Result<(), AllocError> {
-        let alloc = self.alloc;
-        let name = fault.name();
-        let line = match fault {
-            SetupFault::NoMemory => return Err(AllocError),
-            SetupFault::BadSetting { place } | SetupFault::DuplicateLink { place } => {
-                format!(in alloc; "links: {name} entry {place}")
-            }
-            SetupFault::NoLinks | SetupFault::TooManyLinks => format!(in alloc; "links: {name}"),
-        };
-        self.add(line?)
-    }
-
-    /// Adds a fault of the state file. Want of memory is the error.
-    fn add_state_fault(&mut self, fault: &SavedFault) -> Result<(), AllocError> {
-        if let SavedFault::NoMemory = fault {
-            return Err(AllocError);
-        }
-        self.add(format!(in self.alloc; "state: {fault}")?)
-    }
+/// The error for lack of memory.
+fn no_memory() -> io::Error {
+    io::Error::from(ErrorKind::OutOfMemory)
 }
 
 /// What a gateway file with this text sets; `None` if it is refused.
-fn config_in(
-    alloc: Global,
+fn config_in<R: Files + AllocGlobal>(
+    rt: &R,
     file: &str,
     text: &str,
     options: &Options<'_>,
     lines: &mut Lines,
-) -> Result<Option<Config>, AllocError> {
-    match read_config(alloc, file, text, options) {
-        Ok(reading) => {
-            lines.add_config_faults(reading.faults.as_slice())?;
-            Ok(Some(reading.config))
-        }
+) -> io::Result<Option<Config>> {
+    match read_config(rt.alloc(), file, text, options) {
+        Ok(reading) => Ok(Some(judged(rt, file, reading, lines)?)),
         Err(unread) => {
-            lines.add_unread(&unread)?;
+            unread.write(lines, file, text)?;
             Ok(None)
         }
     }
+}
+
+/// What was read of a gateway file, without a state file that is something else. The lines say what is wrong.
+fn judged<R: Files + AllocGlobal>(
+    rt: &R,
+    file: &str,
+    reading: Reading<'_>,
+    lines: &mut Lines,
+) -> io::Result<Config> {
+    for fault in &reading.faults {
+        fault.write(lines, file)?;
+    }
+    let is_other = write_overwritten(rt, lines, file, &reading)?;
+    let mut config = reading.config;
+    if is_other {
+        config.state = None;
+    }
+    Ok(config)
 }
 
 /// Reads the gateway file; `None` if it is refused.
@@ -156,28 +77,36 @@ fn config_of<R: Files + AllocGlobal>(
     file: &str,
     options: &Options<'_>,
     lines: &mut Lines,
-) -> Result<Option<Config>, AllocError> {
+) -> io::Result<Option<Config>> {
     match read_text(rt, file) {
-        Ok(text) => config_in(rt.alloc(), file, text.as_str(), options, lines),
-        Err(e) => {
-            lines.add_unreadable("gateway: can't be read", &e)?;
+        Ok(text) => config_in(rt, file, text.as_str(), options, lines),
+        Err(unread) if unread.is_memory() => Err(no_memory()),
+        Err(unread) => {
+            let expected = "expected a gateway file that this user can read";
+            writeln!(lines, "{file}: {unread}; {expected} (man rohc-gateway)")?;
             Ok(None)
         }
     }
 }
 
-/// The links with their concentrator; `None` if their settings are refused.
-fn with_concentrator(
-    alloc: Global,
-    links: Links,
-    lines: &mut Lines,
-) -> Result<Option<(Links, Concentrator)>, AllocError> {
-    match Concentrator::new(alloc, links.settings()) {
-        Ok(concentrator) => Ok(Some((links, concentrator))),
-        Err(fault) => {
-            lines.add_setup_fault(&fault)?;
-            Ok(None)
-        }
+/// Adds why the links aren't accepted. Lack of memory is the error.
+fn add_refused(lines: &mut Lines, refused: &NoLinks) -> io::Result<()> {
+    match refused {
+        NoLinks::Memory => Err(no_memory()),
+        NoLinks::Refused(_, why) => lines.write_all(why.as_str().as_bytes()),
+    }
+}
+
+/// The links with their concentrator.
+fn read_links<R: Files + AllocGlobal>(
+    rt: &R,
+    path: &str,
+) -> Result<(Links, Concentrator), NoLinks> {
+    let (text, links) = read_links_file(rt, path)?;
+    match Concentrator::new(rt.alloc(), links.settings()) {
+        Ok(concentrator) => Ok((links, concentrator)),
+        Err(SetupFault::NoMemory) => Err(NoLinks::Memory),
+        Err(fault) => Err(NoLinks::refused(rt.alloc(), path, text.as_str(), fault.name())),
     }
 }
 
@@ -186,11 +115,11 @@ fn links_of<R: Files + AllocGlobal>(
     rt: &R,
     path: &str,
     lines: &mut Lines,
-) -> Result<Option<(Links, Concentrator)>, AllocError> {
-    match read_links_file(rt, path) {
-        Ok(links) => with_concentrator(rt.alloc(), links, lines),
-        Err(unread) => {
-            lines.add_unread_links(&unread)?;
+) -> io::Result<Option<(Links, Concentrator)>> {
+    match read_links(rt, path) {
+        Ok(read) => Ok(Some(read)),
+        Err(refused) => {
+            add_refused(lines, &refused)?;
             Ok(None)
         }
     }
@@ -199,14 +128,20 @@ fn links_of<R: Files + AllocGlobal>(
 /// Restores the contexts that these octets save; `None` if they are refused.
 fn restored_in(
     alloc: Global,
+    path: &str,
     links: &Links,
     octets: &[u8],
     lines: &mut Lines,
-) -> Result<Option<(Concentrator, Restored)>, AllocError> {
+) -> io::Result<Option<(Concentrator, Restored)>> {
     match restore(alloc, links.settings(), octets) {
         Ok(restored) => Ok(Some(restored)),
+        Err(SavedFault::NoMemory) => Err(no_memory()),
         Err(fault) => {
-            lines.add_state_fault(&fault)?;
+            let expected = "expected a state file of this version, whole";
+            writeln!(
+                lines,
+                "{path}: {fault}; {expected} (run --fresh starts without it)"
+            )?;
             Ok(None)
         }
     }
@@ -218,12 +153,14 @@ fn restored_of<R: Files + AllocGlobal>(
     path: &str,
     links: &Links,
     lines: &mut Lines,
-) -> Result<Option<(Concentrator, Restored)>, AllocError> {
+) -> io::Result<Option<(Concentrator, Restored)>> {
     match read_state(rt, path) {
-        Ok(Some(octets)) => restored_in(rt.alloc(), links, octets.as_slice(), lines),
+        Ok(Some(octets)) => restored_in(rt.alloc(), path, links, octets.as_slice(), lines),
         Ok(None) => Ok(None),
-        Err(e) => {
-            lines.add_unreadable("state: Unreadable", &e)?;
+        Err(unread) if unread.is_memory() => Err(no_memory()),
+        Err(unread) => {
+            let expected = "expected a state file that this user can read, or none";
+            writeln!(lines, "{path}: {unread}; {expected}")?;
             Ok(None)
         }
     }
@@ -237,7 +174,7 @@ fn with_saved<R: Files + AllocGlobal>(
     links: &Links,
     concentrator: Concentrator,
     lines: &mut Lines,
-) -> Result<(Concentrator, Restored), AllocError> {
+) -> io::Result<(Concentrator, Restored)> {
     let saved = match &config.state {
         Some(path) if !fresh => restored_of(rt, path.as_str(), links, lines)?,
         _ => None,
@@ -251,7 +188,7 @@ fn start_with<R: Files + AllocGlobal>(
     config: Config,
     fresh: bool,
     lines: &mut Lines,
-) -> Result<Option<Start>, AllocError> {
+) -> io::Result<Option<Start>> {
     let Some(path) = &config.links else {
         return Ok(None);
     };
@@ -275,7 +212,7 @@ fn start_of<R: Files + AllocGlobal>(
     options: &Options<'_>,
     fresh: bool,
     lines: &mut Lines,
-) -> Result<Option<Start>, AllocError> {
+) -> io::Result<Option<Start>> {
     match config_of(rt, file, options, lines)? {
         Some(config) => start_with(rt, config, fresh, lines),
         None => Ok(None),
@@ -293,7 +230,7 @@ pub(crate) fn read_start<R: Files + AllocGlobal>(
     let Ok(start) = start_of(rt, file, options, fresh, &mut lines) else {
         return Err(NoStart::Memory);
     };
-    if !lines.all.is_empty() {
+    if !lines.is_empty() {
         return Err(NoStart::Wrong(lines));
     }
     start.ok_or(NoStart::Wrong(lines))

@@ -4,12 +4,13 @@ use mio::event::Source;
 use mio::net::{TcpListener, UdpSocket, UnixListener};
 use mio::{Interest, Poll, Token};
 use rohc_gateway_file::Config;
+use rohc_text::Why;
 use std::fs::Permissions;
 use std::io::ErrorKind;
 use std::net::{Ipv4Addr, Net, SocketAddr};
 use std::os::unix::fs::PermissionsExt;
 use std::rt::Files;
-use std::{fs, io};
+use std::{fmt, fs, io};
 
 /// How many connections there may be at a time.
 pub(crate) const MOST_CONNECTIONS: usize = 16;
@@ -36,6 +37,63 @@ pub(crate) struct Sockets {
     pub(crate) metrics: Option<TcpListener>,
 }
 
+/// What can't be opened.
+#[derive(Clone, Copy)]
+pub(crate) enum Opened<'a> {
+    /// What all sockets are waited for with.
+    Poll,
+    /// The UDP port of this key.
+    Udp(&'static str, u16),
+    /// The TCP port for metrics.
+    Tcp(u16),
+    /// The control socket at this path.
+    Control(&'a str),
+}
+
+/// Why a socket isn't opened.
+#[derive(Clone, Copy)]
+pub(crate) struct SocketFault<'a> {
+    opened: Opened<'a>,
+    error: io::Error,
+}
+
+/// What is expected of a port that can't be bound.
+fn expected_port(kind: ErrorKind) -> &'static str {
+    match kind {
+        ErrorKind::AddrInUse => "expected a free port (ss -anp shows who uses it)",
+        ErrorKind::PermissionDenied => "expected a port above 1023",
+        _ => "expected a port that can be bound",
+    }
+}
+
+impl fmt::Display for SocketFault<'_> {
+    fn fmt<W: fmt::Write>(&self, f: &mut fmt::Formatter<W>) -> fmt::Result {
+        let why = Why(&self.error);
+        let expected = expected_port(self.error.kind());
+        match self.opened {
+            Opened::Poll => write!(f, "sockets: {why}; expected free file descriptors"),
+            Opened::Udp(key, port) => {
+                write!(f, "{key}: UDP 127.0.0.1:{port}: {why}; {expected}")
+            }
+            Opened::Tcp(port) => {
+                write!(f, "metrics_port: TCP 127.0.0.1:{port}: {why}; {expected}")
+            }
+            Opened::Control(path) => write!(
+                f,
+                "control: {path}: {why}; expected a path in a folder that this user may write"
+            ),
+        }
+    }
+}
+
+/// What was done to open this, or why it failed.
+fn at<T: Drop>(opened: Opened<'_>, done: io::Result<T>) -> Result<T, SocketFault<'_>> {
+    match done {
+        Ok(value) => Ok(value),
+        Err(error) => Err(SocketFault { opened, error }),
+    }
+}
+
 /// The address of a port of 127.0.0.1.
 fn local(port: u16) -> SocketAddr {
     SocketAddr::from((Ipv4Addr::LOCALHOST, port))
@@ -50,14 +108,16 @@ fn watch<S: Source>(poll: &Poll, source: &mut S, token: Token) -> io::Result<()>
 fn bind_datagrams<R: Net>(
     rt: &R,
     poll: &Poll,
+    key: &'static str,
     port: Option<u16>,
     token: Token,
-) -> io::Result<Option<UdpSocket>> {
+) -> Result<Option<UdpSocket>, SocketFault<'static>> {
     let Some(port) = port else {
         return Ok(None);
     };
-    let mut socket = UdpSocket::bind(rt, local(port))?;
-    watch(poll, &mut socket, token)?;
+    let opened = Opened::Udp(key, port);
+    let mut socket = at(opened, UdpSocket::bind(rt, local(port)))?;
+    at(opened, watch(poll, &mut socket, token))?;
     Ok(Some(socket))
 }
 
@@ -92,27 +152,35 @@ fn bind_control<R: Files + Net + AllocGlobal>(
 }
 
 /// Listens on the metrics port, if there is one.
-fn bind_metrics<R: Net>(rt: &R, poll: &Poll, port: Option<u16>) -> io::Result<Option<TcpListener>> {
+fn bind_metrics<R: Net>(
+    rt: &R,
+    poll: &Poll,
+    port: Option<u16>,
+) -> Result<Option<TcpListener>, SocketFault<'static>> {
     let Some(port) = port else {
         return Ok(None);
     };
-    let mut listener = TcpListener::bind(rt, local(port))?;
-    watch(poll, &mut listener, METRICS)?;
+    let opened = Opened::Tcp(port);
+    let mut listener = at(opened, TcpListener::bind(rt, local(port)))?;
+    at(opened, watch(poll, &mut listener, METRICS))?;
     Ok(Some(listener))
 }
 
 impl Sockets {
     /// Opens all sockets. The control socket comes last, and so is the sign that the gateway is ready.
-    pub(crate) fn open<R: Files + Net + AllocGlobal>(
+    pub(crate) fn open<'a, R: Files + Net + AllocGlobal>(
         rt: &R,
-        config: &Config,
-    ) -> io::Result<Sockets> {
-        let poll = Poll::new(rt)?;
-        let plain = bind_datagrams(rt, &poll, config.port, PLAIN)?;
-        let timed = bind_datagrams(rt, &poll, config.timed_port, TIMED)?;
+        config: &'a Config,
+    ) -> Result<Sockets, SocketFault<'a>> {
+        let poll = at(Opened::Poll, Poll::new(rt))?;
+        let plain = bind_datagrams(rt, &poll, "port", config.port, PLAIN)?;
+        let timed = bind_datagrams(rt, &poll, "timed_port", config.timed_port, TIMED)?;
         let metrics = bind_metrics(rt, &poll, config.metrics_port)?;
         let control = match &config.control {
-            Some(path) => Some(bind_control(rt, &poll, path.as_str())?),
+            Some(path) => {
+                let path = path.as_str();
+                Some(at(Opened::Control(path), bind_control(rt, &poll, path))?)
+            }
             None => None,
         };
         Ok(Sockets {

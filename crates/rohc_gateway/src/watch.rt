@@ -60,7 +60,7 @@ impl Watch {
                 "{head} {link}/{cid}: {octets} octets: refused {refusal}, feedback {feedback}"
             ),
             (None, None) if taken.sends.refused => {
-                eprintln!(rt; "{head} {link}/{cid}: {octets} octets: turned away")
+                eprintln!(rt; "{head} {link}/{cid}: {octets} octets: refused while draining")
             }
             (None, None) => eprintln!(rt;
                 "{head} {link}/{cid}: {octets} octets: nothing delivered, feedback {feedback}"

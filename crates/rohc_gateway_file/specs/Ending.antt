@@ -10,5 +10,5 @@ status_of CommandLine = 2
 status_of Refused = 3
 status_of Socket = 4
 status_of Clock = 4
-status_of Write = 4
+status_of (Write e) = 4
 status_of Memory = 5

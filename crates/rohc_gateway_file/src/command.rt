@@ -27,6 +27,22 @@ pub struct Options<'a> {
     pub metrics_port: Option<u16>,
 }
 
+impl Options<'_> {
+    /// Whether one of the options sets this key.
+    pub(crate) fn gives(&self, key: &str) -> bool {
+        match key {
+            "links" => self.links.is_some(),
+            "port" => self.port.is_some(),
+            "timed_port" => self.timed_port.is_some(),
+            "state" => self.state.is_some(),
+            "save_seconds" => self.save_seconds.is_some(),
+            "control" => self.control.is_some(),
+            "metrics_port" => self.metrics_port.is_some(),
+            _ => false,
+        }
+    }
+}
+
 /// What the command line asks for.
 #[derive(Clone, Copy)]
 pub enum Request<'a> {
@@ -72,37 +88,37 @@ const OPTIONS: [Word; 7] = [
     Word {
         name: "links",
         value: Value::Path,
-        help: "The links file",
+        help: "Links file (man rohc-links)",
     },
     Word {
         name: "port",
         value: Value::Port,
-        help: "The port for datagrams",
+        help: "UDP port for datagrams",
     },
     Word {
         name: "timed-port",
         value: Value::Port,
-        help: "The port for timed datagrams",
+        help: "UDP port for datagrams with their arrival time",
     },
     Word {
         name: "state",
         value: Value::Path,
-        help: "The file for saved contexts",
+        help: "File for saved calls",
     },
     Word {
         name: "save-seconds",
         value: Value::Seconds,
-        help: "How often to save",
+        help: "Seconds between two saves",
     },
     Word {
         name: "control",
         value: Value::Path,
-        help: "The control socket",
+        help: "Unix socket for rohctl",
     },
     Word {
         name: "metrics-port",
         value: Value::Port,
-        help: "The port for metrics",
+        help: "TCP port for metrics",
     },
 ];
 
@@ -139,7 +155,7 @@ fn subcommand<'a>(
     about: &'static str,
 ) -> Result<Command<'a>, AllocError> {
     let file = Arg::new(alloc, "FILE")
-        .help("The gateway file")
+        .help("Gateway file (man rohc-gateway)")
         .required(true);
     let mut command = Command::new(alloc, name).about(about).arg(file)?;
     for word in &OPTIONS {
@@ -152,14 +168,14 @@ fn subcommand<'a>(
 fn run_words<'a>(alloc: Global) -> Result<Command<'a>, AllocError> {
     let fresh = Arg::new(alloc, "fresh")
         .long("fresh")
-        .help("Do not restore the saved contexts")
+        .help("Start without the saved calls")
         .action(ArgAction::SetTrue);
-    subcommand(alloc, "run", "Run until it is told to stop")?.arg(fresh)
+    subcommand(alloc, "run", "Decompress datagrams until rohctl stop")?.arg(fresh)
 }
 
 /// The subcommand `check`.
 fn check_words<'a>(alloc: Global) -> Result<Command<'a>, AllocError> {
-    subcommand(alloc, "check", "Say all that is wrong, and change nothing")
+    subcommand(alloc, "check", "Check the configuration and exit")
 }
 
 /// The parser of the command line, without its subcommands.
@@ -168,10 +184,9 @@ fn program<'a>(alloc: Global) -> Result<Command<'a>, AllocError> {
     Ok(
         named
             .version(VERSION)
-            .about("A ROHC decompressor for many links, as a service")
+            .about("Decompress ROHC for many links, as a service")
             .no_binary_name(true)
-            .subcommand_required(true)
-            .arg_required_else_help(true),
+            .subcommand_required(true),
     )
 }
 
@@ -230,7 +245,7 @@ pub fn read_request<'a, R: Print + Eprint + AllocGlobal>(
             };
             match error.print(rt) {
                 Ok(()) => Err(ending),
-                Err(_) => Err(Ending::Write),
+                Err(e) => Err(Ending::Write(e)),
             }
         }
     }

@@ -1,8 +1,11 @@
 //! The gateway file, with the options that win over it.
 
 use crate::command::Options;
+use rohc_text::{error_line, write_quoted, write_toml_reason, write_value};
 use std::alloc::{AllocError, Global};
-use std::fmt;
+use std::io;
+use std::io::{ErrorKind, Write};
+use strsim::levenshtein;
 use toml::{Table, Value};
 
 /// The keys of a gateway file.
@@ -15,6 +18,19 @@ const KEYS: [&str; 7] = [
     "control",
     "metrics_port",
 ];
+
+/// How many edits may lead from a misspelled name to the key that is meant.
+const FEW: usize = 3;
+
+/// The longest path of a control socket, in octets: the system has room for 107, and it is first bound under a name that
+/// is four octets longer.
+const LONGEST_SOCKET: usize = 103;
+
+/// What a path must be.
+const A_PATH: &str = "a path in quotes";
+
+/// What a port must be.
+const A_PORT: &str = "a number from 1 to 65535";
 
 /// What a gateway is to do.
 #[derive(Drop)]
@@ -36,44 +52,95 @@ pub struct Config {
 }
 
 /// What is wrong at a key.
-#[derive(Clone, Copy)]
+#[derive(Drop)]
 pub enum Wrong {
-    /// The key is missing.
-    Missing,
-    /// No gateway file has this key.
-    UnknownKey,
-    /// No such value may stand there.
-    WrongValue,
+    /// The key is missing; this was expected.
+    Missing(&'static str),
+    /// No gateway file has this key; this one is the nearest, if one is near.
+    UnknownKey(Option<&'static str>),
+    /// The key has a value of this text; that was expected.
+    WrongValue(String, &'static str),
     /// Another key has the same port.
     SamePort(&'static str),
     /// Without a state file there is nothing to save.
-    WantsState,
+    NeedsState,
+    /// The path of a socket has this many octets, which are too many.
+    LongPath(usize),
 }
 
-impl fmt::Display for Wrong {
-    fn fmt<W: fmt::Write>(&self, f: &mut fmt::Formatter<W>) -> fmt::Result {
-        match self {
-            Wrong::Missing => f.write_str("missing"),
-            Wrong::UnknownKey => f.write_str("unknown key"),
-            Wrong::WrongValue => f.write_str("wrong value"),
-            Wrong::SamePort(other) => {
-                f.write_str("the same port as ")?;
-                f.write_str(other)
-            }
-            Wrong::WantsState => f.write_str("wants state"),
-        }
-    }
+/// Where a fault of a gateway file is.
+#[derive(Clone, Copy)]
+pub enum Place {
+    /// In this line of the file, counted from 1.
+    Line(usize),
+    /// In the file.
+    File,
+    /// At an option, which wins over the file.
+    Option,
 }
 
 /// A fault of a gateway file.
 #[derive(Drop)]
 pub struct ConfigFault {
-    /// The number of the line at which the key stands, counted from 1, if it stands in the file and was found.
-    pub line: Option<usize>,
+    /// Where it is.
+    pub place: Place,
     /// The key.
     pub key: String,
     /// What is wrong there.
     pub wrong: Wrong,
+}
+
+/// Writes where a fault of the gateway file at this path is.
+pub fn write_place<W: Write>(out: &mut W, path: &str, place: Place) -> io::Result<()> {
+    match place {
+        Place::Line(line) => write!(out, "{path}:{line}: "),
+        Place::File => write!(out, "{path}: "),
+        Place::Option => write!(out, "command line: "),
+    }
+}
+
+/// Writes that no gateway file has this key.
+fn write_unknown<W: Write>(out: &mut W, key: &str, near: Option<&'static str>) -> io::Result<()> {
+    write!(out, "unknown key ")?;
+    write_quoted(out, key)?;
+    if let Some(near) = near {
+        return write!(out, "; did you mean {near}?");
+    }
+    write!(out, "; expected one of")?;
+    for (place, key) in KEYS.iter().enumerate() {
+        let comma = if place == 0 { "" } else { "," };
+        write!(out, "{comma} {key}")?;
+    }
+    Ok(())
+}
+
+impl ConfigFault {
+    /// Writes the fault as a line for a reader of the gateway file at this path.
+    pub fn write<W: Write>(&self, out: &mut W, path: &str) -> io::Result<()> {
+        write_place(out, path, self.place)?;
+        let key = self.key.as_str();
+        match &self.wrong {
+            Wrong::Missing(expected) => write!(out, "{key} is missing; expected {expected}")?,
+            Wrong::UnknownKey(near) => write_unknown(out, key, *near)?,
+            Wrong::WrongValue(value, expected) => {
+                write!(out, "{key} is {value}; expected {expected}")?
+            }
+            Wrong::SamePort(other) => {
+                write!(out, "{key} is the same as {other}; expected another port")?
+            }
+            Wrong::NeedsState => {
+                write!(
+                    out,
+                    "{key} needs state; expected state = \"FILE\" for the saved calls"
+                )?
+            }
+            Wrong::LongPath(size) => write!(
+                out,
+                "{key} is a path of {size} octets; expected at most {LONGEST_SOCKET}"
+            )?,
+        }
+        writeln!(out)
+    }
 }
 
 /// What was read of a gateway file, and what is wrong with it.
@@ -82,6 +149,8 @@ pub struct Reading<'a> {
     alloc: Global,
     /// The text of the file.
     text: &'a str,
+    /// The options, which win.
+    options: Options<'a>,
     /// What the gateway is to do, as far as it can be read.
     pub config: Config,
     /// The faults.
@@ -89,12 +158,24 @@ pub struct Reading<'a> {
 }
 
 /// Why there is no table of a gateway file.
-#[derive(Clone, Copy, PartialEq, Eq)]
+#[derive(Clone, Copy)]
 pub enum Unread {
-    /// The text is no TOML document from this line on.
-    NotToml(usize),
+    /// The text is no TOML document.
+    NotToml(toml::de::Error),
     /// There is no memory.
     Memory,
+}
+
+impl Unread {
+    /// Writes why the text of the gateway file at this path has no table. Lack of memory is the error.
+    pub fn write<W: Write>(&self, out: &mut W, path: &str, text: &str) -> io::Result<()> {
+        let Unread::NotToml(error) = self else {
+            return Err(io::Error::from(ErrorKind::OutOfMemory));
+        };
+        write_place(out, path, Place::Line(error_line(text, error)))?;
+        write_toml_reason(out, text, error)?;
+        writeln!(out)
+    }
 }
 
 impl From<AllocError> for Unread {
@@ -115,19 +196,83 @@ fn line_of(text: &str, key: &str) -> Option<usize> {
     None
 }
 
-/// The number of the line that a place of the text lies in.
-fn line_at(text: &str, place: usize) -> usize {
-    let before = text.get(..place).unwrap_or(text);
-    before.split("\n").count()
+/// The text of a value, as a reader sees it.
+fn value_text(alloc: Global, value: &Value) -> Result<String, AllocError> {
+    let mut text = Vec::new(alloc);
+    if write_value(&mut text, Some(value)).is_err() {
+        return Err(AllocError);
+    }
+    String::from_utf8(text).map_err(|_| AllocError)
+}
+
+/// The key that a misspelled name may have meant: the first to which the fewest edits lead, if these are few.
+fn nearest(alloc: Global, name: &str) -> Result<Option<&'static str>, AllocError> {
+    let mut nearest = None;
+    let mut least = FEW + 1;
+    for key in &KEYS {
+        let edits = levenshtein(alloc, name, key)?;
+        if edits < least {
+            nearest = Some(*key);
+            least = edits;
+        }
+    }
+    Ok(nearest)
 }
 
 impl Reading<'_> {
-    /// Adds a fault at a key.
-    fn add(&mut self, key: &str, wrong: Wrong) -> Result<(), AllocError> {
-        let line = line_of(self.text, key);
+    /// Where the file has a key.
+    fn place_in_file(&self, key: &str) -> Place {
+        match line_of(self.text, key) {
+            Some(line) => Place::Line(line),
+            None => Place::File,
+        }
+    }
+
+    /// Where a key was given: at an option, or in the file.
+    pub fn place_of(&self, key: &str) -> Place {
+        if self.options.gives(key) {
+            Place::Option
+        } else {
+            self.place_in_file(key)
+        }
+    }
+
+    /// Adds a fault of this place.
+    fn add_at(&mut self, place: Place, key: &str, wrong: Wrong) -> Result<(), AllocError> {
         let key = String::from_str(self.alloc, key)?;
-        self.faults.push(ConfigFault { line, key, wrong })?;
+        self.faults.push(ConfigFault { place, key, wrong })?;
         Ok(())
+    }
+
+    /// Adds a fault of what was given at a key.
+    fn add(&mut self, key: &str, wrong: Wrong) -> Result<(), AllocError> {
+        self.add_at(self.place_of(key), key, wrong)
+    }
+
+    /// Adds a fault of the file at a key.
+    fn add_in_file(&mut self, key: &str, wrong: Wrong) -> Result<(), AllocError> {
+        self.add_at(self.place_in_file(key), key, wrong)
+    }
+
+    /// Adds that the file was expected to have another value at a key.
+    fn add_value(
+        &mut self,
+        key: &str,
+        value: &Value,
+        expected: &'static str,
+    ) -> Result<(), AllocError> {
+        let text = value_text(self.alloc, value)?;
+        self.add_in_file(key, Wrong::WrongValue(text, expected))
+    }
+
+    /// The path of an option, or a fault if it is empty.
+    fn option_path(&mut self, key: &str, path: &str) -> Result<Option<String>, AllocError> {
+        if path.is_empty() {
+            let text = String::from_str(self.alloc, "empty")?;
+            self.add(key, Wrong::WrongValue(text, "a path"))?;
+            return Ok(None);
+        }
+        Ok(Some(String::from_str(self.alloc, path)?))
     }
 
     /// The number at a key that is there, from 1 to the greatest, or a fault.
@@ -136,6 +281,7 @@ impl Reading<'_> {
         table: &Table,
         key: &'static str,
         greatest: u32,
+        expected: &'static str,
     ) -> Result<Option<u32>, AllocError> {
         let Some(value) = table.get(key) else {
             return Ok(None);
@@ -143,7 +289,7 @@ impl Reading<'_> {
         match number_of(value, greatest) {
             Some(number) => Ok(Some(number)),
             None => {
-                self.add(key, Wrong::WrongValue)?;
+                self.add_value(key, value, expected)?;
                 Ok(None)
             }
         }
@@ -151,7 +297,7 @@ impl Reading<'_> {
 
     /// The port at a key that is there, or a fault.
     fn port_at(&mut self, table: &Table, key: &'static str) -> Result<Option<u16>, AllocError> {
-        match self.number_at(table, key, 65_535)? {
+        match self.number_at(table, key, 65_535, A_PORT)? {
             Some(number) => Ok(u16::try_from(number).ok()),
             None => Ok(None),
         }
@@ -171,7 +317,7 @@ impl Reading<'_> {
             Some(path) if path.starts_with("/") => Ok(Some(String::from_str(self.alloc, path)?)),
             Some(path) if !path.is_empty() => Ok(Some(format!(in self.alloc; "{folder}{path}")?)),
             _ => {
-                self.add(key, Wrong::WrongValue)?;
+                self.add_value(key, value, A_PATH)?;
                 Ok(None)
             }
         }
@@ -181,30 +327,36 @@ impl Reading<'_> {
     fn read_table(&mut self, table: &Table, folder: &str) -> Result<(), AllocError> {
         for (key, _) in table {
             if !is_key(key.as_str()) {
-                self.add(key.as_str(), Wrong::UnknownKey)?;
+                let near = nearest(self.alloc, key.as_str())?;
+                self.add_in_file(key.as_str(), Wrong::UnknownKey(near))?;
             }
         }
         self.config.links = self.path_at(table, "links", folder)?;
         self.config.port = self.port_at(table, "port")?;
         self.config.timed_port = self.port_at(table, "timed_port")?;
         self.config.state = self.path_at(table, "state", folder)?;
-        self.config.save_seconds = self.number_at(table, "save_seconds", 86_400)?;
+        self.config.save_seconds = self.number_at(
+            table,
+            "save_seconds",
+            86_400,
+            "a number from 1 to 86400",
+        )?;
         self.config.control = self.path_at(table, "control", folder)?;
         self.config.metrics_port = self.port_at(table, "metrics_port")?;
         Ok(())
     }
 
     /// Lets the options win.
-    fn take_options(&mut self, options: &Options<'_>) -> Result<(), AllocError> {
-        let alloc = self.alloc;
+    fn take_options(&mut self) -> Result<(), AllocError> {
+        let options = self.options;
         if let Some(path) = options.links {
-            self.config.links = Some(String::from_str(alloc, path)?);
+            self.config.links = self.option_path("links", path)?;
         }
         if let Some(path) = options.state {
-            self.config.state = Some(String::from_str(alloc, path)?);
+            self.config.state = self.option_path("state", path)?;
         }
         if let Some(path) = options.control {
-            self.config.control = Some(String::from_str(alloc, path)?);
+            self.config.control = self.option_path("control", path)?;
         }
         let config = &mut self.config;
         config.port = options.port.or(config.port);
@@ -219,10 +371,22 @@ impl Reading<'_> {
         self.faults.iter().any(|fault| fault.key.as_str() == key)
     }
 
+    /// Judges the length of the control socket's path.
+    fn judge_control(&mut self) -> Result<(), AllocError> {
+        let size = match &self.config.control {
+            Some(path) => path.len(),
+            None => 0,
+        };
+        if size > LONGEST_SOCKET {
+            self.add("control", Wrong::LongPath(size))?;
+        }
+        Ok(())
+    }
+
     /// Judges what was read as a whole.
     fn judge(&mut self) -> Result<(), AllocError> {
         if self.config.links.is_none() && !self.is_faulty("links") {
-            self.add("links", Wrong::Missing)?;
+            self.add("links", Wrong::Missing("links = \"FILE\""))?;
         }
         let ports = [
             self.config.port,
@@ -234,7 +398,10 @@ impl Reading<'_> {
             && !self.is_faulty("port")
             && !self.is_faulty("timed_port")
         {
-            self.add("port", Wrong::Missing)?;
+            self.add(
+                "port",
+                Wrong::Missing("port or timed_port, a number from 1 to 65535"),
+            )?;
         }
         if ports[1].is_some() && ports[1] == ports[0] {
             self.add("timed_port", Wrong::SamePort("port"))?;
@@ -249,9 +416,9 @@ impl Reading<'_> {
             && self.config.state.is_none()
             && !self.is_faulty("state")
         {
-            self.add("save_seconds", Wrong::WantsState)?;
+            self.add("save_seconds", Wrong::NeedsState)?;
         }
-        Ok(())
+        self.judge_control()
     }
 }
 
@@ -283,18 +450,12 @@ pub fn read_config<'a>(
     alloc: Global,
     path: &str,
     text: &'a str,
-    options: &Options<'_>,
+    options: &Options<'a>,
 ) -> Result<Reading<'a>, Unread> {
     let table = match toml::table_from_str(alloc, text) {
         Ok(table) => table,
         Err(e) if e.is_memory() => return Err(Unread::Memory),
-        Err(e) => {
-            let place = match e.span() {
-                Some(span) => span.start,
-                None => 0,
-            };
-            return Err(Unread::NotToml(line_at(text, place)));
-        }
+        Err(e) => return Err(Unread::NotToml(e)),
     };
     let config = Config {
         links: None,
@@ -308,11 +469,12 @@ pub fn read_config<'a>(
     let mut reading = Reading {
         alloc,
         text,
+        options: *options,
         config,
         faults: Vec::new(alloc),
     };
     reading.read_table(&table, folder_of(path))?;
-    reading.take_options(options)?;
+    reading.take_options()?;
     reading.judge()?;
     Ok(reading)
 }

@@ -1,6 +1,7 @@
 //! How a run of `rohc-gateway` ends: its exit status, and the line that it prints on standard error.
 
-use std::fmt;
+use rohc_text::Why;
+use std::{fmt, io};
 
 /// How a run of the program ends.
 #[derive(Clone, Copy)]
@@ -13,12 +14,12 @@ pub enum Ending {
     CommandLine,
     /// The gateway file, the links file or the state file is refused. What is wrong was printed.
     Refused,
-    /// A socket can't be opened, or polled.
+    /// A socket can't be opened, or polled. What is wrong was printed.
     Socket,
     /// The clock can't be read.
     Clock,
-    /// A write failed.
-    Write,
+    /// A write to standard output or standard error failed.
+    Write(io::Error),
     /// There is no memory.
     Memory,
 }
@@ -36,7 +37,7 @@ impl Ending {
             Ending::Findings => 1,
             Ending::CommandLine => 2,
             Ending::Refused => 3,
-            Ending::Socket | Ending::Clock | Ending::Write => 4,
+            Ending::Socket | Ending::Clock | Ending::Write(_) => 4,
             Ending::Memory => 5,
         }
     }
@@ -45,11 +46,18 @@ impl Ending {
 impl fmt::Display for Ending {
     fn fmt<W: fmt::Write>(&self, f: &mut fmt::Formatter<W>) -> fmt::Result {
         match self {
-            Ending::Good | Ending::Findings | Ending::CommandLine | Ending::Refused => Ok(()),
-            Ending::Socket => f.write_str("<3>rohc-gateway: socket\n"),
-            Ending::Clock => f.write_str("<3>rohc-gateway: clock\n"),
-            Ending::Write => f.write_str("<3>rohc-gateway: write\n"),
-            Ending::Memory => f.write_str("<3>rohc-gateway: memory\n"),
+            Ending::Good
+            | Ending::Findings
+            | Ending::CommandLine
+            | Ending::Refused
+            | Ending::Socket => Ok(()),
+            Ending::Clock => f.write_str("<3>rohc-gateway: the system's clock can't be read\n"),
+            Ending::Write(error) => {
+                write!(f, "<3>rohc-gateway: standard output: {}\n", Why(error))
+            }
+            Ending::Memory => f.write_str(
+                "<3>rohc-gateway: out of memory; rohctl plan --calls COUNT shows what calls need\n",
+            ),
         }
     }
 }

@@ -6,5 +6,5 @@ pub mod config;
 pub mod ending;
 
 pub use command::{Options, Request, VERSION, read_request};
-pub use config::{Config, ConfigFault, Reading, Unread, Wrong, read_config};
+pub use config::{Config, ConfigFault, Place, Reading, Unread, Wrong, read_config, write_place};
 pub use ending::Ending;

@@ -7,20 +7,20 @@ use std::alloc::{AllocError, Global};
 use std::io;
 use std::io::Write;
 
-/// The name of a profile.
+/// The number of a profile, as JSON shows it.
 fn profile_name(profile: Profile) -> &'static str {
     match profile {
-        Profile::Uncompressed => "Uncompressed",
-        Profile::Rtp => "Rtp",
+        Profile::Uncompressed => "0x0000",
+        Profile::Rtp => "0x0001",
     }
 }
 
-/// The name of a state.
-fn state_name(state: ContextState) -> &'static str {
+/// The name of a state, as JSON and the metrics show it.
+pub(crate) fn state_name(state: ContextState) -> &'static str {
     match state {
-        ContextState::NoContext => "NoContext",
-        ContextState::StaticContext => "StaticContext",
-        ContextState::FullContext => "FullContext",
+        ContextState::NoContext => "no",
+        ContextState::StaticContext => "static",
+        ContextState::FullContext => "full",
     }
 }
 
@@ -35,7 +35,7 @@ fn write_context<W: Write>(out: &mut W, link: u16, cid: u16, context: &Context) 
     )
 }
 
-/// Writes the contexts of a link, an object a line, in the order of their first IRs. Nothing is written for
+/// Writes the contexts of a link, one object per line, in the order of their first IRs. Nothing is written for
 /// a link that isn't there.
 pub fn write_contexts<W: Write>(out: &mut W, station: &Station, link: u16) -> io::Result<()> {
     if let Some(records) = station.concentrator().tables().get(&link) {

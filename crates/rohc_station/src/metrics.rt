@@ -1,5 +1,6 @@
 //! The metrics of a gateway in the text format of Prometheus.
 
+use crate::lists::state_name;
 use crate::station::Station;
 use rohc_concentrator::LinkRecords;
 use rohc_context::{ContextState, Refusal};
@@ -160,7 +161,7 @@ fn write_sends<W: Write>(out: &mut W, station: &Station) -> io::Result<()> {
         out,
         relayed,
         "counter",
-        "Feedback elements for this side's compressor.",
+        "Feedback elements relayed to the compressor on this side.",
     )?;
     for (link, of_link) in station.counters() {
         writeln!(
@@ -170,7 +171,7 @@ fn write_sends<W: Write>(out: &mut W, station: &Station) -> io::Result<()> {
         )?;
     }
     let failed = "polorowan_failed_sends_total";
-    write_head(out, failed, "counter", "Sends that failed.")?;
+    write_head(out, failed, "counter", "Failed sends.")?;
     for (link, of_link) in station.counters() {
         writeln!(out, "{failed}{{link=\"{link}\"}} {}", of_link.failed_sends)?;
     }
@@ -184,10 +185,11 @@ fn write_contexts<W: Write>(out: &mut W, station: &Station) -> io::Result<()> {
     for (link, records) in station.concentrator().tables() {
         let states = states_of(records);
         for (state, count) in [
-            ("no", states.no),
-            ("static", states.fixed),
-            ("full", states.full),
+            (ContextState::NoContext, states.no),
+            (ContextState::StaticContext, states.fixed),
+            (ContextState::FullContext, states.full),
         ] {
+            let state = state_name(state);
             writeln!(out, "{name}{{link=\"{link}\",state=\"{state}\"}} {count}")?;
         }
     }
@@ -204,32 +206,28 @@ fn write_totals<W: Write>(
     for (name, help, count) in [
         (
             "polorowan_datagrams_total",
-            "Datagrams that were taken.",
+            "Datagrams received.",
             totals.datagrams,
         ),
         (
             "polorowan_bad_datagrams_total",
-            "Datagrams that are too short, of no link, or turned away.",
+            "Datagrams refused: too short, of an unknown link, or of a new call while draining.",
             totals.bad_datagrams,
         ),
         (
             "polorowan_failed_receives_total",
-            "Receives that failed.",
+            "Failed receives.",
             figures.failed_receives,
         ),
         (
             "polorowan_wakes_total",
-            "How often the gateway woke.",
+            "Times the gateway woke.",
             figures.wakes,
         ),
-        (
-            "polorowan_saves_total",
-            "Saves that were done.",
-            figures.saves,
-        ),
+        ("polorowan_saves_total", "Completed saves.", figures.saves),
         (
             "polorowan_failed_saves_total",
-            "Saves that failed.",
+            "Failed saves.",
             figures.failed_saves,
         ),
     ] {
@@ -256,7 +254,7 @@ pub fn write_metrics<W: Write>(
         out,
         saved,
         "gauge",
-        "When the last save was done.",
+        "Time of the last completed save.",
         figures.last_save / 1000,
     )?;
     let draining = "polorowan_draining";
@@ -264,7 +262,7 @@ pub fn write_metrics<W: Write>(
         out,
         draining,
         "gauge",
-        "Whether no new call is taken.",
+        "1 while no new call is accepted.",
         u64::from(figures.draining),
     )?;
     let build = "polorowan_build_info";

@@ -111,6 +111,21 @@ impl RequestFault {
             RequestFault::TooLarge => "TooLarge",
         }
     }
+
+    /// What was wrong and what was expected, for a reader.
+    pub fn text(&self) -> &'static str {
+        match self {
+            RequestFault::BadRequest => {
+                "not a request that a gateway knows; expected HTTP/1.1 without a body, with the query of its path"
+            }
+            RequestFault::NotFound => "nothing is at this path; man rohctl names each request",
+            RequestFault::MethodNotAllowed => {
+                "the path has another method; expected GET to show something, POST to change something"
+            }
+            RequestFault::TooLarge =>
+                "the head of the request is too long; expected at most 8192 octets",
+        }
+    }
 }
 
 /// What has come of a request.

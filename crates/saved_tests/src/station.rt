@@ -115,7 +115,7 @@ fn saves_and_writes(rt: HostRuntime) {
     let mut text = Vec::new(rt.alloc());
     write_contexts(&mut text, &station, 4).expect(&rt, "it works");
     let line =
-        "{\"link\":4,\"cid\":0,\"profile\":\"Rtp\",\"state\":\"FullContext\",\"accepted\":1000}\n";
+        "{\"link\":4,\"cid\":0,\"profile\":\"0x0001\",\"state\":\"full\",\"accepted\":1000}\n";
     assert!(rt; text.as_slice() == line.as_bytes());
     let mut calls = Vec::new(rt.alloc());
     write_calls(rt.alloc(), &mut calls, &station, 4).expect(&rt, "it works");

@@ -1,0 +1,70 @@
+//! The links file: its links, or why they aren't accepted.
+
+use crate::files::read_text;
+use crate::lines::Lines;
+use rohc_faults::write_faults;
+use rohc_links::{Links, LinksFault, read_links};
+use std::alloc::Global;
+use std::io;
+use std::io::Write;
+use std::rt::Files;
+
+/// Why the links of a file aren't accepted.
+#[derive(Drop)]
+pub(crate) enum NoLinks {
+    /// The file can't be read, or has faults: the name that rohcd has for it, and a line for each.
+    Refused(&'static str, Lines),
+    /// There is no memory.
+    Memory,
+}
+
+/// The lines that say what is wrong with the text of a links file, which is refused by this name.
+fn lines_for(alloc: Global, path: &str, text: &str, name: &str) -> io::Result<Lines> {
+    let mut lines = Lines::new(alloc);
+    write_faults(alloc, &mut lines, path, text)?;
+    if lines.is_empty() {
+        writeln!(&mut lines, "{path}: {name}")?;
+    }
+    Ok(lines)
+}
+
+impl NoLinks {
+    /// The text of a links file is refused by this name.
+    pub(crate) fn refused(alloc: Global, path: &str, text: &str, name: &'static str) -> NoLinks {
+        match lines_for(alloc, path, text, name) {
+            Ok(lines) => NoLinks::Refused(name, lines),
+            Err(_) => NoLinks::Memory,
+        }
+    }
+}
+
+/// The text of a links file.
+fn links_text<R: Files + AllocGlobal>(rt: &R, path: &str) -> Result<String, NoLinks> {
+    let unread = match read_text(rt, path) {
+        Ok(text) => return Ok(text),
+        Err(unread) if unread.is_memory() => return Err(NoLinks::Memory),
+        Err(unread) => unread,
+    };
+    let mut lines = Lines::new(rt.alloc());
+    let expected = "expected a links file that this user can read";
+    match writeln!(
+        &mut lines,
+        "{path}: {unread}; {expected} (rohctl links --new writes one)"
+    ) {
+        Ok(()) => Err(NoLinks::Refused("Unreadable", lines)),
+        Err(_) => Err(NoLinks::Memory),
+    }
+}
+
+/// Reads a links file. Returns its text, for faults that only its settings have, and its links.
+pub(crate) fn read_links_file<R: Files + AllocGlobal>(
+    rt: &R,
+    path: &str,
+) -> Result<(String, Links), NoLinks> {
+    let text = links_text(rt, path)?;
+    match read_links(rt.alloc(), text.as_str()) {
+        Ok(links) => Ok((text, links)),
+        Err(LinksFault::NoMemory) => Err(NoLinks::Memory),
+        Err(fault) => Err(NoLinks::refused(rt.alloc(), path, text.as_str(), fault.name())),
+    }
+}

@@ -1,0 +1,10 @@
+//! Texts for readers: quoted texts and values, and why a file, a socket or a TOML text failed.
+#![tactic(auto)]
+
+mod quoted;
+mod reason;
+mod toml_fault;
+
+pub use quoted::{write_json_text, write_octets, write_quoted, write_value};
+pub use reason::{Reason, Why};
+pub use toml_fault::{error_line, write_toml_reason};
