@@ -24,7 +24,10 @@ _rohctl() {
     reset) options='--control --link --cid' ;;
     contexts | calls) options='--control --link' ;;
     esac
-    if [[ $word == -* ]]; then
+    options+=' --color'
+    if [ "$COMP_CWORD" -gt 2 ] && [ "${COMP_WORDS[COMP_CWORD - 1]}" = --color ]; then
+        mapfile -t COMPREPLY < <(compgen -W 'auto always never' -- "$word")
+    elif [[ $word == -* ]]; then
         mapfile -t COMPREPLY < <(compgen -W "$options" -- "$word")
     else
         compopt -o filenames 2>/dev/null

@@ -53,7 +53,7 @@ def check_unpacked(trial: Trial, folder: Path) -> None:
         trial.must_run("dpkg-deb", "-x", package(folder, name), root)
         lists = root / f"usr/share/polorowan/{name}.digests"
         ended = run(Call((root / "usr/bin/rohctl", "verify", lists, "--root", root)))
-        trial.demand(ended.is_good and "as they were packed" in ended.text, f"{name}: {ended.all}", ended.call)
+        trial.demand(ended.is_good and "as packaged" in ended.text, f"{name}: {ended.all}", ended.call)
     for name in PROGRAMS:
         ended = run(Call((root / "usr/bin" / name, "--version")))
         trial.demand(ended.is_good and version in ended.text, f"{name} --version: {ended.end()}", ended.call)
@@ -65,7 +65,7 @@ def check_unpacked(trial: Trial, folder: Path) -> None:
     page.write_bytes(page.read_bytes() + b"x")
     (root / "usr/share/man/man1/rohctl.1").unlink()
     ended = run(Call((root / "usr/bin/rohctl", "verify", root / "usr/share/polorowan/polorowan.digests", "--root", root)))
-    wanted = "usr/share/man/man1/rohcd.1 is another\nusr/share/man/man1/rohctl.1 can't be read\n"
+    wanted = "usr/share/man/man1/rohcd.1 differs\nusr/share/man/man1/rohctl.1 cannot be read\n"
     trial.demand((ended.status, ended.text) == (1, wanted), f"changed files: {ended.status} {ended.all}", ended.call)
     with tarfile.open(next(folder.glob("*.tar.gz"))) as archive:
         archive.extractall(trial.scratch / "tarball", filter="data")

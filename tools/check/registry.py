@@ -193,7 +193,7 @@ CHECKS = (
         "gateway",
         ON_PROGRAM,
         gateway.check,
-        "rohc-gateway: whole calls, twenty kills, reloads under load, hostile requests, its metrics and units",
+        "rohc-gateway: wrong calls, whole calls, twenty kills, reloads under load, hostile requests, its metrics and units",
         knows=gateway.is_part,
     ),
     Check(

@@ -16,6 +16,7 @@ import rohctl_links
 import rohctl_plan
 import rohctl_report
 import rohctl_spread
+import rohctl_wrong
 from installation import COMPLETE
 from program import Call, Ended, run
 from trial import Trial
@@ -67,12 +68,13 @@ COMPLETIONS = (
         ("",),
     ),
     ("totals", ("to",)),
-    ("--json --new", ("links", "--")),
-    ("--calls --damage --json --links --packet-ms --split --window", ("plan", "--")),
-    ("--follow --json --prometheus", ("totals", "--")),
-    ("--back --from --lines --link --other --pcapng --port --vlan", ("script", "--")),
-    ("--feedback --link --links --padded --pcapng --port --stats --vlan", ("decompress", "--")),
-    ("--link --links --output --port --vlan", ("report", "--")),
+    ("--color --json --new", ("links", "--")),
+    ("--calls --color --damage --json --links --packet-ms --split --window", ("plan", "--")),
+    ("--color --follow --json --prometheus", ("totals", "--")),
+    ("--back --color --from --lines --link --other --pcapng --port --vlan", ("script", "--")),
+    ("--color --feedback --link --links --padded --pcapng --port --stats --vlan", ("decompress", "--")),
+    ("--color --link --links --output --port --vlan", ("report", "--")),
+    ("always auto never", ("status", "--color", "")),
     ("--links", ("trace", "--l")),
     ("--line --link --links", ("explain", "--li")),
     ("links.toml", ("trace", "--links", "li")),
@@ -124,7 +126,7 @@ def check_totals(trial: Trial) -> None:
     mixed = call(trial, "totals", given=MIXED.encode())
     ends(trial, mixed, 1)
     has_rows(trial, mixed, MIXED_ROWS)
-    trial.same("the last rows", f"{MIXED_LINES}\nline 6 is the first that is no answer line", "\n".join(rows(mixed.text)[-2:]))
+    trial.same("the last rows", f"{MIXED_LINES}\nline 6 is not an answer line", "\n".join(rows(mixed.text)[-2:]))
     ends(trial, call(trial, "totals", "-", given=b"1 0 ip 45aa\n1 0 feedback f100\n"), 0)
     ends(trial, call(trial, "totals"), 0)
 
@@ -217,15 +219,16 @@ def check_whole(trial: Trial) -> None:
 def check_trace(trial: Trial) -> None:
     """The trace of a script."""
     ended = call(trial, "trace", "--links", LINKS, given=SCRIPT)
-    ends(trial, ended, 0)
+    ends(trial, ended, 1)
+    ends(trial, call(trial, "trace", "--links", LINKS, given=b"arrive 1 0 fc00b745aa\nreset 9\n"), 0)
     trial.same("the trace", TRACE, ended.text, ended.call)
 
 
-def on_terminal(trial: Trial, environment: dict[str, str]) -> bytes:
-    """What rohctl writes to a terminal for the plain call."""
+def on_terminal(trial: Trial, environment: dict[str, str], *more: str) -> bytes:
+    """What rohctl writes to a terminal for the plain call, with these words more."""
     ours, theirs = pty.openpty()
     everything = {name: text for name, text in os.environ.items() if name != "NO_COLOR"} | environment
-    words = [trial.top / PROGRAM, "totals", trial.top / f"{PLAIN}.answers"]
+    words = [trial.top / PROGRAM, "totals", trial.top / f"{PLAIN}.answers", *more]
     subprocess.run(words, stdout=theirs, env=everything, check=False)
     os.close(theirs)
     written = os.read(ours, 1 << 16)
@@ -234,11 +237,15 @@ def on_terminal(trial: Trial, environment: dict[str, str]) -> bytes:
 
 
 def check_colour(trial: Trial) -> None:
-    """A silent call is red on a terminal alone, and never with NO_COLOR."""
+    """A silent call is red on a terminal alone, and not with NO_COLOR; --color decides before both."""
     trial.demand(on_terminal(trial, {}).count(b"\x1b[31m") == 1, "a silent call isn't red on a terminal")
     trial.demand(b"\x1b" not in on_terminal(trial, {"NO_COLOR": "1"}), "NO_COLOR: a colour on a terminal")
     ended = call(trial, "totals", f"{PLAIN}.answers")
     trial.demand(b"\x1b" not in ended.output, "a colour in a pipe", ended.call)
+    trial.demand(b"\x1b" not in on_terminal(trial, {}, "--color", "never"), "--color never: a colour on a terminal")
+    trial.demand(b"\x1b[31m" in on_terminal(trial, {"NO_COLOR": "1"}, "--color", "always"), "--color always: no colour")
+    ended = call(trial, "totals", "--color", "always", f"{PLAIN}.answers")
+    trial.demand(ended.output.count(b"\x1b[31m") == 1, "--color always: no colour in a pipe", ended.call)
 
 
 def read_until(terminal: int, mark: bytes) -> bytes:
@@ -324,18 +331,14 @@ def check_ends(trial: Trial) -> None:
     for words in ((), ("frob",), ("trace",), ("links",), ("diff", "a"), ("totals", "--json", "--prometheus"), ("totals", "a", "b"), ("stop",),
                   ("reset", "--control", "x"), ("reset", "--control", "x", "--link", "70000"), ("spread", LINKS)):
         ended = call(trial, *words)
-        trial.demand(ended.status == 2, f"rohctl {words}: {ended.end()}; wanted 2", ended.call)
-    ends(trial, call(trial, "trace", "--links", "nothing.toml"), 3, "rohctl: links file: Unreadable")
-    ends(trial, call(trial, "trace", "--links", f"{PLAIN}.answers"), 3, "rohctl: links file: NotToml")
-    ends(trial, call(trial, "status", "--control", "nothing"), 4, "rohctl: no gateway answers at the control socket")
-    ends(trial, call(trial, "totals", "nothing"), 4, "rohctl: read")
-    ends(trial, call(trial, "totals", "examples"), 4, "rohctl: read")
-    ends(trial, call(trial, "trace", "--links", LINKS, "nothing"), 4, "rohctl: read")
+        trial.demand(ended.status == 2 and ended.said != "" or words == (), f"rohctl {words}: {ended.end()}; wanted 2", ended.call)
+    told = "rohctl: nothing: no such file or folder; expected the control socket of a gateway that runs"
+    ends(trial, call(trial, "status", "--control", "nothing"), 4, f"{told} (systemctl status rohc-gateway@NAME)")
 
 
 def check(trial: Trial) -> None:
     """All of it, on the program that the gate left."""
     for part in (check_totals, check_json, check_metrics, check_hostile, check_trace, check_whole, check_colour, check_follow, check_progress, check_completion, check_site, check_ends,
                  rohctl_explain.check, rohctl_links.check, rohctl_diff.check, rohctl_plan.check, rohctl_spread.check,
-                 rohctl_capture.check, rohctl_report.check):
+                 rohctl_capture.check, rohctl_report.check, rohctl_wrong.check):
         part(trial)

@@ -28,6 +28,7 @@ OTHER = """1 1 stored
 TOLD = """link 1 CID 0
   A line 4: 1 0 refused Check
   B line 5: 1 0 ip 45ab
+                ^
 link 2 CID 300
   A line 5: 2 300 refused Check
   B no line
@@ -46,7 +47,13 @@ def check(trial: Trial) -> None:
     trial.same("the differences", TOLD, told.text, told.call)
     trial.demand(told.status == 1, f"rohctl diff: {told.end()}; wanted 1", told.call)
     rows = [json.loads(line) for line in diff(trial, "--json", one, other).text.splitlines()]
-    trial.demand([(row["link"], row["cid"], row["a_line"], row["b_line"]) for row in rows] == [(1, 0, 4, 5), (2, 300, 5, None)], f"{rows}")
+    trial.demand([(row["link"], row["cid"], row["a_line"], row["b_line"], row["offset"]) for row in rows] == [(1, 0, 4, 5, 4), (2, 300, 5, None, None)], f"{rows}")
+    # Behind 7 octets of front and 102 digits "10" and "11" differ in their second octet, at offset 110: 20 octets before it are shown.
+    long = [f"1 0 ip {'ab' * 51}{word}{'cd' * 40}" for word in ("10", "11")]
+    deep = diff(trial, trial.write("a.answers", f"{long[0]}\n"), trial.write("b.answers", f"1 1 stored\n{long[1]}\n"))
+    shown = [f"..{line[90:150]}.." for line in long]
+    wanted = f"link 1 CID 0\n  A line 1: {shown[0]}\n  B line 2: {shown[1]}\n{' ' * (12 + 2 + 20)}^\nlink 1 CID 1\n  A no line\n  B line 1: 1 1 stored\n"
+    trial.same("a difference far behind", wanted, deep.text, deep.call)
     trial.demand(diff(trial, one, one).status == 0 and diff(trial, "-", one, given=ONE.encode()).status == 0, "equal answers differ")
     script = trial.top / SCRIPT
     traced = run(Call((trial.top / PROGRAM, "trace", "--links", script.with_suffix(".toml"), script), folder=trial.top)).output

@@ -37,9 +37,9 @@ FALLING = (
     ("50 11ac", "50 ms after the last accepted packet, SN 2; 1 failed check leads to Static Context"),
     ("60 d4c33fad", "60 ms after the last accepted packet, SN 2; 2 failed checks in a row lead to No Context"),
     ("70 d4c33fad", "70 ms after the last accepted packet, SN 2; 1 failed check leads to No Context"),
-    ("80 11ac", "80 ms after the last accepted packet, an IR alone; no STATIC-NACK for 990 ms"),
-    ("1070 11ac", "1070 ms after the last accepted packet, an IR alone; a STATIC-NACK may be sent now"),
-    ("2000 11ac", "2000 ms after the last accepted packet, an IR alone; no STATIC-NACK for 70 ms"),
+    ("80 11ac", "80 ms after the last accepted packet, only an IR; no STATIC-NACK for 990 ms"),
+    ("1070 11ac", "1070 ms after the last accepted packet, only an IR; a STATIC-NACK may be sent now"),
+    ("2000 11ac", "2000 ms after the last accepted packet, only an IR; no STATIC-NACK for 70 ms"),
 )
 # A context of profile 0x0000 that has expired as its second packet comes, by the link's idle_ms of 5,000.
 EXPIRED = b"arrive 4 0 fc00b745aa\narrive 4 5000 45aa\n"
@@ -182,11 +182,11 @@ def check(trial: Trial) -> None:
     trial.demand(brief.status == 1, f"rohctl explain: {brief.end()}; wanted 1", brief.call)
     line = explain(trial, "--links", LINKS, "--line", "3", PLAIN)
     trial.demand("refused Check" in line.text and line.text.count("answer:") == 1, "not line 3 alone", line.call)
-    trial.demand(line.text.endswith("taken next: every packet\n\n"), f"what is taken next in Full Context: {line.text[-60:]!r}", line.call)
+    trial.demand(line.text.endswith("accepted next: every packet\n\n"), f"what is taken next in Full Context: {line.text[-60:]!r}", line.call)
     last = explain(trial, "--links", LINKS, "--line", "6", PLAIN)
-    trial.demand(last.text.endswith("taken next: an IR alone\n\n"), f"what is taken next without a context: {last.text[-60:]!r}", last.call)
+    trial.demand(last.text.endswith("accepted next: only an IR\n\n"), f"what is taken next without a context: {last.text[-60:]!r}", last.call)
     expired = explain(trial, "--links", trial.top / "examples/worked/links-2.toml", given=EXPIRED)
-    trial.demand(expired.text.endswith("taken next: an IR alone\n\n"), f"what is taken next by an expired context: {expired.text[-60:]!r}", expired.call)
+    trial.demand(expired.text.endswith("accepted next: only an IR\n\n"), f"what is taken next by an expired context: {expired.text[-60:]!r}", expired.call)
     call = explain(trial, "--brief", "--links", LINKS, "--call", "1/0", PLAIN)
     trial.demand(call.text.count("\n") == 4, "not the four packets of the call", call.call)
     given = explain(trial, "--brief", "--links", LINKS, "--link", "1", "fc00b745aa,45ab")

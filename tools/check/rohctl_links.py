@@ -48,10 +48,10 @@ FAULTS = (
     (33, 3, 1, "number", "twice", 1, None),
 )
 TOLD = (
-    "FILE:31: link 300: \"idel_ms\" is no key; the nearest is idle_ms",
-    "FILE:17: link 300: idle_ms: nothing stands there; 0 to 86400000 may",
-    "FILE:22: link 300: k1: 5 stands there; 1 to n1 may",
-    "FILE:33: link 1: number: entry 1 has it too; a number of its own may stand there",
+    'FILE:31: link 300: unknown key "idel_ms"; did you mean idle_ms?',
+    "FILE:17: link 300: idle_ms is missing; expected a number from 0 to 86400000",
+    "FILE:22: link 300: k1 is 5; expected a number from 1 to n1",
+    "FILE:33: entry 3: link number 1 is already used by entry 1; 2 is free",
     "rohcd: links file: UnknownKey",
 )
 
@@ -122,7 +122,9 @@ def check_good(trial: Trial) -> None:
     trial.demand("unusual: link 2: no idle_ms: a silent call keeps its context" in told.text, "idle_ms = 0 isn't told", told.call)
     new = links(trial, "--new")
     file = trial.write("new.toml", new.text)
-    trial.demand(new.status == 0 and links(trial, str(file)).status == 0, "links --new writes no good file", new.call)
+    shown = links(trial, str(file))
+    trial.demand(new.status == 0 and shown.status == 0, "links --new writes no good file", new.call)
+    trial.demand("unusual" not in shown.text, "links finds the file of links --new unusual", shown.call)
     trial.demand(trial.program.replay(file, b"").status == 0, "rohcd refuses what links --new writes", new.call)
     alike = trial.write("alike.toml", THREE.replace("idel_ms", "idle_ms").replace("k1 = 5", "k1 = 2").replace("number = 1\n", "number = 7\n", 1).replace("n1 = 3", "n1 = 20", 1))
     text = links(trial, str(alike)).text

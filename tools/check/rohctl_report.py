@@ -171,6 +171,9 @@ def check_scripts(trial: Trial) -> None:
     """Each script of the examples: the totals are those of its answers, and each text is what is explained of its line."""
     for script, links in rohctl_explain.scripts(trial):
         ended = report(trial, "--links", links, script)
+        if not script.read_bytes():
+            trial.demand(ended.status == 6 and not ended.output, f"{script.name}: {ended.end()}; wanted 6", ended.call)
+            continue
         page = page_in(trial, ended)
         totals = run(Call((trial.top / PROGRAM, "totals", "--json", script.with_suffix(".answers")), b"", {}, trial.top))
         differ = (counted(page) - told(totals.text), told(totals.text) - counted(page))

@@ -40,18 +40,18 @@ ADDRESSES = "        udp dport 7000 ip daddr set @th,64,16 map {{ 1 : 127.0.0.1,
 
 # A text of HOSTS, what stands in its place, and the line that is told.
 FAULTS = (
-    ("links = [1]", "links = [3]", "hosts.toml: link 1: no process takes it"),
-    ('"2-9"', '"1-9"', "hosts.toml:6: process 2: link 1: an earlier process takes it too"),
-    ("port = 7002", "port = 0", "hosts.toml:6: process 2: port is missing or wrong"),
-    ("port = 7001\n", "", "hosts.toml:2: process 1: port is missing or wrong"),
-    ('"2-9"', '"9-2"', "hosts.toml:6: process 2: links is missing or wrong"),
-    ('"2-9"', "70000", "hosts.toml:6: process 2: links is missing or wrong"),
-    ('name = "b"', 'name = "../b"', "hosts.toml:6: process 2: name is missing or wrong"),
-    ('name = "b"', 'name = "a"', "hosts.toml:6: process 2: the name of an earlier process"),
-    ('name = "b"', 'name = "b"\naddress = "10.0.0.256"', "hosts.toml:6: process 2: address is missing or wrong"),
-    ('name = "b"', 'name = "b"\nhost = "x"', "hosts.toml:6: process 2: a key that isn't known"),
-    ("port = 7000", "prot = 7000", "hosts.toml: a key that isn't known"),
-    ("[[process]]", "[process]", "hosts.toml: the text is no TOML document"),
+    ("links = [1]", "links = [3]", "hosts.toml: link 1 is not assigned to any process"),
+    ('"2-9"', '"1-9"', "hosts.toml:6: process 2: link 1 is already assigned to an earlier process"),
+    ("port = 7002", "port = 0", "hosts.toml:6: process 2: port is missing or wrong; expected 1 to 65535"),
+    ("port = 7001\n", "", "hosts.toml:2: process 1: port is missing or wrong; expected 1 to 65535"),
+    ('"2-9"', '"9-2"', "hosts.toml:6: process 2: links is missing or wrong; expected an array of numbers and texts such as \"4-9\""),
+    ('"2-9"', "70000", "hosts.toml:6: process 2: links is missing or wrong; expected an array of numbers and texts such as \"4-9\""),
+    ('name = "b"', 'name = "../b"', "hosts.toml:6: process 2: name is missing or wrong; expected 1 to 32 letters, digits, - and _, in quotes"),
+    ('name = "b"', 'name = "a"', "hosts.toml:6: process 2: an earlier process has this name; expected another"),
+    ('name = "b"', 'name = "b"\naddress = "10.0.0.256"', "hosts.toml:6: process 2: address is missing or wrong; expected an IPv4 address in quotes, as \"10.0.0.1\""),
+    ('name = "b"', 'name = "b"\nhost = "x"', "hosts.toml:6: process 2: unknown key; expected name, address, port and links"),
+    ("port = 7000", "prot = 7000", "hosts.toml: unknown key; expected port and [[process]]"),
+    ("[[process]]", "[process]", "hosts.toml:6: process is one table and given again; write [[process]] before each one"),
 )
 
 # Sends datagrams in the namespace, and tells what came to each port.
@@ -153,4 +153,4 @@ def check(trial: Trial) -> None:
     trial.demand([len(part) for part in parts] == [1, 1], f"links of the processes: {parts}")
     trial.demand(parts[0] + parts[1] == rows(trial, trial.top / LINKS), "the processes' links aren't those of the file")
     told = spread(trial, HOSTS, "--out", "nowhere")
-    trial.demand((told.status, told.said) == (4, "rohctl: write"), f"spread into no folder: {told.end()}", told.call)
+    trial.demand((told.status, told.said) == (4, "rohctl: nowhere: cannot write to it: no such file or directory"), f"spread into no folder: {told.end()}", told.call)

@@ -81,7 +81,7 @@ def explained(rohctl: str, links: Path, script: Path) -> Iterator[Explained]:
     """What is said of each arrival of a script."""
     words = (rohctl, "explain", "--json", "--links", links, script)
     told = subprocess.run(words, capture_output=True, text=True)
-    if told.returncode not in (0, 1):
+    if told.returncode not in (0, 1, 6):
         raise RuntimeError(f"rohctl explain: status {told.returncode}, {told.stderr}")
     lines = script.read_text().splitlines()
     for row in map(json.loads, told.stdout.splitlines()):

@@ -1,7 +1,7 @@
-//! rohctl: tells what rohcd did with each call.
+//! rohctl: diagnoses ROHC links.
 #![tactic(auto)]
 
-use rohctl_ground::{Ending, Screen};
+use rohctl_ground::{Ending, Misuse, Screen};
 use rohctl_program::run;
 use std::io::IsTerminal;
 use std::process::ExitCode;
@@ -25,18 +25,25 @@ fn wants_colour<R: Env + AllocGlobal>(rt: &R, is_terminal: bool) -> bool {
     }
 }
 
+/// Prints how the run ends. Returns its status.
+fn end<R: Eprint>(rt: &R, ending: Ending<'_>) -> ExitCode {
+    let _ = eprint!(rt; "{ending}");
+    ExitCode::from(ending.status())
+}
+
 fn main(rt: HostRuntime) -> ExitCode {
     let output = rt.stdout().is_terminal();
     let screen = Screen {
+        input: rt.stdin().is_terminal(),
         output,
         colour: wants_colour(&rt, output),
         error: rt.stderr().is_terminal(),
     };
-    let ending = match words(&rt) {
-        Ok(words) => run(&rt, words.as_slice(), screen),
-        Err(e) if e.kind() == io::ErrorKind::InvalidData => Ending::CommandLine,
-        Err(_) => Ending::Memory,
-    };
-    let _ = eprint!(rt; "{ending}");
-    ExitCode::from(ending.status())
+    match words(&rt) {
+        Ok(words) => end(&rt, run(&rt, words.as_slice(), screen)),
+        Err(e) if e.kind() == io::ErrorKind::InvalidData => {
+            end(&rt, Ending::Misuse(Misuse::NotUtf8))
+        }
+        Err(_) => end(&rt, Ending::Memory),
+    }
 }

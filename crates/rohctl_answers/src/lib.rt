@@ -9,6 +9,6 @@ mod table;
 mod totals;
 mod tracing;
 
-pub use differences::run_diff;
+pub use differences::{Compared, run_diff};
 pub use totals::{Asked, Form, run_totals};
 pub use tracing::run_trace;

@@ -95,7 +95,7 @@ fn write_lines<W: Write>(out: &mut W, totals: &Totals) -> io::Result<()> {
         totals.counts.of(LineKind::NoAnswer)
     )?;
     match totals.strange {
-        Some(line) => writeln!(out, "line {line} is the first that is no answer line"),
+        Some(line) => writeln!(out, "line {line} is not an answer line"),
         None => Ok(()),
     }
 }

@@ -5,7 +5,7 @@ use crate::json::write_json;
 use crate::metrics::write_metrics;
 use crate::table::write_table;
 use rohc_totals::{CallRow, LineKind, Totals, TotalsFault, call_rows, read_totals, watch_totals};
-use rohctl_ground::{Ending, Screen, Told, open_source};
+use rohctl_ground::{Ending, Screen, Told, open_source, unprinted};
 use std::io;
 use std::io::{BufWriter, Write};
 use std::rt::Files;
@@ -33,7 +33,7 @@ pub struct Asked<'a> {
 }
 
 /// The totals of the answer lines that are asked for.
-fn totals_of<R>(rt: &R, asked: &Asked<'_>, screen: Screen) -> Result<Totals, Ending>
+fn totals_of<'a, R>(rt: &R, asked: &Asked<'a>, screen: Screen) -> Result<Totals, Ending<'a>>
 where
     R: Files + Input + Print + Eprint + Clock + AllocGlobal,
 {
@@ -50,7 +50,7 @@ where
     };
     read.map_err(|fault| match fault {
         TotalsFault::NoMemory => Ending::Memory,
-        TotalsFault::Read => Ending::Read,
+        TotalsFault::Read => lines.unread(asked.answers),
     })
 }
 
@@ -80,18 +80,22 @@ fn print_totals<R: Print + AllocGlobal>(
     screen: Screen,
     totals: &Totals,
     rows: &[CallRow],
-) -> Result<(), Ending> {
+) -> Result<(), Ending<'static>> {
     let Ok(mut out) = BufWriter::new(rt.alloc(), io::writer(rt)) else {
         return Err(Ending::Memory);
     };
     match write_totals(&mut out, asked, screen, totals, rows) {
         Ok(()) => Ok(()),
-        Err(_) => Err(Ending::Write),
+        Err(error) => Err(unprinted(&error)),
     }
 }
 
 /// Counts the answer lines of a file, and writes what there is.
-pub fn run_totals<R>(rt: &R, asked: &Asked<'_>, screen: Screen) -> Result<Ending, Ending>
+pub fn run_totals<'a, R>(
+    rt: &R,
+    asked: &Asked<'a>,
+    screen: Screen,
+) -> Result<Ending<'a>, Ending<'a>>
 where
     R: Files + Input + Print + Eprint + Clock + AllocGlobal,
 {
@@ -102,7 +106,7 @@ where
 }
 
 /// Whether there is something to be looked at: a call that is refused and gets nothing, or a line that isn't good.
-fn found(totals: &Totals, rows: &[CallRow]) -> Ending {
+fn found(totals: &Totals, rows: &[CallRow]) -> Ending<'static> {
     let strange = totals
         .counts
         .of(LineKind::NoAnswer)

@@ -2,12 +2,15 @@
 
 ghost use Rattle.std.specs.Prelude.{◌≡◌, ◌≢◌};
 
-use crate::files::{capture_of, target_of};
-use crate::rules::{RuleWords, rules_of};
+use crate::rules::{RuleWords, check_links, rules_of};
+use crate::unmatched::no_frame;
 use rohc_capture::{Capture, CaptureFault, FaultKind, Format};
 use rohc_concentrator::Concentrator;
 use rohc_decompress::{Bulk, BulkFault, Tally, begin, decompress};
-use rohctl_ground::{Ending, Screen, Target, concentrator_of, make_target};
+use rohctl_ground::{
+    Ending, Misuse, STREAM, Screen, Target, Told, concentrator_of, keep_apart, make_target,
+    open_source, target_of,
+};
 use std::io::{self, Read, Write};
 use std::rt::Files;
 
@@ -32,25 +35,25 @@ pub struct Decompress<'a> {
     pub format: Format,
 }
 
-/// The ending for a capture that can't be read on.
-pub fn capture_end(fault: CaptureFault) -> Ending
+/// The ending for a capture of this path that can't be read on. `unread` is the ending for a read that failed.
+pub fn capture_end<'a>(path: &'a str, fault: CaptureFault, unread: Ending<'a>) -> Ending<'a>
     ensures memory { fault.kind ≡ FaultKind.NoMemory → result ≡ Ending.Memory }
-    ensures read { fault.kind ≡ FaultKind.Read → result ≡ Ending.Read }
-    ensures capture { fault.kind ≢ FaultKind.NoMemory → fault.kind ≢ FaultKind.Read → result ≡ Ending.Capture fault }
+    ensures read { fault.kind ≡ FaultKind.Read → result ≡ unread.entry }
+    ensures capture { fault.kind ≢ FaultKind.NoMemory → fault.kind ≢ FaultKind.Read → result ≡ Ending.Capture path.entry fault }
 {
     match fault.kind {
         FaultKind::NoMemory => Ending::Memory,
-        FaultKind::Read => Ending::Read,
-        _ => Ending::Capture(fault),
+        FaultKind::Read => unread,
+        _ => Ending::Capture(path, fault),
     }
 }
 
-/// The ending of a run. `flushed` is whether all that was written has gone out.
-pub(crate) fn ran_end(ran: Result<(), BulkFault>, flushed: bool) -> Result<Ending, Ending> {
-    match ran {
-        Ok(()) if flushed => Ok(Ending::Good),
-        Err(BulkFault::Capture(fault)) if flushed => Err(capture_end(fault)),
-        _ => Err(Ending::Write),
+/// Refuses to write a capture to a terminal.
+pub(crate) fn refuse_terminal(output: &str, screen: Screen) -> Result<(), Ending<'static>> {
+    if output == STREAM && screen.output {
+        Err(Ending::Misuse(Misuse::Terminal))
+    } else {
+        Ok(())
     }
 }
 
@@ -98,42 +101,85 @@ fn run_to_both<S: Read, F: Write + Drop, P: Write + Drop>(
     }
 }
 
+/// The packets that arrived on a link.
+fn arrivals(tally: &Tally) -> u64 {
+    tally
+        .delivered
+        .saturating_add(tally.refused)
+        .saturating_add(tally.silent)
+}
+
+/// The ending for a write of one of these targets that failed.
+fn unwritten_end<'a, F: Write + Drop, P: Write + Drop>(
+    asked: &Decompress<'a>,
+    packets: &Target<F, P>,
+    feedback: &Target<F, P>,
+) -> Ending<'a> {
+    match asked.feedback {
+        Some(path) if feedback.has_failed() => feedback.unwritten(path),
+        _ => packets.unwritten(asked.output),
+    }
+}
+
 /// Runs the capture that is asked for.
-fn run_bulk<R>(
+fn run_bulk<'a, R>(
     rt: &R,
-    asked: &Decompress<'_>,
+    asked: &Decompress<'a>,
     bulk: &Bulk<'_>,
     screen: Screen,
-) -> Result<Ending, Ending>
+) -> Result<Ending<'a>, Ending<'a>>
 where
     R: Files + Input + Print + Eprint + AllocGlobal,
 {
     let mut links = concentrator_of(rt, asked.links)?;
-    let mut capture = capture_of(rt, asked.input, screen)?;
+    check_links(&links, asked.links, bulk.rules)?;
+    let mut input = Told::new(rt, open_source(rt, asked.input)?, screen.error);
+    keep_apart(
+        rt,
+        &[asked.links, asked.input],
+        &[Some(asked.output), asked.feedback],
+    )?;
     let mut packets = make_target(rt, asked.output)?;
     let mut feedback = target_of(rt, asked.feedback)?;
     let mut tally = Tally::default();
-    let ran = run_to_both(
-        &mut links,
-        bulk,
-        &mut capture,
-        &mut packets,
-        &mut feedback,
-        &mut tally,
-    );
+    let ran = match Capture::new(rt.alloc(), &mut input) {
+        Ok(mut capture) => run_to_both(
+            &mut links,
+            bulk,
+            &mut capture,
+            &mut packets,
+            &mut feedback,
+            &mut tally,
+        ),
+        Err(fault) => Err(BulkFault::Capture(fault)),
+    };
     let flushed = packets.flush().is_ok() && feedback.flush().is_ok();
-    if asked.stats && eprintln!(rt; "{tally}").is_err() {
-        return Err(Ending::Write);
+    if asked.stats {
+        let _ = eprintln!(rt; "{tally}");
     }
-    ran_end(ran, flushed)
+    match ran {
+        Ok(()) if flushed && arrivals(&tally) == 0 => {
+            Err(no_frame(rt, asked.input, input.front()))
+        }
+        Ok(()) if flushed => Ok(Ending::Good),
+        Err(BulkFault::Capture(fault)) if flushed => {
+            Err(capture_end(asked.input, fault, input.unread(asked.input)))
+        }
+        _ => Err(unwritten_end(asked, &packets, &feedback)),
+    }
 }
 
 /// Runs a capture, and writes what is delivered.
-pub fn run_decompress<R>(rt: &R, asked: &Decompress<'_>, screen: Screen) -> Result<Ending, Ending>
+pub fn run_decompress<'a, R>(
+    rt: &R,
+    asked: &Decompress<'a>,
+    screen: Screen,
+) -> Result<Ending<'a>, Ending<'a>>
 where
     R: Files + Input + Print + Eprint + AllocGlobal,
 {
-    let rules = rules_of(rt.alloc(), &asked.rules).map_err(|fault| fault.ending())?;
+    let rules = rules_of(rt.alloc(), &asked.rules)?;
+    refuse_terminal(asked.output, screen)?;
     let bulk = Bulk {
         rules: rules.as_slice(),
         padded: asked.padded,

@@ -1,7 +1,7 @@
 //! The arrivals of a script as datagrams of a capture.
 
 use rohc_capture::{Format, write_record};
-use rohctl_ground::{Line, Stop, Taker};
+use rohctl_ground::{Line, Reason, Stop, Taker};
 use std::io::Write;
 
 /// The octets of an IPv4 and a UDP header, and of a link's number.
@@ -18,6 +18,8 @@ pub(crate) struct Datagrams<W: Write + Drop> {
     pub(crate) port: u16,
     /// The lines without a datagram: no arrivals, or what a capture can't hold.
     pub(crate) left_out: u64,
+    /// The datagrams.
+    pub(crate) written: u64,
 }
 
 /// The header sum of an IPv4 header whose own sum is 0.
@@ -76,7 +78,7 @@ impl<W: Write + Drop> Datagrams<W> {
         };
         match write_record(&mut self.out, self.format, nanos, &front, packet) {
             Ok(()) => Ok(true),
-            Err(_) => Err(Stop::Write),
+            Err(_) => Err(Stop::Write(Reason::Other(0))),
         }
     }
 }
@@ -92,7 +94,9 @@ impl<W: Write + Drop> Taker for Datagrams<W> {
             } => self.arrived(link, moment, packet)?,
             Line::Reset { .. } | Line::Bad => false,
         };
-        if !written {
+        if written {
+            self.written = self.written.saturating_add(1);
+        } else {
             self.left_out = self.left_out.saturating_add(1);
         }
         Ok(())

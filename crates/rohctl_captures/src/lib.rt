@@ -3,11 +3,12 @@
 
 mod bulk;
 mod datagrams;
-mod files;
 mod rules;
 mod script;
 mod sender;
+mod unmatched;
 
 pub use bulk::{Decompress, capture_end, run_decompress};
-pub use rules::{RuleWords, RulesFault, rules_of};
+pub use rules::{RuleWords, check_links, rules_of};
 pub use script::{Script, run_script};
+pub use unmatched::no_frame;

@@ -1,7 +1,8 @@
 //! Whose packets a capture has: the rules of the options.
 
 use rohc_capture::Rule;
-use rohctl_ground::Ending;
+use rohc_concentrator::Concentrator;
+use rohctl_ground::{Ending, Misuse, Nothing};
 use std::alloc::Global;
 
 /// The options that say which link a frame belongs to.
@@ -53,49 +54,85 @@ fn rule_of(naming: Naming, text: &str) -> Option<Rule> {
     }
 }
 
-/// Why there are no rules.
-#[derive(Clone, Copy, PartialEq, Eq)]
-pub enum RulesFault {
-    /// A number can't be read, or no rule is asked for.
-    Words,
-    /// There is no memory.
-    Memory,
-}
-
-impl RulesFault {
-    /// The ending for words without good rules, or for lack of memory.
-    pub fn ending(self) -> Ending {
+impl Naming {
+    /// The option.
+    fn word(self) -> &'static str {
         match self {
-            RulesFault::Words => Ending::CommandLine,
-            RulesFault::Memory => Ending::Memory,
+            Naming::Vlan => "--vlan",
+            Naming::Port => "--port",
+            Naming::Link => "--link",
+        }
+    }
+
+    /// What its value is.
+    fn expected(self) -> &'static str {
+        match self {
+            Naming::Vlan => "VLAN=LINK, as 5=1: a VLAN from 0 to 4095, a link from 0 to 65535",
+            Naming::Port => "PORT or PORT=LINK, as 5000=1: each from 0 to 65535",
+            Naming::Link => "the number of a link, 0 to 65535",
         }
     }
 }
 
 /// Appends the rules of an option, if it is given.
-fn add_rules(rules: &mut Vec<Rule>, naming: Naming, text: Option<&str>) -> Result<(), RulesFault> {
+fn add_rules<'a>(
+    rules: &mut Vec<Rule>,
+    naming: Naming,
+    text: Option<&'a str>,
+) -> Result<(), Ending<'a>> {
     let Some(text) = text else {
         return Ok(());
     };
     for part in text.split(",") {
         let Some(rule) = rule_of(naming, part) else {
-            return Err(RulesFault::Words);
+            return Err(Ending::Misuse(Misuse::Value {
+                word: naming.word(),
+                given: text,
+                expected: naming.expected(),
+            }));
         };
         if rules.push(rule).is_err() {
-            return Err(RulesFault::Memory);
+            return Err(Ending::Memory);
         }
     }
     Ok(())
 }
 
 /// The rules that are asked for: those of VLANs, of ports, and of the link that has all others.
-pub fn rules_of(alloc: Global, asked: &RuleWords<'_>) -> Result<Vec<Rule>, RulesFault> {
+pub fn rules_of<'a>(alloc: Global, asked: &RuleWords<'a>) -> Result<Vec<Rule>, Ending<'a>> {
     let mut rules = Vec::new(alloc);
     add_rules(&mut rules, Naming::Vlan, asked.vlan)?;
     add_rules(&mut rules, Naming::Port, asked.port)?;
     add_rules(&mut rules, Naming::Link, asked.link)?;
     if rules.is_empty() {
-        return Err(RulesFault::Words);
+        return Err(Ending::Misuse(Misuse::Missing {
+            word: "--link, --vlan or --port",
+            expected: "the link of the capture's frames, as --link 1, --vlan 5=1 or --port 5000=1",
+        }));
     }
     Ok(rules)
+}
+
+/// The link that a rule names, if it names one.
+fn link_of(rule: Rule) -> Option<u16> {
+    match rule {
+        Rule::Every(link) | Rule::Vlan(_, link) | Rule::Port(_, link) => Some(link),
+        Rule::Numbered(_) => None,
+    }
+}
+
+/// Refuses a rule that names a link which the links file of this path doesn't have.
+pub fn check_links<'a>(
+    concentrator: &Concentrator,
+    links: &'a str,
+    rules: &[Rule],
+) -> Result<(), Ending<'a>> {
+    for rule in rules {
+        if let Some(link) = link_of(*rule)
+            && concentrator.tables().get(&link).is_none()
+        {
+            return Err(Ending::Nothing(links, Nothing::NoLink(link)));
+        }
+    }
+    Ok(())
 }

@@ -1,16 +1,19 @@
 //! The subcommand `script`: a capture as a script, and back.
 
-use crate::bulk::ran_end;
+use crate::bulk::{capture_end, refuse_terminal};
 use crate::datagrams::Datagrams;
-use crate::files::{Written, capture_of, target_of};
 use crate::rules::{RuleWords, rules_of};
 use crate::sender::{Sender, sender_of};
+use crate::unmatched::no_frame;
 use hex::encode_to_slice;
 use rohc_capture::{Capture, Format, Record, Rule, packet_in, write_head};
 use rohc_decompress::BulkFault;
-use rohctl_ground::{Ending, Screen, Target, Told, make_target, open_source, read_script};
+use rohctl_ground::{
+    Ending, Misuse, Nothing, Screen, Stop, Told, Written, keep_apart, make_target, open_source,
+    read_script, target_of,
+};
 use std::io;
-use std::io::{Printer, Read, Write};
+use std::io::{Read, Write};
 use std::rt::Files;
 
 /// The link type of raw IP packets.
@@ -75,6 +78,8 @@ struct Outputs<S: Write + Drop, O: Write + Drop, L: Write + Drop> {
     list: L,
     /// The lines of the script so far.
     lines: u64,
+    /// The packets so far, of any sender.
+    packets: u64,
 }
 
 impl<S: Write + Drop, O: Write + Drop, L: Write + Drop> Outputs<S, O, L> {
@@ -120,6 +125,7 @@ where
         if packet.len() > LONGEST_PACKET {
             continue;
         }
+        out.packets = out.packets.saturating_add(1);
         let written = match &sender {
             Some(sender) if !sender.sent(record.link_type, octets) => {
                 write_line(&mut out.other, link, record.nanos, packet)
@@ -135,10 +141,10 @@ where
 }
 
 /// The files that lines go to.
-fn outputs_of<'a, R: Files + Print + AllocGlobal>(
+fn outputs_of<'a, 'p, R: Files + Print + AllocGlobal>(
     rt: &'a R,
-    asked: &Script<'_>,
-) -> Result<Outputs<Written<'a, R>, Written<'a, R>, Written<'a, R>>, Ending> {
+    asked: &Script<'p>,
+) -> Result<Outputs<Written<'a, R>, Written<'a, R>, Written<'a, R>>, Ending<'p>> {
     let script = make_target(rt, asked.output)?;
     let other = target_of(rt, asked.other)?;
     let list = target_of(rt, asked.lines)?;
@@ -147,45 +153,78 @@ fn outputs_of<'a, R: Files + Print + AllocGlobal>(
         other,
         list,
         lines: 0,
+        packets: 0,
     })
 }
 
+/// The ending for a write of one of the outputs that failed.
+fn unwritten_end<'a, R: Files + Print>(
+    asked: &Script<'a>,
+    out: &Outputs<Written<'_, R>, Written<'_, R>, Written<'_, R>>,
+) -> Ending<'a> {
+    match (asked.other, asked.lines) {
+        (Some(path), _) if out.other.has_failed() => out.other.unwritten(path),
+        (_, Some(path)) if out.list.has_failed() => out.list.unwritten(path),
+        _ => out.script.unwritten(asked.output),
+    }
+}
+
 /// Turns a capture into a script, by these rules.
-fn run_by<R>(
+fn run_by<'a, R>(
     rt: &R,
-    asked: &Script<'_>,
+    asked: &Script<'a>,
     rules: &[Rule],
     sender: Option<Sender>,
     screen: Screen,
-) -> Result<Ending, Ending>
+) -> Result<Ending<'a>, Ending<'a>>
 where
     R: Files + Input + Print + Eprint + AllocGlobal,
 {
-    let mut capture = capture_of(rt, asked.input, screen)?;
+    let mut input = Told::new(rt, open_source(rt, asked.input)?, screen.error);
+    keep_apart(
+        rt,
+        &[asked.input],
+        &[Some(asked.output), asked.other, asked.lines],
+    )?;
     let mut out = outputs_of(rt, asked)?;
-    let ran = run_frames(&mut capture, rules, sender, &mut out);
-    ran_end(ran, out.flush().is_ok())
+    let ran = match Capture::new(rt.alloc(), &mut input) {
+        Ok(mut capture) => run_frames(&mut capture, rules, sender, &mut out),
+        Err(fault) => Err(BulkFault::Capture(fault)),
+    };
+    let flushed = out.flush().is_ok();
+    match ran {
+        Ok(()) if flushed && out.packets == 0 => Err(no_frame(rt, asked.input, input.front())),
+        Ok(()) if flushed => Ok(Ending::Good),
+        Err(BulkFault::Capture(fault)) if flushed => {
+            Err(capture_end(asked.input, fault, input.unread(asked.input)))
+        }
+        _ => Err(unwritten_end::<R>(asked, &out)),
+    }
 }
 
 /// Turns a capture into a script.
-fn run_forth<R>(rt: &R, asked: &Script<'_>, screen: Screen) -> Result<Ending, Ending>
+fn run_forth<'a, R>(rt: &R, asked: &Script<'a>, screen: Screen) -> Result<Ending<'a>, Ending<'a>>
 where
     R: Files + Input + Print + Eprint + AllocGlobal,
 {
     let sender = match asked.from {
-        Some(text) => Some(sender_of(text).ok_or(Ending::CommandLine)?),
+        Some(text) => Some(sender_of(text).ok_or(Ending::Misuse(Misuse::Value {
+            word: "--from",
+            given: text,
+            expected: "an Ethernet address, as 02:00:00:00:00:01, or an IPv4 address, as 10.0.0.1",
+        }))?),
         None => None,
     };
-    let rules = rules_of(rt.alloc(), &asked.rules).map_err(|fault| fault.ending())?;
+    let rules = rules_of(rt.alloc(), &asked.rules)?;
     run_by(rt, asked, rules.as_slice(), sender, screen)
 }
 
 /// The datagrams of a capture to this port, before the first.
-fn datagrams_of<'a, R: Files + Print + AllocGlobal>(
+fn datagrams_of<'a, 'p, R: Files + Print + AllocGlobal>(
     rt: &'a R,
-    asked: &Script<'_>,
+    asked: &Script<'p>,
     port: u16,
-) -> Result<Datagrams<Written<'a, R>>, Ending> {
+) -> Result<Datagrams<Written<'a, R>>, Ending<'p>> {
     let mut out = make_target(rt, asked.output)?;
     match write_head(&mut out, asked.format, RAW_IP) {
         Ok(()) => Ok(Datagrams {
@@ -193,43 +232,70 @@ fn datagrams_of<'a, R: Files + Print + AllocGlobal>(
             format: asked.format,
             port,
             left_out: 0,
+            written: 0,
         }),
-        Err(_) => Err(Ending::Write),
+        Err(_) => Err(out.unwritten(asked.output)),
     }
 }
 
-/// Tells how many lines have no datagram, if there are some.
-fn tell_left_out<R: Eprint>(rt: &R, left_out: u64) -> io::Result<()> {
-    if left_out == 0 {
-        return Ok(());
+/// Prints how many lines have no datagram, if there are some.
+fn tell_left_out<R: Eprint>(rt: &R, left_out: u64) {
+    if left_out > 0 {
+        let _ = eprintln!(rt; "skipped {left_out} lines (not arrivals, or too long for a capture)");
     }
-    eprintln!(rt; "lines left out: {left_out} (no arrivals, or more than a capture holds)")
+}
+
+/// The port that datagrams are sent to.
+fn port_of<'a>(asked: &Script<'a>) -> Result<u16, Ending<'a>> {
+    let expected = "with --back the port of the datagrams, 0 to 65535";
+    match asked.rules.port {
+        Some(given) => given.parse().map_err(|_| {
+            Ending::Misuse(Misuse::Value {
+                word: "--port",
+                given,
+                expected,
+            })
+        }),
+        None => Err(Ending::Misuse(Misuse::Missing {
+            word: "--port",
+            expected,
+        })),
+    }
 }
 
 /// Turns a script into a capture of datagrams, each with the number of its link in front.
-fn run_back<R>(rt: &R, asked: &Script<'_>, screen: Screen) -> Result<Ending, Ending>
+fn run_back<'a, R>(rt: &R, asked: &Script<'a>, screen: Screen) -> Result<Ending<'a>, Ending<'a>>
 where
     R: Files + Input + Print + Eprint + AllocGlobal,
 {
-    let Some(Ok(port)) = asked.rules.port.map(|text| text.parse::<u16>()) else {
-        return Err(Ending::CommandLine);
-    };
+    let port = port_of(asked)?;
+    refuse_terminal(asked.output, screen)?;
     let mut lines = Told::new(rt, open_source(rt, asked.input)?, screen.error);
+    keep_apart(rt, &[asked.input], &[Some(asked.output)])?;
     let mut datagrams = datagrams_of(rt, asked, port)?;
     let ran = read_script(rt.alloc(), &mut lines, &mut datagrams);
     let flushed = datagrams.out.flush();
-    let told = tell_left_out(rt, datagrams.left_out);
-    if flushed.is_err() || told.is_err() {
-        return Err(Ending::Write);
-    }
+    tell_left_out(rt, datagrams.left_out);
     match ran {
-        Ok(()) => Ok(Ending::Good),
-        Err(stop) => Err(stop.ending()),
+        Ok(()) if flushed.is_ok() && datagrams.written == 0 => Err(Ending::Nothing(
+            asked.input,
+            Nothing::NoEvent {
+                lines: datagrams.left_out,
+                carriage: lines.has_carriage(),
+            },
+        )),
+        Ok(()) if flushed.is_ok() => Ok(Ending::Good),
+        Ok(()) | Err(Stop::Write(_)) => Err(datagrams.out.unwritten(asked.output)),
+        Err(stop) => Err(stop.ending(asked.input, asked.output)),
     }
 }
 
 /// Turns a capture into a script, or a script into a capture.
-pub fn run_script<R>(rt: &R, asked: &Script<'_>, screen: Screen) -> Result<Ending, Ending>
+pub fn run_script<'a, R>(
+    rt: &R,
+    asked: &Script<'a>,
+    screen: Screen,
+) -> Result<Ending<'a>, Ending<'a>>
 where
     R: Files + Input + Print + Eprint + AllocGlobal,
 {

@@ -5,9 +5,9 @@
 pub enum Telling {
     /// All that is known, for a reader.
     Whole,
-    /// A line a packet.
+    /// One line per packet.
     Brief,
-    /// JSON, one object a line.
+    /// JSON, one object per line.
     Json,
 }
 

@@ -1,7 +1,9 @@
 //! A packet, explained as a JSON object. Every text in it is a name of ours.
 
 use crate::expected::{Ahead, Expected, expected_of, failures};
-use crate::explain_text::{answer_name, format_name, profile_name, state_name};
+use crate::explain_text::{
+    answer_name, format_name, profile_name, state_word, write_flow, write_number,
+};
 use crate::packet::{Explained, Got, View};
 use rohc_explain::{Field, PacketFields};
 use rohc_tries::{Told, cause_of};
@@ -17,12 +19,14 @@ fn write_comma<W: Write>(out: &mut W, place: usize) -> io::Result<()> {
 fn write_field<W: Write>(out: &mut W, field: &Field) -> io::Result<()> {
     write!(
         out,
-        "{{\"name\":\"{}\",\"first\":{},\"bits\":{},\"value\":{}}}",
+        "{{\"name\":\"{}\",\"first\":{},\"bits\":{},\"value\":{},\"text\":\"",
         field.name.name(),
         field.first,
         field.count,
         field.value
-    )
+    )?;
+    write_number(out, field)?;
+    write!(out, "\"}}")
 }
 
 /// Writes the fields.
@@ -52,7 +56,7 @@ fn write_view<W: Write>(
     write!(
         out,
         ",\"{name}\":{{\"state\":\"{}\",\"profile\":\"{}\",\"accepted\":{}",
-        state_name(view.state),
+        state_word(view.state),
         profile_name(view.profile),
         view.accepted
     )?;
@@ -76,7 +80,7 @@ fn write_ahead<W: Write>(out: &mut W, ahead: Ahead) -> io::Result<()> {
         Ahead::Falls { to, after } => write!(
             out,
             ",\"falls_to\":\"{}\",\"falls_after\":{after}",
-            state_name(to)
+            state_word(to)
         ),
         Ahead::StaticNack { wait } => write!(out, ",\"static_nack_in\":{wait}"),
         Ahead::Expired | Ahead::Nothing | Ahead::Silent => Ok(()),
@@ -161,6 +165,11 @@ fn write_head<W: Write>(out: &mut W, line: u64, explained: &Explained) -> io::Re
     match explained.cid {
         Some(cid) => write!(out, "{cid}")?,
         None => write!(out, "null")?,
+    }
+    if let Some(fixed) = explained.fixed() {
+        write!(out, ",\"text\":\"")?;
+        write_flow(out, &fixed)?;
+        write!(out, "\"")?;
     }
     write!(out, ",\"format\":\"{}\"", format_name(explained))
 }

@@ -3,8 +3,9 @@
 use crate::expected::{Ahead, Expected, expected_of, failures};
 use crate::packet::{Explained, Got, View, counts_after};
 use rohc_context::{ContextState, Profile, Settings};
-use rohc_explain::{Field, PacketFields, PacketKind};
+use rohc_explain::{Field, FieldName, PacketFields, PacketKind};
 use rohc_forms::FormKind;
+use rohc_header::Static;
 use rohc_tries::{Against, NotMade, Told, cause_of};
 use std::io;
 use std::io::Write;
@@ -47,6 +48,15 @@ pub(crate) fn state_name(state: ContextState) -> &'static str {
     }
 }
 
+/// The word for a state in JSON.
+pub(crate) fn state_word(state: ContextState) -> &'static str {
+    match state {
+        ContextState::NoContext => "no",
+        ContextState::StaticContext => "static",
+        ContextState::FullContext => "full",
+    }
+}
+
 /// The name of a profile.
 pub(crate) fn profile_name(profile: Profile) -> &'static str {
     match profile {
@@ -64,16 +74,65 @@ fn write_bits<W: Write>(out: &mut W, field: &Field) -> io::Result<()> {
     Ok(())
 }
 
+/// Writes the number of a field as people write it: an address with dots, and an SSRC, a profile or a checksum in
+/// hexadecimal digits.
+pub(crate) fn write_number<W: Write>(out: &mut W, field: &Field) -> io::Result<()> {
+    let value = field.value;
+    match (field.name, field.count) {
+        (FieldName::Source | FieldName::Destination, 32) => {
+            let [first, second, third, fourth] = value.to_be_bytes();
+            write!(out, "{first}.{second}.{third}.{fourth}")
+        }
+        (FieldName::Ssrc, 32) => write!(out, "0x{value:08x}"),
+        (FieldName::Profile, _) | (FieldName::UdpSum, 16) => write!(out, "0x{value:04x}"),
+        (FieldName::Crc | FieldName::TypeOctet | FieldName::FeedbackData, _) => {
+            write!(out, "0x{value:02x}")
+        }
+        _ => write!(out, "{value}"),
+    }
+}
+
+/// A writer that only counts the columns that a text takes.
+#[derive(Drop)]
+struct Columns {
+    count: usize,
+}
+
+impl Write for Columns {
+    fn write(&mut self, buf: &[u8]) -> io::Result<usize> {
+        self.count = self.count.saturating_add(buf.len());
+        Ok(buf.len())
+    }
+
+    fn flush(&mut self) -> io::Result<()> {
+        Ok(())
+    }
+}
+
+/// How many columns the number of a field has: as many as the longest address.
+const NUMBER: usize = 15;
+
+/// Writes the number of a field at the right end of its columns.
+fn write_column<W: Write>(out: &mut W, field: &Field) -> io::Result<()> {
+    let mut columns = Columns { count: 0 };
+    write_number(&mut columns, field)?;
+    for _ in columns.count..NUMBER {
+        write!(out, " ")?;
+    }
+    write_number(out, field)
+}
+
 /// Writes the row of a field.
 fn write_field<W: Write>(out: &mut W, field: &Field) -> io::Result<()> {
     write!(
         out,
-        "  bit {:>4} {:>2} bits  {:<20} {:>10}  ",
+        "  bit {:>4} {:>2} bits  {:<20}",
         field.first,
         field.count,
-        field.name.name(),
-        field.value
+        field.name.name()
     )?;
+    write_column(out, field)?;
+    write!(out, "  ")?;
     write_bits(out, field)?;
     writeln!(out, "")
 }
@@ -129,7 +188,7 @@ fn write_view<W: Write>(
 /// Writes what lies ahead of a context.
 fn write_ahead<W: Write>(out: &mut W, ahead: Ahead, settings: &Settings) -> io::Result<()> {
     match ahead {
-        Ahead::Expired => write!(out, "; it counts as none after {} ms", settings.idle_ms),
+        Ahead::Expired => write!(out, "; it expired after {} ms", settings.idle_ms),
         Ahead::Nothing => Ok(()),
         Ahead::Falls { to, after: 1 } => {
             write!(out, "; 1 failed check leads to {}", state_name(to))
@@ -148,7 +207,7 @@ fn write_ahead<W: Write>(out: &mut W, ahead: Ahead, settings: &Settings) -> io::
 /// Writes the packet that is expected.
 fn write_next<W: Write>(out: &mut W, expected: &Expected, view: Option<&View>) -> io::Result<()> {
     match (expected.ahead, expected.sn) {
-        (Ahead::Expired, _) => write!(out, "an IR alone"),
+        (Ahead::Expired, _) => write!(out, "only an IR"),
         (_, Some(sn)) => write!(out, "SN {sn}"),
         (_, None) => write!(out, "{}", taken_by(view)),
     }
@@ -169,18 +228,21 @@ fn write_expected<W: Write>(out: &mut W, explained: &Explained) -> io::Result<()
 /// What a context takes that counts (docs/FORMATS.md, *States*). In Static Context an SN is kept with a reference.
 fn taken_by(view: Option<&View>) -> &'static str {
     let Some(view) = view else {
-        return "an IR alone";
+        return "only an IR";
     };
     match view.state {
         ContextState::FullContext => "every packet",
         ContextState::StaticContext if view.sn.is_some() => "an IR, an IR-DYN or a UOR-2",
         ContextState::StaticContext => "an IR or an IR-DYN",
-        ContextState::NoContext => "an IR alone",
+        ContextState::NoContext => "only an IR",
     }
 }
 
-/// What is taken after the packet: an IR alone if the context has expired.
+/// What is taken after the packet: nothing on a link that isn't there, and only an IR if the context has expired.
 fn taken_next(explained: &Explained) -> &'static str {
+    if explained.told.is_none() {
+        return "nothing, since the links file has no such link";
+    }
     let (Some(view), Some(settings)) = (&explained.after, &explained.settings) else {
         return taken_by(None);
     };
@@ -194,13 +256,16 @@ fn taken_next(explained: &Explained) -> &'static str {
 /// Writes why a try wasn't made.
 fn write_not_made<W: Write>(out: &mut W, reason: NotMade) -> io::Result<()> {
     match reason {
-        NotMade::Settled => write!(out, "not made: a try before it fits"),
-        NotMade::LongCheck => write!(out, "not made: a check of 7 bits gets one try"),
-        NotMade::OneTry => write!(out, "not made: Static Context has one try"),
+        NotMade::Settled => write!(out, "not tried: an earlier attempt matched"),
+        NotMade::LongCheck => write!(out, "not tried: a CRC of 7 bits gets one attempt"),
+        NotMade::OneTry => write!(out, "not tried: Static Context has one attempt"),
         NotMade::TooSoon { needed, passed } => {
-            write!(out, "not made: needs {needed} ms, {passed} passed")
+            write!(
+                out,
+                "not tried: it needs {needed} ms, and {passed} have passed"
+            )
         }
-        NotMade::NoPrevious => write!(out, "not made: there is no previous reference"),
+        NotMade::NoPrevious => write!(out, "not tried: there is no previous reference"),
     }
 }
 
@@ -212,20 +277,20 @@ fn write_try<W: Write>(out: &mut W, number: usize, told: &Told) -> io::Result<()
     };
     write!(
         out,
-        "try {number}: against {reference}, shift {}: ",
+        "attempt {number}: against {reference}, shift {}: ",
         told.shift
     )?;
     match &told.result {
         Err(reason) => write_not_made(out, *reason)?,
         Ok(meant) => write!(
             out,
-            "SN {} TS {} IP-ID {}: has check {}, needs {}: {}",
+            "SN {}, TS {}, IP-ID {}: CRC {}, the packet has {}: {}",
             meant.moving.sn,
             meant.moving.ts,
             meant.moving.id,
             meant.has,
             meant.needs,
-            if meant.fits() { "fits" } else { "doesn't fit" }
+            if meant.fits() { "match" } else { "no match" }
         )?,
     }
     writeln!(out, "")
@@ -288,7 +353,11 @@ fn write_fields<W: Write>(out: &mut W, told: &PacketFields) -> io::Result<()> {
     if told.is_whole {
         writeln!(out, "  bit {:>4} payload", told.end)
     } else {
-        writeln!(out, "  bit {:>4} no more fields are told", told.end)
+        writeln!(
+            out,
+            "  bit {:>4} the fields behind it are unknown",
+            told.end
+        )
     }
 }
 
@@ -309,6 +378,30 @@ fn write_before<W: Write>(out: &mut W, explained: &Explained) -> io::Result<()> 
     write_expected(out, explained)
 }
 
+/// Writes an address and a port, as 10.0.0.1:5000.
+fn write_endpoint<W: Write>(out: &mut W, address: [u8; 4], port: u16) -> io::Result<()> {
+    let [first, second, third, fourth] = address;
+    write!(out, "{first}.{second}.{third}.{fourth}:{port}")
+}
+
+/// Writes who sends to whom in a call of RTP, and its SSRC, if the context keeps them.
+pub(crate) fn write_flow<W: Write>(out: &mut W, fixed: &Static) -> io::Result<()> {
+    write_endpoint(out, fixed.source, fixed.source_port)?;
+    write!(out, " to ")?;
+    write_endpoint(out, fixed.destination, fixed.destination_port)?;
+    write!(out, ", SSRC 0x{:08x}", fixed.ssrc)
+}
+
+/// Writes the call of a packet, if its context keeps the addresses.
+fn write_call<W: Write>(out: &mut W, explained: &Explained) -> io::Result<()> {
+    let Some(fixed) = explained.fixed() else {
+        return Ok(());
+    };
+    write!(out, "call: ")?;
+    write_flow(out, &fixed)?;
+    writeln!(out, "")
+}
+
 /// Writes what became of a packet, and what its context is after it.
 fn write_after<W: Write>(out: &mut W, explained: &Explained) -> io::Result<()> {
     if let Some(tries) = &explained.tries {
@@ -316,7 +409,8 @@ fn write_after<W: Write>(out: &mut W, explained: &Explained) -> io::Result<()> {
     }
     write_answer(out, explained)?;
     write_view(out, "after", explained, explained.after.as_ref())?;
-    writeln!(out, "taken next: {}", taken_next(explained))
+    write_call(out, explained)?;
+    writeln!(out, "accepted next: {}", taken_next(explained))
 }
 
 /// Writes all that is known of a packet.

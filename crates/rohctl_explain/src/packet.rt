@@ -8,7 +8,7 @@ use rohc_context::{
 use rohc_explain::{FieldName, PacketFields, PacketKind, Terms, packet_fields};
 use rohc_forms::{Form, FormKind, read_form};
 use rohc_frame::{CidKind, Elements, Forward, HeadKind, cut};
-use rohc_header::LONGEST_PAYLOAD;
+use rohc_header::{LONGEST_PAYLOAD, Static};
 use rohc_tries::{Reference, Situation, Standing, Told, standing_of, tries_of};
 use rohctl_ground::Stop;
 use std::alloc::Global;
@@ -25,6 +25,8 @@ pub struct View {
     pub sn: Option<u16>,
     /// In No Context, the time of the last STATIC-NACK.
     pub nacked: Option<u64>,
+    /// The addresses, the ports and the SSRC of the call, if the context keeps them.
+    pub fixed: Option<Static>,
 }
 
 /// The answer to a packet, in a word.
@@ -66,6 +68,18 @@ impl Explained {
     pub fn fitting(&self) -> Option<usize> {
         let tries = self.tries.as_ref()?;
         tries.iter().position(|told| fits(told))
+    }
+
+    /// The addresses, the ports and the SSRC of the call, if its context keeps them behind the packet or kept them before.
+    pub fn fixed(&self) -> Option<Static> {
+        for view in [&self.after, &self.before] {
+            if let Some(view) = view
+                && let Some(fixed) = view.fixed
+            {
+                return Some(fixed);
+            }
+        }
+        None
     }
 
     /// Whether the packet is an IR.
@@ -116,6 +130,14 @@ fn nacked_in(standing: Option<Standing>) -> Option<u64> {
     }
 }
 
+/// The static part of the header, if the context keeps it.
+fn fixed_in(standing: Option<Standing>) -> Option<Static> {
+    match standing {
+        Some(Standing::Static { fixed, .. } | Standing::Full { fixed, .. }) => Some(fixed),
+        Some(Standing::Plain | Standing::NoContext { .. }) | None => None,
+    }
+}
+
 /// What is told of a context.
 fn view_of(context: &Context) -> View {
     let standing = standing_of(context);
@@ -126,6 +148,7 @@ fn view_of(context: &Context) -> View {
         windows: context.windows().copied(),
         sn: reference_in(standing).map(|reference| reference.moving.sn),
         nacked: nacked_in(standing),
+        fixed: fixed_in(standing),
     }
 }
 

@@ -17,6 +17,6 @@ source_remaining file input (sources.Input i) = input i
 -- known of a target that drops what is written.
 abbrev pub target_contents : {F P : Type 0} → (F → Option (List ℕ)) → (P → Option (List ℕ)) → Target F P →
     Option (List ℕ)
-target_contents file output (targets.File f) = writer_contents file f
-target_contents file output (targets.Output p) = writer_contents output p
+target_contents file output (targets.File f) = writer_contents (λ n. file n.writer) f
+target_contents file output (targets.Output p) = writer_contents (λ n. output n.writer) p
 target_contents file output targets.Nothing = None

@@ -1,35 +1,131 @@
 //! How a run of `rohctl` ends: its exit status, and the line that it prints on standard error.
 
+ghost use Rattle.std.specs.Prelude.{◌≡◌, ◌≢◌};
+
+use crate::hex_word::HexFault;
+use crate::reason::Reason;
 use rohc_capture::CaptureFault;
-use std::fmt;
+use std::{fmt, io};
+
+/// The path that means standard input or standard output.
+pub const STREAM: &str = "-";
+
+/// What is wrong with the words of the command line.
+#[derive(Clone, Copy, PartialEq, Eq)]
+pub enum Misuse<'a> {
+    /// This option or argument can't have this value.
+    Value {
+        word: &'static str,
+        given: &'a str,
+        expected: &'static str,
+    },
+    /// This option or argument is missing.
+    Missing {
+        word: &'static str,
+        expected: &'static str,
+    },
+    /// A packet that was given isn't one.
+    Packet(HexFault),
+    /// A word can't be read as text.
+    NotUtf8,
+    /// This output would overwrite an input.
+    Overwrites {
+        output: &'a str,
+        input: &'a str,
+    },
+    /// Two outputs are one file, or both are standard output.
+    OneOutput(&'a str),
+    /// A capture would be written to a terminal.
+    Terminal,
+}
+
+/// Why there is nothing to show.
+#[derive(Clone, Copy, PartialEq, Eq)]
+pub enum Nothing {
+    /// The input has no octets.
+    Empty,
+    /// The input is a capture, which this command doesn't read.
+    Capture,
+    /// None of the lines is an event. `carriage` is whether they end with a carriage return.
+    NoEvent { lines: u64, carriage: bool },
+    /// The script has fewer lines.
+    NoLine { line: u64, lines: u64 },
+    /// This line is no arrival.
+    NoArrival(u64),
+    /// No packet is of this call.
+    NoCall { link: u16, cid: u16 },
+    /// The script has only resets.
+    NoPacket,
+    /// The links file has no such link.
+    NoLink(u16),
+}
 
 /// How a run of the program ends.
 #[derive(Clone, Copy, PartialEq, Eq)]
-pub enum Ending {
+pub enum Ending<'a> {
     /// All was done, and nothing was found.
     Good,
     /// All was done, and something was found: a call to which nothing is delivered, a line that isn't good, a fault or
     /// a difference.
     Findings,
+    /// The reader of standard output went away.
+    Closed,
     /// The words are not a command. What is wrong was printed.
     CommandLine,
-    /// The links file can't be read, or it has the fault of this name.
-    LinksFile(&'static str),
+    /// The words are not a command.
+    Misuse(Misuse<'a>),
+    /// The links file is refused. Its faults were printed.
+    LinksFile,
+    /// The links file can't be read.
+    LinksUnread(&'a str, Reason),
     /// What was found is not what rohcd finds. This is a fault of this program.
     Differs,
     /// The capture can't be read on.
-    Capture(CaptureFault),
-    /// No gateway answers at the control socket.
+    Capture(&'a str, CaptureFault),
+    /// No gateway answers at the control socket. What is wrong was printed.
     NoGateway,
     /// A read failed.
-    Read,
+    Read(&'a str, Reason),
     /// A write failed.
-    Write,
+    Write(&'a str, Reason),
     /// There is no memory.
     Memory,
+    /// There is nothing to show of this input.
+    Nothing(&'a str, Nothing),
+    /// There is nothing to show. What there was instead was printed.
+    NoFrame,
 }
 
-impl Ending {
+/// The ending for a read that failed for this reason.
+pub fn unread<'a>(path: &'a str, reason: Reason) -> Ending<'a>
+    ensures memory { reason ≡ Reason.Memory → result ≡ Ending.Memory }
+    ensures other { reason ≢ Reason.Memory → result ≡ Ending.Read path.entry reason }
+{
+    match reason {
+        Reason::Memory => Ending::Memory,
+        other => Ending::Read(path, other),
+    }
+}
+
+/// The ending for a write that failed for this reason. A reader of standard output that went away wants no more.
+pub fn unwritten<'a>(path: &'a str, reason: Reason) -> Ending<'a>
+    ensures memory { reason ≡ Reason.Memory → result ≡ Ending.Memory }
+    ensures closed { reason ≡ Reason.Closed → result ≡ Ending.Closed }
+    ensures other { reason ≢ Reason.Memory → reason ≢ Reason.Closed → result ≡ Ending.Write path.entry reason }
+{
+    match reason {
+        Reason::Memory => Ending::Memory,
+        Reason::Closed => Ending::Closed,
+        other => Ending::Write(path, other),
+    }
+}
+
+/// The ending for an error of standard output.
+pub fn unprinted(error: &io::Error) -> Ending<'static> {
+    unwritten(STREAM, Reason::of(error))
+}
+
+impl Ending<'_> {
     ghost use Rattle.std.specs.Prelude.{◌≡◌};
     ghost use Rattle.rohctl_ground.specs.Ending.{status_of};
 
@@ -38,35 +134,161 @@ impl Ending {
         ensures { result ≡ status_of self.now }
     {
         match self {
-            Ending::Good => 0,
+            Ending::Good | Ending::Closed => 0,
             Ending::Findings => 1,
-            Ending::CommandLine => 2,
-            Ending::LinksFile(_) => 3,
+            Ending::CommandLine | Ending::Misuse(_) => 2,
+            Ending::LinksFile | Ending::LinksUnread(..) => 3,
             Ending::Differs
-            | Ending::Capture(_)
+            | Ending::Capture(..)
             | Ending::NoGateway
-            | Ending::Read
-            | Ending::Write => 4,
+            | Ending::Read(..)
+            | Ending::Write(..) => 4,
             Ending::Memory => 5,
+            Ending::Nothing(..) | Ending::NoFrame => 6,
         }
     }
 }
 
-impl fmt::Display for Ending {
+/// The name of an input.
+pub fn input_name(path: &str) -> &str {
+    if path == STREAM {
+        "standard input"
+    } else {
+        path
+    }
+}
+
+/// The name of an output.
+fn output_name(path: &str) -> &str {
+    if path == STREAM {
+        "standard output"
+    } else {
+        path
+    }
+}
+
+/// What a packet may be given as.
+const PACKET: &str = "two hexadecimal digits for each octet, as fc00b745aa or \"fc 00 b7 45 aa\"";
+
+/// Writes why a word is no packet.
+fn write_packet<W: fmt::Write>(f: &mut fmt::Formatter<W>, fault: HexFault) -> fmt::Result {
+    match fault {
+        HexFault::NoDigit(character) => {
+            let shown = character.escape_debug();
+            write!(f, "the packet has '{shown}'; expected {PACKET}")
+        }
+        HexFault::Odd(0) => write!(f, "the packet has no digits; expected {PACKET}"),
+        HexFault::Odd(digits) => { write!(f, "the packet has {digits} digits; expected {PACKET}") }
+    }
+}
+
+impl fmt::Display for Misuse<'_> {
     fn fmt<W: fmt::Write>(&self, f: &mut fmt::Formatter<W>) -> fmt::Result {
         match self {
-            Ending::Good | Ending::Findings | Ending::CommandLine => Ok(()),
-            Ending::LinksFile(name) => {
-                f.write_str("rohctl: links file: ")?;
-                f.write_str(name)?;
-                f.write_str("\n")
+            Misuse::Value {
+                word,
+                given,
+                expected,
+            } => write!(f, "{word} {given}: expected {expected}"),
+            Misuse::Missing { word, expected } => write!(
+                f,
+                "{word} is missing; expected {expected}"
+            ),
+            Misuse::Packet(fault) => write_packet(f, *fault),
+            Misuse::NotUtf8 => f.write_str("a word of the command line is not UTF-8"),
+            Misuse::Overwrites { output, input } => write!(
+                f,
+                "{}: refusing to overwrite the input {}; name another file",
+                output_name(output),
+                input_name(input)
+            ),
+            Misuse::OneOutput(output) => write!(
+                f,
+                "{}: two outputs have this name; name another file",
+                output_name(output)
+            ),
+            Misuse::Terminal => f.write_str(
+                "refusing to write a capture to a terminal; name a file, or pipe it into another program",
+            ),
+        }
+    }
+}
+
+/// Writes why no line is an event.
+fn write_no_event<W: fmt::Write>(
+    f: &mut fmt::Formatter<W>,
+    lines: u64,
+    carriage: bool,
+) -> fmt::Result {
+    write!(f, "none of {lines} lines is an event; ")?;
+    if carriage {
+        f.write_str("they end with a carriage return (remove it: tr -d '\\r')")
+    } else {
+        f.write_str("expected a script, with lines such as 'arrive 1 0 fc00b745aa'")
+    }
+}
+
+impl fmt::Display for Nothing {
+    fn fmt<W: fmt::Write>(&self, f: &mut fmt::Formatter<W>) -> fmt::Result {
+        match self {
+            Nothing::Empty => f.write_str("it is empty"),
+            Nothing::Capture => f.write_str(
+                "it is a capture; expected a script ('rohctl script' makes one of it)",
+            ),
+            Nothing::NoEvent { lines, carriage } => write_no_event(f, *lines, *carriage),
+            Nothing::NoLine { line, lines } => {
+                write!(f, "there is no line {line}; the last line is {lines}")
             }
-            Ending::Differs => f.write_str("rohctl: not as rohcd has it\n"),
-            Ending::Capture(fault) => write!(f, "rohctl: capture: {fault}\n"),
-            Ending::NoGateway => f.write_str("rohctl: no gateway answers at the control socket\n"),
-            Ending::Read => f.write_str("rohctl: read\n"),
-            Ending::Write => f.write_str("rohctl: write\n"),
-            Ending::Memory => f.write_str("rohctl: memory\n"),
+            Nothing::NoArrival(line) => write!(f, "line {line} is not an arrival"),
+            Nothing::NoCall { link, cid } => write!(f, "no packet of link {link}, CID {cid}"),
+            Nothing::NoPacket => f.write_str("it has resets and no arrival"),
+            Nothing::NoLink(link) => write!(f, "it has no link {link}"),
+        }
+    }
+}
+
+impl fmt::Display for Ending<'_> {
+    fn fmt<W: fmt::Write>(&self, f: &mut fmt::Formatter<W>) -> fmt::Result {
+        match self {
+            Ending::Good
+            | Ending::Findings
+            | Ending::Closed
+            | Ending::CommandLine
+            | Ending::LinksFile
+            | Ending::NoGateway
+            | Ending::NoFrame => Ok(()),
+            Ending::Misuse(misuse) => write!(f, "rohctl: {misuse}\n"),
+            Ending::LinksUnread(path, reason) => write!(
+                f,
+                "rohctl: links file {}: cannot read it: {reason}\n",
+                input_name(path)
+            ),
+            Ending::Differs => f.write_str(
+                "rohctl: internal error: rohctl and the decompressor disagree; please report this\n",
+            ),
+            Ending::Capture(path, fault) => write!(
+                f,
+                "rohctl: {}: cannot read the capture on: {fault}\n",
+                input_name(path)
+            ),
+            Ending::Read(path, reason) => {
+                write!(
+                    f,
+                    "rohctl: {}: cannot read it: {reason}\n",
+                    input_name(path)
+                )
+            }
+            Ending::Write(path, reason) => write!(
+                f,
+                "rohctl: {}: cannot write to it: {reason}\n",
+                output_name(path)
+            ),
+            Ending::Memory => f.write_str("rohctl: out of memory\n"),
+            Ending::Nothing(path, nothing) => write!(
+                f,
+                "rohctl: {}: nothing to show: {nothing}\n",
+                input_name(path)
+            ),
         }
     }
 }

@@ -3,7 +3,9 @@
 ghost use Rattle.std.specs.Prelude.{◌≡◌, length};
 ghost use Rattle.rohc_links.specs.Limits.{longest_packet};
 
-use crate::ending::Ending;
+use crate::ending::{Ending, Misuse, unread, unwritten};
+use crate::hex_word::{HexFault, packet_digits};
+use crate::reason::Reason;
 use rohc_links::zeros;
 use rohc_replay::{LONGEST_PACKET, Words, read_words};
 use std::alloc::Global;
@@ -36,25 +38,25 @@ pub enum Line<'a> {
 #[derive(Clone, Copy, PartialEq, Eq)]
 pub enum Stop {
     /// A packet that was given isn't one.
-    Words,
+    Words(HexFault),
     /// What was found is not what rohcd finds.
     Differs,
     /// A read failed.
-    Read,
+    Read(Reason),
     /// A write failed.
-    Write,
+    Write(Reason),
     /// There is no memory.
     Memory,
 }
 
 impl Stop {
-    /// How a run of the program ends by it.
-    pub fn ending(self) -> Ending {
+    /// How a run of the program ends by it, that reads and writes at these paths.
+    pub fn ending<'a>(self, input: &'a str, output: &'a str) -> Ending<'a> {
         match self {
-            Stop::Words => Ending::CommandLine,
+            Stop::Words(fault) => Ending::Misuse(Misuse::Packet(fault)),
             Stop::Differs => Ending::Differs,
-            Stop::Read => Ending::Read,
-            Stop::Write => Ending::Write,
+            Stop::Read(reason) => unread(input, reason),
+            Stop::Write(reason) => unwritten(output, reason),
             Stop::Memory => Ending::Memory,
         }
     }
@@ -138,8 +140,9 @@ fn read_by<S: Read, T: Taker>(
     };
     let mut buffer = [0; PIECE];
     for _ in 0..u64::MAX {
-        let Ok(count) = source.read(buffer.as_mut_slice()) else {
-            return Err(Stop::Read);
+        let count = match source.read(buffer.as_mut_slice()) {
+            Ok(count) => count,
+            Err(error) => return Err(Stop::Read(Reason::of(&error))),
         };
         if count == 0 {
             break;
@@ -177,15 +180,18 @@ fn read_packets_by<T: Taker>(
 {
     let mut number = 0u64;
     let mut moment = 0u64;
-    for digits in packets.split(",") {
+    for word in packets.split(",") {
         number = number.saturating_add(1);
+        let digits = match packet_digits(alloc, word) {
+            Ok(Ok(digits)) => digits,
+            Ok(Err(fault)) => return Err(Stop::Words(fault)),
+            Err(_) => return Err(Stop::Memory),
+        };
         let Ok(text) = format!(in alloc; "arrive {link} {moment} {digits}") else {
             return Err(Stop::Memory);
         };
-        match line_of(text.as_bytes(), packet) {
-            Line::Bad => return Err(Stop::Words),
-            line => taker.take(number, line)?,
-        }
+        let line = line_of(text.as_bytes(), packet);
+        taker.take(number, line)?;
         moment = moment.saturating_add(step);
     }
     Ok(())

@@ -2,14 +2,17 @@
 
 ghost use Rattle.rohctl_ground.specs.Streams.{source_remaining, target_contents};
 
-use crate::ending::Ending;
+use crate::ending::{Ending, STREAM, unread, unwritten};
+use crate::reason::Reason;
 use std::io::{BufWriter, Printer, Read, Write};
 use std::rt::Files;
 use std::{fs, io};
 
-/// What standard output and standard error are.
+/// What the standard streams are.
 #[derive(Clone, Copy, PartialEq, Eq)]
 pub struct Screen {
+    /// Whether standard input is a terminal.
+    pub input: bool,
     /// Whether standard output is a terminal.
     pub output: bool,
     /// Whether it takes colours.
@@ -38,13 +41,47 @@ impl<F: Read, I: Read> Read for Source<F, I> {
     }
 }
 
+/// A writer that keeps the reason for which its last write failed.
+#[derive(Drop)]
+pub struct Noting<W> {
+    writer: W,
+    reason: Option<Reason>,
+}
+
+impl<W> Noting<W> {
+    /// Nothing has failed yet.
+    fn new(writer: W) -> Self {
+        Noting {
+            writer,
+            reason: None,
+        }
+    }
+}
+
+impl<W: Write> Write for Noting<W> {
+    ghost contents = { λ noting. W.contents noting.writer };
+
+    fn write(&mut self, buf: &[u8]) -> io::Result<usize> {
+        let written = self.writer.write(buf);
+        self.reason = match &written {
+            Ok(_) => None,
+            Err(error) => Some(Reason::of(error)),
+        };
+        written
+    }
+
+    fn flush(&mut self) -> io::Result<()> {
+        self.writer.flush()
+    }
+}
+
 /// A file, standard output, or nothing.
 #[derive(Drop)]
 pub enum Target<F: Write + Drop, P: Write + Drop> {
     /// A file.
-    File(BufWriter<F>),
+    File(BufWriter<Noting<F>>),
     /// Standard output.
-    Output(BufWriter<P>),
+    Output(BufWriter<Noting<P>>),
     /// What is written is dropped.
     Nothing,
 }
@@ -69,51 +106,98 @@ impl<F: Write + Drop, P: Write + Drop> Write for Target<F, P> {
     }
 }
 
+impl<F: Write + Drop, P: Write + Drop> Target<F, P> {
+    /// The reason for which the last write failed, if it did.
+    fn reason(&self) -> Option<Reason> {
+        match self {
+            Target::File(file) => file.get_ref().reason,
+            Target::Output(output) => output.get_ref().reason,
+            Target::Nothing => None,
+        }
+    }
+
+    /// Whether the last write failed.
+    pub fn has_failed(&self) -> bool {
+        self.reason().is_some()
+    }
+
+    /// The ending for a write to this path that failed.
+    pub fn unwritten<'a>(&self, path: &'a str) -> Ending<'a> {
+        unwritten(path, self.reason().unwrap_or(Reason::Beyond))
+    }
+}
+
+/// Opens a file that is no directory.
+pub fn open_file<'a, R: Files>(rt: &R, path: &'a str) -> Result<R::File, Ending<'a>> {
+    if let Ok(data) = fs::metadata(rt, path)
+        && data.is_dir()
+    {
+        return Err(Ending::Read(path, Reason::Directory));
+    }
+    fs::open(rt, path).map_err(|error| unread(path, Reason::of(&error)))
+}
+
 /// Opens a file to be read; `-` is standard input.
-pub fn open_source<R: Files + Input>(
+pub fn open_source<'a, R: Files + Input>(
     rt: &R,
-    path: &str,
-) -> Result<Source<R::File, R::Reader>, Ending> {
-    if path == "-" {
+    path: &'a str,
+) -> Result<Source<R::File, R::Reader>, Ending<'a>> {
+    if path == STREAM {
         return Ok(Source::Input(rt.reader()));
     }
-    match fs::open(rt, path) {
-        Ok(file) => Ok(Source::File(file)),
-        Err(_) => Err(Ending::Read),
-    }
+    Ok(Source::File(open_file(rt, path)?))
 }
 
 /// How many octets are kept before they are written.
 const ROOM: usize = 131_072;
 
+/// A file that is written, or standard output.
+pub type Written<'a, R> = Target<<R as Files>::File, Printer<'a, R>>;
+
 /// Makes a file to be written, empty if it is there; `-` is standard output.
-pub fn make_target<'a, R: Files + Print + AllocGlobal>(
+pub fn make_target<'a, 'p, R: Files + Print + AllocGlobal>(
     rt: &'a R,
-    path: &str,
-) -> Result<Target<R::File, Printer<'a, R>>, Ending> {
-    if path == "-" {
-        return match BufWriter::with_capacity(rt.alloc(), ROOM, io::writer(rt)) {
+    path: &'p str,
+) -> Result<Written<'a, R>, Ending<'p>> {
+    if path == STREAM {
+        let printer = Noting::new(io::writer(rt));
+        return match BufWriter::with_capacity(rt.alloc(), ROOM, printer) {
             Ok(output) => Ok(Target::Output(output)),
             Err(_) => Err(Ending::Memory),
         };
     }
-    let Ok(file) = fs::create(rt, path) else {
-        return Err(Ending::Write);
-    };
-    match BufWriter::with_capacity(rt.alloc(), ROOM, file) {
+    let file = fs::create(rt, path).map_err(|error| unwritten(path, Reason::of(&error)))?;
+    match BufWriter::with_capacity(rt.alloc(), ROOM, Noting::new(file)) {
         Ok(file) => Ok(Target::File(file)),
         Err(_) => Err(Ending::Memory),
+    }
+}
+
+/// A file to be written, if one is asked for.
+pub fn target_of<'a, 'p, R: Files + Print + AllocGlobal>(
+    rt: &'a R,
+    path: Option<&'p str>,
+) -> Result<Written<'a, R>, Ending<'p>> {
+    match path {
+        Some(path) => make_target(rt, path),
+        None => Ok(Target::Nothing),
     }
 }
 
 /// After how many octets progress is told: 16 MiB.
 const STEP: u64 = 16_777_216;
 
-/// A source whose progress is told on standard error, in a line that is written over and goes at the end.
+/// How many octets of the front of a source are kept.
+const FRONT: usize = 4096;
+
+/// A source whose progress is told on standard error, in a line that is written over and goes at the end. It keeps its
+/// first octets, and the reason for which its last read failed.
 #[derive(Drop)]
 pub struct Told<'a, R, S> {
     rt: &'a R,
     source: S,
+    front: Vec<u8>,
+    reason: Option<Reason>,
     /// Whether progress is told at all.
     telling: bool,
     octets: u64,
@@ -121,24 +205,79 @@ pub struct Told<'a, R, S> {
     told: u64,
 }
 
-impl<'a, R: Eprint, S: Read> Told<'a, R, S> {
+impl<'a, R: Eprint + AllocGlobal, S: Read> Told<'a, R, S> {
     /// Reads from this source. `telling` is whether standard error is a terminal.
     pub fn new(rt: &'a R, source: S, telling: bool) -> Self {
         Told {
             rt,
             source,
+            front: Vec::new(rt.alloc()),
+            reason: None,
             telling,
             octets: 0,
             told: 0,
         }
     }
+
+    /// Whether the last read failed.
+    pub fn has_failed(&self) -> bool {
+        self.reason.is_some()
+    }
+
+    /// The ending for a read of this path that failed.
+    pub fn unread<'p>(&self, path: &'p str) -> Ending<'p> {
+        unread(path, self.reason.unwrap_or(Reason::Other(0)))
+    }
+
+    /// The first octets that were read, as far as they are kept.
+    pub fn front(&self) -> &[u8] {
+        self.front.as_slice()
+    }
+
+    /// Whether one of the first lines ends with a carriage return.
+    pub fn has_carriage(&self) -> bool {
+        self.front
+            .as_slice()
+            .windows(2)
+            .any(|pair| pair == b"\r\n".as_slice())
+    }
 }
 
-impl<R: Eprint, S: Read> Read for Told<'_, R, S> {
+/// Keeps what was read of the front of a source, if there is memory for it.
+fn keep(front: &mut Vec<u8>, read: &[u8]) {
+    let room = FRONT.saturating_sub(front.len());
+    let kept = read.get(..room).unwrap_or(read);
+    let _ = front.extend_from_slice(kept);
+}
+
+/// The first octets of captures: pcap in microseconds and in nanoseconds, in either order of octets, and pcapng.
+const MAGICS: [[u8; 4]; 5] = [
+    [0xa1, 0xb2, 0xc3, 0xd4],
+    [0xd4, 0xc3, 0xb2, 0xa1],
+    [0xa1, 0xb2, 0x3c, 0x4d],
+    [0x4d, 0x3c, 0xb2, 0xa1],
+    [0x0a, 0x0d, 0x0d, 0x0a],
+];
+
+/// Whether these are the first octets of a capture.
+pub fn is_capture_front(octets: &[u8]) -> bool {
+    MAGICS
+        .iter()
+        .any(|magic| octets.starts_with(magic.as_slice()))
+}
+
+impl<R: Eprint + AllocGlobal, S: Read> Read for Told<'_, R, S> {
     ghost remaining = { λ told. S.remaining told.source };
 
     fn read(&mut self, buf: &mut [u8]) -> io::Result<usize> {
-        let count = self.source.read(buf)?;
+        let count = match self.source.read(buf) {
+            Ok(read) => read,
+            Err(error) => {
+                self.reason = Some(Reason::of(&error));
+                return Err(error);
+            }
+        };
+        keep(&mut self.front, buf.get(..count).unwrap_or(&[]));
         self.octets = self.octets.saturating_add(count as u64);
         if count == 0 && self.told > 0 {
             let _ = eprint!(self.rt; "\r\x1b[K");

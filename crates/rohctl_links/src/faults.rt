@@ -1,11 +1,10 @@
 //! The subcommand `links`: all faults of a links file, or what a good one sets.
 
-use crate::finding::{Finding, Wrong, findings, no_toml};
 use crate::settings::{write_links, write_links_json};
 use rohc_concentrator::{Concentrator, SetupFault};
-use rohc_faults::all_faults;
-use rohc_links::{Key, Links, LinksFault, read_links};
-use rohctl_ground::{Ending, links_text, write_quoted, write_value};
+use rohc_faults::{Finding, Wrong, all_faults, findings, no_toml, write_sentence};
+use rohc_links::{Links, LinksFault, read_links};
+use rohctl_ground::{Ending, links_text, unprinted, write_quoted, write_value};
 use std::alloc::{AllocError, Global};
 use std::io;
 use std::io::{BufWriter, Write};
@@ -20,7 +19,7 @@ enum Verdict {
 }
 
 /// What rohcd would say of the text, by the same two calls.
-fn verdict_on(alloc: Global, text: &str) -> Result<Verdict, Ending> {
+fn verdict_on(alloc: Global, text: &str) -> Result<Verdict, Ending<'static>> {
     let links = match read_links(alloc, text) {
         Ok(links) => links,
         Err(LinksFault::NoMemory) => return Err(Ending::Memory),
@@ -33,58 +32,14 @@ fn verdict_on(alloc: Global, text: &str) -> Result<Verdict, Ending> {
     }
 }
 
-/// Writes where a fault is.
-fn write_place<W: Write>(out: &mut W, path: &str, finding: &Finding<'_>) -> io::Result<()> {
-    write!(out, "{path}:")?;
-    if let Some(line) = finding.line {
-        write!(out, "{line}:")?;
-    }
-    match (finding.entry, finding.link) {
-        (0, _) => write!(out, " "),
-        (_, Some(link)) => write!(out, " link {link}: "),
-        (entry, None) => write!(out, " entry {entry}: "),
-    }
-}
-
-/// Writes that a name is no key.
-fn write_unknown<W: Write>(out: &mut W, name: &str, near: Option<Key>) -> io::Result<()> {
-    write_quoted(out, name)?;
-    match near {
-        Some(key) => writeln!(out, " is no key; the nearest is {}", key.name()),
-        None => writeln!(out, " is no key"),
-    }
-}
-
-/// Writes what stands at a key, and what may.
-fn write_unfit<W: Write>(out: &mut W, finding: &Finding<'_>) -> io::Result<()> {
-    write!(out, "{}: ", finding.name)?;
-    write_value(out, finding.value)?;
-    writeln!(out, " stands there; {} may", finding.may)
-}
-
-/// Writes a fault as a line for a reader.
-fn write_line<W: Write>(out: &mut W, path: &str, finding: &Finding<'_>) -> io::Result<()> {
-    write_place(out, path, finding)?;
-    match finding.wrong {
-        Wrong::NoToml => writeln!(out, "the text is no TOML document"),
-        Wrong::Unknown(near) => write_unknown(out, finding.name, near),
-        Wrong::Twice(earlier) => writeln!(
-            out,
-            "number: entry {earlier} has it too; {} may stand there",
-            finding.may
-        ),
-        Wrong::Unfit | Wrong::Beyond | Wrong::Count => write_unfit(out, finding),
-    }
-}
-
 /// The word of JSON for what is wrong.
-fn word(wrong: Wrong) -> &'static str {
+fn word(wrong: Wrong<'_>) -> &'static str {
     match wrong {
-        Wrong::Unknown(_) => "unknown",
-        Wrong::Unfit => "unfit",
+        Wrong::Unknown(_) | Wrong::Newer => "unknown",
+        Wrong::Unfit | Wrong::OneTable => "unfit",
         Wrong::Beyond => "beyond",
-        Wrong::Twice(_) => "twice",
-        Wrong::NoToml => "no_toml",
+        Wrong::Twice { .. } => "twice",
+        Wrong::NoToml { .. } => "no_toml",
         Wrong::Count => "count",
     }
 }
@@ -150,7 +105,7 @@ fn write_faults<W: Write>(
         if json {
             write_object(out, finding)?;
         } else {
-            write_line(out, path, finding)?;
+            write_sentence(out, path, finding)?;
         }
     }
     if json {
@@ -169,13 +124,13 @@ fn write_table<W: Write>(
     table: &Table,
     name: &str,
     json: bool,
-) -> Result<(), Ending> {
+) -> Result<(), Ending<'static>> {
     let faults = all_faults(alloc, table).map_err(|_| Ending::Memory)?;
     if faults.is_none() {
         return Err(Ending::Differs);
     }
     let all = findings(alloc, text, table, &faults).map_err(|_| Ending::Memory)?;
-    write_faults(out, path, all.as_slice(), name, json).map_err(|_| Ending::Write)
+    write_faults(out, path, all.as_slice(), name, json).map_err(|error| unprinted(&error))
 }
 
 /// Writes all faults of a refused text.
@@ -186,13 +141,13 @@ fn write_refused<W: Write>(
     text: &str,
     name: &str,
     json: bool,
-) -> Result<Ending, Ending> {
+) -> Result<Ending<'static>, Ending<'static>> {
     match toml::table_from_str(alloc, text) {
         Ok(table) => write_table(out, alloc, path, text, &table, name, json)?,
         Err(error) if error.is_memory() => return Err(Ending::Memory),
         Err(error) => {
             let written = write_faults(out, path, &[no_toml(text, &error)], name, json);
-            written.map_err(|_| Ending::Write)?;
+            written.map_err(|error| unprinted(&error))?;
         }
     }
     Ok(Ending::Findings)
@@ -214,7 +169,7 @@ fn write_taken<W: Write>(
     text: &str,
     links: &Links,
     json: bool,
-) -> Result<Ending, Ending> {
+) -> Result<Ending<'static>, Ending<'static>> {
     match is_faultless(alloc, text) {
         Ok(true) => {}
         Ok(false) => return Err(Ending::Differs),
@@ -227,7 +182,7 @@ fn write_taken<W: Write>(
     };
     match written {
         Ok(()) => Ok(Ending::Good),
-        Err(_) => Err(Ending::Write),
+        Err(error) => Err(unprinted(&error)),
     }
 }
 
@@ -238,7 +193,7 @@ fn write_verdict<W: Write>(
     path: &str,
     text: &str,
     json: bool,
-) -> Result<Ending, Ending> {
+) -> Result<Ending<'static>, Ending<'static>> {
     match verdict_on(alloc, text)? {
         Verdict::Taken(links) => write_taken(out, alloc, text, &links, json),
         Verdict::Refused(name) => write_refused(out, alloc, path, text, name, json),
@@ -246,7 +201,7 @@ fn write_verdict<W: Write>(
 }
 
 /// Tells all faults of the links file, or what it sets.
-pub fn run_links<R>(rt: &R, path: &str, json: bool) -> Result<Ending, Ending>
+pub fn run_links<'a, R>(rt: &R, path: &'a str, json: bool) -> Result<Ending<'a>, Ending<'a>>
 where
     R: Files + Input + Print + AllocGlobal,
 {
@@ -257,6 +212,6 @@ where
     let ending = write_verdict(&mut out, rt.alloc(), path, text.as_str(), json)?;
     match out.flush() {
         Ok(()) => Ok(ending),
-        Err(_) => Err(Ending::Write),
+        Err(error) => Err(unprinted(&error)),
     }
 }

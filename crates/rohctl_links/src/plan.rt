@@ -3,11 +3,27 @@
 use crate::settings::{CALL, calls_of};
 use rohc_concentrator::LinkSetting;
 use rohc_plan::{Chain, Window, least_share};
-use rohctl_ground::{Ending, good_links};
+use rohctl_ground::{Ending, Misuse, good_links, unprinted};
 use std::alloc::Global;
 use std::io;
 use std::io::{BufWriter, Write};
 use std::rt::Files;
+
+/// A window that is asked for.
+#[derive(Clone, Copy)]
+pub struct AskedWindow<'a> {
+    /// The word that names it.
+    pub word: &'a str,
+    pub k: u8,
+    pub n: u8,
+}
+
+impl AskedWindow<'_> {
+    /// The two numbers.
+    fn pair(self) -> (u8, u8) {
+        (self.k, self.n)
+    }
+}
 
 /// What is asked of `plan`.
 #[derive(Clone, Copy)]
@@ -17,7 +33,7 @@ pub struct Plan<'a> {
     /// The time between two packets of a call, in milliseconds.
     pub packet_ms: u32,
     /// A window that is asked for, K/N.
-    pub window: Option<(u8, u8)>,
+    pub window: Option<AskedWindow<'a>>,
     /// The calls whose memory is asked for.
     pub calls: Option<u64>,
     /// The processes over which links are spread.
@@ -52,7 +68,12 @@ struct Meaning {
 }
 
 /// What the window means where this share of headers is damaged.
-fn meaning_of(alloc: Global, k: u8, n: u8, plan: &Plan<'_>) -> Result<Option<Meaning>, Ending> {
+fn meaning_of(
+    alloc: Global,
+    k: u8,
+    n: u8,
+    plan: &Plan<'_>,
+) -> Result<Option<Meaning>, Ending<'static>> {
     let Some(window) = Window::new(k, n) else {
         return Ok(None);
     };
@@ -73,7 +94,7 @@ fn meaning_of(alloc: Global, k: u8, n: u8, plan: &Plan<'_>) -> Result<Option<Mea
 }
 
 /// The window that notices a lost context first, of those with which a good call falls seldom.
-fn proposed(alloc: Global, plan: &Plan<'_>) -> Result<Option<Meaning>, Ending> {
+fn proposed(alloc: Global, plan: &Plan<'_>) -> Result<Option<Meaning>, Ending<'static>> {
     let mut best: Option<Meaning> = None;
     for n in 1..=LONGEST {
         for k in 1..=n {
@@ -141,11 +162,20 @@ fn write_row<W: Write>(out: &mut W, row: &Meaning, json: bool) -> io::Result<()>
 }
 
 /// Writes what windows mean.
-fn write_plan<W: Write>(out: &mut W, alloc: Global, plan: &Plan<'_>) -> Result<Ending, Ending> {
+fn write_plan<'a, W: Write>(
+    out: &mut W,
+    alloc: Global,
+    plan: &Plan<'a>,
+) -> Result<Ending<'a>, Ending<'a>> {
     let mut rows = Vec::new(alloc);
-    for (k, n) in plan.window.as_slice().iter().copied().chain(SHOWN) {
+    let asked = plan.window.map(|window| window.pair());
+    for (k, n) in asked.as_slice().iter().copied().chain(SHOWN) {
         let Some(row) = meaning_of(alloc, k, n, plan)? else {
-            return Err(Ending::CommandLine);
+            return Err(Ending::Misuse(Misuse::Value {
+                word: "--window",
+                given: plan.window.map_or("", |window| window.word),
+                expected: "K/N, with K from 1 to N and N from 1 to 16",
+            }));
         };
         if rows.push(row).is_err() {
             return Err(Ending::Memory);
@@ -154,7 +184,7 @@ fn write_plan<W: Write>(out: &mut W, alloc: Global, plan: &Plan<'_>) -> Result<E
     let best = proposed(alloc, plan)?;
     match write_rows(out, rows.as_slice(), best, plan.json) {
         Ok(()) => Ok(Ending::Good),
-        Err(_) => Err(Ending::Write),
+        Err(error) => Err(unprinted(&error)),
     }
 }
 
@@ -168,7 +198,7 @@ fn write_rows<W: Write>(
     if !json {
         writeln!(
             out,
-            "k/n     a good call falls after   a lost context is noticed after"
+            "k/n  a healthy call falls after   a lost context is noticed after"
         )?;
     }
     for row in rows {
@@ -180,26 +210,29 @@ fn write_rows<W: Write>(
     match best {
         Some(best) => writeln!(
             out,
-            "take {}/{}: of the windows up to {LONGEST} in which a good call falls at most once an hour, it notices first",
-            best.k, best.n
+            "recommended: k1 = {}, n1 = {} (a healthy call falls to Static Context at most once per hour; a lost context is noticed after {:.0} ms)",
+            best.k, best.n, best.unnoticed
         )?,
         None => writeln!(
             out,
-            "no window up to {LONGEST} lets a good call fall at most once an hour"
+            "recommended: none; with every window up to {LONGEST} a healthy call falls more than once per hour"
         )?,
     }
-    writeln!(out, "losses alone make no failures")
+    writeln!(
+        out,
+        "note: lost packets do not count as failures; only damaged ones do"
+    )
 }
 
 /// Writes the memory that so many calls take.
-fn write_memory<W: Write>(out: &mut W, calls: u64) -> Result<Ending, Ending> {
+fn write_memory<W: Write>(out: &mut W, calls: u64) -> Result<Ending<'static>, Ending<'static>> {
     match writeln!(
         out,
         "calls {calls} memory at most {} octets",
         calls.saturating_mul(CALL)
     ) {
         Ok(()) => Ok(Ending::Good),
-        Err(_) => Err(Ending::Write),
+        Err(error) => Err(unprinted(&error)),
     }
 }
 
@@ -209,7 +242,7 @@ fn write_split<W: Write>(
     alloc: Global,
     settings: &[LinkSetting],
     processes: usize,
-) -> Result<Ending, Ending> {
+) -> Result<Ending<'static>, Ending<'static>> {
     let Ok(mut shares) = vec![in alloc; 0u64; processes] else {
         return Err(Ending::Memory);
     };
@@ -225,7 +258,7 @@ fn write_split<W: Write>(
     }
     match write_shares(out, shares.as_slice(), homes.as_slice()) {
         Ok(()) => Ok(Ending::Good),
-        Err(_) => Err(Ending::Write),
+        Err(error) => Err(unprinted(&error)),
     }
 }
 
@@ -249,23 +282,23 @@ fn write_shares<W: Write>(out: &mut W, shares: &[u64], homes: &[(usize, u16)]) -
 }
 
 /// Spreads the links of a file over so many processes.
-fn write_split_of<R: Files + Input + AllocGlobal, W: Write>(
+fn write_split_of<'a, R: Files + Input + Eprint + AllocGlobal, W: Write>(
     rt: &R,
     out: &mut W,
-    links: &str,
+    links: &'a str,
     processes: u16,
-) -> Result<Ending, Ending> {
+) -> Result<Ending<'a>, Ending<'a>> {
     let links = good_links(rt, links)?;
     let processes = usize::from(processes);
     write_split(out, rt.alloc(), links.settings(), processes)
 }
 
 /// Writes what was asked of `plan`.
-fn write_asked<R: Files + Input + AllocGlobal, W: Write>(
+fn write_asked<'a, R: Files + Input + Eprint + AllocGlobal, W: Write>(
     rt: &R,
     out: &mut W,
-    plan: &Plan<'_>,
-) -> Result<Ending, Ending> {
+    plan: &Plan<'a>,
+) -> Result<Ending<'a>, Ending<'a>> {
     if let Some(calls) = plan.calls {
         write_memory(out, calls)
     } else if let Some(processes) = plan.split {
@@ -276,16 +309,16 @@ fn write_asked<R: Files + Input + AllocGlobal, W: Write>(
 }
 
 /// Tells what was asked of `plan`.
-pub fn run_plan<R: Files + Input + Print + AllocGlobal>(
+pub fn run_plan<'a, R: Files + Input + Print + Eprint + AllocGlobal>(
     rt: &R,
-    plan: &Plan<'_>,
-) -> Result<Ending, Ending> {
+    plan: &Plan<'a>,
+) -> Result<Ending<'a>, Ending<'a>> {
     let Ok(mut out) = BufWriter::new(rt.alloc(), io::writer(rt)) else {
         return Err(Ending::Memory);
     };
     let ending = write_asked(rt, &mut out, plan)?;
     match out.flush() {
         Ok(()) => Ok(ending),
-        Err(_) => Err(Ending::Write),
+        Err(error) => Err(unprinted(&error)),
     }
 }

@@ -2,8 +2,11 @@
 
 use crate::hosts::{Hosts, HostsFault, Process, hosts_in, line_of};
 use crate::settings::write_entry;
+use rohc_faults::{no_toml, write_sentence};
 use rohc_links::Links;
-use rohctl_ground::{Ending, good_links, links_text};
+use rohctl_ground::{
+    Ending, Misuse, Reason, good_links, overwritten, text_at, unprinted, unread, unwritten,
+};
 use std::alloc::{AllocError, Global};
 use std::fs;
 use std::io::{self, BufWriter, Write};
@@ -59,20 +62,39 @@ fn write_place<W: Write>(out: &mut W, path: &str, text: &str, place: usize) -> i
     }
 }
 
+/// What is expected at a key of the hosts file.
+fn expected_at(key: &str) -> &'static str {
+    match key {
+        "name" => "1 to 32 letters, digits, - and _, in quotes",
+        "address" => "an IPv4 address in quotes, as \"10.0.0.1\"",
+        "port" => "1 to 65535",
+        "links" => "an array of numbers and texts such as \"4-9\"",
+        _ => "at least one table [[process]]",
+    }
+}
+
 /// Writes what is wrong with the hosts file.
 fn write_fault<W: Write>(out: &mut W, path: &str, text: &str, fault: HostsFault) -> io::Result<()> {
     match fault {
         HostsFault::BadKey(place, key) => {
             write_place(out, path, text, place)?;
-            writeln!(out, "{key} is missing or wrong")
+            writeln!(
+                out,
+                "{key} is missing or wrong; expected {}",
+                expected_at(key)
+            )
         }
         HostsFault::UnknownKey(place) => {
             write_place(out, path, text, place)?;
-            writeln!(out, "a key that isn't known")
+            if place == 0 {
+                writeln!(out, "unknown key; expected port and [[process]]")
+            } else {
+                writeln!(out, "unknown key; expected name, address, port and links")
+            }
         }
         HostsFault::SameName(place) => {
             write_place(out, path, text, place)?;
-            writeln!(out, "the name of an earlier process")
+            writeln!(out, "an earlier process has this name; expected another")
         }
         HostsFault::NoMemory => Ok(()),
     }
@@ -88,10 +110,10 @@ fn write_owner<W: Write>(
 ) -> io::Result<()> {
     match owner {
         Owner::One(_) => Ok(()),
-        Owner::Nobody => writeln!(out, "{path}: link {link}: no process takes it"),
+        Owner::Nobody => writeln!(out, "{path}: link {link} is not assigned to any process"),
         Owner::Two(_, later) => {
             write_place(out, path, text, later.saturating_add(1))?;
-            writeln!(out, "link {link}: an earlier process takes it too")
+            writeln!(out, "link {link} is already assigned to an earlier process")
         }
     }
 }
@@ -104,14 +126,14 @@ fn owners<W: Write>(
     text: &str,
     processes: &[Process<'_>],
     links: &Links,
-) -> Result<Option<Vec<usize>>, Ending> {
+) -> Result<Option<Vec<usize>>, Ending<'static>> {
     let mut owners = Vec::new(alloc);
     for setting in links.settings() {
         let owner = owner_of(processes, setting.link);
         if let Owner::One(place) = owner {
             owners.push(place).map_err(|_| Ending::Memory)?;
         }
-        write_owner(out, path, text, setting.link, owner).map_err(|_| Ending::Write)?;
+        write_owner(out, path, text, setting.link, owner).map_err(|error| unprinted(&error))?;
     }
     if owners.len() == links.settings().len() {
         Ok(Some(owners))
@@ -309,57 +331,75 @@ fn write_file<R: Files + AllocGlobal>(
     links: &Links,
     owners: &[usize],
     own: usize,
-) -> Result<(), Ending> {
-    let file = fs::create(rt, path).map_err(|_| Ending::Write)?;
+) -> Result<(), Reason> {
+    let file = fs::create(rt, path).map_err(|error| Reason::of(&error))?;
     let Ok(mut out) = BufWriter::new(rt.alloc(), file) else {
-        return Err(Ending::Memory);
+        return Err(Reason::Memory);
     };
-    if write_own(&mut out, links, owners, own).is_err() || out.flush().is_err() {
-        return Err(Ending::Write);
+    write_own(&mut out, links, owners, own).map_err(|error| Reason::of(&error))?;
+    out.flush().map_err(|error| Reason::of(&error))
+}
+
+/// Refuses a folder in which the links file of a process would overwrite the links file or the hosts file.
+fn keep_inputs<'a, R: Files + AllocGlobal>(
+    rt: &R,
+    asked: Spread<'a>,
+    folder: &'a str,
+    processes: &[Process<'_>],
+) -> Result<(), Ending<'a>> {
+    for process in processes {
+        let path = path_of(rt.alloc(), folder, process.name).map_err(|_| Ending::Memory)?;
+        if let Some(input) = overwritten(rt, &[asked.links, asked.hosts], path.as_str()) {
+            return Err(Ending::Misuse(Misuse::Overwrites {
+                output: folder,
+                input,
+            }));
+        }
     }
     Ok(())
 }
 
 /// Writes a links file for each process into a folder.
-fn write_files<R: Files + AllocGlobal>(
+fn write_files<'a, R: Files + AllocGlobal>(
     rt: &R,
-    folder: &str,
+    folder: &'a str,
     processes: &[Process<'_>],
     links: &Links,
     owners: &[usize],
-) -> Result<(), Ending> {
+) -> Result<(), Ending<'a>> {
     for (place, process) in processes.iter().enumerate() {
         let path = path_of(rt.alloc(), folder, process.name).map_err(|_| Ending::Memory)?;
-        write_file(rt, path.as_str(), links, owners, place)?;
+        let written = write_file(rt, path.as_str(), links, owners, place);
+        written.map_err(|reason| unwritten(folder, reason))?;
     }
     Ok(())
 }
 
 /// Writes the rules, and the links files if a folder is named.
-pub fn run_spread<R>(rt: &R, asked: Spread<'_>) -> Result<Ending, Ending>
+pub fn run_spread<'a, R>(rt: &R, asked: Spread<'a>) -> Result<Ending<'a>, Ending<'a>>
 where
-    R: Files + Input + Print + AllocGlobal,
+    R: Files + Input + Print + Eprint + AllocGlobal,
 {
     let links = good_links(rt, asked.links)?;
-    let text = links_text(rt, asked.hosts)?;
+    let text = text_at(rt, asked.hosts).map_err(|reason| unread(asked.hosts, reason))?;
     let Ok(mut out) = BufWriter::new(rt.alloc(), io::writer(rt)) else {
         return Err(Ending::Memory);
     };
     let written = write_spread(rt, &mut out, asked, text.as_str(), &links)?;
     match out.flush() {
         Ok(()) => Ok(written),
-        Err(_) => Err(Ending::Write),
+        Err(error) => Err(unprinted(&error)),
     }
 }
 
 /// Writes the rules for the processes of a hosts file's text, or what is wrong with it.
-fn write_spread<R, W>(
+fn write_spread<'a, R, W>(
     rt: &R,
     out: &mut W,
-    asked: Spread<'_>,
+    asked: Spread<'a>,
     text: &str,
     links: &Links,
-) -> Result<Ending, Ending>
+) -> Result<Ending<'a>, Ending<'a>>
 where
     R: Files + AllocGlobal,
     W: Write,
@@ -367,23 +407,23 @@ where
     let written = match toml::table_from_str(rt.alloc(), text) {
         Ok(table) => return write_hosts(rt, out, asked, text, &table, links),
         Err(error) if error.is_memory() => return Err(Ending::Memory),
-        Err(_) => writeln!(out, "{}: the text is no TOML document", asked.hosts),
+        Err(error) => write_sentence(out, asked.hosts, &no_toml(text, &error)),
     };
     match written {
         Ok(()) => Ok(Ending::Findings),
-        Err(_) => Err(Ending::Write),
+        Err(error) => Err(unprinted(&error)),
     }
 }
 
 /// Writes the rules for the processes of a hosts file, or what is wrong with it.
-fn write_hosts<R, W>(
+fn write_hosts<'a, R, W>(
     rt: &R,
     out: &mut W,
-    asked: Spread<'_>,
+    asked: Spread<'a>,
     text: &str,
     table: &Table,
     links: &Links,
-) -> Result<Ending, Ending>
+) -> Result<Ending<'a>, Ending<'a>>
 where
     R: Files + AllocGlobal,
     W: Write,
@@ -395,19 +435,19 @@ where
     };
     match written {
         Ok(()) => Ok(Ending::Findings),
-        Err(_) => Err(Ending::Write),
+        Err(error) => Err(unprinted(&error)),
     }
 }
 
 /// Writes the rules for these processes, if each link has one of them.
-fn write_rules<R, W>(
+fn write_rules<'a, R, W>(
     rt: &R,
     out: &mut W,
-    asked: Spread<'_>,
+    asked: Spread<'a>,
     text: &str,
     hosts: &Hosts<'_>,
     links: &Links,
-) -> Result<Ending, Ending>
+) -> Result<Ending<'a>, Ending<'a>>
 where
     R: Files + AllocGlobal,
     W: Write,
@@ -416,12 +456,15 @@ where
     let Some(owners) = owners(out, rt.alloc(), asked.hosts, text, processes, links)? else {
         return Ok(Ending::Findings);
     };
+    if let Some(folder) = asked.out {
+        keep_inputs(rt, asked, folder, processes)?;
+    }
     let written = if asked.nginx {
         write_nginx(out, hosts, links, &owners)
     } else {
         write_table(out, hosts, links, &owners)
     };
-    written.map_err(|_| Ending::Write)?;
+    written.map_err(|error| unprinted(&error))?;
     if let Some(folder) = asked.out {
         write_files(rt, folder, processes, links, &owners)?;
     }

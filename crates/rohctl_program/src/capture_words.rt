@@ -1,8 +1,10 @@
 //! What is asked of `decompress` and `script`.
 
+use crate::words_in::{input_of, value_of};
 use clap::ArgMatches;
 use rohc_capture::Format;
 use rohctl_captures::{Decompress, RuleWords, Script};
+use rohctl_ground::Ending;
 
 /// The options that say which link a frame belongs to.
 pub(crate) fn rules_of<'a>(options: &ArgMatches<'a>) -> RuleWords<'a> {
@@ -23,11 +25,14 @@ fn format_of(options: &ArgMatches<'_>) -> Format {
 }
 
 /// What is asked of `decompress`.
-pub(crate) fn decompress_of<'a>(options: &ArgMatches<'a>) -> Option<Decompress<'a>> {
-    Some(Decompress {
-        links: options.get_str("links")?,
-        input: options.get_str("IN")?,
-        output: options.get_str("OUT")?,
+pub(crate) fn decompress_of<'a>(
+    options: &ArgMatches<'a>,
+    is_terminal: bool,
+) -> Result<Decompress<'a>, Ending<'a>> {
+    Ok(Decompress {
+        links: value_of(options, "links")?,
+        input: input_of(options, "IN", is_terminal)?,
+        output: value_of(options, "OUT")?,
         feedback: options.get_str("feedback"),
         rules: rules_of(options),
         padded: options.get_flag("padded"),
@@ -37,10 +42,13 @@ pub(crate) fn decompress_of<'a>(options: &ArgMatches<'a>) -> Option<Decompress<'
 }
 
 /// What is asked of `script`.
-pub(crate) fn script_of<'a>(options: &ArgMatches<'a>) -> Option<Script<'a>> {
-    Some(Script {
-        input: options.get_str("IN")?,
-        output: options.get_str("OUT")?,
+pub(crate) fn script_of<'a>(
+    options: &ArgMatches<'a>,
+    is_terminal: bool,
+) -> Result<Script<'a>, Ending<'a>> {
+    Ok(Script {
+        input: input_of(options, "IN", is_terminal)?,
+        output: value_of(options, "OUT")?,
         rules: rules_of(options),
         from: options.get_str("from"),
         other: options.get_str("other"),

@@ -4,38 +4,32 @@ use crate::capture_words::{decompress_of, script_of};
 use crate::control::Wish;
 use crate::explain_words::explain_of;
 use crate::report_words::report_of;
+use crate::words_in::{call_in, input_of, link_number, number_of, value_of, wrong_value};
 use clap::ArgMatches;
 use clap::error::ErrorKind;
-use rohctl_answers::{Asked as Totals, Form};
+use rohctl_answers::{Asked as Totals, Compared, Form};
 use rohctl_captures::{Decompress, Script};
 use rohctl_explain::Asked;
-use rohctl_ground::Ending;
-use rohctl_links::{Plan, Spread};
+use rohctl_ground::{Ending, Misuse, Screen, unprinted};
+use rohctl_links::{AskedWindow, Plan, Spread};
 use rohctl_report::Asked as Report;
 use rohctl_words::command;
 
 /// The most processes over which links are spread.
-const MOST_PROCESSES: u64 = 256;
+const MOST_PROCESSES: u16 = 256;
 
 /// What the command line asks for.
 #[derive(Clone, Copy)]
 pub(crate) enum Request<'a> {
     /// Count answer lines.
     Totals(Totals<'a>),
-    /// Tell all faults of this links file, or what it sets.
-    Links {
-        links: &'a str,
-        json: bool,
-    },
+    /// List all faults of this links file, or show what it sets.
+    Links { links: &'a str, json: bool },
     /// Write a links file to start from.
     NewLinks,
     /// Compare two answers, or traces.
-    Diff {
-        first: &'a str,
-        second: &'a str,
-        json: bool,
-    },
-    /// Tell what windows mean, what memory calls take, or how links are spread.
+    Diff(Compared<'a>),
+    /// Show what windows mean, what memory calls need, or how links are spread.
     Plan(Plan<'a>),
     /// Turn a capture of ROHC packets into a capture of IP packets.
     Decompress(Decompress<'a>),
@@ -48,64 +42,78 @@ pub(crate) enum Request<'a> {
     /// Write the rules that bring each datagram to the process of its link.
     Spread(Spread<'a>),
     /// Compare files with a list of their digests.
-    Verify {
-        list: &'a str,
-        root: &'a str,
-    },
+    Verify { list: &'a str, root: &'a str },
     /// Ask the gateway at this control socket.
-    Control {
-        control: &'a str,
-        wish: Wish,
-    },
+    Control { control: &'a str, wish: Wish },
     /// Trace the script of this file, with the links of another; `-` is standard input.
-    Trace {
-        links: &'a str,
-        script: &'a str,
-    },
+    Trace { links: &'a str, script: &'a str },
 }
 
-/// The two numbers of a window, K/N.
-fn window_of(text: &str) -> Option<(u8, u8)> {
-    let (k, n) = text.split_once("/")?;
-    Some((k.parse().ok()?, n.parse().ok()?))
+/// The window of a word, K/N, if it is one.
+fn window_of(word: &str) -> Option<AskedWindow<'_>> {
+    let (k, n) = word.split_once("/")?;
+    Some(AskedWindow {
+        word,
+        k: k.parse().ok()?,
+        n: n.parse().ok()?,
+    })
 }
 
-/// A number that may be missing, and is wrong if it can't be read.
-fn number_of(options: &ArgMatches<'_>, name: &str) -> Option<Option<u64>> {
-    match options.get_str(name) {
-        Some(text) => match text.parse() {
-            Ok(number) => Some(Some(number)),
-            Err(_) => None,
-        },
-        None => Some(None),
+/// The window that is asked for, if one is.
+fn window_in<'a>(options: &ArgMatches<'a>) -> Result<Option<AskedWindow<'a>>, Ending<'a>> {
+    let Some(word) = options.get_str("window") else {
+        return Ok(None);
+    };
+    match window_of(word) {
+        Some(window) => Ok(Some(window)),
+        None => Err(wrong_value(
+            "--window",
+            word,
+            "K/N, with K from 1 to N and N from 1 to 16",
+        )),
     }
 }
 
-/// What is asked of `plan`, if its numbers can be read.
-fn plan_of<'a>(options: &ArgMatches<'a>) -> Option<Plan<'a>> {
-    let window = match options.get_str("window") {
-        Some(text) => Some(window_of(text)?),
-        None => None,
-    };
-    let damage: f64 = options.get_str("damage")?.parse().ok()?;
-    let packet_ms: u32 = options.get_str("packet-ms")?.parse().ok()?;
-    if damage < 0.0 || damage > 100.0 || packet_ms > 60_000 {
-        return None;
+/// How many of 100 headers are damaged.
+fn damage_in<'a>(options: &ArgMatches<'a>) -> Result<f64, Ending<'a>> {
+    let word = value_of(options, "damage")?;
+    match word.parse::<f64>() {
+        Ok(damage) if 0.0 <= damage && damage <= 100.0 => Ok(damage),
+        _ => Err(wrong_value("--damage", word, "a percentage from 0 to 100, as 2")),
     }
-    let split = match number_of(options, "split")? {
-        Some(count) if 1 <= count && count <= MOST_PROCESSES => u16::try_from(count).ok(),
-        Some(_) => return None,
-        None => None,
+}
+
+/// The time between two packets of a call.
+fn packet_ms_in<'a>(options: &ArgMatches<'a>) -> Result<u32, Ending<'a>> {
+    let word = value_of(options, "packet-ms")?;
+    match word.parse::<u32>() {
+        Ok(packet_ms) if packet_ms <= 60_000 => Ok(packet_ms),
+        _ => Err(wrong_value("--packet-ms", word, "milliseconds, 0 to 60000")),
+    }
+}
+
+/// The processes over which links are spread.
+fn split_in<'a>(options: &ArgMatches<'a>) -> Result<Option<u16>, Ending<'a>> {
+    let Some(word) = options.get_str("split") else {
+        return Ok(None);
     };
-    Some(Plan {
-        damage,
-        packet_ms,
-        window,
-        calls: number_of(options, "calls")?,
-        split,
+    match word.parse::<u16>() {
+        Ok(count) if 1 <= count && count <= MOST_PROCESSES => Ok(Some(count)),
+        _ => Err(wrong_value("--split", word, "a number of processes, 1 to 256")),
+    }
+}
+
+/// What is asked of `plan`.
+fn plan_of<'a>(options: &ArgMatches<'a>) -> Result<Request<'a>, Ending<'a>> {
+    Ok(Request::Plan(Plan {
+        damage: damage_in(options)?,
+        packet_ms: packet_ms_in(options)?,
+        window: window_in(options)?,
+        calls: number_of(options, "calls", "--calls", "a number of calls, as 10000")?,
+        split: split_in(options)?,
         links: options.get_str("links"),
         json: options.get_flag("json"),
-    })
+    }))
 }
 
 /// The form that is asked for.
@@ -119,123 +127,162 @@ fn form_of(options: &ArgMatches<'_>) -> Form {
     }
 }
 
-/// The number of a link or a CID.
-fn number_in(options: &ArgMatches<'_>, name: &str) -> Option<u16> {
-    options.get_str(name)?.parse().ok()
+/// The CID that is asked for, if one is.
+fn cid_in<'a>(options: &ArgMatches<'a>) -> Result<Option<u16>, Ending<'a>> {
+    match options.get_str("cid") {
+        Some(text) => Ok(Some(link_number("--cid", text)?)),
+        None => Ok(None),
+    }
 }
 
-/// What is asked of a gateway, if its numbers can be read.
-fn wish_of(name: &str, options: &ArgMatches<'_>) -> Option<Wish> {
+/// The link that is asked for.
+fn link_in<'a>(options: &ArgMatches<'a>) -> Result<u16, Ending<'a>> {
+    link_number("--link", value_of(options, "link")?)
+}
+
+/// What is asked of a gateway about one link or call.
+fn link_wish<'a>(name: &str, options: &ArgMatches<'a>) -> Result<Wish, Ending<'a>> {
     match name {
-        "status" => Some(Wish::Status),
-        "stop" => Some(Wish::Stop),
-        "save" => Some(Wish::Save),
-        "reload" => Some(Wish::Reload),
-        "drain" => Some(Wish::Drain),
-        "reset" => Some(Wish::Reset {
-            link: number_in(options, "link")?,
-            cid: match options.get_str("cid") {
-                Some(text) => Some(text.parse().ok()?),
-                None => None,
-            },
-        }),
         "watch" => {
-            let (link, cid) = options.get_str("CALL")?.split_once("/")?;
-            Some(Wish::Watch {
-                link: link.parse().ok()?,
-                cid: cid.parse().ok()?,
-            })
+            let (link, cid) = call_in("CALL", value_of(options, "CALL")?)?;
+            Ok(Wish::Watch { link, cid })
         }
-        "contexts" => Some(Wish::Contexts {
-            link: number_in(options, "link")?,
+        "reset" => Ok(Wish::Reset {
+            link: link_in(options)?,
+            cid: cid_in(options)?,
         }),
-        "calls" => Some(Wish::Calls {
-            link: number_in(options, "link")?,
+        "contexts" => Ok(Wish::Contexts {
+            link: link_in(options)?,
         }),
-        _ => None,
+        _ => Ok(Wish::Calls {
+            link: link_in(options)?,
+        }),
+    }
+}
+
+/// What is asked of a gateway.
+fn wish_of<'a>(name: &str, options: &ArgMatches<'a>) -> Result<Wish, Ending<'a>> {
+    match name {
+        "status" => Ok(Wish::Status),
+        "stop" => Ok(Wish::Stop),
+        "save" => Ok(Wish::Save),
+        "reload" => Ok(Wish::Reload),
+        "drain" => Ok(Wish::Drain),
+        name => link_wish(name, options),
     }
 }
 
 /// The request `totals`.
-fn totals_of<'a>(options: &ArgMatches<'a>) -> Option<Request<'a>> {
-    Some(Request::Totals(Totals {
-        answers: options.get_str("ANSWERS")?,
+fn totals_of<'a>(options: &ArgMatches<'a>, is_terminal: bool) -> Result<Request<'a>, Ending<'a>> {
+    Ok(Request::Totals(Totals {
+        answers: input_of(options, "ANSWERS", is_terminal)?,
         form: form_of(options),
         follow: options.get_flag("follow"),
     }))
 }
 
 /// The request `links`.
-fn links_of<'a>(options: &ArgMatches<'a>) -> Option<Request<'a>> {
+fn links_of<'a>(options: &ArgMatches<'a>) -> Result<Request<'a>, Ending<'a>> {
     if options.get_flag("new") {
-        return Some(Request::NewLinks);
+        return Ok(Request::NewLinks);
     }
-    Some(Request::Links {
-        links: options.get_str("FILE")?,
+    Ok(Request::Links {
+        links: value_of(options, "FILE")?,
         json: options.get_flag("json"),
     })
 }
 
 /// The request `diff`.
-fn diff_of<'a>(options: &ArgMatches<'a>) -> Option<Request<'a>> {
-    Some(Request::Diff {
-        first: options.get_str("A")?,
-        second: options.get_str("B")?,
+fn diff_of<'a>(options: &ArgMatches<'a>) -> Result<Request<'a>, Ending<'a>> {
+    Ok(Request::Diff(Compared {
+        first: value_of(options, "A")?,
+        second: value_of(options, "B")?,
         json: options.get_flag("json"),
-    })
+    }))
 }
 
 /// The request `trace`.
-fn trace_of<'a>(options: &ArgMatches<'a>) -> Option<Request<'a>> {
-    Some(Request::Trace {
-        links: options.get_str("links")?,
-        script: options.get_str("SCRIPT")?,
+fn trace_of<'a>(options: &ArgMatches<'a>, is_terminal: bool) -> Result<Request<'a>, Ending<'a>> {
+    Ok(Request::Trace {
+        links: value_of(options, "links")?,
+        script: input_of(options, "SCRIPT", is_terminal)?,
     })
 }
 
 /// The request `spread`.
-fn spread_of<'a>(options: &ArgMatches<'a>) -> Option<Request<'a>> {
-    Some(Request::Spread(Spread {
-        links: options.get_str("LINKS")?,
-        hosts: options.get_str("hosts")?,
+fn spread_of<'a>(options: &ArgMatches<'a>) -> Result<Request<'a>, Ending<'a>> {
+    Ok(Request::Spread(Spread {
+        links: value_of(options, "LINKS")?,
+        hosts: value_of(options, "hosts")?,
         nginx: options.get_flag("nginx"),
         out: options.get_str("out"),
     }))
 }
 
 /// The request `verify`.
-fn verify_of<'a>(options: &ArgMatches<'a>) -> Option<Request<'a>> {
-    Some(Request::Verify {
-        list: options.get_str("LIST")?,
-        root: options.get_str("root")?,
+fn verify_of<'a>(options: &ArgMatches<'a>) -> Result<Request<'a>, Ending<'a>> {
+    Ok(Request::Verify {
+        list: value_of(options, "LIST")?,
+        root: value_of(options, "root")?,
     })
 }
 
 /// The request to a gateway, by its name.
-fn control_of<'a>(name: &str, options: &ArgMatches<'a>) -> Option<Request<'a>> {
-    Some(Request::Control {
-        control: options.get_str("control")?,
+fn control_of<'a>(name: &str, options: &ArgMatches<'a>) -> Result<Request<'a>, Ending<'a>> {
+    Ok(Request::Control {
+        control: value_of(options, "control")?,
         wish: wish_of(name, options)?,
     })
 }
 
-/// The request in the words that were matched.
-fn asked_for<'a>(matches: &ArgMatches<'a>) -> Option<Request<'a>> {
-    let (name, options) = matches.subcommand()?;
+/// The request of a subcommand. `is_terminal` is whether standard input is one.
+fn named<'a>(
+    name: &str,
+    options: &ArgMatches<'a>,
+    is_terminal: bool,
+) -> Result<Request<'a>, Ending<'a>> {
     match name {
-        "totals" => totals_of(options),
+        "totals" => totals_of(options, is_terminal),
         "links" => links_of(options),
         "diff" => diff_of(options),
-        "explain" => explain_of(options).map(|asked| Request::Explain(asked)),
-        "plan" => plan_of(options).map(|plan| Request::Plan(plan)),
-        "script" => script_of(options).map(|asked| Request::Script(asked)),
-        "decompress" => decompress_of(options).map(|asked| Request::Decompress(asked)),
-        "report" => report_of(options).map(|asked| Request::Report(asked)),
-        "trace" => trace_of(options),
+        "explain" => explain_of(options, is_terminal).map(|asked| Request::Explain(asked)),
+        "plan" => plan_of(options),
+        "script" => script_of(options, is_terminal).map(|asked| Request::Script(asked)),
+        "decompress" => {
+            decompress_of(options, is_terminal).map(|asked| Request::Decompress(asked))
+        }
+        "report" => report_of(options, is_terminal).map(|asked| Request::Report(asked)),
+        "trace" => trace_of(options, is_terminal),
         "spread" => spread_of(options),
         "verify" => verify_of(options),
         name => control_of(name, options),
     }
+}
+
+/// The screen, with the colours that are asked for.
+fn coloured<'a>(options: &ArgMatches<'a>, screen: Screen) -> Result<Screen, Ending<'a>> {
+    let colour = match options.get_str("color") {
+        None | Some("auto") => screen.colour,
+        Some("always") => true,
+        Some("never") => false,
+        Some(word) => return Err(wrong_value("--color", word, "auto, always or never")),
+    };
+    Ok(Screen { colour, ..screen })
+}
+
+/// The request in the words that were matched, and the screen with the colours that are asked for.
+fn asked_for<'a>(
+    matches: &ArgMatches<'a>,
+    screen: Screen,
+) -> Result<(Request<'a>, Screen), Ending<'a>> {
+    let Some((name, options)) = matches.subcommand() else {
+        return Err(Ending::Misuse(Misuse::Missing {
+            word: "command",
+            expected: "one of those that 'rohctl --help' lists",
+        }));
+    };
+    let screen = coloured(options, screen)?;
+    Ok((named(name, options, screen.input)?, screen))
 }
 
 /// Reads the request from the words of the command line. Help, the version and what is wrong with the words are
@@ -243,12 +290,13 @@ fn asked_for<'a>(matches: &ArgMatches<'a>) -> Option<Request<'a>> {
 pub(crate) fn read_request<'a, R: Print + Eprint + AllocGlobal>(
     rt: &R,
     words: &'a [String],
-) -> Result<Request<'a>, Ending> {
+    screen: Screen,
+) -> Result<(Request<'a>, Screen), Ending<'a>> {
     let Ok(command) = command(rt.alloc(), words) else {
         return Err(Ending::Memory);
     };
     match command.try_get_matches_from(words) {
-        Ok(matches) => asked_for(&matches).ok_or(Ending::CommandLine),
+        Ok(matches) => asked_for(&matches, screen),
         Err(error) if error.kind() == ErrorKind::OutOfMemory => Err(Ending::Memory),
         Err(error) => {
             let ending = if error.exit_code() == 0 {
@@ -258,7 +306,7 @@ pub(crate) fn read_request<'a, R: Print + Eprint + AllocGlobal>(
             };
             match error.print(rt) {
                 Ok(()) => Err(ending),
-                Err(_) => Err(Ending::Write),
+                Err(error) => Err(unprinted(&error)),
             }
         }
     }

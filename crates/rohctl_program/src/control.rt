@@ -1,13 +1,15 @@
 //! What is asked of a running gateway, at its control socket.
 
-use rohctl_ground::Ending;
+use rohc_text::{Reason, Why};
+use rohctl_ground::{Ending, unprinted};
 use std::alloc::Global;
-use std::fmt::Write as _;
 use std::io::{self, Read, Write};
 use std::net::Net;
+use std::os::unix::fs::FileTypeExt;
 use std::os::unix::net::UnixStream;
 use std::rt::Files;
 use std::time::Duration;
+use std::{fmt, fs};
 
 /// How long an answer may take, in seconds.
 const WAIT_SECONDS: u64 = 60;
@@ -18,10 +20,88 @@ const PIECE: usize = 4096;
 /// The longest head of an answer, in octets.
 const LONGEST_HEAD: usize = 8192;
 
+/// The longest path of a socket, in octets.
+const LONGEST_PATH: usize = 107;
+
+/// How an answer begins.
+const ANSWER: &[u8] = b"HTTP/1.1 ";
+
+/// Why a gateway didn't answer.
+#[derive(Clone, Copy)]
+enum Fault {
+    /// The path of the socket has too many octets.
+    LongPath,
+    /// A folder is at the path.
+    Folder,
+    /// Something else that is no socket is at the path.
+    NoSocket,
+    /// The socket can't be reached, or fails.
+    Socket(io::Error),
+    /// What listens there is no gateway, or ended in mid-answer.
+    NoAnswer,
+    /// Standard output failed.
+    Output(io::Error),
+    /// There is no memory.
+    Memory,
+}
+
+impl fmt::Display for Fault {
+    fn fmt<W: fmt::Write>(&self, f: &mut fmt::Formatter<W>) -> fmt::Result {
+        match self {
+            Fault::LongPath => write!(
+                f,
+                "the path is too long for a socket; expected at most {LONGEST_PATH} octets (give a shorter or a relative path)"
+            ),
+            Fault::Folder => f.write_str("it is a folder; expected the control socket in it"),
+            Fault::NoSocket => f.write_str(
+                "it is no socket; expected what the gateway file has as control",
+            ),
+            Fault::Socket(error) => {
+                let why = Why(error);
+                let hint = hint_for(Reason::of(error.kind()));
+                write!(f, "{why}; {hint}")
+            }
+            Fault::NoAnswer => f.write_str(
+                "no whole answer of a rohc-gateway; expected the control socket of one that runs",
+            ),
+            Fault::Output(_) | Fault::Memory => Ok(()),
+        }
+    }
+}
+
+/// What to do if a control socket can't be reached.
+fn hint_for(reason: Reason) -> &'static str {
+    match reason {
+        Reason::Missing => {
+            "expected the control socket of a gateway that runs (systemctl status rohc-gateway@NAME)"
+        }
+        Reason::NotListening => {
+            "the gateway that made this socket has ended (systemctl start rohc-gateway@NAME)"
+        }
+        Reason::Forbidden => "expected the gateway's user or root (sudo -u USER rohctl ..)",
+        Reason::Late => "the gateway is too busy or stopped (try again)",
+        _ => "expected the control socket of a gateway that runs",
+    }
+}
+
+impl Fault {
+    /// How the program ends by it. What is wrong at the socket is printed.
+    fn ending<R: Eprint>(&self, rt: &R, control: &str) -> Ending<'static> {
+        match self {
+            Fault::Output(error) => unprinted(error),
+            Fault::Memory => Ending::Memory,
+            _ => {
+                let _ = eprintln!(rt; "rohctl: {control}: {self}");
+                Ending::NoGateway
+            }
+        }
+    }
+}
+
 /// What is asked of a gateway.
 #[derive(Clone, Copy, PartialEq, Eq)]
 pub(crate) enum Wish {
-    /// Tell what it is doing.
+    /// Show what it is doing.
     Status,
     /// Save all contexts, and end.
     Stop,
@@ -29,15 +109,15 @@ pub(crate) enum Wish {
     Save,
     /// Read the links file again.
     Reload,
-    /// Take no new call.
+    /// Accept no new call.
     Drain,
     /// Forget the contexts of a link, or the one of a CID.
     Reset { link: u16, cid: Option<u16> },
     /// Log each packet of a call for a while.
     Watch { link: u16, cid: u16 },
-    /// Tell the contexts of a link.
+    /// List the contexts of a link.
     Contexts { link: u16 },
-    /// Tell the calls of a link, the longest silent first.
+    /// List the calls of a link, the longest silent first.
     Calls { link: u16 },
 }
 
@@ -83,6 +163,12 @@ fn body_at(octets: &[u8]) -> Option<usize> {
     Some(at + 4)
 }
 
+/// Whether octets begin as an answer does, as far as they go.
+fn begins_answer(head: &[u8]) -> bool {
+    let size = head.len().min(ANSWER.len());
+    head.get(..size) == ANSWER.get(..size)
+}
+
 /// Whether the answer is that the request was done: its status is 200.
 fn is_done(head: &[u8]) -> bool {
     head.get(8..12) == Some(b" 200".as_slice())
@@ -97,19 +183,22 @@ struct Reading {
 }
 
 /// Writes a part of an answer's body.
-fn write_body<W: Write>(out: &mut W, octets: &[u8]) -> Result<(), Ending> {
-    out.write_all(octets).map_err(|_| Ending::Write)
+fn write_body<W: Write>(out: &mut W, octets: &[u8]) -> Result<(), Fault> {
+    out.write_all(octets).map_err(Fault::Output)
 }
 
 impl Reading {
     /// Takes the next octets of an answer, and writes those of its body. Returns whether it can be an answer.
-    fn take<W: Write>(&mut self, octets: &[u8], out: &mut W) -> Result<bool, Ending> {
+    fn take<W: Write>(&mut self, octets: &[u8], out: &mut W) -> Result<bool, Fault> {
         if self.done.is_some() {
             write_body(out, octets)?;
             return Ok(true);
         }
         if self.head.extend_from_slice(octets).is_err() {
-            return Err(Ending::Memory);
+            return Err(Fault::Memory);
+        }
+        if !begins_answer(&self.head) {
+            return Ok(false);
         }
         let Some(at) = body_at(&self.head) else {
             return Ok(self.head.len() <= LONGEST_HEAD);
@@ -120,12 +209,12 @@ impl Reading {
     }
 }
 
-/// Reads an answer to its end, and writes its body. Returns whether the request was done, or `None` if there is no answer.
+/// Reads an answer to its end, and writes its body. Returns whether the request was done.
 fn pass_answer<R: Read, W: Write>(
     alloc: Global,
     stream: &mut R,
     out: &mut W,
-) -> Result<Option<bool>, Ending> {
+) -> Result<bool, Fault> {
     let mut piece = [0; PIECE];
     let mut reading = Reading {
         head: Vec::new(alloc),
@@ -133,15 +222,15 @@ fn pass_answer<R: Read, W: Write>(
     };
     for _ in 0..u64::MAX {
         let count = match stream.read(&mut piece) {
-            Ok(0) => return Ok(reading.done),
+            Ok(0) => return reading.done.ok_or(Fault::NoAnswer),
             Ok(count) => count,
-            Err(_) => return Err(Ending::NoGateway),
+            Err(e) => return Err(Fault::Socket(e)),
         };
         if !reading.take(piece.get(..count).unwrap_or(&[]), out)? {
             break;
         }
     }
-    Ok(None)
+    Err(Fault::NoAnswer)
 }
 
 /// A stream to a gateway, at which nothing takes longer than an answer may.
@@ -153,26 +242,54 @@ fn connected<R: Net>(rt: &R, control: &str) -> io::Result<UnixStream> {
     Ok(stream)
 }
 
-/// A stream on which a gateway was asked.
-fn asked<R: Net + AllocGlobal>(rt: &R, control: &str, wish: Wish) -> Result<UnixStream, Ending> {
-    let octets = request(rt.alloc(), wish).map_err(|_| Ending::Memory)?;
-    let mut stream = connected(rt, control).map_err(|_| Ending::NoGateway)?;
-    match stream.write_all(&octets) {
-        Ok(()) => Ok(stream),
-        Err(_) => Err(Ending::NoGateway),
+/// Why a socket can't be reached: what is at its path, otherwise what the system says.
+fn fault_at<R: Files>(rt: &R, control: &str, error: io::Error) -> Fault {
+    match fs::metadata(rt, control) {
+        Ok(found) if found.is_dir() => Fault::Folder,
+        Ok(found) if !found.file_type().is_socket() => Fault::NoSocket,
+        _ => Fault::Socket(error),
     }
 }
 
-/// Asks a gateway, and writes what it answers.
-pub(crate) fn run_control<R>(rt: &R, control: &str, wish: Wish) -> Result<Ending, Ending>
+/// A stream on which a gateway was asked.
+fn asked<R: Files + Net + AllocGlobal>(
+    rt: &R,
+    control: &str,
+    wish: Wish,
+) -> Result<UnixStream, Fault> {
+    if control.len() > LONGEST_PATH {
+        return Err(Fault::LongPath);
+    }
+    let octets = request(rt.alloc(), wish).map_err(|_| Fault::Memory)?;
+    let mut stream = connected(rt, control).map_err(|e| fault_at(rt, control, e))?;
+    match stream.write_all(&octets) {
+        Ok(()) => Ok(stream),
+        Err(e) => Err(Fault::Socket(e)),
+    }
+}
+
+/// Asks a gateway, and writes what it answers. Returns whether the request was done.
+fn answered<R>(rt: &R, control: &str, wish: Wish) -> Result<bool, Fault>
 where
-    R: Net + Print + AllocGlobal,
+    R: Files + Net + Print + AllocGlobal,
 {
     let mut stream = asked(rt, control, wish)?;
     let mut out = io::writer(rt);
-    match pass_answer(rt.alloc(), &mut stream, &mut out)? {
-        Some(true) => Ok(Ending::Good),
-        Some(false) => Ok(Ending::Findings),
-        None => Err(Ending::NoGateway),
+    pass_answer(rt.alloc(), &mut stream, &mut out)
+}
+
+/// Asks a gateway, and writes what it answers, or why there is no answer.
+pub(crate) fn run_control<R>(
+    rt: &R,
+    control: &str,
+    wish: Wish,
+) -> Result<Ending<'static>, Ending<'static>>
+where
+    R: Files + Net + Print + Eprint + AllocGlobal,
+{
+    match answered(rt, control, wish) {
+        Ok(true) => Ok(Ending::Good),
+        Ok(false) => Ok(Ending::Findings),
+        Err(fault) => Err(fault.ending(rt, control)),
     }
 }

@@ -1,37 +1,45 @@
 //! What is asked of `explain`.
 
+use crate::words_in::{call_in, input_of, link_number, value_of, wrong_value};
 use clap::ArgMatches;
 use rohctl_explain::{Asked, Source, Telling, Which};
+use rohctl_ground::{Ending, Misuse};
 
-/// The packets that are told, if the words can be read.
-fn which_of(options: &ArgMatches<'_>) -> Option<Which> {
+/// The packets that are told.
+fn which_of<'a>(options: &ArgMatches<'a>) -> Result<Which, Ending<'a>> {
     if let Some(line) = options.get_str("line") {
-        return Some(Which::Line(line.parse().ok()?));
+        return match line.parse() {
+            Ok(number) if number > 0 => Ok(Which::Line(number)),
+            _ => Err(wrong_value("--line", line, "the number of a line, from 1")),
+        };
     }
     let Some(call) = options.get_str("call") else {
-        return Some(Which::All);
+        return Ok(Which::All);
     };
-    let (link, cid) = call.split_once("/")?;
-    Some(Which::Call {
-        link: link.parse().ok()?,
-        cid: cid.parse().ok()?,
-    })
+    let (link, cid) = call_in("--call", call)?;
+    Ok(Which::Call { link, cid })
 }
 
-/// Where the packets stand, if the words can be read.
-fn source_of<'a>(options: &ArgMatches<'a>) -> Option<Source<'a>> {
-    let word = options.get_str("SCRIPT")?;
-    match options.get_str("link") {
-        Some(link) => Some(Source::Word {
-            link: link.parse().ok()?,
-            packets: word,
-        }),
-        None => Some(Source::Script(word)),
+/// Where the packets stand.
+fn source_of<'a>(options: &ArgMatches<'a>, is_terminal: bool) -> Result<Source<'a>, Ending<'a>> {
+    let Some(link) = options.get_str("link") else {
+        return Ok(Source::Script(input_of(options, "SCRIPT", is_terminal)?));
+    };
+    let link = link_number("--link", link)?;
+    match options.get_str("SCRIPT") {
+        Some(packets) => Ok(Source::Word { link, packets }),
+        None => Err(Ending::Misuse(Misuse::Missing {
+            word: "packet",
+            expected: "with --link hexadecimal digits, as fc00b745aa",
+        })),
     }
 }
 
-/// What is asked of `explain`, if its words can be read.
-pub(crate) fn explain_of<'a>(options: &ArgMatches<'a>) -> Option<Asked<'a>> {
+/// What is asked of `explain`.
+pub(crate) fn explain_of<'a>(
+    options: &ArgMatches<'a>,
+    is_terminal: bool,
+) -> Result<Asked<'a>, Ending<'a>> {
     let telling = if options.get_flag("json") {
         Telling::Json
     } else if options.get_flag("brief") {
@@ -39,9 +47,9 @@ pub(crate) fn explain_of<'a>(options: &ArgMatches<'a>) -> Option<Asked<'a>> {
     } else {
         Telling::Whole
     };
-    Some(Asked {
-        links: options.get_str("links")?,
-        source: source_of(options)?,
+    Ok(Asked {
+        links: value_of(options, "links")?,
+        source: source_of(options, is_terminal)?,
         which: which_of(options)?,
         telling,
     })

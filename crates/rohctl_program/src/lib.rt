@@ -10,5 +10,6 @@ mod explain_words;
 mod program;
 mod report_words;
 mod verify;
+mod words_in;
 
 pub use program::run;

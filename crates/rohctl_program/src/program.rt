@@ -14,7 +14,7 @@ use std::rt::Files;
 use std::time::Clock;
 
 /// Runs the program with these words. `screen` is what the standard streams are.
-pub fn run<R>(rt: &R, words: &[String], screen: Screen) -> Ending
+pub fn run<'a, R>(rt: &R, words: &'a [String], screen: Screen) -> Ending<'a>
 where
     R: Files + Input + Print + Eprint + Net + Clock + AllocGlobal,
 {
@@ -25,19 +25,16 @@ where
 }
 
 /// Does what the words ask for.
-fn requested<R>(rt: &R, words: &[String], screen: Screen) -> Result<Ending, Ending>
+fn requested<'a, R>(rt: &R, words: &'a [String], screen: Screen) -> Result<Ending<'a>, Ending<'a>>
 where
     R: Files + Input + Print + Eprint + Net + Clock + AllocGlobal,
 {
-    match read_request(rt, words)? {
+    let (request, screen) = read_request(rt, words, screen)?;
+    match request {
         Request::Totals(asked) => run_totals(rt, &asked, screen),
         Request::Links { links, json } => run_links(rt, links, json),
         Request::NewLinks => run_new(rt),
-        Request::Diff {
-            first,
-            second,
-            json,
-        } => run_diff(rt, first, second, json),
+        Request::Diff(asked) => run_diff(rt, &asked, screen),
         Request::Plan(plan) => run_plan(rt, &plan),
         Request::Decompress(asked) => run_decompress(rt, &asked, screen),
         Request::Script(asked) => run_script(rt, &asked, screen),

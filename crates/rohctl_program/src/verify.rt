@@ -1,7 +1,7 @@
 //! The subcommand `verify`: whether files are as they were packed.
 
 use hex::encode_to_slice;
-use rohctl_ground::Ending;
+use rohctl_ground::{Ending, Reason, open_file, unprinted, unread};
 use sha2::{Digest, Sha256};
 use std::alloc::{AllocError, Global};
 use std::fs;
@@ -26,12 +26,17 @@ enum Found {
 }
 
 /// The text of the list.
-fn list_text<R: Files + AllocGlobal>(rt: &R, path: &str) -> Result<String, Ending> {
-    let file = fs::open(rt, path).map_err(|_| Ending::Read)?;
+fn list_text<'a, R: Files + AllocGlobal>(rt: &R, path: &'a str) -> Result<String, Ending<'a>> {
+    let file = open_file(rt, path)?;
     let mut octets = Vec::new(rt.alloc());
-    let mut limited = file.take(LONGEST_LIST);
-    limited.read_to_end(&mut octets).map_err(|_| Ending::Read)?;
-    String::from_utf8(octets).map_err(|_| Ending::Read)
+    let mut limited = file.take(LONGEST_LIST + 1);
+    limited
+        .read_to_end(&mut octets)
+        .map_err(|error| unread(path, Reason::of(&error)))?;
+    if octets.len() as u64 > LONGEST_LIST {
+        return Err(Ending::Read(path, Reason::TooLong(LONGEST_LIST)));
+    }
+    String::from_utf8(octets).map_err(|_| Ending::Read(path, Reason::NotUtf8))
 }
 
 /// The digest of all that is read, in hexadecimal digits.
@@ -78,18 +83,20 @@ fn verify_line<R: Files + AllocGlobal, W: Write>(
     out: &mut W,
     root: &str,
     line: &str,
-) -> Result<bool, Ending> {
+) -> Result<bool, Ending<'static>> {
     let Some((digits, path)) = line.split_once("  ") else {
-        writeln!(out, "a line that is no digest and path").map_err(|_| Ending::Write)?;
+        writeln!(out, "not a digest and a path: {}", line.escape_default()).map_err(
+            |error| unprinted(&error),
+        )?;
         return Ok(false);
     };
     let whole = path_below(rt.alloc(), root, path).map_err(|_| Ending::Memory)?;
     let what = match found_at(rt, whole.as_str(), digits) {
         Found::AsPacked => return Ok(true),
-        Found::Other => "is another",
-        Found::Missing => "can't be read",
+        Found::Other => "differs",
+        Found::Missing => "cannot be read",
     };
-    writeln!(out, "{} {what}", path.escape_default()).map_err(|_| Ending::Write)?;
+    writeln!(out, "{} {what}", path.escape_default()).map_err(|error| unprinted(&error))?;
     Ok(false)
 }
 
@@ -100,7 +107,7 @@ fn verify_lines<R: Files + AllocGlobal, W: Write>(
     out: &mut W,
     root: &str,
     text: &str,
-) -> Result<Option<u64>, Ending> {
+) -> Result<Option<u64>, Ending<'static>> {
     let mut count = 0u64;
     let mut good = true;
     for line in text.split("\n") {
@@ -116,13 +123,13 @@ fn verify_lines<R: Files + AllocGlobal, W: Write>(
 /// Writes that so many files are as they were packed, if they are.
 fn write_end<W: Write>(out: &mut W, good: Option<u64>) -> io::Result<()> {
     if let Some(count) = good {
-        writeln!(out, "{count} files are as they were packed")?;
+        writeln!(out, "{count} files are as packaged")?;
     }
     out.flush()
 }
 
 /// Compares all files of a list below a folder, and writes which aren't as they were packed.
-pub(crate) fn run_verify<R>(rt: &R, list: &str, root: &str) -> Result<Ending, Ending>
+pub(crate) fn run_verify<'a, R>(rt: &R, list: &'a str, root: &str) -> Result<Ending<'a>, Ending<'a>>
 where
     R: Files + Print + AllocGlobal,
 {
@@ -132,7 +139,7 @@ where
     };
     let good = verify_lines(rt, &mut out, root, text.as_str())?;
     match write_end(&mut out, good) {
-        Err(_) => Err(Ending::Write),
+        Err(error) => Err(unprinted(&error)),
         Ok(()) if good.is_some() => Ok(Ending::Good),
         Ok(()) => Ok(Ending::Findings),
     }

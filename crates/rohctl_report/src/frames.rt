@@ -1,8 +1,8 @@
 //! The packets of an input, one after another.
 
-use crate::held::{Held, open_file};
+use crate::held::Held;
 use rohc_capture::{Capture, CaptureFault, Rule, packet_in};
-use rohctl_ground::{Ending, Line, Screen, Stop, Taker, Told, read_script};
+use rohctl_ground::{Ending, Line, STREAM, Screen, Stop, Taker, Told, open_file, read_script};
 use std::alloc::Global;
 use std::io::Read;
 use std::rt::Files;
@@ -76,22 +76,26 @@ fn take_source<S: Read + Drop, T: Taker>(
 }
 
 /// Has all packets of an input taken.
-pub(crate) fn take_all<R, T: Taker>(
+pub(crate) fn take_all<'a, R, T: Taker>(
     rt: &R,
-    held: &Held<'_>,
+    held: &Held<'a>,
     rules: Option<&[Rule]>,
     screen: Screen,
     taker: &mut T,
-) -> Result<Rest, Ending>
+) -> Result<Rest, Ending<'a>>
 where
     R: Files + Eprint + AllocGlobal,
 {
     let taken = match held {
         Held::File(path) => {
-            let source = Told::new(rt, open_file(rt, path)?, screen.error);
-            take_source(rt.alloc(), source, rules, taker)
+            let mut source = Told::new(rt, open_file(rt, path)?, screen.error);
+            let taken = take_source(rt.alloc(), &mut source, rules, taker);
+            if source.has_failed() {
+                return Err(source.unread(path));
+            }
+            taken
         }
         Held::Input(octets) => take_source(rt.alloc(), octets.as_slice(), rules, taker),
     };
-    taken.map_err(|stop| stop.ending())
+    taken.map_err(|stop| stop.ending(held.path(), STREAM))
 }

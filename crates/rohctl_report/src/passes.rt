@@ -14,6 +14,8 @@ pub(crate) struct Counting {
     pub(crate) alloc: Global,
     pub(crate) concentrator: Concentrator,
     pub(crate) calls: Calls,
+    /// The lines or frames that are events.
+    pub(crate) events: u64,
 }
 
 impl Counting {
@@ -40,6 +42,9 @@ impl Counting {
 
 impl Taker for Counting {
     fn take(&mut self, number: u64, line: Line<'_>) -> Result<(), Stop> {
+        if !matches!(&line, Line::Bad) {
+            self.events = self.events.saturating_add(1);
+        }
         match line {
             Line::Arrive {
                 link,

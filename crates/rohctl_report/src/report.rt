@@ -8,32 +8,41 @@ use rohc_capture::Rule;
 use rohc_concentrator::Concentrator;
 use rohc_links::Links;
 use rohc_report::{CallRow, Calls, Report, worst_first, write_page};
-use rohctl_captures::{capture_end, rules_of};
-use rohctl_ground::{Ending, Screen, good_links, make_target};
+use rohctl_captures::{capture_end, check_links, no_frame, rules_of};
+use rohctl_ground::{
+    Ending, Nothing, Reason, Screen, good_links, keep_apart, make_target, open_file, unread,
+};
 use std::alloc::Global;
-use std::io::Write;
+use std::io::{Read, Write};
 use std::rt::Files;
 
 /// How many calls are drawn at most.
 const MOST_DRAWN: usize = 100;
 
+/// How many octets of an input are looked at if there is nothing to report.
+const FRONT: usize = 4096;
+
 /// A concentrator with these links, without a record.
-fn fresh(alloc: Global, links: &Links) -> Result<Concentrator, Ending> {
+fn fresh(alloc: Global, links: &Links) -> Result<Concentrator, Ending<'static>> {
     Concentrator::new(alloc, links.settings()).map_err(|_| Ending::Memory)
 }
 
 /// The rules for a capture; a script has none.
-fn rules_for<R>(rt: &R, held: &Held<'_>, asked: &Asked<'_>) -> Result<Option<Vec<Rule>>, Ending>
+fn rules_for<'a, R>(
+    rt: &R,
+    held: &Held<'a>,
+    asked: &Asked<'a>,
+    links: &Links,
+) -> Result<Option<Vec<Rule>>, Ending<'a>>
 where
     R: Files + AllocGlobal,
 {
     if !held.is_capture(rt)? {
         return Ok(None);
     }
-    match rules_of(rt.alloc(), &asked.rules) {
-        Ok(rules) => Ok(Some(rules)),
-        Err(fault) => Err(fault.ending()),
-    }
+    let rules = rules_of(rt.alloc(), &asked.rules)?;
+    check_links(&fresh(rt.alloc(), links)?, asked.links, rules.as_slice())?;
+    Ok(Some(rules))
 }
 
 /// The rows of the calls that are drawn.
@@ -42,21 +51,30 @@ fn front_of(rows: &[CallRow]) -> &[CallRow] {
 }
 
 /// Writes the page to where it is asked for.
-fn write_report<R>(rt: &R, path: &str, report: &Report<'_>) -> Result<(), Ending>
+fn write_report<'a, R>(rt: &R, path: &'a str, report: &Report<'_>) -> Result<(), Ending<'a>>
 where
     R: Files + Print + AllocGlobal,
 {
     let mut out = make_target(rt, path)?;
     if write_page(rt.alloc(), &mut out, report).is_err() || out.flush().is_err() {
-        return Err(Ending::Write);
+        return Err(if out.has_failed() {
+            out.unwritten(path)
+        } else {
+            Ending::Memory
+        });
     }
     Ok(())
 }
 
 /// How a report ends: whether a call is silent, or a line is bad; or with the fault of the capture, whose front was told.
-fn end_of(calls: &Calls, rows: &[CallRow], rest: Rest) -> Result<Ending, Ending> {
+fn end_of<'a>(
+    path: &'a str,
+    calls: &Calls,
+    rows: &[CallRow],
+    rest: Rest,
+) -> Result<Ending<'a>, Ending<'a>> {
     if let Some(fault) = rest.fault {
-        return Err(capture_end(fault));
+        return Err(capture_end(path, fault, unread(path, Reason::Other(0))));
     }
     if calls.bad > 0 || rows.iter().any(|row| row.totals.silent > 0) {
         return Ok(Ending::Findings);
@@ -66,15 +84,19 @@ fn end_of(calls: &Calls, rows: &[CallRow], rest: Rest) -> Result<Ending, Ending>
 
 /// An input, and how it is read.
 #[derive(Clone, Copy)]
-struct Source<'a> {
-    held: &'a Held<'a>,
+struct Source<'a, 'p> {
+    held: &'a Held<'p>,
     /// The rules for a capture; a script has none.
     rules: Option<&'a [Rule]>,
     screen: Screen,
 }
 
 /// Counts all packets of an input.
-fn count_all<R>(rt: &R, links: &Links, source: Source<'_>) -> Result<(Counting, Rest), Ending>
+fn count_all<'p, R>(
+    rt: &R,
+    links: &Links,
+    source: Source<'_, 'p>,
+) -> Result<(Counting, Rest), Ending<'p>>
 where
     R: Files + Eprint + AllocGlobal,
 {
@@ -82,6 +104,7 @@ where
         alloc: rt.alloc(),
         concentrator: fresh(rt.alloc(), links)?,
         calls: Calls::new(rt.alloc()),
+        events: 0,
     };
     let rest = take_all(rt, source.held, source.rules, source.screen, &mut counting)?;
     Ok((counting, rest))
@@ -93,7 +116,7 @@ fn drawing_of(
     links: &Links,
     is_capture: bool,
     rows: &[CallRow],
-) -> Result<Drawing, Ending> {
+) -> Result<Drawing, Ending<'static>> {
     let concentrator = fresh(alloc, links)?;
     match DrawnCalls::new(alloc, rows) {
         Ok(calls) => Ok(Drawing {
@@ -107,13 +130,13 @@ fn drawing_of(
 }
 
 /// Draws the calls of these rows. The input has to end as it did when it was counted.
-fn draw_all<R>(
+fn draw_all<'p, R>(
     rt: &R,
     links: &Links,
-    source: Source<'_>,
+    source: Source<'_, 'p>,
     rows: &[CallRow],
     rest: Rest,
-) -> Result<Drawing, Ending>
+) -> Result<Drawing, Ending<'p>>
 where
     R: Files + Eprint + AllocGlobal,
 {
@@ -122,20 +145,20 @@ where
     if again == rest {
         Ok(drawing)
     } else {
-        Err(Ending::Read)
+        Err(Ending::Read(source.held.path(), Reason::Changed))
     }
 }
 
 /// Draws the calls of the first of these rows, and writes the page of them all.
-fn report_rows<R>(
+fn report_rows<'p, R>(
     rt: &R,
-    asked: &Asked<'_>,
+    asked: &Asked<'p>,
     links: &Links,
-    source: Source<'_>,
+    source: Source<'_, 'p>,
     calls: &Calls,
     rows: &[CallRow],
     rest: Rest,
-) -> Result<Ending, Ending>
+) -> Result<Ending<'p>, Ending<'p>>
 where
     R: Files + Print + Eprint + AllocGlobal,
 {
@@ -150,18 +173,18 @@ where
         drawn: &drawing.calls.drawn,
     };
     write_report(rt, asked.output, &report)?;
-    end_of(calls, rows, rest)
+    end_of(asked.input, calls, rows, rest)
 }
 
 /// Writes the report on these calls.
-fn report_calls<R>(
+fn report_calls<'p, R>(
     rt: &R,
-    asked: &Asked<'_>,
+    asked: &Asked<'p>,
     links: &Links,
-    source: Source<'_>,
+    source: Source<'_, 'p>,
     calls: &Calls,
     rest: Rest,
-) -> Result<Ending, Ending>
+) -> Result<Ending<'p>, Ending<'p>>
 where
     R: Files + Print + Eprint + AllocGlobal,
 {
@@ -171,32 +194,88 @@ where
     }
 }
 
+/// The first octets of an input.
+fn front_octets<'p, R>(rt: &R, held: &Held<'p>) -> Result<Vec<u8>, Ending<'p>>
+where
+    R: Files + AllocGlobal,
+{
+    let mut front = Vec::new(rt.alloc());
+    match held {
+        Held::File(path) => {
+            let mut limited = open_file(rt, path)?.take(FRONT as u64);
+            match limited.read_to_end(&mut front) {
+                Ok(_) => Ok(front),
+                Err(error) => Err(unread(path, Reason::of(&error))),
+            }
+        }
+        Held::Input(octets) => {
+            let kept = octets.get(..FRONT).unwrap_or(octets.as_slice());
+            match front.extend_from_slice(kept) {
+                Ok(()) => Ok(front),
+                Err(_) => Err(Ending::Memory),
+            }
+        }
+    }
+}
+
+/// The ending for an input without an event.
+fn nothing_end<'p, R>(rt: &R, source: Source<'_, 'p>, counting: &Counting) -> Ending<'p>
+where
+    R: Files + Eprint + AllocGlobal,
+{
+    let front = match front_octets(rt, source.held) {
+        Ok(front) => front,
+        Err(ending) => return ending,
+    };
+    let path = source.held.path();
+    if source.rules.is_some() {
+        return no_frame(rt, path, front.as_slice());
+    }
+    if front.is_empty() {
+        return Ending::Nothing(path, Nothing::Empty);
+    }
+    let carriage = front
+        .as_slice()
+        .windows(2)
+        .any(|pair| pair == b"\r\n".as_slice());
+    Ending::Nothing(
+        path,
+        Nothing::NoEvent {
+            lines: counting.calls.bad,
+            carriage,
+        },
+    )
+}
+
 /// Writes the report on an input. It is read twice: to count, and to draw the calls that are the worst.
-fn report_on<R>(
+fn report_on<'p, R>(
     rt: &R,
-    asked: &Asked<'_>,
+    asked: &Asked<'p>,
     links: &Links,
-    source: Source<'_>,
-) -> Result<Ending, Ending>
+    source: Source<'_, 'p>,
+) -> Result<Ending<'p>, Ending<'p>>
 where
     R: Files + Print + Eprint + AllocGlobal,
 {
     let (counting, rest) = count_all(rt, links, source)?;
+    if rest.fault.is_none() && counting.events == 0 {
+        return Err(nothing_end(rt, source, &counting));
+    }
     report_calls(rt, asked, links, source, &counting.calls, rest)
 }
 
 /// Writes the report on the input that is asked for.
-fn report_input<R>(
+fn report_input<'p, R>(
     rt: &R,
-    asked: &Asked<'_>,
+    asked: &Asked<'p>,
     links: &Links,
     screen: Screen,
-) -> Result<Ending, Ending>
+) -> Result<Ending<'p>, Ending<'p>>
 where
     R: Files + Input + Print + Eprint + AllocGlobal,
 {
     let held = hold(rt, asked.input)?;
-    let rules = rules_for(rt, &held, asked)?;
+    let rules = rules_for(rt, &held, asked, links)?;
     let source = Source {
         held: &held,
         rules: rules.as_ref().map(|rules| rules.as_slice()),
@@ -206,10 +285,15 @@ where
 }
 
 /// Writes the report that is asked for.
-pub fn run_report<R>(rt: &R, asked: &Asked<'_>, screen: Screen) -> Result<Ending, Ending>
+pub fn run_report<'p, R>(
+    rt: &R,
+    asked: &Asked<'p>,
+    screen: Screen,
+) -> Result<Ending<'p>, Ending<'p>>
 where
     R: Files + Input + Print + Eprint + AllocGlobal,
 {
+    keep_apart(rt, &[asked.links, asked.input], &[Some(asked.output)])?;
     let links = good_links(rt, asked.links)?;
     report_input(rt, asked, &links, screen)
 }

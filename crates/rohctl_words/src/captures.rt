@@ -19,17 +19,13 @@ fn with_rules<'a>(
             valued(
                 "link",
                 "LINK",
-                "The link of ROHC packets in Ethernet, Linux cooked frames or PPP",
+                "The link of ROHC packets in Ethernet, Linux cooked or PPP frames",
             ),
-            valued(
-                "vlan",
-                "VLAN=LINK,..",
-                "The link of ROHC packets under a VLAN",
-            ),
+            valued("vlan", "VLAN=LINK,..", "Map a VLAN to a link, as 5=1"),
             valued(
                 "port",
                 "PORT=LINK,..",
-                "The link of a UDP port; without =LINK the link's number is in front of the packet",
+                "Map a UDP port to a link, as 5000=1; without =LINK each datagram starts with the link number",
             ),
         ],
     )?;
@@ -41,15 +37,18 @@ pub(crate) fn decompress_words<'a>(given: Given<'_>) -> Result<Command<'a>, Allo
     with_rules(
         given,
         "decompress",
-        "Turn a capture of ROHC packets into a capture of IP packets",
+        "Convert a capture of ROHC packets into a capture of IP packets",
         &[
             valued("links", "FILE", "The links file").required(),
-            flag("padded", "End a packet at its IPv4 total length"),
-            valued("feedback", "FILE", "Write the feedback to a capture too"),
-            flag("pcapng", "Write pcapng, and not pcap"),
-            flag("stats", "Tell counts on standard error"),
-            argument("IN", "The capture, pcap or pcapng; - is standard input").otherwise("-"),
-            argument("OUT", "The capture that is written; - is standard output").otherwise("-"),
+            flag("padded", "Cut each packet at its IPv4 total length"),
+            valued("feedback", "FILE", "Also write the feedback to a capture"),
+            flag("pcapng", "Write pcapng instead of pcap"),
+            flag("stats", "Print counts on standard error"),
+            argument(
+                "IN",
+                "The capture, pcap or pcapng; - or none is standard input",
+            ),
+            argument("OUT", "The capture to write; - is standard output").otherwise("-"),
         ],
     )
 }
@@ -59,26 +58,34 @@ pub(crate) fn script_words<'a>(given: Given<'_>) -> Result<Command<'a>, AllocErr
     with_rules(
         given,
         "script",
-        "Turn a capture of ROHC packets into a script, or a script into a capture",
+        "Convert a capture of ROHC packets into a script, or a script into a capture",
         &[
             valued(
                 "from",
                 "ADDRESS",
-                "Only packets of this Ethernet or IPv4 address arrive",
+                "Convert only the packets of this sender, an Ethernet or IPv4 address",
             ),
-            valued("other", "FILE", "Write what others sent as a script too").with("from"),
+            valued(
+                "other",
+                "FILE",
+                "Write what other senders sent to another script",
+            )
+            .with("from"),
             valued(
                 "lines",
                 "FILE",
-                "Write of each line of the script its frame, and where that stands in the capture",
+                "List for each line of the script its frame and the frame's offset in the capture",
             ),
             flag(
                 "back",
-                "Turn a script into a capture of datagrams to --port, with the link's number in front",
+                "Convert a script into a capture of datagrams to --port, each with the link number first",
             ),
-            flag("pcapng", "Write pcapng, and not pcap"),
-            argument("IN", "The capture, or the script; - is standard input").otherwise("-"),
-            argument("OUT", "What is written; - is standard output").otherwise("-"),
+            flag("pcapng", "Write pcapng instead of pcap"),
+            argument(
+                "IN",
+                "The capture, or the script; - or none is standard input",
+            ),
+            argument("OUT", "The file to write; - is standard output").otherwise("-"),
         ],
     )
 }
@@ -88,21 +95,16 @@ pub(crate) fn report_words<'a>(given: Given<'_>) -> Result<Command<'a>, AllocErr
     with_rules(
         given,
         "report",
-        "Write a page of HTML that shows what became of each call of a script or a capture",
+        "Write an HTML page that shows what happened to each call of a script or a capture",
         &[
             valued("links", "FILE", "The links file").required(),
-            valued(
-                "output",
-                "FILE",
-                "The page that is written; - is standard output",
-            )
-            .or_letter('o')
-            .otherwise("-"),
+            valued("output", "FILE", "The page to write; - is standard output")
+                .or_letter('o')
+                .otherwise("-"),
             argument(
                 "INPUT",
-                "The script or the capture, pcap or pcapng; - is standard input",
-            )
-            .otherwise("-"),
+                "The script or the capture, pcap or pcapng; - or none is standard input",
+            ),
         ],
     )
 }
@@ -112,24 +114,23 @@ pub(crate) fn explain_words<'a>(given: Given<'_>) -> Result<Command<'a>, AllocEr
     subcommand(
         given,
         "explain",
-        "Tell of each packet its fields, its context, its tries, its answer and the usual cause",
+        "Decode each packet: its fields, context, attempts, result and likely cause",
         &[
             valued("links", "FILE", "The links file").required(),
             argument(
                 "SCRIPT",
-                "The script, - for standard input; with --link packets in hexadecimal digits",
-            )
-            .otherwise("-"),
-            valued("line", "N", "Tell the packet in this line").without("call"),
-            valued("call", "L/C", "Tell the packets of this link and CID"),
+                "The script, - or none for standard input; with --link packets in hexadecimal digits",
+            ),
+            valued("line", "N", "Show only the packet in this line").without("call"),
+            valued("call", "L/C", "Show only the packets of this link and CID"),
             valued(
                 "link",
                 "L",
-                "The link of the packets whose octets are given",
+                "The link of packets given in hexadecimal digits",
             )
             .without("line"),
-            flag("brief", "Write a line a packet"),
-            flag("json", "Write JSON, one object a line").without("brief"),
+            flag("brief", "Write one line per packet"),
+            flag("json", "Write JSON, one object per line").without("brief"),
         ],
     )
 }

@@ -6,12 +6,7 @@ use std::alloc::AllocError;
 
 /// The option that names the gateway.
 fn control() -> Word {
-    valued(
-        "control",
-        "SOCKET",
-        "The control socket of the rohc-gateway",
-    )
-    .required()
+    valued("control", "SOCKET", "The control socket of the gateway").required()
 }
 
 /// The option that names a link.
@@ -35,11 +30,11 @@ fn asking<'a>(
 fn with_whole<'a>(given: Given<'_>, command: Command<'a>) -> Result<Command<'a>, AllocError> {
     let mut command = command;
     for (name, about) in [
-        ("status", "Tell what a rohc-gateway is doing"),
-        ("stop", "Have a rohc-gateway save its calls and end"),
-        ("save", "Have a rohc-gateway save its calls"),
-        ("reload", "Have a rohc-gateway read its links again"),
-        ("drain", "Have a rohc-gateway take no new call"),
+        ("status", "Show what a running gateway is doing"),
+        ("stop", "Save the calls of a gateway and stop it"),
+        ("save", "Save the calls of a gateway"),
+        ("reload", "Make a gateway read its links file again"),
+        ("drain", "Stop accepting new calls; existing calls continue"),
     ] {
         command = asking(given, command, name, about, &[])?;
     }
@@ -56,28 +51,31 @@ pub(crate) fn with_gateway<'a>(
         given,
         command,
         "reset",
-        "Have a rohc-gateway forget a link's contexts, or one",
-        &[link(), valued("cid", "NUMBER", "The CID of the one")],
+        "Remove the contexts of a link, or one of them, from a gateway",
+        &[
+            link(),
+            valued("cid", "NUMBER", "Remove only the context of this CID"),
+        ],
     )?;
     let command = asking(
         given,
         command,
         "watch",
-        "Have a rohc-gateway log each packet of a call for a while",
-        &[argument("CALL", "The link and the CID of the call, L/C").required()],
+        "Log each packet of a call for a while",
+        &[argument("CALL", "The link and the CID of the call, as 1/0").required()],
     )?;
     let command = asking(
         given,
         command,
         "contexts",
-        "Tell the contexts of a link",
+        "List the contexts of a link",
         &[link()],
     )?;
     asking(
         given,
         command,
         "calls",
-        "Tell the calls of a link, the longest silent first",
+        "List the calls of a link, those silent longest first",
         &[link()],
     )
 }

@@ -196,6 +196,11 @@ pub(crate) fn with_words<'a>(
     Ok(command)
 }
 
+/// The option that says whether colours are wanted.
+fn color() -> Word {
+    valued("color", "WHEN", "Use colors: auto, always or never").otherwise("auto")
+}
+
 /// A subcommand with these words, if it is named.
 pub(crate) fn subcommand<'a>(
     given: Given<'_>,
@@ -203,5 +208,6 @@ pub(crate) fn subcommand<'a>(
     about: &'static str,
     words: &[Word],
 ) -> Result<Command<'a>, AllocError> {
-    with_words(given, Command::new(given.alloc, name).about(about), words)
+    let command = with_words(given, Command::new(given.alloc, name).about(about), words)?;
+    with_words(given, command, &[color()])
 }

@@ -11,14 +11,14 @@ fn totals<'a>(given: Given<'_>) -> Result<Command<'a>, AllocError> {
     subcommand(
         given,
         "totals",
-        "Count the answer lines of rohcd replay, by call, by link and of all",
+        "Count the answer lines of rohcd replay, for each call, each link and all",
         &[
-            argument("ANSWERS", "The answer lines; - is standard input").otherwise("-"),
-            flag("json", "Write JSON, one object a line"),
-            flag("prometheus", "Write the text format of Prometheus").without("json"),
+            argument("ANSWERS", "The answer lines; - or none is standard input"),
+            flag("json", "Write JSON, one object per line"),
+            flag("prometheus", "Write the Prometheus text format").without("json"),
             flag(
                 "follow",
-                "On a terminal, draw the table again while lines come",
+                "On a terminal, redraw the table while lines arrive",
             ),
         ],
     )
@@ -29,10 +29,10 @@ fn links<'a>(given: Given<'_>) -> Result<Command<'a>, AllocError> {
     subcommand(
         given,
         "links",
-        "Tell all faults of a links file, or what a good one sets",
+        "Check a links file: list all its errors, or show what it sets",
         &[
             argument("FILE", "The links file; - is standard input").required_unless("new"),
-            flag("json", "Write JSON, one object a line"),
+            flag("json", "Write JSON, one object per line"),
             flag("new", "Write a links file to start from").without("FILE"),
         ],
     )
@@ -43,11 +43,15 @@ fn diff<'a>(given: Given<'_>) -> Result<Command<'a>, AllocError> {
     subcommand(
         given,
         "diff",
-        "Tell the first difference of each call in two answers, or two traces, of one script",
+        "Show where two runs of the same script first differ, for each call",
         &[
-            argument("A", "The first text; - is standard input").required(),
-            argument("B", "The second text").required(),
-            flag("json", "Write JSON, one object a line"),
+            argument(
+                "A",
+                "The answers or the trace of one run; - is standard input",
+            )
+            .required(),
+            argument("B", "Those of the other run; - is standard input").required(),
+            flag("json", "Write JSON, one object per line"),
         ],
     )
 }
@@ -57,15 +61,24 @@ fn plan_words<'a>(given: Given<'_>) -> Result<Command<'a>, AllocError> {
     subcommand(
         given,
         "plan",
-        "Tell what k and n mean on a link, what memory calls take, or how to spread links",
+        "Compare windows k/n on a link, size the memory of calls, or spread links",
         &[
-            valued("damage", "PERCENT", "How many of 100 headers are damaged").otherwise("1"),
+            valued("damage", "PERCENT", "The percentage of damaged headers").otherwise("1"),
             valued("packet-ms", "MS", "The time between two packets of a call").otherwise("20"),
-            valued("window", "K/N", "A window of at most 16 outcomes"),
-            valued("calls", "COUNT", "Tell the memory of so many calls"),
-            valued("split", "COUNT", "Spread the links over so many processes").with("links"),
+            valued("window", "K/N", "Also show this window, N at most 16"),
+            valued(
+                "calls",
+                "COUNT",
+                "Show the memory that this number of calls needs",
+            ),
+            valued(
+                "split",
+                "COUNT",
+                "Spread the links over this number of processes",
+            )
+            .with("links"),
             valued("links", "FILE", "The links to spread").with("split"),
-            flag("json", "Write JSON, one object a line"),
+            flag("json", "Write JSON, one object per line"),
         ],
     )
 }
@@ -75,10 +88,10 @@ fn trace<'a>(given: Given<'_>) -> Result<Command<'a>, AllocError> {
     subcommand(
         given,
         "trace",
-        "Write each line of a script with its number, and its answers behind it",
+        "Print each line of a script, numbered, with its answers",
         &[
             valued("links", "FILE", "The links file").required(),
-            argument("SCRIPT", "The script; - is standard input").otherwise("-"),
+            argument("SCRIPT", "The script; - or none is standard input"),
         ],
     )
 }
@@ -88,15 +101,19 @@ fn spread_words<'a>(given: Given<'_>) -> Result<Command<'a>, AllocError> {
     subcommand(
         given,
         "spread",
-        "Write the rules that bring each datagram to the process of its link",
+        "Write the rules that send each datagram to the process of its link",
         &[
             argument("LINKS", "The links file").required(),
-            valued("hosts", "FILE", "The processes and their links").required(),
+            valued("hosts", "FILE", "The file of the processes and their links").required(),
             flag(
                 "nginx",
-                "Write a configuration of nginx, not a table of nftables",
+                "Write an nginx configuration instead of an nftables table",
             ),
-            valued("out", "FOLDER", "Write a links file for each process there"),
+            valued(
+                "out",
+                "FOLDER",
+                "Also write a links file for each process into this folder",
+            ),
         ],
     )
 }
@@ -106,10 +123,15 @@ fn verify<'a>(given: Given<'_>) -> Result<Command<'a>, AllocError> {
     subcommand(
         given,
         "verify",
-        "Tell whether installed files are as they were packed",
+        "Check that installed files are as packaged",
         &[
-            argument("LIST", "The digests, as sha256sum writes them").required(),
-            valued("root", "FOLDER", "Where the paths of the list begin").otherwise("/"),
+            argument("LIST", "The list of digests, as sha256sum writes it").required(),
+            valued(
+                "root",
+                "FOLDER",
+                "The folder in which the paths of the list begin",
+            )
+            .otherwise("/"),
         ],
     )
 }
@@ -168,7 +190,7 @@ fn program<'a>(alloc: Global) -> Result<Command<'a>, AllocError> {
     Ok(
         named
             .version("1.0.0")
-            .about("Tells what rohcd did with each call")
+            .about("Diagnose ROHC links: calls, packets, captures and a running gateway")
             .no_binary_name(true)
             .subcommand_required(true)
             .arg_required_else_help(true),

@@ -1,0 +1,219 @@
+"""Calls rohctl wrongly in many ways: each answer must name what is wrong and what to do, and no file may change."""
+
+import os
+import pty
+import struct
+import subprocess
+from pathlib import Path
+
+from program import Call, run
+from trial import Trial
+
+PROGRAM = "crates/rohctl/out/rohctl"
+LINKS = "examples/links.toml"
+PLAIN = "examples/plain-call.script"
+
+# A head of pcap for Ethernet frames, a frame of ROHC and one of ARP (RFC 826).
+HEAD = struct.pack(">IHHiIII", 0xA1B2C3D4, 2, 4, 0, 0, 262_144, 1)
+ROHC_FRAME = bytes.fromhex("020000000001" "020000000002" "22f1" "fc00b745aa")
+ARP_FRAME = bytes.fromhex("020000000001" "020000000002" "0806") + bytes(28)
+DATAGRAM = bytes.fromhex("020000000001" "020000000002" "0800" "4500002000004000401100007f0000017f000001" "13881388000c0000" "45aa0000")
+
+RULES = "rohctl: --link, --vlan or --port is missing; expected the link of the capture's frames, as --link 1, --vlan 5=1 or --port 5000=1"
+PACKET = "expected two hexadecimal digits for each octet, as fc00b745aa or \"fc 00 b7 45 aa\""
+CALL_WORD = "expected LINK/CID, as 1/0"
+VLAN_WORD = "expected VLAN=LINK, as 5=1: a VLAN from 0 to 4095, a link from 0 to 65535"
+PORT_WORD = "expected PORT or PORT=LINK, as 5000=1: each from 0 to 65535"
+WINDOW_WORD = "expected K/N, with K from 1 to N and N from 1 to 16"
+MISSING = "no such file or directory"
+CARRIAGE = "none of 7 lines is an event; they end with a carriage return (remove it: tr -d '\\r')"
+NO_FRAME = "nothing to show: no frame matches; the first has link type 1"
+EXPLAIN = ("explain", "--links", "links.toml")
+DECOMPRESS = ("decompress", "--links", "links.toml")
+LINK_1 = ("--link", "1")
+OVER_LINKS = "refusing to overwrite the input links.toml; name another file"
+OVER_CAPTURE = "refusing to overwrite the input rohc.pcap; name another file"
+OVER_SCRIPT = "refusing to overwrite the input call.script; name another file"
+
+# The words, the status, and what stands on standard error or, for the parser's own faults, begins it.
+WRONG: tuple[tuple[tuple[str, ...], int, str], ...] = (
+    (("frob",), 2, "error: unrecognized subcommand 'frob'"),
+    (("totals", "--frob"), 2, "error: unexpected argument '--frob' found"),
+    (("totals", "--json", "--prometheus"), 2, "error: the argument '--json' cannot be used with '--prometheus'"),
+    (("totals", "a", "b"), 2, "error: unexpected argument 'b' found"),
+    (("trace",), 2, "error: the following required arguments were not provided:\n  --links <FILE>"),
+    (("links",), 2, "error: the following required arguments were not provided:\n  <FILE>"),
+    (("diff", "a"), 2, "error: the following required arguments were not provided:\n  <B>"),
+    (("stop",), 2, "error: the following required arguments were not provided:\n  --control <SOCKET>"),
+    (("totals", "--color", "red"), 2, "rohctl: --color red: expected auto, always or never"),
+    (("totals", "nothing"), 4, f"rohctl: nothing: cannot read it: {MISSING}"),
+    (("totals", "."), 4, "rohctl: .: cannot read it: it is a directory"),
+    (("totals", "links.toml/x"), 4, "rohctl: links.toml/x: cannot read it: a part of the path is not a directory"),
+    (("trace", "--links", "nothing", "call.script"), 3, f"rohctl: links file nothing: cannot read it: {MISSING}"),
+    (("trace", "--links", ".", "call.script"), 3, "rohctl: links file .: cannot read it: it is a directory"),
+    (("trace", "--links", "latin.toml", "call.script"), 3, "rohctl: links file latin.toml: cannot read it: it is not UTF-8"),
+    (("trace", "--links", "long.toml", "call.script"), 3, "rohctl: links file long.toml: cannot read it: it is longer than 1048576 octets"),
+    (("trace", "--links", "twice.toml", "call.script"), 3, "rohctl: twice.toml:16: k1 is given twice; remove one of the two"),
+    (("trace", "--links", "one.toml", "call.script"), 3, "rohctl: one.toml:2: [link] is one table; write [[link]] before each link"),
+    (("trace", "--links", "bare.toml", "call.script"), 3, "rohctl: bare.toml:6: O needs quotes; write \"O\""),
+    (("trace", "--links", "near.toml", "call.script"), 3,
+     "rohctl: near.toml:7: link 1: unknown key \"k_1\"; did you mean k1?\nrohctl: near.toml:2: link 1: k1 is missing; expected a number from 1 to n1"),
+    (("trace", "--links", "links.toml", "nothing"), 4, f"rohctl: nothing: cannot read it: {MISSING}"),
+    (("spread", "links.toml", "--hosts", "nothing"), 4, f"rohctl: nothing: cannot read it: {MISSING}"),
+    (("plan", "--damage", "200"), 2, "rohctl: --damage 200: expected a percentage from 0 to 100, as 2"),
+    (("plan", "--packet-ms", "x"), 2, "rohctl: --packet-ms x: expected milliseconds, 0 to 60000"),
+    (("plan", "--window", "4/3"), 2, f"rohctl: --window 4/3: {WINDOW_WORD}"),
+    (("plan", "--window", "4"), 2, f"rohctl: --window 4: {WINDOW_WORD}"),
+    (("plan", "--calls", "many"), 2, "rohctl: --calls many: expected a number of calls, as 10000"),
+    (("plan", "--links", "links.toml", "--split", "0"), 2, "rohctl: --split 0: expected a number of processes, 1 to 256"),
+    (("watch", "--control", "nothing", "2"), 2, f"rohctl: CALL 2: {CALL_WORD}"),
+    (("reset", "--control", "nothing", "--link", "70000"), 2, "rohctl: --link 70000: expected a number from 0 to 65535"),
+    (("reset", "--control", "nothing", "--link", "1", "--cid", "x"), 2, "rohctl: --cid x: expected a number from 0 to 65535"),
+    (("verify", "nothing"), 4, f"rohctl: nothing: cannot read it: {MISSING}"),
+    (("diff", "-", "-"), 2, "rohctl: B -: expected a file, since A is standard input"),
+    ((*EXPLAIN, "--line", "x", "call.script"), 2, "rohctl: --line x: expected the number of a line, from 1"),
+    ((*EXPLAIN, "--line", "0", "call.script"), 2, "rohctl: --line 0: expected the number of a line, from 1"),
+    ((*EXPLAIN, "--call", "7", "call.script"), 2, f"rohctl: --call 7: {CALL_WORD}"),
+    ((*EXPLAIN, "--link", "x", "45"), 2, "rohctl: --link x: expected a number from 0 to 65535"),
+    ((*EXPLAIN, *LINK_1), 2, "rohctl: packet is missing; expected with --link hexadecimal digits, as fc00b745aa"),
+    ((*EXPLAIN, *LINK_1, "fc0"), 2, f"rohctl: the packet has 3 digits; {PACKET}"),
+    ((*EXPLAIN, *LINK_1, "hello"), 2, f"rohctl: the packet has 'h'; {PACKET}"),
+    ((*EXPLAIN, *LINK_1, ""), 2, f"rohctl: the packet has no digits; {PACKET}"),
+    ((*EXPLAIN, "--link", "7", "45ab"), 6, "rohctl: links.toml: nothing to show: it has no link 7"),
+    ((*EXPLAIN, "--call", "7/99", "call.script"), 6, "rohctl: links.toml: nothing to show: it has no link 7"),
+    ((*EXPLAIN, "--call", "1/9", "call.script"), 6, "rohctl: call.script: nothing to show: no packet of link 1, CID 9"),
+    ((*EXPLAIN, "--line", "999999", "call.script"), 6, "rohctl: call.script: nothing to show: there is no line 999999; the last line is 7"),
+    ((*EXPLAIN, "--line", "5", "call.script"), 6, "rohctl: call.script: nothing to show: line 5 is not an arrival"),
+    ((*EXPLAIN, "links.toml"), 6,
+     "rohctl: links.toml: nothing to show: none of 15 lines is an event; expected a script, with lines such as 'arrive 1 0 fc00b745aa'"),
+    ((*EXPLAIN, "rohc.pcap"), 6, "rohctl: rohc.pcap: nothing to show: it is a capture; expected a script ('rohctl script' makes one of it)"),
+    ((*EXPLAIN, "empty"), 6, "rohctl: empty: nothing to show: it is empty"),
+    ((*EXPLAIN, "carriage.script"), 6, f"rohctl: carriage.script: nothing to show: {CARRIAGE}"),
+    (("trace", "--links", "links.toml", "carriage.script"), 1, "rohctl: carriage.script: lines end with a carriage return; remove it: tr -d '\\r'"),
+    (("report", "--links", "links.toml", "-o", "new", "carriage.script"), 6, f"rohctl: carriage.script: nothing to show: {CARRIAGE}"),
+    (("report", "--links", "links.toml", "rohc.pcap"), 2, RULES),
+    (("report", "--links", "links.toml", "-o", "links.toml", "call.script"), 2, f"rohctl: links.toml: {OVER_LINKS}"),
+    (("report", "--links", "links.toml", "-o", "hard", "call.script"), 2, f"rohctl: hard: {OVER_SCRIPT}"),
+    (("report", "--links", "links.toml", "-o", "nothing/page", "call.script"), 4, f"rohctl: nothing/page: cannot write to it: {MISSING}"),
+    (("script",), 2, RULES),
+    (("script", "--port", "x", "rohc.pcap"), 2, f"rohctl: --port x: {PORT_WORD}"),
+    (("script", "--back", "call.script", "new"), 2, "rohctl: --port is missing; expected with --back the port of the datagrams, 0 to 65535"),
+    (("script", "--back", "--port", "1", "call.script", "soft"), 2, f"rohctl: soft: {OVER_SCRIPT}"),
+    (("script", *LINK_1, "--from", "me", "rohc.pcap", "new"), 2,
+     "rohctl: --from me: expected an Ethernet address, as 02:00:00:00:00:01, or an IPv4 address, as 10.0.0.1"),
+    (("script", *LINK_1, "--lines", "rohc.pcap", "rohc.pcap", "new"), 2, f"rohctl: rohc.pcap: {OVER_CAPTURE}"),
+    (("script", *LINK_1, "call.script", "new"), 4, "rohctl: call.script: cannot read the capture on: octet 0: NotACapture"),
+    (DECOMPRESS, 2, RULES),
+    ((*DECOMPRESS, "--port", "70000"), 2, f"rohctl: --port 70000: {PORT_WORD}"),
+    ((*DECOMPRESS, "--vlan", "5"), 2, f"rohctl: --vlan 5: {VLAN_WORD}"),
+    ((*DECOMPRESS, *LINK_1, "rohc.pcap", "rohc.pcap"), 2, f"rohctl: rohc.pcap: {OVER_CAPTURE}"),
+    ((*DECOMPRESS, *LINK_1, "rohc.pcap", "links.toml"), 2, f"rohctl: links.toml: {OVER_LINKS}"),
+    ((*DECOMPRESS, *LINK_1, "--feedback", "./rohc.pcap", "rohc.pcap", "new"), 2, f"rohctl: ./rohc.pcap: {OVER_CAPTURE}"),
+    ((*DECOMPRESS, *LINK_1, "--feedback", "new", "rohc.pcap", "new"), 2, "rohctl: new: two outputs have this name; name another file"),
+    ((*DECOMPRESS, "--link", "9", "rohc.pcap", "new"), 6, "rohctl: links.toml: nothing to show: it has no link 9"),
+    ((*DECOMPRESS, "--vlan", "5=1", "rohc.pcap", "new"), 6, f"rohctl: rohc.pcap: {NO_FRAME}, EtherType 0x22f1, ROHC; pass --link LINK"),
+    ((*DECOMPRESS, *LINK_1, "arp.pcap", "new"), 6,
+     f"rohctl: arp.pcap: {NO_FRAME}, EtherType 0x0806, neither ROHC nor IPv4; expected EtherType 0x22f1, or UDP over IPv4 with --port"),
+    ((*DECOMPRESS, *LINK_1, "udp.pcap", "new"), 6,
+     f"rohctl: udp.pcap: {NO_FRAME}, EtherType 0x0800, UDP to port 5000; pass --port 5000=LINK if it carries ROHC"),
+)
+FEWEST = 50
+
+# What waits for words on a terminal says what is missing.
+WAITING = (
+    (("totals",), "ANSWERS"),
+    (("trace", "--links", "links.toml"), "SCRIPT"),
+    (("explain", "--links", "links.toml"), "SCRIPT"),
+    (("report", "--links", "links.toml"), "INPUT"),
+    (("script", *LINK_1), "IN"),
+    ((*DECOMPRESS, *LINK_1), "IN"),
+)
+
+
+def capture(frame: bytes) -> bytes:
+    """A capture of one frame."""
+    return HEAD + struct.pack(">IIII", 1, 0, len(frame), len(frame)) + frame
+
+
+def prepared(trial: Trial) -> Path:
+    """A folder with the files that the calls name."""
+    folder = trial.scratch / "wrong"
+    links, script = (trial.top / LINKS).read_text(), (trial.top / PLAIN).read_bytes()
+    for name, text in (
+        ("links.toml", links),
+        ("near.toml", links.replace("k1 =", "k_1 =")),
+        ("one.toml", links.replace("[[link]]", "[link]")),
+        ("bare.toml", links.replace('"O"', "O")),
+        ("twice.toml", links + "k1 = 2\n"),
+        ("long.toml", "#" * 1_048_577),
+        ("latin.toml", b"# \xe9\n"),
+        ("empty", b""),
+        ("call.script", script),
+        ("carriage.script", script.replace(b"\n", b"\r\n")),
+        ("rohc.pcap", capture(ROHC_FRAME)),
+        ("arp.pcap", capture(ARP_FRAME)),
+        ("udp.pcap", capture(DATAGRAM)),
+    ):
+        trial.write(f"wrong/{name}", text)
+    for name, link in (("hard", os.link), ("soft", os.symlink)):
+        if not (folder / name).exists():
+            link(folder / "call.script", folder / name)
+    return folder
+
+
+def texts(folder: Path) -> dict[str, bytes]:
+    """The files that the calls may not change."""
+    return {file.name: file.read_bytes() for file in sorted(folder.iterdir()) if file.name != "new"}
+
+
+def check_table(trial: Trial, folder: Path) -> None:
+    """Each wrong call, and that no input changed."""
+    trial.demand(len(WRONG) >= FEWEST, f"{len(WRONG)} wrong calls; wanted at least {FEWEST}")
+    before = texts(folder)
+    for words, status, said in WRONG:
+        ended = run(Call((trial.top / PROGRAM, *words), b"", {}, folder))
+        fits = ended.said.startswith(said) if said.startswith("error: ") else ended.said == said
+        trial.demand(ended.status == status and fits, f"rohctl {' '.join(words)}: {ended.end()}; wanted {status}, {said}", ended.call)
+    after = texts(folder)
+    changed = {name for name in before if after.get(name) != before[name]}
+    trial.demand(not changed, f"inputs that changed: {changed}")
+
+
+def check_terminals(trial: Trial, folder: Path) -> None:
+    """On a terminal a missing word is asked for, and a capture isn't written."""
+    ours, theirs = pty.openpty()
+    for words, word in WAITING:
+        done = subprocess.run([trial.top / PROGRAM, *words], stdin=theirs, capture_output=True, cwd=folder, timeout=60)
+        said = f"rohctl: {word} is missing; expected a file, - to type it here, or a pipe on standard input\n"
+        trial.demand((done.returncode, done.stderr.decode()) == (2, said), f"on a terminal: {words}: {done}")
+    for words in ((*DECOMPRESS, *LINK_1, "rohc.pcap"), ("script", "--back", "--port", "1", "call.script")):
+        done = subprocess.run([trial.top / PROGRAM, *words], stdin=subprocess.DEVNULL, stdout=theirs, stderr=subprocess.PIPE, cwd=folder)
+        said = b"rohctl: refusing to write a capture to a terminal; name a file, or pipe it into another program\n"
+        trial.demand((done.returncode, done.stderr) == (2, said), f"a capture to a terminal: {words}: {done}")
+    os.close(theirs)
+    os.close(ours)
+
+
+def check_reader(trial: Trial, folder: Path) -> None:
+    """A reader that goes away ends the program silently; a full device does not."""
+    lines = "".join(f"arrive 1 {20 * place} fc00b745aa\n" for place in range(2_000))
+    trial.write("wrong/many.script", lines)
+    for words in (("trace", "--links", "links.toml", "many.script"), ("explain", "--links", "links.toml", "many.script"), ("report", "--links", "links.toml", "many.script"),
+                  ("script", "--back", "--port", "1", "many.script"), ("--help",)):
+        shut, out = os.pipe()
+        os.close(shut)
+        done = subprocess.run([trial.top / PROGRAM, *words], stdout=out, stderr=subprocess.PIPE, cwd=folder)
+        os.close(out)
+        trial.demand((done.returncode, done.stderr) == (0, b""), f"a closed pipe: {words}: {done}")
+        with open("/dev/full", "wb") as full:
+            done = subprocess.run([trial.top / PROGRAM, *words], stdout=full, stderr=subprocess.PIPE, cwd=folder)
+        said = b"rohctl: standard output: cannot write to it: no space left on the device\n"
+        trial.demand((done.returncode, done.stderr) == (4, said), f"a full device: {words}: {done}")
+
+
+def check(trial: Trial) -> None:
+    """All of it."""
+    folder = prepared(trial)
+    check_table(trial, folder)
+    check_terminals(trial, folder)
+    check_reader(trial, folder)
