@@ -30,6 +30,8 @@ ABBREVIATION = re.compile(r"[A-Z]{2}")
 MOST_REQUESTS = 1000
 # A refusal's sentence, and behind it what usually causes it, with a section of an RFC or a document of this repository.
 TELLING = re.compile(r"^answer: refused (\w+): (.*)\nusual cause: .* \((?:RFC \d+ [\d.]+|docs/\w+\.md[^()]*|man [\w.-]+)\)$", re.MULTILINE)
+# One packet in the forms in which people have it.
+FORMS = (("FC00B745AA",), ("fc00b745aa",), ("fc 00 b7 45 aa",), ("fc", "00", "b7", "45", "aa"), ("0xfc00b745aa",), ("0XFC", "0x00", "b745aa"), ("FC:00:B7:45:AA",))
 # A call of a worked example that falls twice: k1 = 2 of n1 = 3 failures, then k2 = 2 of n2 = 3, and behind that a
 # STATIC-NACK at 70 and one at 1070, static_nack_ms being 1000. The IR has SN 1 and arrives at 0.
 FALLING = (
@@ -172,6 +174,16 @@ def check_expected(trial: Trial) -> None:
     trial.same("what is expected", "\n".join(wanted for _, wanted in FALLING), "\n".join(found), ended.call)
 
 
+def check_forms(trial: Trial) -> None:
+    """Packets as words of the command line."""
+    for words in FORMS:
+        given = explain(trial, "--brief", "--links", LINKS, "--link", "1", *words)
+        trial.same(f"the packet {words}", "1 1 0 IR delivered\n", given.text, given.call)
+    for words in (("fc00b745aa,45ab",), ("fc", "00", "b7", "45", "aa,", "45", "ab")):
+        given = explain(trial, "--brief", "--links", LINKS, "--link", "1", *words)
+        trial.same(f"the packets {words}", "1 1 0 IR delivered\n2 1 0 Normal delivered\n", given.text, given.call)
+
+
 def check(trial: Trial) -> None:
     """All scripts, a brief telling, one line, one call, given packets, and hostile lines."""
     check_scripts(trial)
@@ -189,8 +201,7 @@ def check(trial: Trial) -> None:
     trial.demand(expired.text.endswith("accepted next: only an IR\n\n"), f"what is taken next by an expired context: {expired.text[-60:]!r}", expired.call)
     call = explain(trial, "--brief", "--links", LINKS, "--call", "1/0", PLAIN)
     trial.demand(call.text.count("\n") == 4, "not the four packets of the call", call.call)
-    given = explain(trial, "--brief", "--links", LINKS, "--link", "1", "fc00b745aa,45ab")
-    trial.same("given packets", "1 1 0 IR delivered\n2 1 0 Normal delivered\n", given.text, given.call)
+    check_forms(trial)
     for form in ((), ("--json",), ("--brief",)):
         hostile = explain(trial, *form, "--links", LINKS, given=HOSTILE)
         trial.demand(hostile.output.isascii() and b"\x1b" not in hostile.output and b"\x07" not in hostile.output, "an octet of the script is shown", hostile.call)

@@ -20,7 +20,7 @@ ARP_FRAME = bytes.fromhex("020000000001" "020000000002" "0806") + bytes(28)
 DATAGRAM = bytes.fromhex("020000000001" "020000000002" "0800" "4500002000004000401100007f0000017f000001" "13881388000c0000" "45aa0000")
 
 RULES = "rohctl: --link, --vlan or --port is missing; expected the link of the capture's frames, as --link 1, --vlan 5=1 or --port 5000=1"
-PACKET = "expected two hexadecimal digits for each octet, as fc00b745aa or \"fc 00 b7 45 aa\""
+PACKET = "expected two hexadecimal digits for each octet, as fc00b745aa or fc 00 b7 45 aa"
 CALL_WORD = "expected LINK/CID, as 1/0"
 VLAN_WORD = "expected VLAN=LINK, as 5=1: a VLAN from 0 to 4095, a link from 0 to 65535"
 PORT_WORD = "expected PORT or PORT=LINK, as 5000=1: each from 0 to 65535"
@@ -78,6 +78,9 @@ WRONG: tuple[tuple[tuple[str, ...], int, str], ...] = (
     ((*EXPLAIN, *LINK_1), 2, "rohctl: packet is missing; expected with --link hexadecimal digits, as fc00b745aa"),
     ((*EXPLAIN, *LINK_1, "fc0"), 2, f"rohctl: the packet has 3 digits; {PACKET}"),
     ((*EXPLAIN, *LINK_1, "hello"), 2, f"rohctl: the packet has 'h'; {PACKET}"),
+    ((*EXPLAIN, *LINK_1, "fc", "00", "b"), 2, f"rohctl: the packet has 5 digits; {PACKET}"),
+    ((*EXPLAIN, *LINK_1, "fc", "00", "call.script"), 2, f"rohctl: the packet has 'l'; {PACKET}"),
+    ((*EXPLAIN, "fc", "00"), 2, "rohctl: SCRIPT 00: expected one script; packets in hexadecimal digits need --link"),
     ((*EXPLAIN, *LINK_1, ""), 2, f"rohctl: the packet has no digits; {PACKET}"),
     ((*EXPLAIN, "--link", "7", "45ab"), 6, "rohctl: links.toml: nothing to show: it has no link 7"),
     ((*EXPLAIN, "--call", "7/99", "call.script"), 6, "rohctl: links.toml: nothing to show: it has no link 7"),

@@ -12,12 +12,12 @@ pub enum Telling {
 }
 
 /// Where the packets stand.
-#[derive(Clone, Copy)]
+#[derive(Drop)]
 pub enum Source<'a> {
     /// In the script of this file; `-` is standard input.
     Script(&'a str),
-    /// In this word, with commas between them; all are packets of the link.
-    Word { link: u16, packets: &'a str },
+    /// In this text, with commas between them; all are packets of the link.
+    Text { link: u16, packets: String },
 }
 
 /// Which packets of a script are told.
@@ -32,7 +32,7 @@ pub enum Which {
 }
 
 /// What is asked of `explain`.
-#[derive(Clone, Copy)]
+#[derive(Drop)]
 pub struct Asked<'a> {
     /// The links file.
     pub links: &'a str,

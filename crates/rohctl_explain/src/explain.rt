@@ -135,10 +135,10 @@ fn step_of(concentrator: &Concentrator, link: u16) -> Option<u64> {
 }
 
 /// Has packets taken that are given as digits.
-fn take_word<'a, W: Write + Drop>(
+fn take_text<'a, W: Write + Drop>(
     links: &'a str,
     link: u16,
-    packets: &'a str,
+    packets: &str,
     run: &mut Run<W>,
 ) -> Result<(), Ending<'a>> {
     let Some(step) = step_of(&run.concentrator, link) else {
@@ -187,8 +187,8 @@ where
     {
         return Err(Ending::Nothing(asked.links, Nothing::NoLink(link)));
     }
-    match asked.source {
-        Source::Word { link, packets } => take_word(asked.links, link, packets, run),
+    match &asked.source {
+        Source::Text { link, packets } => take_text(asked.links, *link, packets.as_str(), run),
         Source::Script(path) => take_script(rt, path, screen, run),
     }
 }

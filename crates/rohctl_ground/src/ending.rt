@@ -168,7 +168,7 @@ fn output_name(path: &str) -> &str {
 }
 
 /// What a packet may be given as.
-const PACKET: &str = "two hexadecimal digits for each octet, as fc00b745aa or \"fc 00 b7 45 aa\"";
+const PACKET: &str = "two hexadecimal digits for each octet, as fc00b745aa or fc 00 b7 45 aa";
 
 /// Writes why a word is no packet.
 fn write_packet<W: fmt::Write>(f: &mut fmt::Formatter<W>, fault: HexFault) -> fmt::Result {

@@ -14,12 +14,13 @@ use rohctl_ground::{Ending, Misuse, Screen, unprinted};
 use rohctl_links::{AskedWindow, Plan, Spread};
 use rohctl_report::Asked as Report;
 use rohctl_words::command;
+use std::alloc::Global;
 
 /// The most processes over which links are spread.
 const MOST_PROCESSES: u16 = 256;
 
 /// What the command line asks for.
-#[derive(Clone, Copy)]
+#[derive(Drop)]
 pub(crate) enum Request<'a> {
     /// Count answer lines.
     Totals(Totals<'a>),
@@ -237,6 +238,7 @@ fn control_of<'a>(name: &str, options: &ArgMatches<'a>) -> Result<Request<'a>, E
 
 /// The request of a subcommand. `is_terminal` is whether standard input is one.
 fn named<'a>(
+    alloc: Global,
     name: &str,
     options: &ArgMatches<'a>,
     is_terminal: bool,
@@ -245,7 +247,7 @@ fn named<'a>(
         "totals" => totals_of(options, is_terminal),
         "links" => links_of(options),
         "diff" => diff_of(options),
-        "explain" => explain_of(options, is_terminal).map(|asked| Request::Explain(asked)),
+        "explain" => Ok(Request::Explain(explain_of(alloc, options, is_terminal)?)),
         "plan" => plan_of(options),
         "script" => script_of(options, is_terminal).map(|asked| Request::Script(asked)),
         "decompress" => {
@@ -272,6 +274,7 @@ fn coloured<'a>(options: &ArgMatches<'a>, screen: Screen) -> Result<Screen, Endi
 
 /// The request in the words that were matched, and the screen with the colours that are asked for.
 fn asked_for<'a>(
+    alloc: Global,
     matches: &ArgMatches<'a>,
     screen: Screen,
 ) -> Result<(Request<'a>, Screen), Ending<'a>> {
@@ -282,7 +285,7 @@ fn asked_for<'a>(
         }));
     };
     let screen = coloured(options, screen)?;
-    Ok((named(name, options, screen.input)?, screen))
+    Ok((named(alloc, name, options, screen.input)?, screen))
 }
 
 /// Reads the request from the words of the command line. Help, the version and what is wrong with the words are
@@ -296,7 +299,7 @@ pub(crate) fn read_request<'a, R: Print + Eprint + AllocGlobal>(
         return Err(Ending::Memory);
     };
     match command.try_get_matches_from(words) {
-        Ok(matches) => asked_for(&matches, screen),
+        Ok(matches) => asked_for(rt.alloc(), &matches, screen),
         Err(error) if error.kind() == ErrorKind::OutOfMemory => Err(Ending::Memory),
         Err(error) => {
             let ending = if error.exit_code() == 0 {

@@ -4,6 +4,7 @@ use crate::words_in::{call_in, input_of, link_number, value_of, wrong_value};
 use clap::ArgMatches;
 use rohctl_explain::{Asked, Source, Telling, Which};
 use rohctl_ground::{Ending, Misuse};
+use std::alloc::Global;
 
 /// The packets that are told.
 fn which_of<'a>(options: &ArgMatches<'a>) -> Result<Which, Ending<'a>> {
@@ -20,23 +21,43 @@ fn which_of<'a>(options: &ArgMatches<'a>) -> Result<Which, Ending<'a>> {
     Ok(Which::Call { link, cid })
 }
 
+/// The path of the script. Only packets may have more than one word.
+fn script_of<'a>(options: &ArgMatches<'a>, is_terminal: bool) -> Result<&'a str, Ending<'a>> {
+    if let Some([_, second, ..]) = options.get_strs("SCRIPT") {
+        return Err(wrong_value(
+            "SCRIPT",
+            second,
+            "one script; packets in hexadecimal digits need --link",
+        ));
+    }
+    input_of(options, "SCRIPT", is_terminal)
+}
+
 /// Where the packets stand.
-fn source_of<'a>(options: &ArgMatches<'a>, is_terminal: bool) -> Result<Source<'a>, Ending<'a>> {
+fn source_of<'a>(
+    alloc: Global,
+    options: &ArgMatches<'a>,
+    is_terminal: bool,
+) -> Result<Source<'a>, Ending<'a>> {
     let Some(link) = options.get_str("link") else {
-        return Ok(Source::Script(input_of(options, "SCRIPT", is_terminal)?));
+        return Ok(Source::Script(script_of(options, is_terminal)?));
     };
     let link = link_number("--link", link)?;
-    match options.get_str("SCRIPT") {
-        Some(packets) => Ok(Source::Word { link, packets }),
-        None => Err(Ending::Misuse(Misuse::Missing {
+    let Some(words) = options.get_strs("SCRIPT") else {
+        return Err(Ending::Misuse(Misuse::Missing {
             word: "packet",
             expected: "with --link hexadecimal digits, as fc00b745aa",
-        })),
+        }));
+    };
+    match words.join(alloc, " ") {
+        Ok(packets) => Ok(Source::Text { link, packets }),
+        Err(_) => Err(Ending::Memory),
     }
 }
 
 /// What is asked of `explain`.
 pub(crate) fn explain_of<'a>(
+    alloc: Global,
     options: &ArgMatches<'a>,
     is_terminal: bool,
 ) -> Result<Asked<'a>, Ending<'a>> {
@@ -49,7 +70,7 @@ pub(crate) fn explain_of<'a>(
     };
     Ok(Asked {
         links: value_of(options, "links")?,
-        source: source_of(options, is_terminal)?,
+        source: source_of(alloc, options, is_terminal)?,
         which: which_of(options)?,
         telling,
     })

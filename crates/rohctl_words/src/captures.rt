@@ -1,6 +1,6 @@
 //! The subcommands that read packets: `decompress`, `script`, `report` and `explain`.
 
-use crate::options::{Given, Word, argument, flag, subcommand, valued, with_words};
+use crate::options::{Given, Word, argument, arguments, flag, subcommand, valued, with_words};
 use clap::Command;
 use std::alloc::AllocError;
 
@@ -117,16 +117,16 @@ pub(crate) fn explain_words<'a>(given: Given<'_>) -> Result<Command<'a>, AllocEr
         "Decode each packet: its fields, context, attempts, result and likely cause",
         &[
             valued("links", "FILE", "The links file").required(),
-            argument(
+            arguments(
                 "SCRIPT",
-                "The script, - or none for standard input; with --link packets in hexadecimal digits",
+                "The script; - or none is standard input; with --link packets in hexadecimal digits",
             ),
             valued("line", "N", "Show only the packet in this line").without("call"),
             valued("call", "L/C", "Show only the packets of this link and CID"),
             valued(
                 "link",
                 "L",
-                "The link of packets given in hexadecimal digits",
+                "The link of packets given in hexadecimal digits, as fc 00 b7 45 aa",
             )
             .without("line"),
             flag("brief", "Write one line per packet"),

@@ -12,6 +12,8 @@ enum Form {
     Valued(&'static str),
     /// An argument by its place.
     Argument,
+    /// One or more arguments by their place.
+    Arguments,
 }
 
 /// Whether a word has to be given.
@@ -76,6 +78,11 @@ pub(crate) fn argument(name: &'static str, help: &'static str) -> Word {
     bare(name, Form::Argument, help)
 }
 
+/// One or more arguments.
+pub(crate) fn arguments(name: &'static str, help: &'static str) -> Word {
+    bare(name, Form::Arguments, help)
+}
+
 impl Word {
     /// With a letter for short.
     pub(crate) fn or_letter(self, letter: char) -> Word {
@@ -132,6 +139,7 @@ impl Word {
             Form::Flag => arg.long(self.name).action(ArgAction::SetTrue),
             Form::Valued(value) => arg.long(self.name).value_name(value).action(ArgAction::Set),
             Form::Argument => arg,
+            Form::Arguments => arg.num_args(1..),
         }
     }
 
