@@ -34,4 +34,4 @@ complete -c rohctl -l other -r -F -n "__fish_seen_subcommand_from script" -d 'Wr
 complete -c rohctl -l lines -r -F -n "__fish_seen_subcommand_from script" -d 'List the frame of each line'
 complete -c rohctl -l back -n "__fish_seen_subcommand_from script" -d 'Convert a script into a capture'
 complete -c rohctl -s o -l output -r -F -n "__fish_seen_subcommand_from report" -d 'The page to write'
-complete -c rohctl -l color -x -a 'auto always never' -n "__fish_seen_subcommand_from $commands" -d 'Use colors'
+complete -c rohctl -l color -x -a 'auto always never' -d 'Use colors'

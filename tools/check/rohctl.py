@@ -75,6 +75,10 @@ COMPLETIONS = (
     ("--color --feedback --link --links --padded --pcapng --port --stats --vlan", ("decompress", "--")),
     ("--color --link --links --output --port --vlan", ("report", "--")),
     ("always auto never", ("status", "--color", "")),
+    ("always auto never", ("--color", "")),
+    ("--color", ("--",)),
+    ("totals", ("--color", "never", "to")),
+    ("--color --json --new", ("--color", "never", "links", "--")),
     ("--links", ("trace", "--l")),
     ("--line --link --links", ("explain", "--li")),
     ("links.toml", ("trace", "--links", "li")),
@@ -246,6 +250,12 @@ def check_colour(trial: Trial) -> None:
     trial.demand(b"\x1b[31m" in on_terminal(trial, {"NO_COLOR": "1"}, "--color", "always"), "--color always: no colour")
     ended = call(trial, "totals", "--color", "always", f"{PLAIN}.answers")
     trial.demand(ended.output.count(b"\x1b[31m") == 1, "--color always: no colour in a pipe", ended.call)
+    for own, colours in ((), 1), (("--color", "never"), 0):
+        ended = call(trial, "--color", "always", "totals", *own, f"{PLAIN}.answers")
+        trial.demand(ended.output.count(b"\x1b[31m") == colours, f"--color always before totals {own}: not {colours} colours", ended.call)
+    for name in COMPLETIONS[0][0].split():
+        ended = call(trial, "--color", "never", name, "--help")
+        trial.demand(ended.status == 0 and "--color" in ended.text, f"--color before {name}: {ended.end()}", ended.call)
 
 
 def read_until(terminal: int, mark: bytes) -> bytes:

@@ -46,6 +46,7 @@ WRONG: tuple[tuple[tuple[str, ...], int, str], ...] = (
     (("diff", "a"), 2, "error: the following required arguments were not provided:\n  <B>"),
     (("stop",), 2, "error: the following required arguments were not provided:\n  --control <SOCKET>"),
     (("totals", "--color", "red"), 2, "rohctl: --color red: expected auto, always or never"),
+    (("--color", "red", "totals"), 2, "rohctl: --color red: expected auto, always or never"),
     (("totals", "nothing"), 4, f"rohctl: nothing: cannot read it: {MISSING}"),
     (("totals", "."), 4, "rohctl: .: cannot read it: it is a directory"),
     (("totals", "links.toml/x"), 4, "rohctl: links.toml/x: cannot read it: a part of the path is not a directory"),

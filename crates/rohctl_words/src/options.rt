@@ -204,9 +204,13 @@ pub(crate) fn with_words<'a>(
     Ok(command)
 }
 
-/// The option that says whether colours are wanted.
-fn color() -> Word {
-    valued("color", "WHEN", "Use colors: auto, always or never").otherwise("auto")
+/// The place of an option behind those of a subcommand, in its help.
+const BEHIND_OTHERS: usize = 99;
+
+/// The option that says whether colours are wanted, before a subcommand or after it.
+pub(crate) fn color<'a>(alloc: Global) -> Result<Arg<'a>, AllocError> {
+    let word = valued("color", "WHEN", "Use colors: auto, always or never").otherwise("auto");
+    Ok(word.arg(alloc)?.global(true).display_order(BEHIND_OTHERS))
 }
 
 /// A subcommand with these words, if it is named.
@@ -216,6 +220,5 @@ pub(crate) fn subcommand<'a>(
     about: &'static str,
     words: &[Word],
 ) -> Result<Command<'a>, AllocError> {
-    let command = with_words(given, Command::new(given.alloc, name).about(about), words)?;
-    with_words(given, command, &[color()])
+    with_words(given, Command::new(given.alloc, name).about(about), words)
 }

@@ -2,7 +2,7 @@
 
 use crate::captures::{decompress_words, explain_words, report_words, script_words};
 use crate::gateway::with_gateway;
-use crate::options::{Given, argument, flag, subcommand, valued};
+use crate::options::{Given, argument, color, flag, subcommand, valued};
 use clap::Command;
 use std::alloc::{AllocError, Global};
 
@@ -187,8 +187,9 @@ fn words_of<'a>(given: Given<'_>, name: Name) -> Result<Command<'a>, AllocError>
 /// The parser of the command line, without its subcommands.
 fn program<'a>(alloc: Global) -> Result<Command<'a>, AllocError> {
     let named = Command::new(alloc, "rohctl").bin_name("rohctl")?;
+    let coloured = named.arg(color(alloc)?)?;
     Ok(
-        named
+        coloured
             .version("1.0.0")
             .about("Diagnose ROHC links: calls, packets, captures and a running gateway")
             .no_binary_name(true)
