@@ -31,7 +31,6 @@ KILLS = 20
 SLOW = 40
 WATCHED = 100
 FLOOD = 200_000
-UNSAVED = "the gateway continues, and the file of the last save stays"
 
 # What is no good request, and the status of its answer; 0 if the connection ends without one.
 REQUESTS = (
@@ -340,7 +339,7 @@ def check_full(trial: Trial) -> None:
         trial.demand(receivers.wait({"deliver": 15}), "full: no packets")
         for path in ("/save", "/stop"):
             told = gateway.ask("POST", path)
-            wanted = {"fault": "Save", "text": f"{gateway.folder}/calls.new: File too large (os error 27); {UNSAVED}"}
+            wanted = {"fault": "Save", "text": f"{gateway.folder}/calls.new: File too large (os error 27); {gateway_wrong.UNSAVED}"}
             trial.demand((told.status, told.json) == (500, wanted), f"full: {path}: {told}")
             trial.demand(f"<3>rohc-gateway: save failed: {wanted['text']}" in gateway.said, f"full: {path}: {gateway.said}")
         trial.demand((gateway.folder / "calls").read_bytes() == saved, "full: the last good file is gone")

@@ -5,14 +5,16 @@ status 1, and by `run` with status 3 on standard error.
 """
 
 import os
-import shutil
 import socket
+import subprocess
 import threading
+import time
 from collections.abc import Callable, Iterator, Sequence
 from contextlib import contextmanager
 from pathlib import Path
 
 from gateway_run import LOOPBACK, PROGRAM, Gateway, Receivers, bound
+from nobody import as_nobody
 from program import Call, Ended, Word, run
 from trial import Trial
 
@@ -43,6 +45,7 @@ NO_LINKS_FILE = f"no such file or folder; {READABLE}"
 A_GATEWAY_FILE = "expected a gateway file that this user can read (man rohc-gateway)"
 KEYS = "links, port, timed_port, state, save_seconds, control, metrics_port"
 OWN = "expected a path of its own"
+WRITABLE = "expected a path in a folder that this user may write"
 WHOLE = "expected a state file of this version, whole (run --fresh starts without it)"
 LONG = "/" + "a" * 103
 
@@ -168,6 +171,16 @@ OPTIONS: tuple[tuple[tuple[str, ...], str], ...] = (
     (("--links", "none.toml"), f"none.toml: {NO_LINKS_FILE}"),
 )
 
+# What another user may not read or write: shut.toml and calls have the mode 000, the folder shut 555.
+FORBIDDEN: tuple[tuple[tuple[str, ...], int, str], ...] = (
+    (("check", "DIR/shut.toml"), 1, f"DIR/shut.toml: permission denied; {A_GATEWAY_FILE}"),
+    (("check", "--links", "DIR/shut.toml", "FILE"), 1, f"DIR/shut.toml: permission denied; {READABLE}"),
+    (("check", "--state", "DIR/calls", "FILE"), 1, "DIR/calls: permission denied; expected a state file that this user can read, or none"),
+    (("run", "DIR/shut.toml"), 3, f"{LEVEL}DIR/shut.toml: permission denied; {A_GATEWAY_FILE}"),
+    (("run", "--links", "DIR/shut.toml", "FILE"), 3, f"{LEVEL}DIR/shut.toml: permission denied; {READABLE}"),
+    (("run", "--control", "DIR/shut/control", "FILE"), 4, f"{LEVEL}control: DIR/shut/control: permission denied; {WRITABLE}"),
+)  # fmt: skip
+
 RUNS = "expected the control socket of a gateway that runs (systemctl status rohc-gateway@NAME)"
 # What stands at a control socket's path, and what rohctl says of it.
 CONTROLS: tuple[tuple[str, str], ...] = (
@@ -187,6 +200,7 @@ REFUSED: tuple[tuple[tuple[str, ...], str], ...] = (
     (("contexts", "--link", "999"), "link 999 is not in the links file"),
     (("watch", "999/0"), "link 999 is not in the links file"),
 )
+UNSAVED = "the gateway continues, and the file of the last save stays"
 CONTINUES = "the gateway continues with the old links; its next start will refuse this file"
 
 
@@ -246,21 +260,44 @@ def check_files(trial: Trial) -> None:
         told = trial.ran(program, "run", file)
         line = f"{LEVEL}{file}: {why}; {A_GATEWAY_FILE}"
         trial.demand((told.status, told.said) == (3, line), f"{told.end()}; wanted {line}", told.call)
-    check_forbidden(trial, folder)
 
 
-def check_forbidden(trial: Trial, folder: Path) -> None:
-    """A links file that another user may not read."""
-    if os.geteuid() != 0 or not shutil.which("setpriv"):
-        trial.leave_out("setpriv and root are not there, so no file was forbidden")
+def check_forbidden(trial: Trial) -> None:
+    """Files that another user may not read, and a folder that it may not write."""
+    words_before = as_nobody(trial, trial.top / PROGRAM)
+    if not words_before:
         return
-    trial.write("wrong/links.toml", LINKS).chmod(0o600)
-    trial.scratch.chmod(0o755)
-    program = trial.write("wrong/program", (trial.top / PROGRAM).read_bytes())
-    program.chmod(0o755)
-    told = trial.ran("setpriv", "--reuid", "65534", "--clear-groups", program, "check", folder / "gateway.toml")
-    line = placed(f"DIR/links.toml: permission denied; {READABLE}\n", folder)
-    trial.demand((told.status, told.text) == (1, line), f"{told.all}; wanted {line}", told.call)
+    folder = prepare(trial, "forbidden")
+    for name in ("shut.toml", "calls"):
+        trial.write(f"forbidden/{name}", LINKS).chmod(0)
+    (folder / "shut").mkdir(mode=0o555, exist_ok=True)
+    for place, mode in (folder, 0o755), (folder / "links.toml", 0o644), (folder / "gateway.toml", 0o644):
+        place.chmod(mode)
+    for words, status, line in FORBIDDEN:
+        told = trial.ran(*words_before, *(placed(word, folder) for word in words), seconds=20)
+        wanted = placed(line, folder)
+        trial.demand((told.status, told.all.rstrip("\n")) == (status, wanted), f"{told.end()}; wanted {status}, {wanted}", told.call)
+    check_unsaved(trial, folder, words_before)
+    trial.demand(not list((folder / "shut").iterdir()), "a file in a folder of mode 555")
+
+
+def check_unsaved(trial: Trial, folder: Path, words_before: Sequence[Word]) -> None:
+    """A gateway whose calls can't be saved says so, and continues."""
+    with bound() as free:
+        port = str(free.getsockname()[1])
+    (folder / "open").mkdir(exist_ok=True)
+    (folder / "open").chmod(0o777)
+    words = ("run", "--port", port, "--state", "shut/calls", "--control", "open/control", "gateway.toml")
+    with subprocess.Popen((*words_before, *words), cwd=folder, stderr=subprocess.DEVNULL) as gateway:
+        end = time.monotonic() + 20
+        while not (folder / "open/control").exists() and time.monotonic() < end:
+            time.sleep(0.05)
+        for _ in range(2):
+            told = asked(trial, folder, "save", "--control", "open/control")
+            text = f"shut/calls.new: permission denied; {UNSAVED}"
+            wanted = f'{{"fault":"Save","text":"{text}"}}\n'
+            trial.demand((told.status, told.text) == (1, wanted), f"save: {told.all}; wanted {wanted}", told.call)
+        gateway.terminate()
 
 
 def check_words(trial: Trial) -> None:
@@ -300,9 +337,8 @@ def check_sockets(trial: Trial) -> None:
         free.close()
         file.write_text(f'links = "links.toml"\nport = {plain}\n')
         ends(("--metrics-port", str(port)), f"metrics_port: TCP {LOOPBACK}:{port}: {busy}")
-        hint = "expected a path in a folder that this user may write"
         for path, why in ("none/control", "no such file or folder"), ("notes/control", "a part of the path is not a folder"):
-            ends(("--control", str(folder / path)), f"control: DIR/{path}: {why}; {hint}")
+            ends(("--control", str(folder / path)), f"control: DIR/{path}: {why}; {WRITABLE}")
 
 
 def check_full(trial: Trial) -> None:
@@ -392,9 +428,10 @@ def check(trial: Trial) -> None:
     """All of it."""
     check_words(trial)
     check_files(trial)
+    check_forbidden(trial)
     check_sockets(trial)
     check_full(trial)
     check_controls(trial)
     check_reloads(trial)
-    calls = sum(map(len, (GATEWAY_FILES, LINKS_FILES, WORDS, OPTIONS, CONTROLS, REFUSED)))
+    calls = sum(map(len, (GATEWAY_FILES, LINKS_FILES, WORDS, OPTIONS, FORBIDDEN, CONTROLS, REFUSED)))
     trial.say(f"wrong: {calls} wrong calls, each answered by what is wrong and what to do")

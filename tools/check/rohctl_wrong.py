@@ -2,16 +2,20 @@
 
 import os
 import pty
+import socket
 import struct
 import subprocess
 from pathlib import Path
 
+from nobody import as_nobody
 from program import Call, run
 from trial import Trial
 
 PROGRAM = "crates/rohctl/out/rohctl"
 LINKS = "examples/links.toml"
 PLAIN = "examples/plain-call.script"
+TWO_LINKS = "examples/two-links.toml"
+TWO_HOSTS = "examples/two-hosts.toml"
 
 # A head of pcap for Ethernet frames, a frame of ROHC and one of ARP (RFC 826).
 HEAD = struct.pack(">IHHiIII", 0xA1B2C3D4, 2, 4, 0, 0, 262_144, 1)
@@ -123,6 +127,25 @@ WRONG: tuple[tuple[tuple[str, ...], int, str], ...] = (
 )
 FEWEST = 50
 
+# What another user may not read or write, and what is said then. The files shut.* have the mode 000, the folder shut 555.
+DENIED = "permission denied"
+UNREAD, UNWRITTEN = f"cannot read it: {DENIED}", f"cannot write to it: {DENIED}"
+FORBIDDEN: tuple[tuple[tuple[str, ...], int, str], ...] = (
+    (("links", "shut.toml"), 3, f"rohctl: links file shut.toml: {UNREAD}"),
+    (("trace", "--links", "shut.toml", "call.script"), 3, f"rohctl: links file shut.toml: {UNREAD}"),
+    (("plan", "--links", "shut.toml", "--split", "2"), 3, f"rohctl: links file shut.toml: {UNREAD}"),
+    (("totals", "shut.script"), 4, f"rohctl: shut.script: {UNREAD}"),
+    (("diff", "shut.script", "call.script"), 4, f"rohctl: shut.script: {UNREAD}"),
+    ((*EXPLAIN, "shut.script"), 4, f"rohctl: shut.script: {UNREAD}"),
+    ((*DECOMPRESS, *LINK_1, "shut.pcap", "new"), 4, f"rohctl: shut.pcap: {UNREAD}"),
+    (("spread", "two-links.toml", "--hosts", "shut.script"), 4, f"rohctl: shut.script: {UNREAD}"),
+    (("spread", "two-links.toml", "--hosts", "two-hosts.toml", "--out", "shut"), 4, f"rohctl: shut: {UNWRITTEN}"),
+    (("report", "--links", "links.toml", "-o", "shut/page", "call.script"), 4, f"rohctl: shut/page: {UNWRITTEN}"),
+    (("script", "--back", "--port", "1", "call.script", "shut/new"), 4, f"rohctl: shut/new: {UNWRITTEN}"),
+    ((*DECOMPRESS, *LINK_1, "rohc.pcap", "shut/new"), 4, f"rohctl: shut/new: {UNWRITTEN}"),
+    (("status", "--control", "shut.socket"), 4, f"rohctl: shut.socket: {DENIED}; expected the gateway's user or root (sudo -u USER rohctl ..)"),
+)
+
 # What waits for words on a terminal says what is missing.
 WAITING = (
     (("totals",), "ANSWERS"),
@@ -215,9 +238,47 @@ def check_reader(trial: Trial, folder: Path) -> None:
         trial.demand((done.returncode, done.stderr) == (4, said), f"a full device: {words}: {done}")
 
 
+def forbidden(trial: Trial) -> Path:
+    """A folder in which another user may do little."""
+    rohc = capture(ROHC_FRAME)
+    for name, text in (
+        ("links.toml", (trial.top / LINKS).read_bytes()),
+        ("two-links.toml", (trial.top / TWO_LINKS).read_bytes()),
+        ("two-hosts.toml", (trial.top / TWO_HOSTS).read_bytes()),
+        ("call.script", (trial.top / PLAIN).read_bytes()),
+        ("rohc.pcap", rohc),
+    ):
+        trial.write(f"forbidden/{name}", text).chmod(0o644)
+    for name in ("shut.toml", "shut.script", "shut.pcap"):
+        trial.write(f"forbidden/{name}", rohc).chmod(0)
+    folder = trial.scratch / "forbidden"
+    (folder / "shut").mkdir(mode=0o555, exist_ok=True)
+    folder.chmod(0o755)
+    return folder
+
+
+def check_forbidden(trial: Trial) -> None:
+    """Files and folders that another user may not read or write."""
+    words_before = as_nobody(trial, trial.top / PROGRAM)
+    if not words_before:
+        return
+    folder = forbidden(trial)
+    with socket.socket(socket.AF_UNIX) as gateway:
+        place = os.open(folder, os.O_RDONLY)
+        gateway.bind(f"/proc/self/fd/{place}/shut.socket")
+        os.close(place)
+        (folder / "shut.socket").chmod(0)
+        gateway.listen()
+        for words, status, said in FORBIDDEN:
+            ended = run(Call((*words_before, *words), b"", {}, folder))
+            trial.demand((ended.status, ended.said) == (status, said), f"rohctl {words} as nobody: {ended.end()}; wanted {status}, {said}", ended.call)
+    trial.demand(not list((folder / "shut").iterdir()), "a file in a folder of mode 555")
+
+
 def check(trial: Trial) -> None:
     """All of it."""
     folder = prepared(trial)
     check_table(trial, folder)
     check_terminals(trial, folder)
     check_reader(trial, folder)
+    check_forbidden(trial)
