@@ -202,9 +202,9 @@ def check_many(trial: Trial) -> None:
         trial.demand([row[0] for row in rows[: len(worst)]] == worst, "the worst calls don't come first", ended.call)
         titles = re.findall(r"Link 2, CID (\d+)", page.words)
         trial.demand(titles == [str(cid) for cid in range(min(count, MOST_DRAWN))], f"{len(titles)} calls are drawn", ended.call)
-        said = "All calls are drawn." if count <= MOST_DRAWN else f"Of {count:,} calls the {MOST_DRAWN} worst are drawn"
+        said = "All calls are drawn." if count <= MOST_DRAWN else f"The {MOST_DRAWN} worst of {count:,} calls are drawn"
         trial.demand(said in " ".join(page.words.split()), f"the page doesn't say '{said}'", ended.call)
-        told = re.findall(r"(\d+) packets explained, (\d+) left out", page.words)
+        told = re.findall(r"(\d+) packets explained, (\d+) in the middle left out", page.words)
         # The IR that is stored is notable, as the refusals are: twelve of the first and twelve of the last are told.
         trial.demand(told[:1] == [("24", str(1 + DAMAGED - 24))], f"of the worst call is told: {told[:1]}", ended.call)
         check_valid(trial, ended)

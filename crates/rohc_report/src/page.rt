@@ -60,14 +60,14 @@ fn write_head<W: Write>(alloc: Global, out: &mut W, report: &Report<'_>) -> io::
 fn write_header<W: Write>(alloc: Global, out: &mut W, report: &Report<'_>) -> io::Result<()> {
     write!(
         out,
-        "<header>\n<h1>What became of each call</h1>\n<p class=\"quiet file\">"
+        "<header>\n<h1>What happened to each call</h1>\n<p class=\"quiet file\">"
     )?;
     write_escaped(alloc, out, report.input.as_bytes())?;
     write!(out, ", with the links of ")?;
     write_escaped(alloc, out, report.links.as_bytes())?;
     write!(
         out,
-        "</p>\n<nav aria-label=\"Parts\"><a href=\"#totals\">Totals</a><a href=\"#worst\">Worst calls</a><a href=\"#all\">All calls</a></nav>\n</header>\n<main>\n"
+        "</p>\n<nav aria-label=\"Sections\"><a href=\"#totals\">Totals</a><a href=\"#worst\">Worst calls</a><a href=\"#all\">All calls</a></nav>\n</header>\n<main>\n"
     )
 }
 
@@ -88,7 +88,7 @@ fn tiles_of(report: &Report<'_>) -> [(&'static str, u64, bool); 11] {
     let calls = report.calls;
     let packets = packets_in(&calls.all).saturating_sub(calls.resets);
     let last = if report.is_capture {
-        ("Frames left out", report.frames_left_out, false)
+        ("Frames skipped", report.frames_left_out, false)
     } else {
         ("Bad lines", calls.bad, true)
     };
@@ -97,10 +97,14 @@ fn tiles_of(report: &Report<'_>) -> [(&'static str, u64, bool); 11] {
         ("Calls", report.rows.len() as u64, false),
         ("Silent calls", report.silent(), true),
         ("Delivered", outcome_in(&calls.all, 0), false),
-        ("of these repaired", calls.repaired, false),
-        ("of these late", calls.late, false),
+        ("Delivered after repair", calls.repaired, false),
+        ("Delivered late", calls.late, false),
         ("Refused", refused_in(&calls.all), true),
-        ("Stored, no packet", outcome_in(&calls.all, 31), false),
+        (
+            "Stored, no packet to deliver",
+            outcome_in(&calls.all, 31),
+            false,
+        ),
         ("Feedback sent", feedback_in(&calls.all), false),
         ("Feedback relayed", calls.all.relayed, false),
         last,
@@ -157,19 +161,18 @@ fn write_refusals<W: Write>(alloc: Global, out: &mut W, report: &Report<'_>) -> 
 /// Writes how many calls are drawn, and in which order.
 fn write_order<W: Write>(out: &mut W, report: &Report<'_>) -> io::Result<()> {
     if report.drawn.len() < report.rows.len() {
-        write!(out, "Of ")?;
+        write!(out, "The {} worst of ", report.drawn.len())?;
         write_number(out, report.rows.len() as u64)?;
         write!(
             out,
-            " calls the {} worst are drawn; the <a href=\"#all\">table</a> has all. ",
-            report.drawn.len()
+            " calls are drawn; the <a href=\"#all\">table</a> lists all. "
         )?;
     } else {
         write!(out, "All calls are drawn. ")?;
     }
     writeln!(
         out,
-        "Calls that are silent come first, then those with the most refusals. A packet that can be clicked, or reached by Tab and followed by Enter, leads to what is known of it.</p>"
+        "Silent calls come first, then those with the most refusals. To see the details of a packet, click it, or move to it with Tab and press Enter.</p>"
     )
 }
 

@@ -14,7 +14,7 @@ use std::io::Write;
 
 /// Writes what the colours mean.
 pub(crate) fn write_legend<W: Write>(out: &mut W) -> io::Result<()> {
-    writeln!(out, "<ul class=\"legend\" aria-label=\"Colours\">")?;
+    writeln!(out, "<ul class=\"legend\" aria-label=\"Colors\">")?;
     for lane in Lane::ALL {
         let (class, name) = lane.names();
         writeln!(
@@ -65,8 +65,8 @@ fn write_facts<W: Write>(out: &mut W, unit: &str, totals: &CallTotals) -> io::Re
     write!(out, " packets")?;
     let facts = [
         (totals.outcome(0), "delivered"),
-        (totals.repaired, "of these repaired"),
-        (totals.late, "of these late"),
+        (totals.repaired, "of them repaired"),
+        (totals.late, "of them late"),
         (totals.outcome(31), "stored"),
     ];
     for (number, what) in facts {
@@ -122,7 +122,7 @@ fn write_packets<W: Write>(
     if left_out > 0 {
         write!(out, ", ")?;
         write_number(out, left_out)?;
-        write!(out, " left out from the middle")?;
+        write!(out, " in the middle left out")?;
     }
     writeln!(out, "</summary>")?;
     for packet in told {

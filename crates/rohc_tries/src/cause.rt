@@ -20,13 +20,13 @@ const CAUSES: [Cause; 30] = [
     Cause {
         refusal: Refusal::Empty,
         meaning: "the packet has no octets",
-        usual: "a sender of empty datagrams",
+        usual: "the sender sends empty datagrams",
         section: "RFC 5795 5.2",
     },
     Cause {
         refusal: Refusal::FeedbackShort,
         meaning: "a feedback element is cut off",
-        usual: "damage, or a cut packet",
+        usual: "damage, or a truncated packet",
         section: "RFC 5795 5.2.4.1",
     },
     Cause {
@@ -44,43 +44,43 @@ const CAUSES: [Cause; 30] = [
     Cause {
         refusal: Refusal::ReservedType,
         meaning: "the type octet is reserved",
-        usual: "damage, or a peer of a later standard",
+        usual: "damage, or a peer that follows a later standard",
         section: "RFC 5795 5.2",
     },
     Cause {
         refusal: Refusal::AddCidOnLarge,
-        meaning: "an Add-CID octet came on a link of large CIDs",
-        usual: "cid is \"large\", and the peer uses small CIDs",
+        meaning: "the packet has an Add-CID octet, and the link has large CIDs",
+        usual: "the links file has cid = \"large\", but the peer uses small CIDs",
         section: "RFC 5795 5.1.3",
     },
     Cause {
         refusal: Refusal::LargeCid,
         meaning: "the large CID has more than two octets",
-        usual: "cid is \"large\", and the peer uses small CIDs; or damage",
+        usual: "the links file has cid = \"large\", but the peer uses small CIDs; or damage",
         section: "RFC 5795 5.3.2",
     },
     Cause {
         refusal: Refusal::CidRange,
         meaning: "the CID is above max_cid",
-        usual: "max_cid is too small; or damage",
+        usual: "max_cid is too small, or damage",
         section: "RFC 5795 5.1.2",
     },
     Cause {
         refusal: Refusal::NoHeader,
         meaning: "the packet ends before its CID is complete",
-        usual: "a packet that was cut off; or the wrong cid",
+        usual: "a truncated packet, or the wrong cid in the links file",
         section: "RFC 5795 5.2",
     },
     Cause {
         refusal: Refusal::NoContext,
-        meaning: "the CID has no context, or one that expired, and the packet is no IR",
-        usual: "the call started before this program did; the link was reset; or idle_ms passed: wait for the next IR",
+        meaning: "the CID has no context, or an expired one, and the packet is not an IR",
+        usual: "the call started before this program did, the link was reset, or idle_ms passed: wait for the next IR",
         section: "RFC 3095 5.3.2",
     },
     Cause {
         refusal: Refusal::Profile,
         meaning: "the profile is neither 0x0000 nor 0x0001, or it is 0x0000 in an IR-DYN or in an IR with a dynamic chain",
-        usual: "the compressor uses another profile; or the wrong cid",
+        usual: "the compressor uses another profile, or the links file has the wrong cid",
         section: "RFC 3095 8",
     },
     Cause {
@@ -92,7 +92,7 @@ const CAUSES: [Cause; 30] = [
     Cause {
         refusal: Refusal::Truncated,
         meaning: "the packet ends inside its header",
-        usual: "a cut packet",
+        usual: "a truncated packet",
         section: "RFC 3095 5.7",
     },
     Cause {
@@ -116,13 +116,13 @@ const CAUSES: [Cause; 30] = [
     Cause {
         refusal: Refusal::RtpVersion,
         meaning: "the RTP version isn't 2",
-        usual: "damage that the check can't see yet, or no RTP",
+        usual: "damage that no CRC has caught yet, or the call isn't RTP",
         section: "RFC 3095 5.7.7.6",
     },
     Cause {
         refusal: Refusal::Csrc,
         meaning: "there are contributing sources",
-        usual: "a mixer puts CSRCs into RTP",
+        usual: "a mixer adds CSRCs to RTP",
         section: "RFC 3095 5.8",
     },
     Cause {
@@ -134,7 +134,7 @@ const CAUSES: [Cause; 30] = [
     Cause {
         refusal: Refusal::ReliableMode,
         meaning: "the compressor asks for R mode",
-        usual: "it was set up for R mode: allow it U and O mode alone",
+        usual: "the compressor is set up for R mode: allow it only U and O mode",
         section: "RFC 3095 5.5",
     },
     Cause {
@@ -145,8 +145,8 @@ const CAUSES: [Cause; 30] = [
     },
     Cause {
         refusal: Refusal::NoStride,
-        meaning: "a scaled timestamp came while no stride is known",
-        usual: "the stride was lost with the context, or a faulty compressor",
+        meaning: "the timestamp is scaled, and no stride is known",
+        usual: "the stride was lost with the context, or the compressor is faulty",
         section: "RFC 3095 4.5.3",
     },
     Cause {
@@ -157,26 +157,26 @@ const CAUSES: [Cause; 30] = [
     },
     Cause {
         refusal: Refusal::IpIdTwice,
-        meaning: "the packet gives the IP-ID in two ways",
+        meaning: "the packet has the IP-ID twice",
         usual: "a faulty compressor, or damage",
         section: "RFC 3095 5.7.5",
     },
     Cause {
         refusal: Refusal::Trailing,
-        meaning: "an IR without a dynamic chain has octets behind its static chain",
+        meaning: "an IR without a dynamic chain has octets after its static chain",
         usual: "a faulty compressor",
         section: "RFC 3095 5.7.7.1",
     },
     Cause {
         refusal: Refusal::TooLong,
         meaning: "the rebuilt packet would have more than 65,535 octets",
-        usual: "a payload that no IP packet holds",
+        usual: "the payload is too long for an IP packet",
         section: "RFC 791 3.1",
     },
     Cause {
         refusal: Refusal::StateTooLow,
-        meaning: "the context is in a state that doesn't take this kind of packet",
-        usual: "damage or losses before it: look whether feedback reaches the compressor",
+        meaning: "the context's state doesn't accept this kind of packet",
+        usual: "earlier damage or losses: check that feedback reaches the compressor",
         section: "RFC 3095 5.3.2.2",
     },
     Cause {
@@ -187,8 +187,8 @@ const CAUSES: [Cause; 30] = [
     },
     Cause {
         refusal: Refusal::NoLink,
-        meaning: "there is no link of this number",
-        usual: "the script or the sender names another link",
+        meaning: "there is no link with this number",
+        usual: "the script or the sender has another link number",
         section: "docs/FORMATS.md",
     },
     Cause {

@@ -300,7 +300,7 @@ fn write_try<W: Write>(out: &mut W, number: usize, told: &Told) -> io::Result<()
 fn write_answer<W: Write>(out: &mut W, explained: &Explained) -> io::Result<()> {
     match explained.got {
         Got::Delivered(octets) => writeln!(out, "answer: delivered, {octets} octets")?,
-        Got::Stored => writeln!(out, "answer: stored, no packet")?,
+        Got::Stored => writeln!(out, "answer: stored, no packet to deliver")?,
         Got::OnlyFront => writeln!(out, "answer: only padding and feedback")?,
         Got::Refused(refusal) => {
             let cause = cause_of(refusal);
@@ -353,11 +353,7 @@ fn write_fields<W: Write>(out: &mut W, told: &PacketFields) -> io::Result<()> {
     if told.is_whole {
         writeln!(out, "  bit {:>4} payload", told.end)
     } else {
-        writeln!(
-            out,
-            "  bit {:>4} the fields behind it are unknown",
-            told.end
-        )
+        writeln!(out, "  bit {:>4} the fields after it are unknown", told.end)
     }
 }
 
