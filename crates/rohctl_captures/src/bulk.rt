@@ -11,7 +11,7 @@ use rohctl_ground::{
     Ending, Misuse, STREAM, Screen, Target, Told, concentrator_of, keep_apart, make_target,
     open_source, target_of,
 };
-use std::io::{self, Read, Write};
+use std::io::{self, Printer, Read, Write};
 use std::rt::Files;
 
 /// What is asked of `decompress`.
@@ -86,16 +86,54 @@ fn run_to<S: Read, F: Write + Drop, P: Write + Drop, V: Write>(
     }
 }
 
+/// The captures that are written.
+#[derive(Drop)]
+struct Outputs<F: Write + Drop, P: Write + Drop> {
+    packets: Target<F, P>,
+    feedback: Target<F, P>,
+}
+
+impl<F: Write + Drop, P: Write + Drop> Outputs<F, P> {
+    /// Flushes both. Returns whether that was done.
+    fn flush(&mut self) -> bool {
+        self.packets.flush().is_ok() && self.feedback.flush().is_ok()
+    }
+
+    /// The ending for a write of one of them that failed.
+    fn unwritten<'a>(&self, asked: &Decompress<'a>) -> Ending<'a> {
+        match asked.feedback {
+            Some(path) if self.feedback.has_failed() => self.feedback.unwritten(path),
+            _ => self.packets.unwritten(asked.output),
+        }
+    }
+}
+
+/// Makes the captures that are written. None of them may be an input.
+fn make_outputs<'r, 'a, R: Files + Print + AllocGlobal>(
+    rt: &'r R,
+    asked: &Decompress<'a>,
+) -> Result<Outputs<R::File, Printer<'r, R>>, Ending<'a>> {
+    keep_apart(
+        rt,
+        &[asked.links, asked.input],
+        &[Some(asked.output), asked.feedback],
+    )?;
+    Ok(Outputs {
+        packets: make_target(rt, asked.output)?,
+        feedback: target_of(rt, asked.feedback)?,
+    })
+}
+
 /// Runs a capture into these targets. For feedback that nobody asked for the compiler leaves out the writing.
 fn run_to_both<S: Read, F: Write + Drop, P: Write + Drop>(
     links: &mut Concentrator,
     bulk: &Bulk<'_>,
     capture: &mut Capture<S>,
-    packets: &mut Target<F, P>,
-    feedback: &mut Target<F, P>,
+    outputs: &mut Outputs<F, P>,
     tally: &mut Tally,
 ) -> Result<(), BulkFault> {
-    match feedback {
+    let packets = &mut outputs.packets;
+    match &mut outputs.feedback {
         Target::Nothing => run_to(links, bulk, capture, packets, &mut io::sink(), tally),
         asked => run_to(links, bulk, capture, packets, asked, tally),
     }
@@ -107,18 +145,6 @@ fn arrivals(tally: &Tally) -> u64 {
         .delivered
         .saturating_add(tally.refused)
         .saturating_add(tally.silent)
-}
-
-/// The ending for a write of one of these targets that failed.
-fn unwritten_end<'a, F: Write + Drop, P: Write + Drop>(
-    asked: &Decompress<'a>,
-    packets: &Target<F, P>,
-    feedback: &Target<F, P>,
-) -> Ending<'a> {
-    match asked.feedback {
-        Some(path) if feedback.has_failed() => feedback.unwritten(path),
-        _ => packets.unwritten(asked.output),
-    }
 }
 
 /// Runs the capture that is asked for.
@@ -134,26 +160,13 @@ where
     let mut links = concentrator_of(rt, asked.links)?;
     check_links(&links, asked.links, bulk.rules)?;
     let mut input = Told::new(rt, open_source(rt, asked.input)?, screen.error);
-    keep_apart(
-        rt,
-        &[asked.links, asked.input],
-        &[Some(asked.output), asked.feedback],
-    )?;
-    let mut packets = make_target(rt, asked.output)?;
-    let mut feedback = target_of(rt, asked.feedback)?;
+    let mut outputs = make_outputs(rt, asked)?;
     let mut tally = Tally::default();
     let ran = match Capture::new(rt.alloc(), &mut input) {
-        Ok(mut capture) => run_to_both(
-            &mut links,
-            bulk,
-            &mut capture,
-            &mut packets,
-            &mut feedback,
-            &mut tally,
-        ),
+        Ok(mut capture) => { run_to_both(&mut links, bulk, &mut capture, &mut outputs, &mut tally) }
         Err(fault) => Err(BulkFault::Capture(fault)),
     };
-    let flushed = packets.flush().is_ok() && feedback.flush().is_ok();
+    let flushed = outputs.flush();
     if asked.stats {
         let _ = eprintln!(rt; "{tally}");
     }
@@ -165,7 +178,7 @@ where
         Err(BulkFault::Capture(fault)) if flushed => {
             Err(capture_end(asked.input, fault, input.unread(asked.input)))
         }
-        _ => Err(unwritten_end(asked, &packets, &feedback)),
+        _ => Err(outputs.unwritten(asked)),
     }
 }
 

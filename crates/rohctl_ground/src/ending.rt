@@ -247,6 +247,16 @@ impl fmt::Display for Nothing {
     }
 }
 
+/// Writes what could not be done at a place, and why.
+fn write_at<W: fmt::Write, T: fmt::Display>(
+    f: &mut fmt::Formatter<W>,
+    place: &str,
+    what: &str,
+    why: &T,
+) -> fmt::Result {
+    write!(f, "rohctl: {place}: {what}: {why}\n")
+}
+
 impl fmt::Display for Ending<'_> {
     fn fmt<W: fmt::Write>(&self, f: &mut fmt::Formatter<W>) -> fmt::Result {
         match self {
@@ -266,29 +276,17 @@ impl fmt::Display for Ending<'_> {
             Ending::Differs => f.write_str(
                 "rohctl: internal error: rohctl and the decompressor disagree; please report this\n",
             ),
-            Ending::Capture(path, fault) => write!(
-                f,
-                "rohctl: {}: cannot read the capture on: {fault}\n",
-                input_name(path)
-            ),
-            Ending::Read(path, reason) => {
-                write!(
-                    f,
-                    "rohctl: {}: cannot read it: {reason}\n",
-                    input_name(path)
-                )
+            Ending::Capture(path, fault) => {
+                write_at(f, input_name(path), "cannot read the capture on", fault)
             }
-            Ending::Write(path, reason) => write!(
-                f,
-                "rohctl: {}: cannot write to it: {reason}\n",
-                output_name(path)
-            ),
+            Ending::Read(path, reason) => write_at(f, input_name(path), "cannot read it", reason),
+            Ending::Write(path, reason) => {
+                write_at(f, output_name(path), "cannot write to it", reason)
+            }
             Ending::Memory => f.write_str("rohctl: out of memory\n"),
-            Ending::Nothing(path, nothing) => write!(
-                f,
-                "rohctl: {}: nothing to show: {nothing}\n",
-                input_name(path)
-            ),
+            Ending::Nothing(path, nothing) => {
+                write_at(f, input_name(path), "nothing to show", nothing)
+            }
         }
     }
 }
