@@ -1,5 +1,8 @@
 //! Outputs that are no input, and not one file: they are refused before anything is written.
 
+ghost use Rattle.std.specs.Prelude.{◌≡◌, All, Contains, IfErr, IfSome, IsOk, None};
+ghost use Rattle.rohctl_ground.specs.Ending.{status_of};
+
 use crate::ending::{Ending, Misuse, STREAM};
 use std::fs;
 use std::os::unix::fs::MetadataExt;
@@ -45,7 +48,9 @@ fn are_one<R: Files>(rt: &R, first: &str, second: &str) -> bool {
 }
 
 /// The input that this output would overwrite, if it is one of them.
-pub fn overwritten<'a, R: Files>(rt: &R, inputs: &[&'a str], output: &str) -> Option<&'a str> {
+pub fn overwritten<'a, R: Files>(rt: &R, inputs: &[&'a str], output: &str) -> Option<&'a str>
+    ensures { IfSome result (λ input. Contains inputs.now input) }
+{
     let identity = output_identity(rt, output)?;
     for input in inputs {
         if input_identity(rt, input) == Some(identity) {
@@ -60,7 +65,10 @@ pub fn keep_apart<'a, R: Files>(
     rt: &R,
     inputs: &[&'a str],
     outputs: &[Option<&'a str>],
-) -> Result<(), Ending<'a>> {
+) -> Result<(), Ending<'a>>
+    ensures nothing { All (λ output. output ≡ None) outputs.now → IsOk result }
+    ensures misuse { IfErr result (λ ending. status_of ending ≡ 2) }
+{
     for (place, output) in outputs.iter().enumerate() {
         let Some(output) = output else {
             continue;

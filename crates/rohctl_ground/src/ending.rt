@@ -1,10 +1,13 @@
 //! How a run of `rohctl` ends: its exit status, and the line that it prints on standard error.
 
-ghost use Rattle.std.specs.Prelude.{◌≡◌, ◌≢◌};
+ghost use Rattle.std.specs.Prelude.{◌≡◌, ◌≢◌, if◌then◌else◌, codes};
+ghost use Rattle.std.specs.IoError.{error_kind};
+ghost use Rattle.std.specs.Str.{bytes_eq};
 
 use crate::hex_word::HexFault;
 use crate::reason::Reason;
 use rohc_capture::CaptureFault;
+use std::io::ErrorKind;
 use std::{fmt, io};
 
 /// The path that means standard input or standard output.
@@ -121,7 +124,12 @@ pub fn unwritten<'a>(path: &'a str, reason: Reason) -> Ending<'a>
 }
 
 /// The ending for an error of standard output.
-pub fn unprinted(error: &io::Error) -> Ending<'static> {
+pub fn unprinted(error: &io::Error) -> Ending<'static>
+    ensures memory { error_kind error.now ≡ ErrorKind.OutOfMemory → result ≡ Ending.Memory }
+    ensures closed { error_kind error.now ≡ ErrorKind.BrokenPipe → result ≡ Ending.Closed }
+    ensures other { error_kind error.now ≢ ErrorKind.OutOfMemory → error_kind error.now ≢ ErrorKind.BrokenPipe
+        → (path : _) × (reason : Reason) × (path.now ≡ codes "-") × (result ≡ Ending.Write path reason) }
+{
     unwritten(STREAM, Reason::of(error))
 }
 
@@ -150,7 +158,9 @@ impl Ending<'_> {
 }
 
 /// The name of an input.
-pub fn input_name(path: &str) -> &str {
+pub fn input_name(path: &str) -> &str
+    ensures { result.now ≡ (if bytes_eq path.now (codes "-") then codes "standard input" else path.now) }
+{
     if path == STREAM {
         "standard input"
     } else {
@@ -159,7 +169,9 @@ pub fn input_name(path: &str) -> &str {
 }
 
 /// The name of an output.
-fn output_name(path: &str) -> &str {
+fn output_name(path: &str) -> &str
+    ensures { result.now ≡ (if bytes_eq path.now (codes "-") then codes "standard output" else path.now) }
+{
     if path == STREAM {
         "standard output"
     } else {
