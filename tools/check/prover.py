@@ -17,6 +17,8 @@ PARTS = ("src", "specs", "proofs")
 # Where a message stands, and what it says. One that begins with `note: ` is of a function that has no proof file.
 MESSAGE = re.compile(r"(?:note: )?(?:\./)?([\w/.-]+):\d+:\d+: (?:error: )?(.*)")
 TOLD = re.compile(r"note: \S+:\d+:\d+: |\S+:\d+:\d+: error: ")
+# A message that names a lost field may say so in its next line.
+NEXT_LINE = re.compile(r"\n  (?=has no )")
 # What the reader of a text says, and not the prover.
 UNREAD = re.compile(r"is not in scope|has no field|is no name|operand is missing|expected the end|cannot continue")
 NAMES = re.compile(r"has no field|is not in scope|has no `|was not admitted")
@@ -64,7 +66,7 @@ def kind_of(message: str) -> Outcome:
 
 def read_answer(status: int, said: str, changed: Mapping[str, str]) -> Answer:
     """What the prover made of a crate, by its status and all that it said."""
-    lines = said.rstrip("\n").splitlines() or [""]
+    lines = NEXT_LINE.sub(" ", said).rstrip("\n").splitlines() or [""]
     unread = next((line for line in lines if is_unread(line, changed)), "")
     if unread or (status != 0 and not lines[-1].startswith(("logic=not-proved", "only="))):
         return Answer(Outcome.NOT_READ, (unread or " ".join(lines[-3:]))[:300])
