@@ -61,7 +61,7 @@ class Check:
     """A check, its function, and what it shows. Words behind its name are names of its parts, which it must know.
 
     Without the tool that it names it is left out. One that can do without the program runs without it if it is asked for.
-    One that isn't in all is run only if it is asked for.
+    One that isn't in all is run only if it is asked for, since another check shows the same.
     """
 
     name: str
@@ -132,8 +132,6 @@ CHECKS = (
         bites.check,
         "at most 60 wrong bodies and wrong definitions are refused for their meaning, and their twins proved",
         knows=bodies.is_crate,
-        # Not all edits were tried by it yet.
-        is_in_all=False,
     ),
     Check(
         "library",

@@ -116,7 +116,7 @@ def choose(change: Change, checks: Iterable[Check] = CHECKS) -> Choice:
     """Chooses the checks that can notice a change."""
     tried = sorted(change.crates(of_edits=True) & set(crates_with_edits(change.top)))
     words: dict[str, tuple[str, ...]] = {}
-    whole = [check for check in checks if check.is_in_all or check.name == BITES]
+    whole = [check for check in checks if check.is_in_all]
     for check in whole:
         if check.name == GATE:
             is_chosen = bool(change.proved)
