@@ -9,4 +9,5 @@ pub record IsFirstLeast (numbers : List ℕ) (count place : ℕ) : Type 0 where
 
 -- there is one such place
 abbrev pub IsOneLeast : Type 0
-IsOneLeast = (numbers : List ℕ) (count p q : ℕ) → IsFirstLeast numbers count p → IsFirstLeast numbers count q → p ≡ q
+IsOneLeast = (numbers : List ℕ) (count p q : ℕ) → IsFirstLeast numbers count p →
+    IsFirstLeast numbers count q → p ≡ q

@@ -33,7 +33,7 @@ fn push_digits(digits: &mut String, word: &str) -> Result<Option<HexFault>, Allo
     Ok(None)
 }
 
-/// The digits of a packet in lower case, as a script has them; `-` stands for no octets.
+/// The digits of a packet in lower case, as a script has them; `-` if there are no octets.
 pub(crate) fn packet_digits(
     alloc: Global,
     text: &str,
