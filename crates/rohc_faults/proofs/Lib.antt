@@ -1,4 +1,3 @@
 pub mod FileLemmas
 pub mod LimitLemmas
-pub mod NearestLemmas
 pub mod ReadLemmas

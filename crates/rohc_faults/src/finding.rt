@@ -2,10 +2,9 @@
 
 use crate::entry::EntryFaults;
 use crate::file::FileFaults;
-use crate::nearest::nearest_key;
 use crate::places::Places;
 use rohc_links::{Key, Version, entries, field_at, keys};
-use rohc_text::error_line;
+use rohc_text::{error_line, nearest_name};
 use std::alloc::{AllocError, Global};
 use toml::de::Error;
 use toml::{Table, Value};
@@ -14,7 +13,7 @@ use toml::{Table, Value};
 #[derive(Clone, Copy)]
 pub enum Wrong<'a> {
     /// The name is none of the keys; this one is the nearest, if one is near.
-    Unknown(Option<Key>),
+    Unknown(Option<&'static str>),
     /// The name is a key of version 2, and the file has version 1.
     Newer,
     /// The value is missing or wrong.
@@ -121,7 +120,7 @@ impl<'a> Entry<'a, '_> {
             all.push(self.finding("version", Wrong::Unfit, "1 or 2"))?;
         }
         for name in faults.unknown.iter() {
-            let near = nearest_key(self.alloc, name, &[Key::Link])?;
+            let near = nearest_name(self.alloc, name, &[Key::Link.name()])?;
             all.push(self.finding(name, Wrong::Unknown(near), "version or link"))?;
         }
         if let Some(Value::Table(_)) = self.table.get("link") {
@@ -159,9 +158,19 @@ impl<'a> Entry<'a, '_> {
         if keys(Version::Two).iter().any(|key| key.name() == name) {
             return Ok(self.finding(name, Wrong::Newer, "version = 2"));
         }
-        let near = nearest_key(self.alloc, name, keys(self.version))?;
+        let names = names_of(self.alloc, keys(self.version))?;
+        let near = nearest_name(self.alloc, name, names.as_slice())?;
         Ok(self.finding(name, Wrong::Unknown(near), "a key of man rohc-links"))
     }
+}
+
+/// The names of keys.
+fn names_of(alloc: Global, keys: &[Key]) -> Result<Vec<&'static str>, AllocError> {
+    let mut names = Vec::new(alloc);
+    for key in keys {
+        names.push(key.name())?;
+    }
+    Ok(names)
 }
 
 /// The numbers of all links, as far as they can be read.

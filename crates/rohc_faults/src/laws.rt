@@ -1,7 +1,6 @@
 //! Laws of the faults, as contracts of functions that do nothing.
 
 ghost use Rattle.rohc_faults.specs.Limits.{FindsBeyond};
-ghost use Rattle.rohc_faults.specs.Nearest.{IsOneNearest};
 ghost use Rattle.rohc_faults.specs.Read.{TellsUnread};
 
 /// A setting has a key outside its limits exactly if a concentrator refuses it.
@@ -12,9 +11,4 @@ pub fn beyond_is_refused()
 /// A file has an unknown name, or a key that is missing or wrong, exactly if `read_links` refuses it.
 pub fn unread_is_told()
     ensures { TellsUnread }
-{}
-
-/// For a name and some keys there is one nearest key, or none.
-pub fn one_nearest()
-    ensures { IsOneNearest }
 {}

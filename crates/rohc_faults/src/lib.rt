@@ -6,7 +6,6 @@ mod file;
 mod finding;
 pub mod laws;
 mod limits;
-mod nearest;
 mod places;
 mod sentence;
 
@@ -14,5 +13,4 @@ pub use entry::EntryFaults;
 pub use file::{FileFaults, all_faults};
 pub use finding::{Finding, Wrong, findings, no_toml};
 pub use limits::keys_beyond;
-pub use nearest::nearest_key;
 pub use sentence::{write_faults, write_sentence};

@@ -2,7 +2,6 @@
 
 use crate::file::all_faults;
 use crate::finding::{Finding, Wrong, findings, no_toml};
-use rohc_links::Key;
 use rohc_text::{write_quoted, write_toml_reason, write_value};
 use std::alloc::Global;
 use std::io;
@@ -26,12 +25,12 @@ fn write_place<W: Write>(out: &mut W, path: &str, finding: &Finding<'_>) -> io::
 fn write_unknown<W: Write>(
     out: &mut W,
     finding: &Finding<'_>,
-    near: Option<Key>,
+    near: Option<&'static str>,
 ) -> io::Result<()> {
     write!(out, "unknown key ")?;
     write_quoted(out, finding.name)?;
     match near {
-        Some(key) => write!(out, "; did you mean {}?", key.name()),
+        Some(near) => write!(out, "; did you mean {near}?"),
         None => write!(out, "; expected {}", finding.may),
     }
 }

@@ -1,11 +1,10 @@
 //! The gateway file, with the options that win over it.
 
 use crate::command::Options;
-use rohc_text::{error_line, write_quoted, write_toml_reason, write_value};
+use rohc_text::{error_line, nearest_name, write_quoted, write_toml_reason, write_value};
 use std::alloc::{AllocError, Global};
 use std::io;
 use std::io::{ErrorKind, Write};
-use strsim::levenshtein;
 use toml::{Table, Value};
 
 /// The keys of a gateway file.
@@ -18,9 +17,6 @@ const KEYS: [&str; 7] = [
     "control",
     "metrics_port",
 ];
-
-/// How many edits may lead from a misspelled name to the key that is meant.
-const FEW: usize = 3;
 
 /// The longest path of a control socket, in octets: the system has room for 107, and it is first bound under a name that
 /// is four octets longer.
@@ -205,20 +201,6 @@ fn value_text(alloc: Global, value: &Value) -> Result<String, AllocError> {
     String::from_utf8(text).map_err(|_| AllocError)
 }
 
-/// The key that a misspelled name may have meant: the first to which the fewest edits lead, if these are few.
-fn nearest(alloc: Global, name: &str) -> Result<Option<&'static str>, AllocError> {
-    let mut nearest = None;
-    let mut least = FEW + 1;
-    for key in &KEYS {
-        let edits = levenshtein(alloc, name, key)?;
-        if edits < least {
-            nearest = Some(*key);
-            least = edits;
-        }
-    }
-    Ok(nearest)
-}
-
 impl Reading<'_> {
     /// Where the file has a key.
     fn place_in_file(&self, key: &str) -> Place {
@@ -327,7 +309,7 @@ impl Reading<'_> {
     fn read_table(&mut self, table: &Table, folder: &str) -> Result<(), AllocError> {
         for (key, _) in table {
             if !is_key(key.as_str()) {
-                let near = nearest(self.alloc, key.as_str())?;
+                let near = nearest_name(self.alloc, key.as_str(), &KEYS)?;
                 self.add_in_file(key.as_str(), Wrong::UnknownKey(near))?;
             }
         }

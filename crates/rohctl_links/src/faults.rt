@@ -88,7 +88,7 @@ fn write_object<W: Write>(out: &mut W, finding: &Finding<'_>) -> io::Result<()> 
     write_place_members(out, finding)?;
     write_wrong_members(out, finding)?;
     match finding.wrong {
-        Wrong::Unknown(Some(key)) => writeln!(out, ",\"nearest\":\"{}\"}}", key.name()),
+        Wrong::Unknown(Some(near)) => writeln!(out, ",\"nearest\":\"{near}\"}}"),
         _ => writeln!(out, ",\"nearest\":null}}"),
     }
 }
