@@ -5,8 +5,8 @@ ghost use Rattle.std.specs.IoError.{error_kind};
 ghost use Rattle.std.specs.Str.{bytes_eq};
 
 use crate::hex_word::HexFault;
-use crate::reason::Reason;
 use rohc_capture::CaptureFault;
+use rohc_text::Reason;
 use std::io::ErrorKind;
 use std::{fmt, io};
 

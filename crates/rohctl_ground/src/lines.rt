@@ -5,9 +5,9 @@ ghost use Rattle.rohc_links.specs.Limits.{longest_packet};
 
 use crate::ending::{Ending, Misuse, unread, unwritten};
 use crate::hex_word::{HexFault, packet_digits};
-use crate::reason::Reason;
 use rohc_links::zeros;
 use rohc_replay::{LONGEST_PACKET, Words, read_words};
+use rohc_text::Reason;
 use std::alloc::Global;
 use std::io::Read;
 

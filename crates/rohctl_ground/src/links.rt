@@ -1,10 +1,10 @@
 //! The links file, from the path to the concentrator, as rohcd takes it. Its faults are printed.
 
 use crate::ending::{Ending, STREAM};
-use crate::reason::Reason;
 use rohc_concentrator::{Concentrator, SetupFault};
 use rohc_faults::{Finding, all_faults, findings, no_toml, write_sentence};
 use rohc_links::{Links, LinksFault, read_links};
+use rohc_text::Reason;
 use std::alloc::{AllocError, Global};
 use std::io::{Read, Write};
 use std::rt::Files;

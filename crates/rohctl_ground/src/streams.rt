@@ -3,7 +3,7 @@
 ghost use Rattle.rohctl_ground.specs.Streams.{source_remaining, target_contents};
 
 use crate::ending::{Ending, STREAM, unread, unwritten};
-use crate::reason::Reason;
+use rohc_text::Reason;
 use std::io::{BufWriter, Printer, Read, Write};
 use std::rt::Files;
 use std::{fs, io};

@@ -58,7 +58,7 @@ impl fmt::Display for Fault {
             ),
             Fault::Socket(error) => {
                 let why = Why(error);
-                let hint = hint_for(Reason::of(error.kind()));
+                let hint = hint_for(Reason::of(error));
                 write!(f, "{why}; {hint}")
             }
             Fault::NoAnswer => f.write_str(
@@ -75,11 +75,11 @@ fn hint_for(reason: Reason) -> &'static str {
         Reason::Missing => {
             "expected the control socket of a gateway that runs (systemctl status rohc-gateway@NAME)"
         }
-        Reason::NotListening => {
+        Reason::NoListener => {
             "the gateway that made this socket has ended (systemctl start rohc-gateway@NAME)"
         }
-        Reason::Forbidden => "expected the gateway's user or root (sudo -u USER rohctl ..)",
-        Reason::Late => "the gateway is too busy or stopped (try again)",
+        Reason::Denied => "expected the gateway's user or root (sudo -u USER rohctl ..)",
+        Reason::TimedOut => "the gateway is too busy or stopped (try again)",
         _ => "expected the control socket of a gateway that runs",
     }
 }
