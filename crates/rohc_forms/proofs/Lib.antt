@@ -3,7 +3,5 @@ pub mod CountLemmas
 pub mod SaysLemmas
 pub mod ShownLemmas
 pub mod ShortLemmas
-pub mod AtOnceLemmas
 pub mod GoodLemmas
 pub mod FormLemmas
-pub mod UnextendedLemmas

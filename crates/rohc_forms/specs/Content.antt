@@ -1,5 +1,5 @@
 -- What a packet of kind Other says (RFC 3095 5.7.1 to 5.7.5).
-use Rattle.std.specs.Prelude.{ℕ, List, Bool, nat_lt, if◌then◌else◌, Option, Some, None}
+use Rattle.std.specs.Prelude.{ℕ, ◌+◌, ◌*◌, List, Bool, nat_lt, if◌then◌else◌, Option, Some, None}
 use Rattle.rohc_bits.specs.Reading.{bit}
 use Rattle.rohc_forms.specs.declared.form.FormKind.{FormKind}
 use Rattle.rohc_forms.specs.declared.form.FormKind.TheVariants.{Uo0, Uo1, Uo1Id, Uo1Ts, Uor2, Uor2Id, Uor2Ts}
@@ -7,6 +7,11 @@ use Rattle.rohc_forms.specs.declared.parts.Base.{Base}
 use Rattle.rohc_bits.specs.LowBits.{LowBits}
 use Rattle.rohc_forms.specs.Table.{Said}
 use Rattle.rohc_forms.specs.Given.{ValuesSaid, Extended3}
+
+-- The base octets that begin with these three, most significant octet first. A UO-0 and the UO-1 formats have
+-- fewer, and their first one decides.
+abbrev pub three_octets : ℕ → ℕ → ℕ → Base
+three_octets first second third = record { first = first; number = first * 65536 + (second * 256 + third) }
 
 -- The format of a packet, by the RND in force. The first octet starts with 0, 10 or 110. The T bit of UO-1 is
 -- bit 5 of the first octet, that of UOR-2 is bit 7 of the second.

@@ -19,6 +19,7 @@ use Rattle.rohc_bits.specs.LowBits.{low_bits}
 use Rattle.rohc_forms.specs.Octets.{FormPiece, read, word_if}
 use Rattle.rohc_forms.specs.Table.{Said, Id, Tsc, I, IP, FirstOctet, Name, Of, UdpSum, named, row, has, under, layout_0, layout_1, layout_2, short_layout, base_said}
 use Rattle.rohc_forms.specs.Judging.{twice_fault}
+use Rattle.rohc_forms.specs.Kinds.{is_whole}
 use Rattle.rohc_forms.specs.Given.{RtpSaid, ValuesSaid, rnd_in_force, Extended3}
 use Rattle.rohc_forms.specs.Content.{Content, Head, IdSaid, Offset, Same, Whole, form_kind, plain_head, extended_head, whole_content}
 use Rattle.rohc_forms.specs.Extension.{ip_octet_at, behind_ip_octet}
@@ -157,10 +158,11 @@ id_by code.Same = Same
 id_by (code.Offset bits) = Offset (low_bits bits)
 id_by (code.Whole id) = Whole id
 
+-- what is read; the Identification is the whole one exactly under RND 1
 abbrev pub content : Form → Content
 content f = record {
   kind = f.kind;
-  rnd = f.rnd;
+  rnd = is_whole f.id;
   sn = low_bits f.sn;
   ts = option_map low_bits f.ts;
   tsc = f.tsc;

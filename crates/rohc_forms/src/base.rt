@@ -1,7 +1,7 @@
 //! The base octets of a packet, which precede its extension, and their formats (RFC 3095 5.7.1 to
 //! 5.7.4).
 
-ghost use Rattle.std.specs.Prelude.{◌≡◌, option_map};
+ghost use Rattle.std.specs.Prelude.{◌≡◌, ◌≢◌, option_map};
 ghost use Rattle.rohc_bits.specs.Reading.{Reads};
 ghost use Rattle.rohc_bits.specs.LowBits.{low_bits};
 ghost use Rattle.rohc_forms.specs.Slices.{slice};
@@ -57,6 +57,20 @@ pub(crate) fn kind(base: Base, rnd: bool) -> FormKind
     }
 }
 
+impl FormKind {
+    ghost use Rattle.std.specs.Prelude.{◌≡◌, ◌<◌, ℕ};
+    ghost use Rattle.rohc_forms.specs.Content.{form_kind, three_octets};
+
+    /// The format of a packet with this first octet and this one behind its CID, under this RND in force. A packet that
+    /// ends before its header does has one too. UO-0 and the UO-1 formats don't depend on the second octet.
+    pub fn of(first: u8, second: u8, rnd: bool) -> FormKind
+        ensures { (third : ℕ) → third < 256 → result ≡ form_kind (three_octets first second third) rnd }
+    {
+        let number = u32::from(first) * 65_536 + u32::from(second) * 256;
+        kind(Base { first, number }, rnd)
+    }
+}
+
 /// The 3-bit check: the three least significant bits of the base octets.
 #[inline(always)]
 fn check_3(number: u32) -> u8
@@ -73,20 +87,28 @@ fn check_7(number: u32) -> u8
     (number % 128) as u8
 }
 
+/// The fields of a UO-0, whose one octet is this number.
+#[inline(always)]
+pub(crate) fn uo_0_fields(number: u32) -> Fields
+    ensures { said_by result ≡ base_said FormKind.Uo0 number }
+{
+    Fields {
+        sn: bits(number, place::UO_SN, 4),
+        ts: None,
+        id: None,
+        marker: false,
+        extended: false,
+        check: check_3(number),
+    }
+}
+
 /// The fields in the base octets, which are given as one number, under this format.
 #[inline(always)]
 pub(crate) fn base_fields(kind: FormKind, number: u32) -> Fields
     ensures { said_by result ≡ base_said kind number }
 {
     match kind {
-        FormKind::Uo0 => Fields {
-            sn: bits(number, place::UO_SN, 4),
-            ts: None,
-            id: None,
-            marker: false,
-            extended: false,
-            check: check_3(number),
-        },
+        FormKind::Uo0 => uo_0_fields(number),
         FormKind::Uo1 => Fields {
             sn: bits(number, place::UO_SN, 4),
             ts: Some(bits(number, place::UO1_TS, 6)),

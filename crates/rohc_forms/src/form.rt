@@ -2,7 +2,7 @@
 
 ghost use Rattle.std.specs.Prelude.{◌≡◌, ◌≤◌, ◌<◌, false};
 ghost use Rattle.std.specs.Option.{ForSome};
-ghost use Rattle.rohc_forms.specs.Kinds.{is_uor2, is_whole, offset_in};
+ghost use Rattle.rohc_forms.specs.Kinds.{is_uor2, offset_in};
 
 use rohc_bits::Bits;
 
@@ -68,16 +68,14 @@ pub struct Values {
 pub struct Form<'a> {
     /// The format, by the RND in force.
     pub kind: FormKind,
-    /// The RND in force, that is whether the Identification is random: the RND that the packet gives,
-    /// else the context's.
-    pub rnd: bool,
     /// The bits of the sequence number, 1 to 16.
     pub sn: Bits,
     /// The bits of the timestamp, 2 to 32, if the packet carries any.
     pub ts: Option<Bits>,
     /// Tsc of an extension 3: whether the timestamp's bits are scaled.
     pub tsc: Option<bool>,
-    /// The Identification. It is the whole one exactly if the Identification is random.
+    /// The Identification. It is the whole one exactly if it is random, by the RND that the packet gives or else by
+    /// the context's.
     pub id: IdBits,
     /// The UDP checksum, if packets of the call carry one.
     pub udp_sum: Option<u16>,
@@ -95,7 +93,6 @@ pub struct Form<'a> {
     ghost ts_some: { ForSome ts (λ bits. 2 ≤ bits.count) },
     ghost offset_some: { ForSome (offset_in id) (λ bits. 1 ≤ bits.count) },
     ghost offset_narrow: { ForSome (offset_in id) (λ bits. bits.count ≤ 16) },
-    ghost whole: { is_whole id ≡ rnd },
     ghost check_7: { check < 128 },
     ghost check_3: { is_uor2 kind ≡ false → check < 8 },
 }

@@ -2,7 +2,6 @@
 //! 5.7.5). No function allocates memory, and the payload is borrowed from the packet.
 #![tactic(auto)]
 
-mod at_once;
 mod base;
 mod extension;
 mod fields;
@@ -15,10 +14,7 @@ mod parts;
 mod place;
 mod reading;
 mod refusal;
-mod unextended;
 
-pub use at_once::read_at_once;
 pub use form::{Form, FormKind, IdBits, Values};
-pub use reading::read_form;
+pub use reading::{read_form, read_uo_0};
 pub use refusal::FormRefusal;
-pub use unextended::read_unextended;

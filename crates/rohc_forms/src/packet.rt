@@ -1,13 +1,13 @@
 //! Packets up to and including their extension (RFC 3095 5.7.1 to 5.7.5).
 
-ghost use Rattle.std.specs.Prelude.{◌≡◌};
+ghost use Rattle.std.specs.Prelude.{◌≡◌, ◌<◌, ℕ, List, Bool, None, Ok};
 ghost use Rattle.rohc_bits.specs.Reading.{ReadsAs};
 ghost use Rattle.rohc_forms.specs.Octets.{read};
-ghost use Rattle.rohc_forms.specs.Table.{under, layout_0};
-ghost use Rattle.rohc_forms.specs.Content.{plain_head};
+ghost use Rattle.rohc_forms.specs.Table.{under, layout_0, base_said};
+ghost use Rattle.rohc_forms.specs.Content.{form_kind, plain_head};
 ghost use Rattle.rohc_forms.specs.Packets.{said_by, head_by, short_extension_at, extension_3_at, extension_at, head_at};
 
-use crate::base::{base, base_fields, kind};
+use crate::base::{base, base_fields, kind, uo_0_fields};
 use crate::extension::{behind_ip, ip_octet, rnd_of};
 use crate::flag;
 use crate::form::FormKind;
@@ -65,6 +65,8 @@ fn eight_bits(octet: u8) -> Bits
 }
 
 /// Reads an extension 3 after its first octet. The RND in force then decides the format of the packet.
+#[cold]
+#[inline(never)]
 #[tactic(auto, unfolding(crate::specs::Packets::extension_3_at))]
 fn extension_3(
     base: Base,
@@ -95,8 +97,10 @@ fn extension_3(
 }
 
 /// The content so far of a packet without an extension 3.
+#[inline(always)]
 fn plain(kind: FormKind, rnd: bool, fields: Fields) -> Head
-    ensures { head_by result ≡ plain_head kind rnd (said_by fields) }
+    ensures content { head_by result ≡ plain_head kind rnd (said_by fields) }
+    ensures values { result.values ≡ None }
 {
     Head {
         kind,
@@ -108,27 +112,41 @@ fn plain(kind: FormKind, rnd: bool, fields: Fields) -> Head
     }
 }
 
-/// Reads an extension after its first octet.
+/// Reads an extension after its first octet. `fields` are those of the base octets by the context's RND.
 #[tactic(auto, unfolding(crate::specs::Packets::extension_at))]
+#[inline(always)]
 fn extension(
     base: Base,
     rnd: bool,
     stride_known: bool,
     first: u8,
+    fields: Fields,
     cursor: &mut Cursor<'_>,
 ) -> Result<Head, FormRefusal>
+    requires { said_by fields ≡ base_said (form_kind base rnd) base.number }
     ensures { ReadsAs head_by result cursor.new (read (extension_at base rnd stride_known first) cursor.old) }
 {
     if first >= 0xc0 {
         return extension_3(base, rnd, stride_known, first, cursor);
     }
     let kind = kind(base, rnd);
-    let fields = base_fields(kind, base.number);
     let fields = short_extension(kind, first, fields, cursor)?;
     Ok(plain(kind, rnd, fields))
 }
 
+/// What a UO-0 says, which is its one octet before its payload.
+#[inline(always)]
+#[tactic(auto, unfolding(crate::specs::Packets::head_at, crate::specs::Packets::base_at))]
+pub(crate) fn uo_0(first: u8, rnd: bool) -> Head
+    requires { first < 0x80 }
+    ensures reads { (stride_known : Bool) (rest : List ℕ) → read (head_at first rnd stride_known) rest ≡ Ok (head_by result, rest) }
+    ensures values { result.values ≡ None }
+{
+    plain(FormKind::Uo0, rnd, uo_0_fields(u32::from(first)))
+}
+
 /// Reads a packet up to the end of its extension.
+#[inline(always)]
 #[tactic(auto, unfolding(crate::specs::Packets::head_at))]
 pub(crate) fn head(
     first: u8,
@@ -145,5 +163,5 @@ pub(crate) fn head(
         return Ok(plain(kind, rnd, fields));
     }
     let first = octet(cursor)?;
-    extension(base, rnd, stride_known, first, cursor)
+    extension(base, rnd, stride_known, first, fields, cursor)
 }

@@ -7,7 +7,7 @@ ghost use Rattle.rohc_header.specs.Polynomial.{coefficients};
 ghost use Rattle.rohc_header.specs.Prepared.{IsPrepared};
 ghost use Rattle.rohc_header.specs.Check.{all_ones, header_check, static_octets, dynamic_octets};
 
-use crate::parts::{Octets, put_ip, put_rtp, put_udp};
+use crate::parts::{put_ip, put_rtp, put_udp};
 use crate::polynomial::Polynomial::{self, Seven, Three};
 use crate::prepared::Prepared;
 use crate::{Dynamic, Static};
@@ -50,9 +50,8 @@ impl Header {
         if payload_len > LONGEST_PAYLOAD {
             return None;
         }
-        let mut octets = Octets::new();
-        put_header(&mut octets, fixed, prepared, moving, payload_len as u16);
-        let octets = octets.into_inner().unwrap();
+        let head = head_of(fixed, prepared, moving, payload_len as u16);
+        let octets = head.into_inner().unwrap();
         Some(Header { octets })
     }
 
@@ -124,28 +123,28 @@ impl Header {
     }
 }
 
-/// Writes the header of a packet with these fields and `payload_len` octets of payload, in place of what `octets`
-/// holds. `prepared` is what stays of such headers, `payload_len` is at most 65,495, and the payload type is below 128.
+/// The octets of the header of a packet with these fields and `payload_len` octets of payload. `prepared` is what stays
+/// of such headers, `payload_len` is at most 65,495, and the payload type is below 128.
 #[inline(always)]
-pub fn put_header(
-    octets: &mut ArrayVec<u8, 40>,
+pub fn head_of(
     fixed: &Static,
     prepared: &Prepared,
     moving: &Dynamic,
     payload_len: u16,
-)
+) -> ArrayVec<u8, 40>
     requires prepared { IsPrepared fixed.now moving.now prepared.now }
     requires fits { payload_len ≤ longest_payload }
     requires narrow { moving.now.payload_type < 128 }
-    ensures { IsOriginal fixed.now moving.now payload_len octets.new.items }
+    ensures { IsOriginal fixed.now moving.now payload_len result.items }
 {
     // Copied first, so that the compiler knows that the fields don't overlap the octets.
     let fixed = *fixed;
     let prepared = *prepared;
-    octets.clear();
-    put_ip(octets, &fixed, &prepared, moving, payload_len);
-    put_udp(octets, &fixed, moving, payload_len);
-    put_rtp(octets, &fixed, &prepared, moving);
+    let mut octets = ArrayVec::new();
+    put_ip(&mut octets, &fixed, &prepared, moving, payload_len);
+    put_udp(&mut octets, &fixed, moving, payload_len);
+    put_rtp(&mut octets, &fixed, &prepared, moving);
+    octets
 }
 
 /// The 3-bit check of a header's 40 octets, from the register `reg` after its static octets (RFC 3095 5.9.2).

@@ -10,5 +10,5 @@ mod polynomial;
 mod prepared;
 
 pub use fields::{Dynamic, Static};
-pub use header::{Header, LONGEST_PAYLOAD, check3_after, check7_after, put_header};
+pub use header::{Header, LONGEST_PAYLOAD, check3_after, check7_after, head_of};
 pub use prepared::Prepared;
