@@ -7,6 +7,8 @@ use Rattle.rohc_frame.specs.Header.{Header}
 use Rattle.rohc_header.specs.declared.fields.Static.{Static}
 use Rattle.rohc_chain.specs.Packets.{IrContent}
 use Rattle.rohc_chain.specs.Packets as chain
+use Rattle.rohc_context.specs.Settings.{limits}
+use Rattle.rohc_context.proofs.Common.{gives}
 use Rattle.rohc_context.specs.declared.due.Due.TheVariants as dues
 use Rattle.rohc_context.specs.declared.refusal.Refusal.{Refusal}
 use Rattle.rohc_context.specs.declared.refusal.Refusal.TheVariants as refusals
@@ -24,7 +26,7 @@ use Rattle.rohc_context.specs.Standing.{context_state_of}
 use Rattle.rohc_context.specs.NextReference.{first_reference, next_reference, next_previous}
 use Rattle.rohc_context.specs.Renewal.{full_window, static_windows, Renewed, state_in}
 use Rattle.rohc_context.specs.Update.{promoted, updated}
-use Rattle.rohc_context.specs.Step.{counts, counting, LoneStep}
+use Rattle.rohc_context.specs.Step.{counts, counting, Answers, arrival, LoneStep}
 use Rattle.rohc_context.specs.Counts.{marks, first_marks, failures, Adds, WindowsCount, FallsFromFull, FallsFromStatic}
 use Rattle.rohc_context.proofs.Cases.{is_of_octets, Case, step_case, renews, strays, refuses, checks, lows, restores, refreshes, normal, promotes, updates}
 use Rattle.rohc_context.proofs.RefusalLemmas.{step_checks, counts_not}
@@ -71,14 +73,14 @@ adds_plain s outcome (NoContext nacked) = tt
 adds_plain s outcome (StaticContext fixed reference first second) = tt
 adds_plain s outcome (FullContext fixed reference previous window) = tt
 
-adds_static : (s : Settings) (fixed : Static) (state : State) → Adds s outcomes.Stored state (StaticContext fixed None (static_windows state).0 (static_windows state).1)
+adds_static : (s : Settings) (fixed : Static) (state : State) → Adds s outcomes.Stored state (StaticContext fixed None (static_windows (Some state)).0 (static_windows (Some state)).1)
 unfolding and_outcome
 adds_static s fixed Plain = refl
 adds_static s fixed (NoContext nacked) = refl
 adds_static s fixed (StaticContext also reference first second) = (refl, inl refl)
 adds_static s fixed (FullContext also reference previous window) = refl
 
-adds_full : (s : Settings) (fixed : Static) (reference : Reference) (state : State) → Adds s outcomes.Delivered state (FullContext fixed reference None (full_window state))
+adds_full : (s : Settings) (fixed : Static) (reference : Reference) (state : State) → Adds s outcomes.Delivered state (FullContext fixed reference None (full_window (Some state)))
 unfolding and_outcome
 adds_full s fixed reference Plain = refl
 adds_full s fixed reference (NoContext nacked) = refl
@@ -90,7 +92,7 @@ adds_update : (s : Settings) (fixed : Static) (reference next : Reference) (prev
 unfolding and_outcome
 adds_update s fixed reference next previous kept window = refl
 
-adds_check : (s : Settings) (m : ℕ) (state : State) → s.n1 ≤ 64 → Adds s (outcomes.Refused refusals.Check) state (after_check s m state).state
+adds_check : (s : Settings) (m : ℕ) (state : State) → s.n1 ≤ 64 → Adds s (outcomes.Refused refusals.Check) state (after_check (limits s) m state).state
 unfolding and_outcome
 adds_check s m Plain most = tt
 adds_check s m (NoContext nacked) most = tt
@@ -108,7 +110,7 @@ adds_check s m (StaticContext fixed reference first second) most = go (is_filled
   go false true e = (refl, inr (refl, filled_by s.k1 s.n1 first most e))
   go false false e = (refl, inl refl)
 
-adds_low : (s : Settings) (m : ℕ) (state : State) → s.n1 ≤ 64 → IsGoodState state → Adds s (outcomes.Refused refusals.StateTooLow) state (after_low_state s m state).state
+adds_low : (s : Settings) (m : ℕ) (state : State) → s.n1 ≤ 64 → IsGoodState state → Adds s (outcomes.Refused refusals.StateTooLow) state (after_low_state (limits s) m state).state
 unfolding and_outcome
 adds_low s m Plain most good = tt
 adds_low s m (NoContext nacked) most good = go _ where
@@ -136,11 +138,15 @@ settles s outcome told before after m state e f adds =
 told : (a b : Response) → a ≡ b → a.outcome ≡ b.outcome
 told a b e = ap (λ (r : Response). r.outcome) e
 
-renewed_adds : (s : Settings) (m : ℕ) (h : Header) (state : State) (content : IrContent) (a : Response) (after : Record) → Renewed s m h (Some state) content a (Some after)
-    → Adds s a.outcome state after.state
-renewed_adds s m h state (chain.Plain packet) a after p = settles s a.outcome a.outcome state after m Plain refl p.1 (adds_plain s a.outcome state)
-renewed_adds s m h state (chain.StaticOnly fixed) a after p = settles s a.outcome outcomes.Stored state after m _ (told a _ p.0) p.1 (adds_static s fixed state)
-renewed_adds s m h state (chain.Whole fixed moving payload) a after (octets, is, p) = settles s a.outcome outcomes.Delivered state after m _ (told a _ p.0) p.1 (adds_full s fixed _ state)
+renewed_adds : (s : Settings) (m : ℕ) (h : Header) (state : State) (content : IrContent) (a : Response) (after : Record)
+    → Answers s h (Renewed (arrival s m h) (Some state) content) a (Some after) → Adds s a.outcome state after.state
+renewed_adds s m h state (chain.Plain packet) a after (e, f, p) = settles s a.outcome a.outcome state after m Plain refl (gives s h e _ a (Some after) f p).1 (adds_plain s a.outcome state)
+renewed_adds s m h state (chain.StaticOnly fixed) a after (e, f, p) =
+    let q = gives s h e _ a (Some after) f p in
+    settles s a.outcome outcomes.Stored state after m _ (told a _ q.0) q.1 (adds_static s fixed state)
+renewed_adds s m h state (chain.Whole fixed moving payload) a after (e, (octets, is, f), p) =
+    let q = gives s h e _ a (Some after) f p in
+    settles s a.outcome outcomes.Delivered state after m _ (told a _ q.0) q.1 (adds_full s fixed _ state)
 
 pub windows_count : WindowsCount
 windows_count r after s m h a good settings counted step = go (step_case (Some r) s m h a (Some after) step) where
@@ -158,17 +164,17 @@ windows_count r after s m h a good settings counted step = go (step_case (Some r
   found q outcome state left is e adds = subst (λ (st : State). Adds s outcome st left) (sym e ∙ ap (λ (k : Record). k.state) (same q is)) adds
 
   go : Case (Some r) s m h a (Some after) → Adds s a.outcome r.state after.state
-  go (renews content ir read p) = renewed_adds s m h r.state content a after (subst (λ c. Renewed s m h (state_in c) content a (Some after)) here p)
+  go (renews content ir read p) = renewed_adds s m h r.state content a after (subst (λ c. Answers s h (Renewed (arrival s m h) (state_in c) content) a (Some after)) here p)
   go (strays refusal none which f g) = absurd (counts_not s m (Some r) r none here)
   go (refuses refusal of_octets f g) =
       let none = marks_none refusal of_octets in
       settles s a.outcome (outcomes.Refused refusal) r.state after r.accepted r.state (told a _ f) g (adds_nothing s (outcomes.Refused refusal) r.state good.state none.0 none.1)
   go (checks q is p) =
-      let left = (after_check s m q.state).state in
+      let left = (after_check (limits s) m q.state).state in
       settles s a.outcome (outcomes.Refused refusals.Check) r.state after q.accepted left (told a _ p.0) p.1 (found q (outcomes.Refused refusals.Check) q.state left is refl (adds_check s m q.state most))
   go (lows q is low p) =
       let fine : IsGoodState q.state = subst (λ (k : Record). IsGoodState k.state) (sym (same q is)) good.state in
-      let left = (after_low_state s m q.state).state in
+      let left = (after_low_state (limits s) m q.state).state in
       settles s a.outcome (outcomes.Refused refusals.StateTooLow) r.state after q.accepted left (told a _ p.0) p.1
       (found q (outcomes.Refused refusals.StateTooLow) q.state left is refl (adds_low s m q.state most fine))
   go (restores q fixed reference f g d is kind e read (octets, o, p)) =
@@ -179,7 +185,7 @@ windows_count r after s m h a good settings counted step = go (step_case (Some r
       let state : State = FullContext fixed reference previous w in
       settles s a.outcome outcomes.Delivered r.state after m left (told a _ p.0) p.1 (found q outcomes.Delivered state left is e (adds_full s fixed (first_reference d.moving) state))
   go (normal q is kind e p) = settles s a.outcome a.outcome r.state after m Plain refl p.1 (adds_plain s a.outcome r.state)
-  go (promotes q fixed reference f g v is kind e taken judges p) =
+  go (promotes q fixed reference f g v is kind e judges p) =
       settles s a.outcome outcomes.Delivered r.state after m (promoted fixed v) (told a _ p.0) p.1
       (found q outcomes.Delivered (StaticContext fixed (Some reference) f g) (promoted fixed v) is e refl)
   go (updates q fixed reference previous w v is kind e judges p) =
@@ -191,7 +197,7 @@ windows_count r after s m h a good settings counted step = go (step_case (Some r
 
 -- the record after a failed check
 after_fails : (r after : Record) (s : Settings) (m : ℕ) (h : Header) (a : Response) → counts s m r ≡ true → LoneStep (Some r) s m h a (Some after)
-    → a.outcome ≡ outcomes.Refused refusals.Check → after.state ≡ (after_check s m r.state).state
+    → a.outcome ≡ outcomes.Refused refusals.Check → after.state ≡ (after_check (limits s) m r.state).state
 after_fails r after s m h a counted step e =
     let here : counting s m (Some r) ≡ Some r = ap (λ b. if b then Some r else None) counted in
     ap (λ (k : Record). k.state) (some_is after _ ((step_checks (Some r) s m h a (Some after) step e).1 r here).1)
@@ -207,13 +213,13 @@ falls_from_full r after s m h a window settings counted state windows step e =
           (λ f. absurd (let g : states.FullContext ≡ states.StaticContext = f in cc), λ le. absurd (let less = unfilled_by s.k1 s.n1 w settings.k1.2 e in omega arith))
 
       go : (state : State) → context_state_of state ≡ states.FullContext → windows_in state ≡ Some (window, [])
-          → (context_state_of (after_check s m state).state ≡ states.StaticContext) ↔ (s.k1 ≤ failures s.n1 (true ∷ window))
+          → (context_state_of (after_check (limits s) m state).state ≡ states.StaticContext) ↔ (s.k1 ≤ failures s.n1 (true ∷ window))
       go Plain e f = absurd (let g : None ≡ Some (window, []) = f in cc)
       go (NoContext nacked) e f = absurd (let g : None ≡ Some (window, []) = f in cc)
       go (StaticContext fixed reference first second) e f = absurd (let g : states.StaticContext ≡ states.FullContext = e in cc)
       go (FullContext fixed reference previous w) e f =
           let same : w ≡ window = ap (λ (o : Option (List Bool × List Bool)). (unwrap_or o ([], [])).0) f in
-          subst (λ v. (context_state_of (after_check s m (FullContext fixed reference previous w)).state ≡ states.StaticContext) ↔ (s.k1 ≤ failures s.n1 (true ∷ v))) same
+          subst (λ v. (context_state_of (after_check (limits s) m (FullContext fixed reference previous w)).state ≡ states.StaticContext) ↔ (s.k1 ≤ failures s.n1 (true ∷ v))) same
           (by fixed reference previous w (is_filled s.k1 s.n1 (and_outcome true w)) refl)
 
 pub falls_from_static : FallsFromStatic
@@ -231,11 +237,11 @@ falls_from_static r after s m h a first second settings counted state windows st
           (λ k. absurd (let l : states.StaticContext ≡ states.NoContext = k in cc), λ le. absurd (let less = unfilled_by s.k2 s.n2 g settings.k2.2 e in omega arith))
 
       go : (state : State) → context_state_of state ≡ states.StaticContext → windows_in state ≡ Some (first, second)
-          → (context_state_of (after_check s m state).state ≡ states.NoContext) ↔ (s.k2 ≤ failures s.n2 (true ∷ second))
+          → (context_state_of (after_check (limits s) m state).state ≡ states.NoContext) ↔ (s.k2 ≤ failures s.n2 (true ∷ second))
       go Plain e f = absurd (let g : None ≡ Some (first, second) = f in cc)
       go (NoContext nacked) e f = absurd (let g : None ≡ Some (first, second) = f in cc)
       go (FullContext fixed reference previous w) e f = absurd (let g : states.FullContext ≡ states.StaticContext = e in cc)
       go (StaticContext fixed reference f g) e k =
           let same : g ≡ second = ap (λ (o : Option (List Bool × List Bool)). (unwrap_or o ([], [])).1) k in
-          subst (λ v. (context_state_of (after_check s m (StaticContext fixed reference f g)).state ≡ states.NoContext) ↔ (s.k2 ≤ failures s.n2 (true ∷ v))) same
+          subst (λ v. (context_state_of (after_check (limits s) m (StaticContext fixed reference f g)).state ≡ states.NoContext) ↔ (s.k2 ≤ failures s.n2 (true ∷ v))) same
           (by fixed reference f g (is_filled s.k2 s.n2 (and_outcome true g)) (is_filled s.k1 s.n1 (and_outcome true f)) refl)

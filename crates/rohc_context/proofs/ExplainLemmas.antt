@@ -59,12 +59,6 @@ id_once nbo reference (Whole whole) sn good = whole_once whole
 abbrev fields : Reference → Content → ℕ → ℕ → ℕ → Dynamic
 fields r c sn ts id = record (in_force r.moving c.values) { sn = sn; ts = ts; id = id; udp_sum = unwrap_or c.udp_sum 0; marker = c.marker }
 
--- what is meant has the fields that its equations give
-pub means_fields : (r : Reference) (shift : ℕ) (c : Content) (m : Dynamic) → Means r shift c m → m ≡ fields r c m.sn m.ts m.id
-means_fields r shift c m p =
-    let o = p.others in
-    rw (sym o.tos, sym o.ttl, sym o.df, sym o.rnd, sym o.nbo, sym o.padding, sym o.extension, sym o.payload_type, sym o.stride, sym p.udp_sum, sym p.marker) refl
-
 pub means_some : (first : ℕ) (udp_sum stride_known : Bool) (r : Reference) (shift : ℕ) (c : Content) → IsGoodContent first udp_sum stride_known c
     → (moving : Dynamic) × Means r shift c moving
 means_some first udp_sum stride_known r shift c good =
@@ -77,9 +71,7 @@ means_some first udp_sum stride_known r shift c good =
         sn = sn.1;
         ts = ts.1;
         id = id.1;
-        udp_sum = refl;
-        marker = refl;
-        others = record { tos = refl; ttl = refl; df = refl; rnd = refl; nbo = refl; padding = refl; extension = refl; payload_type = refl; stride = refl };
+        whole = refl;
       },
     )
 
@@ -96,8 +88,8 @@ means_one first udp_sum stride_known r shift c a b good p q =
     (subst (λ n. AgreesInTs r.moving.ts stride n c.tsc c.ts a.ts) steps p.ts) q.ts in
     let id : a.id ≡ b.id = once (AgreesInId nbo r.moving c.id b.sn) a.id b.id (id_once nbo r.moving c.id b.sn (says_good_id first udp_sum stride_known c good c.id refl))
     (subst (λ n. AgreesInId nbo r.moving c.id n a.id) sn p.id) q.id in
-    means_fields r shift c a p ∙ ap (λ n. fields r c n a.ts a.id) sn ∙ ap (λ n. fields r c b.sn n a.id) ts ∙ ap (λ n. fields r c b.sn b.ts n) id
-    ∙ sym (means_fields r shift c b q)
+    p.whole ∙ ap (λ n. fields r c n a.ts a.id) sn ∙ ap (λ n. fields r c b.sn n a.id) ts ∙ ap (λ n. fields r c b.sn b.ts n) id
+    ∙ sym q.whole
 
 -- ---- The whole header
 
@@ -184,7 +176,7 @@ means_good first udp_sum stride_known r shift c m good kept p =
     let sn : m.sn < 65536 = rw p.sn.1 (modulo_below _ (2 ^ 16) (omega arith)) in
     let ts = ts_good r.moving.ts (in_force r.moving c.values).stride p.steps c.tsc c.ts m.ts kept.ts p.ts in
     let id = id_good (in_force r.moving c.values).nbo r.moving c.id m.sn m.id (says_good_id first udp_sum stride_known c good c.id refl) p.id in
-    subst IsGoodDynamic (sym (means_fields r shift c m p)) (record {
+    subst IsGoodDynamic (sym p.whole) (record {
       tos = forced.tos;
       ttl = forced.ttl;
       id = id;

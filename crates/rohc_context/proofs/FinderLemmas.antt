@@ -98,18 +98,18 @@ IsAnswered r = (before : Option Record) × (s : Settings) × (moment : ℕ) × (
 
 answers_no_context : IsAnswered refusals.NoContext
 unfolding LoneStep
-answers_no_context = (None, settings, 0, header Other 0 [], refused refusals.NoContext, None, (refl, refl), refl)
+answers_no_context = (None, settings, 0, header Other 0 [], refused refusals.NoContext, None, (_, refl, (refl, refl)), refl)
 
 answers_low : IsAnswered refusals.StateTooLow
 unfolding LoneStep
-answers_low = (Some low, settings, 0, header Other 0 [], refused refusals.StateTooLow, Some low, (refl, refl), refl) where
+answers_low = (Some low, settings, 0, header Other 0 [], refused refusals.StateTooLow, Some low, (_, refl, (refl, refl)), refl) where
   low : Record
   low = record { accepted = 0; state = NoContext 0 }
 
 -- an IR of profile 0x0000 whose check octet is 00
 answers_check : IsAnswered refusals.Check
 unfolding LoneStep ir_at next_octet check number remainder divided add_front bits poly8 xor
-answers_check = (None, settings, 0, header (Ir false) 252 (0 ∷ 0 ∷ []), refused refusals.Check, None, (refl, refl), refl)
+answers_check = (None, settings, 0, header (Ir false) 252 (0 ∷ 0 ∷ []), refused refusals.Check, None, (_, refl, (refl, refl)), refl)
 
 pub found_by_contexts : FoundByContexts
 found_by_contexts r found = go one.0 one.1 where

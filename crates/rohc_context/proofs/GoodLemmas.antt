@@ -16,6 +16,8 @@ use Rattle.rohc_chain.specs.Good as chain_good
 use Rattle.rohc_forms.specs.declared.refusal.FormRefusal.{FormRefusal}
 use Rattle.rohc_forms.specs.Content.{Content}
 use Rattle.rohc_forms.specs.Good.{IsGoodContent}
+use Rattle.rohc_context.specs.Settings.{Limits, limits}
+use Rattle.rohc_context.proofs.Common.{gives}
 use Rattle.rohc_context.specs.declared.due.Due.TheVariants as dues
 use Rattle.rohc_context.specs.declared.fault.Fault.{Fault}
 use Rattle.rohc_context.specs.declared.settings.Settings.{Settings}
@@ -35,13 +37,13 @@ use Rattle.rohc_context.specs.Window.{outcomes, and_outcome, is_filled}
 use Rattle.rohc_context.specs.Good.{AreGoodValues, IsGoodReference, IsGoodPrevious, IsGoodState, IsGoodWindow, IsGoodRecord}
 use Rattle.rohc_context.specs.Failures.{Consequence, leads_to, sn_of, after_check, after_low_state}
 use Rattle.rohc_context.specs.NextReference.{without_marker, with_numbers, first_reference, counts_once, next_moving, next_reference, same_stride, same_flag, same_numbering, next_previous}
-use Rattle.rohc_context.specs.Renewal.{full_window_of, static_windows_of, Delivers, Renewed, state_in}
+use Rattle.rohc_context.specs.Renewal.{full_window, static_windows, Renewed, state_in}
 use Rattle.rohc_context.specs.Tries.{Try, unshifted, has_short_check, second_tries, third_tries, static_tries, full_tries, Acceptance, Verdict}
 use Rattle.rohc_context.specs.Update.{said_under, VerdictUnless, Judges, promoted, updated}
-use Rattle.rohc_context.specs.Step.{counting, LoneStep}
+use Rattle.rohc_context.specs.Step.{counting, Answers, arrival, LoneStep}
 use Rattle.rohc_context.proofs.ExplainLemmas.{means_good}
 use Rattle.rohc_context.proofs.StepLemmas.{ir_reads, dyn_reads, form_reads, stride_good, counting_holds}
-use Rattle.rohc_context.proofs.Cases.{Case, step_case, renews, strays, refuses, checks, lows, restores, refreshes, normal, promotes, updates}
+use Rattle.rohc_context.proofs.Cases.{Rebuilds, Case, step_case, renews, strays, refuses, checks, lows, restores, refreshes, normal, promotes, updates}
 
 -- ---- Windows and references
 
@@ -153,7 +155,7 @@ third_good : (held : Reference) (previous : Option Reference) (c : Content) → 
 third_good held None c good = tt
 third_good held (Some r) c good = tries_if held (has_short_check c.kind) (unshifted r) (record { reference = good.good; near = good.numbering })
 
-full_good : (s : Settings) (passed : ℕ) (r : Reference) (previous : Option Reference) (c : Content) → IsGoodReference r → IfSome previous (IsGoodPrevious r)
+full_good : (s : Limits) (passed : ℕ) (r : Reference) (previous : Option Reference) (c : Content) → IsGoodReference r → IfSome previous (IsGoodPrevious r)
     → AreGoodTries r (full_tries s passed r previous c)
 full_good s passed r previous c good before =
     let held = shares_itself r.moving in
@@ -191,7 +193,7 @@ if_good : (b : Bool) (x y : Consequence) → IsGoodState x.state → IsGoodState
 if_good true x y p q = p
 if_good false x y p q = q
 
-check_good : (s : Settings) (m : ℕ) (state : State) → m < 2 ^ 64 → IsGoodState state → IsGoodState (after_check s m state).state
+check_good : (s : Limits) (m : ℕ) (state : State) → m < 2 ^ 64 → IsGoodState state → IsGoodState (after_check s m state).state
 check_good s m Plain fits good = tt
 check_good s m (NoContext nacked) fits good = good
 check_good s m (FullContext fixed r previous w) fits good =
@@ -204,7 +206,7 @@ check_good s m (StaticContext fixed r f g) fits good =
     if_good (is_filled s.k2 s.n2 (and_outcome true g)) (leads_to (NoContext m) dues.StaticNack) (if is_filled s.k1 s.n1 (and_outcome true f) then asks else stays) fits
     (if_good (is_filled s.k1 s.n1 (and_outcome true f)) asks stays (good.0, good.1, omega arith, window_good true g) (good.0, good.1, window_good true f, window_good true g))
 
-low_good : (s : Settings) (m : ℕ) (state : State) → m < 2 ^ 64 → IsGoodState state → IsGoodState (after_low_state s m state).state
+low_good : (s : Limits) (m : ℕ) (state : State) → m < 2 ^ 64 → IsGoodState state → IsGoodState (after_low_state s m state).state
 low_good s m Plain fits good = tt
 low_good s m (NoContext nacked) fits good = if_good _ (leads_to (NoContext m) dues.StaticNack) (leads_to (NoContext nacked) dues.Nothing) fits good
 low_good s m (FullContext fixed r previous w) fits good = good
@@ -217,14 +219,14 @@ low_good s m (StaticContext fixed r f g) fits good =
 takes_good : (m : ℕ) (state : State) (next : Option Record) → m < 2 ^ 64 → IsGoodState state → next ≡ Some (record { accepted = m; state = state }) → IfSome next IsGoodRecord
 takes_good m state next fits good e = subst (λ n. IfSome n IsGoodRecord) (sym e) (record { accepted = fits; state = good })
 
-full_window_good : (state : Option State) → IsGoodWindow (full_window_of state)
+full_window_good : (state : Option State) → IsGoodWindow (full_window state)
 full_window_good None = omega arith
 full_window_good (Some Plain) = omega arith
 full_window_good (Some (NoContext nacked)) = omega arith
 full_window_good (Some (StaticContext fixed r f g)) = omega arith
 full_window_good (Some (FullContext fixed r previous w)) = window_good false w
 
-static_windows_good : (state : Option State) → IsGoodWindow (static_windows_of state).0 × IsGoodWindow (static_windows_of state).1
+static_windows_good : (state : Option State) → IsGoodWindow (static_windows state).0 × IsGoodWindow (static_windows state).1
 static_windows_good None = (omega arith, omega arith)
 static_windows_good (Some Plain) = (omega arith, omega arith)
 static_windows_good (Some (NoContext nacked)) = (omega arith, omega arith)
@@ -233,18 +235,18 @@ static_windows_good (Some (FullContext fixed r previous w)) = (omega arith, omeg
 
 module _ (s : Settings) (m : ℕ) (h : Header) where
   delivers_good : (fixed : Static) (moving : Dynamic) (payload : List ℕ) (window : List Bool) (a : Response) (x : Option Record)
-      → m < 2 ^ 64 → IsGoodStatic fixed → IsGoodDynamic moving → IsGoodWindow window → Delivers s m h fixed moving payload window a x → IfSome x IsGoodRecord
+      → m < 2 ^ 64 → IsGoodStatic fixed → IsGoodDynamic moving → IsGoodWindow window → Rebuilds s m h fixed moving payload window a x → IfSome x IsGoodRecord
   delivers_good fixed moving payload window a x fits f g w (octets, is, (e, k)) =
       takes_good m (FullContext fixed (first_reference moving) None window) x fits (f, first_good moving g, tt, w) k
 
   renewed_good : (c : Option Record) (content : IrContent) (a : Response) (x : Option Record)
-      → m < 2 ^ 64 → chain_good.IsGoodContent content → Renewed s m h (state_in c) content a x → IfSome x IsGoodRecord
-  renewed_good c (chain.Plain packet) a x fits content p = takes_good m Plain x fits tt p.1
-  renewed_good c (chain.StaticOnly fixed) a x fits content p =
+      → m < 2 ^ 64 → chain_good.IsGoodContent content → Answers s h (Renewed (arrival s m h) (state_in c) content) a x → IfSome x IsGoodRecord
+  renewed_good c (chain.Plain packet) a x fits content (e, f, p) = takes_good m Plain x fits tt (gives s h e _ a x f p).1
+  renewed_good c (chain.StaticOnly fixed) a x fits content (e, f, p) =
       let windows = static_windows_good (state_in c) in
-      takes_good m _ x fits (content, tt, windows.0, windows.1) p.1
-  renewed_good c (chain.Whole fixed moving payload) a x fits content p =
-      delivers_good fixed moving payload (full_window_of (state_in c)) a x fits content.0 content.1 (full_window_good (state_in c)) p
+      takes_good m _ x fits (content, tt, windows.0, windows.1) (gives s h e _ a x f p).1
+  renewed_good c (chain.Whole fixed moving payload) a x fits content (e, (octets, is, f), p) =
+      delivers_good fixed moving payload (full_window (state_in c)) a x fits content.0 content.1 (full_window_good (state_in c)) (octets, is, gives s h e _ a x f p)
 
 pub step_good : (before : Option Record) (s : Settings) (m : ℕ) (h : Header) → AreGoodValues before s m h → (a : Response) (x : Option Record) → LoneStep before s m h a x → IfSome x IsGoodRecord
 step_good before s m h good a x step = go (step_case before s m h a x step) where
@@ -282,8 +284,8 @@ step_good before s m h good a x step = go (step_case before s m h a x step) wher
   go (renews content ir read p) = renewed_good s m h (counting s m before) content a x fits (ir_good_content h.kind refl ir content read) p
   go (strays refusal none which f g) = stays g
   go (refuses refusal of_octets f g) = stays g
-  go (checks r is p) = fails r (after_check s m r.state).state is (check_good s m r.state fits (counted r is).state) p.1
-  go (lows r is low p) = fails r (after_low_state s m r.state).state is (low_good s m r.state fits (counted r is).state) p.1
+  go (checks r is p) = fails r (after_check (limits s) m r.state).state is (check_good (limits s) m r.state fits (counted r is).state) p.1
+  go (lows r is low p) = fails r (after_low_state (limits s) m r.state).state is (low_good (limits s) m r.state fits (counted r is).state) p.1
   go (restores r fixed reference f g d is kind e read p) =
       let state = state_is r _ is e in
       delivers_good s m h fixed d.moving d.payload [] a x fits state.0 (dyn_reads h reference d kind all (stride_good reference state.1) read).0 (omega arith) p
@@ -291,14 +293,14 @@ step_good before s m h good a x step = go (step_case before s m h a x step) wher
       let state = state_is r _ is e in
       delivers_good s m h fixed d.moving d.payload (and_outcome false w) a x fits state.0 (dyn_reads h (Some reference) d kind all state.1.moving.stride read).0 (window_good false w) p
   go (normal r is kind e p) = takes_good m Plain x fits tt p.1
-  go (promotes r fixed reference f g v is kind e taken judges p) =
+  go (promotes r fixed reference f g v is kind e judges p) =
       let state = state_is r _ is e in
       let near = shares_itself reference.moving in
       let v_good = judged fixed reference (λ c. static_tries reference) v (λ c. (record { reference = state.1; near = near }, tt)) judges in
       takes_good m (promoted fixed v) x fits (state.0, next_good reference v v_good, tt, omega arith) p.1
   go (updates r fixed reference previous w v is kind e judges p) =
       let state = state_is r _ is e in
-      let v_good = judged fixed reference (full_tries s (m - r.accepted) reference previous) v (λ c. full_good s (m - r.accepted) reference previous c state.1 state.2) judges in
+      let v_good = judged fixed reference (full_tries (limits s) (m - r.accepted) reference previous) v (λ c. full_good (limits s) (m - r.accepted) reference previous c state.1 state.2) judges in
       takes_good m (updated fixed reference w v) x fits (state.0, next_good reference v v_good, previous_good reference v v_good, window_good false w) p.1
 
 -- ---- What the code keeps is good

@@ -16,17 +16,19 @@ use Rattle.rohc_forms.specs.declared.refusal.FormRefusal.{FormRefusal}
 use Rattle.rohc_forms.specs.Content.{Content}
 use Rattle.rohc_forms.specs.Says.{IsForm}
 use Rattle.rohc_forms.proofs.SaysLemmas.{reads}
+use Rattle.rohc_context.specs.Settings.{limits}
+use Rattle.rohc_context.proofs.Common.{gives}
 use Rattle.rohc_context.specs.declared.settings.Settings.{Settings}
 use Rattle.rohc_context.specs.Record.{State, Reference, Record}
 use Rattle.rohc_context.specs.Window.{and_outcome}
 use Rattle.rohc_context.specs.Response.{Packet, Response}
-use Rattle.rohc_context.specs.Renewal.{Delivers, Renewed, state_in}
+use Rattle.rohc_context.specs.Renewal.{Renewed, state_in}
 use Rattle.rohc_context.specs.Refresh.{kept_by, dyn_said}
 use Rattle.rohc_context.specs.Tries.{Try, Acceptance, Verdict, static_tries, full_tries}
 use Rattle.rohc_context.specs.Update.{said_under, VerdictUnless, Judges}
-use Rattle.rohc_context.specs.Step.{counting}
+use Rattle.rohc_context.specs.Step.{counting, Answers, arrival}
 use Rattle.rohc_context.specs.Laws.{LendsPayload}
-use Rattle.rohc_context.proofs.Cases.{Case, step_case, renews, strays, refuses, checks, lows, restores, refreshes, normal, promotes, updates}
+use Rattle.rohc_context.proofs.Cases.{Rebuilds, Case, step_case, renews, strays, refuses, checks, lows, restores, refreshes, normal, promotes, updates}
 
 -- the packet of an answer, if there is one, has a payload of so many octets at most
 abbrev Within : ℕ → Response → Type 0
@@ -37,16 +39,18 @@ same_answer : (most : ℕ) (a answer : Response) → a ≡ answer → Within mos
 same_answer most a answer e within = subst (Within most) (sym e) within
 
 -- an IR's payload stands behind its chains
-said_within : (h : Header) (content : IrContent) → IsIrText h content → (state : Option State) (s : Settings) (m : ℕ) (a : Response) (x : Option Record) → Renewed s m h state content a x → Within (length h.rest) a
-said_within h (chain.Plain []) text state s m a x p = same_answer (length h.rest) a _ p.0 tt
-said_within h (chain.Plain (octet ∷ packet)) text state s m a x p = same_answer (length h.rest) a _ p.0 (omega (arith, ap length text.whole))
-said_within h (chain.StaticOnly fixed) text state s m a x p = same_answer (length h.rest) a _ p.0 tt
-said_within h (chain.Whole fixed moving payload) text state s m a x (octets, is, taken) =
-    same_answer (length h.rest) a _ taken.0 (omega (arith, ap length text.whole, length-append text.static_chain (text.dynamic_chain ++ payload), length-append text.dynamic_chain payload))
+said_within : (h : Header) (content : IrContent) → IsIrText h content → (state : Option State) (s : Settings) (m : ℕ) (a : Response) (x : Option Record)
+    → Answers s h (Renewed (arrival s m h) state content) a x → Within (length h.rest) a
+said_within h (chain.Plain []) text state s m a x (e, f, p) = same_answer (length h.rest) a _ (gives s h e _ a x f p).0 tt
+said_within h (chain.Plain (octet ∷ packet)) text state s m a x (e, f, p) = same_answer (length h.rest) a _ (gives s h e _ a x f p).0 (omega (arith, ap length text.whole))
+said_within h (chain.StaticOnly fixed) text state s m a x (e, f, p) = same_answer (length h.rest) a _ (gives s h e _ a x f p).0 tt
+said_within h (chain.Whole fixed moving payload) text state s m a x (e, (octets, is, f), p) =
+    same_answer (length h.rest) a _ (gives s h e _ a x f p).0
+    (omega (arith, ap length text.whole, length-append text.static_chain (text.dynamic_chain ++ payload), length-append text.dynamic_chain payload))
 
 -- an IR-DYN's behind its chain
 delivers_within : (s : Settings) (m : ℕ) (h : Header) (fixed : Static) (moving : Dynamic) (payload : List ℕ) (window : List Bool) (a : Response) (x : Option Record)
-    → length payload ≤ length h.rest → Delivers s m h fixed moving payload window a x → Within (length h.rest) a
+    → length payload ≤ length h.rest → Rebuilds s m h fixed moving payload window a x → Within (length h.rest) a
 delivers_within s m h fixed moving payload window a x short (octets, is, taken) = same_answer (length h.rest) a _ taken.0 short
 
 dyn_short : (h : Header) (reference : Option Reference) (d : DynContent) → h.kind ≡ IrDyn → All IsOctet h.rest → dyn_said h reference ≡ Ok d → length d.payload ≤ length h.rest
@@ -106,5 +110,5 @@ step_lends before s m h a x all step = go (step_case before s m h a x step) wher
   go (restores r fixed reference f g d is kind e read p) = delivers_within s m h fixed d.moving d.payload [] a x (dyn_short h reference d kind all read) p
   go (refreshes r fixed reference previous w d is kind e read p) = delivers_within s m h fixed d.moving d.payload (and_outcome false w) a x (dyn_short h (Some reference) d kind all read) p
   go (normal r is kind e p) = same_answer most a _ p.0 (omega arith)
-  go (promotes r fixed reference f g v is kind e taken judges p) = same_answer most a _ p.0 (tried_short h fixed (λ c. static_tries reference) reference v judges)
-  go (updates r fixed reference previous w v is kind e judges p) = same_answer most a _ p.0 (tried_short h fixed (full_tries s (m - r.accepted) reference previous) reference v judges)
+  go (promotes r fixed reference f g v is kind e judges p) = same_answer most a _ p.0 (tried_short h fixed (λ c. static_tries reference) reference v judges)
+  go (updates r fixed reference previous w v is kind e judges p) = same_answer most a _ p.0 (tried_short h fixed (full_tries (limits s) (m - r.accepted) reference previous) reference v judges)

@@ -1,24 +1,20 @@
 -- What a refused arrival leaves.
-use Rattle.std.proofs.Common.{◌≡◌, ◌≢◌, ℕ, ◌⊎◌, List, [], ◌∷◌, Bool, true, false, Option, Some, None, inl, inr, refl, sym, ap, subst, ◌∙◌}
-use Rattle.rohc_frame.specs.declared.header.HeadKind.{HeadKind}
-use Rattle.rohc_frame.specs.declared.header.HeadKind.TheVariants.{Ir, IrDyn, Other}
+use Rattle.std.proofs.Common.{◌≡◌, ◌≢◌, ℕ, ◌⊎◌, List, [], ◌∷◌, true, false, Option, Some, None, inl, inr, refl, sym, ap, subst, ◌∙◌}
 use Rattle.rohc_frame.specs.Header.{Header}
-use Rattle.rohc_header.specs.declared.fields.Static.{Static}
-use Rattle.rohc_header.specs.declared.fields.Dynamic.{Dynamic}
 use Rattle.rohc_chain.specs.Packets.{IrContent}
 use Rattle.rohc_chain.specs.Packets as chain
-use Rattle.rohc_context.specs.declared.due.Due.TheVariants as dues
+use Rattle.rohc_context.specs.Settings.{limits}
+use Rattle.rohc_context.proofs.Common.{gives}
 use Rattle.rohc_context.specs.declared.refusal.Refusal.{Refusal}
 use Rattle.rohc_context.specs.declared.refusal.Refusal.TheVariants as refusals
 use Rattle.rohc_context.specs.declared.reply.Outcome.TheVariants as outcomes
 use Rattle.rohc_context.specs.declared.settings.Settings.{Settings}
 use Rattle.rohc_context.specs.Record.{State, Record}
 use Rattle.rohc_context.specs.Response.{Response, delivered, refused}
-use Rattle.rohc_context.specs.Due.{sent}
-use Rattle.rohc_context.specs.Failures.{takes, after_check, after_low_state}
-use Rattle.rohc_context.specs.Outcomes.{Fails}
-use Rattle.rohc_context.specs.Renewal.{full_window_of, plain_answer, Delivers, Renewed}
-use Rattle.rohc_context.specs.Step.{counting, TakenBy, Turn, LoneStep}
+use Rattle.rohc_context.specs.Failures.{after_check, after_low_state}
+use Rattle.rohc_context.specs.Outcomes.{fails}
+use Rattle.rohc_context.specs.Renewal.{plain_answer, Renewed}
+use Rattle.rohc_context.specs.Step.{TooLow, rule, counting, Follows, Steps, Gives, Answers, arrival, LoneStep}
 use Rattle.rohc_context.specs.Laws.{ChecksChange, LowStatesChange, LowStatesRefuse}
 use Rattle.rohc_context.proofs.Cases.{is_of_octets, Case, step_case, renews, strays, refuses, checks, lows, restores, refreshes, normal, promotes, updates}
 
@@ -39,30 +35,24 @@ pub delivered_not_refused : (octets payload : List ℕ) (feedback : Option (List
     → a.outcome ≢ outcomes.Refused refusal
 delivered_not_refused octets payload feedback a refusal e f = let k = outcome_is a (delivered octets payload feedback) refusal e f in cc
 
-plain_not_refused : (packet : List ℕ) (feedback : Option (List ℕ)) (refusal : Refusal) → (plain_answer packet feedback).outcome ≢ outcomes.Refused refusal
-plain_not_refused [] feedback refusal e = cc
-plain_not_refused (octet ∷ packet) feedback refusal e = cc
+plain_not_refused : (packet : List ℕ) (refusal : Refusal) → (plain_answer packet).outcome ≢ outcomes.Refused refusal
+plain_not_refused [] refusal e = cc
+plain_not_refused (octet ∷ packet) refusal e = cc
 
-module _ (s : Settings) (m : ℕ) (h : Header) where
-  delivers_not_refused : (fixed : Static) (moving : Dynamic) (payload : List ℕ) (window : List Bool) (a : Response) (x : Option Record) (refusal : Refusal)
-      → Delivers s m h fixed moving payload window a x → a.outcome ≢ outcomes.Refused refusal
-  delivers_not_refused fixed moving payload window a x refusal (octets, is, p) = delivered_not_refused octets payload (sent s.mode h (dues.Ack moving.sn)) a refusal p.0
-
-  pub renewed_not_refused : (state : Option State) (content : IrContent) (a : Response) (x : Option Record) (refusal : Refusal)
-      → Renewed s m h state content a x → a.outcome ≢ outcomes.Refused refusal
-  renewed_not_refused state (chain.Plain packet) a x refusal p e =
-      plain_not_refused packet (sent s.mode h dues.PlainAck) refusal (outcome_is a (plain_answer packet (sent s.mode h dues.PlainAck)) refusal p.0 e)
-  renewed_not_refused state (chain.StaticOnly fixed) a x refusal p e = let k = sym (ap (λ (r : Response). r.outcome) p.0) ∙ e in cc
-  renewed_not_refused state (chain.Whole fixed moving payload) a x refusal p e = delivers_not_refused fixed moving payload (full_window_of state) a x refusal p e
+pub renewed_not_refused : (s : Settings) (m : ℕ) (h : Header) (state : Option State) (content : IrContent) (a : Response) (x : Option Record) (refusal : Refusal)
+    → Answers s h (Renewed (arrival s m h) state content) a x → a.outcome ≢ outcomes.Refused refusal
+renewed_not_refused s m h state (chain.Plain packet) a x refusal (k, is, p) e = plain_not_refused packet refusal (outcome_is a _ refusal (gives s h k _ a x is p).0 e)
+renewed_not_refused s m h state (chain.StaticOnly fixed) a x refusal (k, is, p) e = let f = outcome_is a _ refusal (gives s h k _ a x is p).0 e in cc
+renewed_not_refused s m h state (chain.Whole fixed moving payload) a x refusal (k, (octets, o, is), p) e = delivered_not_refused octets payload _ a refusal (gives s h k _ a x is p).0 e
 
 -- ---- What a refusal says of the step
 
 pub data Refusing (before : Option Record) (s : Settings) (m : ℕ) (h : Header) (a : Response) (x : Option Record) (refusal : Refusal) : Type 0 where
   uncounted : counting s m before ≡ None → (refusal ≡ refusals.NoContext) ⊎ (refusal ≡ refusals.Check) → a ≡ refused refusal → x ≡ before → Refusing before s m h a x refusal
   misread : is_of_octets refusal ≡ true → x ≡ before → Refusing before s m h a x refusal
-  unfit : (r : Record) → counting s m before ≡ Some r → refusals.Check ≡ refusal → Fails s h r refusals.Check (after_check s m r.state) a x → Refusing before s m h a x refusal
-  untaken : (r : Record) → counting s m before ≡ Some r → refusals.StateTooLow ≡ refusal → takes r.state h.kind h.first ≡ false
-      → Fails s h r refusals.StateTooLow (after_low_state s m r.state) a x → Refusing before s m h a x refusal
+  unfit : (r : Record) → counting s m before ≡ Some r → refusals.Check ≡ refusal → Gives s h (fails r refusals.Check (after_check (limits s) m r.state)) a x → Refusing before s m h a x refusal
+  untaken : (r : Record) → counting s m before ≡ Some r → refusals.StateTooLow ≡ refusal → rule r.state h.kind h.first ≡ TooLow
+      → Gives s h (fails r refusals.StateTooLow (after_low_state (limits s) m r.state)) a x → Refusing before s m h a x refusal
 
 -- a refused arrival is refused in one of these ways
 pub refusing : (before : Option Record) (s : Settings) (m : ℕ) (h : Header) (a : Response) (x : Option Record) (refusal : Refusal) → LoneStep before s m h a x
@@ -78,8 +68,8 @@ refusing before s m h a x refusal step e = go (step_case before s m h a x step) 
   go (lows r is low p) = untaken r is (refused_for a _ refusals.StateTooLow refusal p.0 refl e) low p
   go (restores r fixed reference f g d is kind state read (octets, o, p)) = absurd (delivered_not_refused octets d.payload _ a refusal p.0 e)
   go (refreshes r fixed reference previous w d is kind state read (octets, o, p)) = absurd (delivered_not_refused octets d.payload _ a refusal p.0 e)
-  go (normal r is kind state p) = absurd (delivered_not_refused (h.first ∷ []) h.rest None a refusal p.0 e)
-  go (promotes r fixed reference f g v is kind state taken judges p) = absurd (delivered_not_refused v.header.octets v.content.payload _ a refusal p.0 e)
+  go (normal r is kind state p) = absurd (delivered_not_refused (h.first ∷ []) h.rest _ a refusal p.0 e)
+  go (promotes r fixed reference f g v is kind state judges p) = absurd (delivered_not_refused v.header.octets v.content.payload _ a refusal p.0 e)
   go (updates r fixed reference previous w v is kind state judges p) = absurd (delivered_not_refused v.header.octets v.content.payload _ a refusal p.0 e)
 
 -- ---- Laws of refusals
@@ -128,18 +118,18 @@ pub step_checks : ChecksChange
 step_checks before s m h a x step e = go (refusing before s m h a x refusals.Check step e) where
   Wanted : Type 0
   Wanted = (counting s m before ≡ None → (a ≡ refused refusals.Check) × (x ≡ before))
-      × ((r : Record) → counting s m before ≡ Some r → Fails s h r refusals.Check (after_check s m r.state) a x)
+      × ((r : Record) → counting s m before ≡ Some r → Gives s h (fails r refusals.Check (after_check (limits s) m r.state)) a x)
 
   go : Refusing before s m h a x refusals.Check → Wanted
   go (uncounted none which f g) = (λ _. (f, g), λ r is. absurd (counts_not s m before r none is))
   go (misread of_octets g) = absurd (let f : false ≡ true = of_octets in cc)
-  go (unfit r is f p) = (λ none. absurd (counts_not s m before r none is), λ q also. subst (λ k. Fails s h k refusals.Check (after_check s m k.state) a x) (one_counts s m before r q is also) p)
+  go (unfit r is f p) = (λ none. absurd (counts_not s m before r none is), λ q also. subst (λ k. Gives s h (fails k refusals.Check (after_check (limits s) m k.state)) a x) (one_counts s m before r q is also) p)
   go (untaken r is f low p) = absurd cc
 
 pub step_low : LowStatesChange
 step_low before s m h a x step e = go (refusing before s m h a x refusals.StateTooLow step e) where
   Wanted : Type 0
-  Wanted = (r : Record) × (counting s m before ≡ Some r) × (takes r.state h.kind h.first ≡ false) × Fails s h r refusals.StateTooLow (after_low_state s m r.state) a x
+  Wanted = (r : Record) × (counting s m before ≡ Some r) × (rule r.state h.kind h.first ≡ TooLow) × Gives s h (fails r refusals.StateTooLow (after_low_state (limits s) m r.state)) a x
 
   go : Refusing before s m h a x refusals.StateTooLow → Wanted
   go (uncounted none (inl f) k g) = absurd cc
@@ -151,16 +141,12 @@ step_low before s m h a x step e = go (refusing before s m h a x refusals.StateT
 -- a state that doesn't take a packet answers StateTooLow
 pub step_untaken : LowStatesRefuse
 unfolding LoneStep
-step_untaken before s m h a x r is low step = go h.kind refl (counting s m before) is step where
-  refused_low : (kind : HeadKind) → takes r.state kind h.first ≡ false → TakenBy (takes r.state kind h.first) s m h kind r a x → a.outcome ≡ outcomes.Refused refusals.StateTooLow
-  refused_low kind low p = ap (λ (k : Response). k.outcome) (subst (λ b. TakenBy b s m h kind r a x) low p).0
-
+step_untaken before s m h a x r is low step = go (counting s m before) is step where
   here : (q : Record) → Some q ≡ Some r → q ≡ r
   here q e = cc
 
-  go : (kind : HeadKind) → h.kind ≡ kind → (c : Option Record) → c ≡ Some r → Turn s m h kind c before a x → a.outcome ≡ outcomes.Refused refusals.StateTooLow
-  go (Ir dynamic) e c f p = absurd (let g : true ≡ false = ap (λ k. takes r.state k h.first) (sym e) ∙ low in cc)
-  go IrDyn e None f p = absurd (let g : None ≡ Some r = f in cc)
-  go Other e None f p = absurd (let g : None ≡ Some r = f in cc)
-  go IrDyn e (Some q) f p = refused_low IrDyn (ap (λ k. takes r.state k h.first) (sym e) ∙ low) (subst (λ k. TakenBy (takes k.state IrDyn h.first) s m h IrDyn k a x) (here q f) p)
-  go Other e (Some q) f p = refused_low Other (ap (λ k. takes r.state k h.first) (sym e) ∙ low) (subst (λ k. TakenBy (takes k.state Other h.first) s m h Other k a x) (here q f) p)
+  go : (c : Option Record) → c ≡ Some r → Answers s h (Steps h.kind c before (arrival s m h)) a x → a.outcome ≡ outcomes.Refused refusals.StateTooLow
+  go None f p = absurd (let g : None ≡ Some r = f in cc)
+  go (Some q) f (ending, p, given) =
+      let e = subst (λ k. Follows k (arrival s m h) q ending) (ap (λ (k : Record). rule k.state h.kind h.first) (here q f) ∙ low) p in
+      ap (λ (k : Response). k.outcome) (gives s h ending _ a x e given).0

@@ -17,7 +17,6 @@ use Rattle.rohc_context.specs.Saved.{register, AreRegisters, IsKept}
 use Rattle.rohc_forms.specs.declared.form.FormKind.{FormKind}
 use Rattle.rohc_context.specs.Tries.{has_short_check, check_for}
 use Rattle.rohc_context.specs.NextReference.{without_marker, with_numbers}
-use Rattle.rohc_context.proofs.ExplainLemmas.{means_fields}
 
 -- a header's register is that of its fields
 pub register_of : (poly : List Bool) (fixed : Static) (moving : Dynamic) (len : ℕ) (octets : List ℕ) → IsGoodStatic fixed → IsOriginal fixed moving len octets
@@ -105,4 +104,4 @@ pub kept_registers : (fixed : Static) (r : Reference) (shift : ℕ) (c : Content
     → Means r shift c moving → c.values ≡ None → AreRegisters fixed r.moving saved → AreRegisters fixed moving saved
 kept_registers fixed r shift c moving saved means none are =
     let same = ap (λ v. record (in_force r.moving v) { sn = moving.sn; ts = moving.ts; id = moving.id; udp_sum = unwrap_or c.udp_sum 0; marker = c.marker }) none in
-    registers_same fixed r.moving moving c.marker moving.sn moving.ts moving.id (unwrap_or c.udp_sum 0) saved (means_fields r shift c moving means ∙ same) are
+    registers_same fixed r.moving moving c.marker moving.sn moving.ts moving.id (unwrap_or c.udp_sum 0) saved (means.whole ∙ same) are

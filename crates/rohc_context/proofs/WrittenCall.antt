@@ -17,7 +17,7 @@ use Rattle.rohc_forms.specs.Packets.{form_at, head_at, base_at, extension_at}
 use Rattle.rohc_forms.specs.Octets.{word_if}
 use Rattle.rohc_context.specs.declared.settings.Mode.TheVariants.{U}
 use Rattle.rohc_context.specs.declared.settings.Settings.{Settings}
-use Rattle.rohc_context.specs.Explains.{AreInForce, Means}
+use Rattle.rohc_context.specs.Explains.{Means}
 use Rattle.rohc_context.specs.Good.{IsGoodRecord, IsGoodHeader}
 use Rattle.rohc_context.specs.Honest.{Held, held_by, HoldsInFull, Written, IsHonestPacket}
 use Rattle.rohc_context.specs.Record.{Reference, FullContext, Record}
@@ -97,10 +97,6 @@ said_4 : said_under sn_4.packet call.reference ≡ Ok sn_4.content
 unfolding form_at head_at base_at extension_at word_if
 said_4 = refl
 
--- the other fields stay
-in_force_still : (held sn : ℕ) → AreInForce (moving held) (moving sn)
-in_force_still held sn = record { tos = refl; ttl = refl; df = refl; rnd = refl; nbo = refl; padding = refl; extension = refl; payload_type = refl; stride = refl }
-
 -- one step after a reference, two steps after it, and three
 means_3_after_2 : Means after_2.reference 0 sn_3.content (moving 3)
 means_3_after_2 = record {
@@ -108,9 +104,7 @@ means_3_after_2 = record {
   sn = (record { least = omega (arith); greatest = omega (arith); low = refl }, refl);
   ts = refl;
   id = (omega (arith), refl);
-  udp_sum = refl;
-  marker = refl;
-  others = in_force_still 2 3;
+  whole = refl;
 }
 
 means_3 : Means call.reference 0 sn_3.content (moving 3)
@@ -119,9 +113,7 @@ means_3 = record {
   sn = (record { least = omega (arith); greatest = omega (arith); low = refl }, refl);
   ts = refl;
   id = (omega (arith), refl);
-  udp_sum = refl;
-  marker = refl;
-  others = in_force_still 1 3;
+  whole = refl;
 }
 
 means_4_after_3 : Means after_3.reference 0 sn_4.content (moving 4)
@@ -130,9 +122,7 @@ means_4_after_3 = record {
   sn = (record { least = omega (arith); greatest = omega (arith); low = refl }, refl);
   ts = refl;
   id = (omega (arith), refl);
-  udp_sum = refl;
-  marker = refl;
-  others = in_force_still 3 4;
+  whole = refl;
 }
 
 means_4_after_2 : Means after_2.reference 0 sn_4.content (moving 4)
@@ -141,9 +131,7 @@ means_4_after_2 = record {
   sn = (record { least = omega (arith); greatest = omega (arith); low = refl }, refl);
   ts = refl;
   id = (omega (arith), refl);
-  udp_sum = refl;
-  marker = refl;
-  others = in_force_still 2 4;
+  whole = refl;
 }
 
 means_4 : Means call.reference 0 sn_4.content (moving 4)
@@ -152,9 +140,7 @@ means_4 = record {
   sn = (record { least = omega (arith); greatest = omega (arith); low = refl }, refl);
   ts = refl;
   id = (omega (arith), refl);
-  udp_sum = refl;
-  marker = refl;
-  others = in_force_still 1 4;
+  whole = refl;
 }
 
 -- ---- They are written

@@ -16,7 +16,7 @@ use Rattle.rohc_header.specs.declared.fields.Static.{Static}
 use Rattle.rohc_header.specs.declared.fields.Dynamic.{Dynamic}
 use Rattle.rohc_forms.specs.declared.form.FormKind.TheVariants.{Uo0}
 use Rattle.rohc_forms.specs.Content.{Content, Same}
-use Rattle.rohc_context.specs.Explains.{AreInForce, Means, Explains}
+use Rattle.rohc_context.specs.Explains.{Means, Explains}
 use Rattle.rohc_context.specs.Tries.{Fits, unshifted}
 use Rattle.rohc_context.specs.Update.{said_under}
 use Rattle.rohc_context.specs.Honest.{Held, Written, IsHonestPacket}
@@ -88,12 +88,8 @@ said = refl
 in_interval : LiesInInterval (pos 1) (record { count = 4; value = 2 }) (p_of_sn 4) (pos 2)
 in_interval = record { least = omega (arith); greatest = omega (arith); low = refl }
 
--- the other fields stay
-in_force_still : AreInForce call.reference.moving (moving 2 320)
-in_force_still = record { tos = refl; ttl = refl; df = refl; rnd = refl; nbo = refl; padding = refl; extension = refl; payload_type = refl; stride = refl }
-
 means : Means call.reference 0 content (moving 2 320)
-means = record { steps = pos 1; sn = (in_interval, refl); ts = refl; id = (omega (arith), refl); udp_sum = refl; marker = refl; others = in_force_still }
+means = record { steps = pos 1; sn = (in_interval, refl); ts = refl; id = (omega (arith), refl); whole = refl }
 
 short : 1 ≤ 65495
 short = omega (arith)

@@ -1,5 +1,5 @@
 -- The header that a packet means against a reference (RFC 3095 4.5, 5.7).
--- Words: Explained, AgreesInTs, AgreesInId, AreInForce, Means, Explains.
+-- Words: Explained, AgreesInTs, AgreesInId, Means, Explains.
 use Rattle.std.specs.Prelude.{◌≡◌, ℕ, ◌<◌, ◌^◌, List, length, Bool, true, false, Option, Some, None, unwrap_or, ℤ}
 use Rattle.rohc_bits.specs.LowBits.{LowBits}
 use Rattle.rohc_lsb.specs.Fields.{AgreesInSn, AgreesWithoutBits, AgreesByScaledBits, AgreesByUnscaledBits, offset_of, AgreesInOffset}
@@ -41,18 +41,6 @@ AgreesInId nbo reference Same sn id =
 AgreesInId nbo reference (Offset bits) sn id =
     (id < 2 ^ 16) × AgreesInOffset (offset_of nbo reference.sn reference.id) (Some bits) (offset_of nbo sn id)
 
--- the fields that an extension 3 may give are those in force
-pub record AreInForce (given moving : Dynamic) : Type 0 where
-  pub tos : moving.tos ≡ given.tos
-  pub ttl : moving.ttl ≡ given.ttl
-  pub df : moving.df ≡ given.df
-  pub rnd : moving.rnd ≡ given.rnd
-  pub nbo : moving.nbo ≡ given.nbo
-  pub padding : moving.padding ≡ given.padding
-  pub extension : moving.extension ≡ given.extension
-  pub payload_type : moving.payload_type ≡ given.payload_type
-  pub stride : moving.stride ≡ given.stride
-
 -- Against a reference whose SN is moved on by a shift, the packet means a header with these fields. The SN is
 -- the one that its bits mean. The steps count from the reference's own SN. The UDP checksum and the marker
 -- are the packet's. The other fields are those in force.
@@ -62,9 +50,13 @@ pub record Means (reference : Reference) (shift : ℕ) (c : Content) (moving : D
   pub ts : AgreesInTs reference.moving.ts (in_force reference.moving c.values).stride steps c.tsc c.ts
       moving.ts
   pub id : AgreesInId (in_force reference.moving c.values).nbo reference.moving c.id moving.sn moving.id
-  pub udp_sum : moving.udp_sum ≡ unwrap_or c.udp_sum 0
-  pub marker : moving.marker ≡ c.marker
-  pub others : AreInForce (in_force reference.moving c.values) moving
+  pub whole : moving ≡ record (in_force reference.moving c.values) {
+    sn = moving.sn;
+    ts = moving.ts;
+    id = moving.id;
+    udp_sum = unwrap_or c.udp_sum 0;
+    marker = c.marker;
+  }
 
 -- the packet means this header: the original header of those fields and of the packet's payload
 pub record Explains (fixed : Static) (reference : Reference) (shift : ℕ) (c : Content) (h : Explained) : Type

@@ -1,4 +1,4 @@
-use Rattle.std.specs.Prelude.{◌≡◌, ◌≢◌, ℕ, ◌≤◌, List, [], ◌∷◌, length, Bool, true, false, All, Option, Some, None, IfSome, Result, Ok}
+use Rattle.std.specs.Prelude.{◌≡◌, ◌≢◌, ℕ, ◌≤◌, List, [], ◌∷◌, length, Bool, true, All, Option, Some, None, IfSome, Result, Ok}
 use Rattle.rohc_bits.specs.Bits.{IsOctet}
 use Rattle.rohc_lsb.specs.Interval.{ExactlyOne}
 use Rattle.rohc_header.specs.declared.fields.Static.{Static}
@@ -15,19 +15,20 @@ use Rattle.rohc_context.specs.declared.refusal.Refusal.{Refusal}
 use Rattle.rohc_context.specs.declared.refusal.Refusal.TheVariants.{NoMemory, Check, StateTooLow}
 use Rattle.rohc_context.specs.declared.reply.Outcome.TheVariants.{Refused, Delivered}
 use Rattle.rohc_context.specs.declared.settings.Settings.{Settings}
+use Rattle.rohc_context.specs.Settings.{limits}
 use Rattle.rohc_context.specs.Good.{AreGoodValues, IsGoodRecord}
 use Rattle.rohc_context.specs.declared.record.Context.{Context}
 use Rattle.rohc_context.specs.Record.{Reference, StaticContext, FullContext, Record, record_of}
 use Rattle.rohc_context.specs.Response.{Packet, Response, delivered, refused}
 use Rattle.rohc_context.specs.Explains.{Explained, Explains}
-use Rattle.rohc_context.specs.Failures.{takes, after_check, after_low_state}
+use Rattle.rohc_context.specs.Failures.{after_check, after_low_state}
 use Rattle.rohc_context.specs.Tries.{Try, Acceptance, Verdict, Fits, unshifted}
 use Rattle.rohc_context.specs.Update.{said_under, promoted, updated}
 use Rattle.rohc_context.specs.declared.due.Due.TheVariants.{Ack}
 use Rattle.rohc_context.specs.Due.{sent}
 use Rattle.rohc_context.specs.Honest.{Held, held_by, HoldsInFull, Written, IsHonestPacket, delivery_of, IsInTime}
-use Rattle.rohc_context.specs.Outcomes.{Fails}
-use Rattle.rohc_context.specs.Step.{LoneStep, counts, counting}
+use Rattle.rohc_context.specs.Outcomes.{fails}
+use Rattle.rohc_context.specs.Step.{TooLow, rule, Gives, LoneStep, counts, counting}
 
 -- a step from good values has an answer, and a record after it or none
 abbrev pub HasAnswer : Type 0
@@ -94,7 +95,7 @@ ChecksChange = (before : Option Record) (s : Settings) (moment : ℕ) (h : Heade
     (next : Option Record) → LoneStep before s moment h response next → response.outcome ≡ Refused Check →
     (counting s moment before ≡ None → (response ≡ refused Check) × (next ≡ before))
     × ((r : Record) → counting s moment before ≡ Some r →
-    Fails s h r Check (after_check s moment r.state) response next)
+    Gives s h (fails r Check (after_check (limits s) moment r.state)) response next)
 
 -- A refusal StateTooLow comes from a record that counts, whose state doesn't take the packet. It leads to the
 -- state that follows such a packet, and sends what is due.
@@ -102,14 +103,14 @@ abbrev pub LowStatesChange : Type 0
 LowStatesChange = (before : Option Record) (s : Settings) (moment : ℕ) (h : Header) (response : Response)
     (next : Option Record) → LoneStep before s moment h response next →
     response.outcome ≡ Refused StateTooLow →
-    (r : Record) × (counting s moment before ≡ Some r) × (takes r.state h.kind h.first ≡ false)
-    × Fails s h r StateTooLow (after_low_state s moment r.state) response next
+    (r : Record) × (counting s moment before ≡ Some r) × (rule r.state h.kind h.first ≡ TooLow)
+    × Gives s h (fails r StateTooLow (after_low_state (limits s) moment r.state)) response next
 
 -- Each packet that the state of a record which counts doesn't take is refused so.
 abbrev pub LowStatesRefuse : Type 0
 LowStatesRefuse = (before : Option Record) (s : Settings) (moment : ℕ) (h : Header) (response : Response)
     (next : Option Record) (r : Record) → counting s moment before ≡ Some r →
-    takes r.state h.kind h.first ≡ false → LoneStep before s moment h response next →
+    rule r.state h.kind h.first ≡ TooLow → LoneStep before s moment h response next →
     response.outcome ≡ Refused StateTooLow
 
 -- The tries of a packet come to at most one verdict: one header, and the reference against which it was

@@ -23,9 +23,11 @@ pub mod Outcomes
 pub mod Renewal
 pub mod Refresh
 pub mod Update
-pub mod AtOnce
+pub mod View
 pub mod Lent
 pub mod Step
+pub mod Shown
+pub mod ShownLaws
 pub mod Honest
 pub mod Counts
 pub mod Waits

@@ -1,14 +1,12 @@
--- Laws of modes, references and what is taken at once. Words: in_mode_u; the laws.
-use Rattle.std.specs.Prelude.{◌≡◌, ◌≢◌, ℕ, ◌≤◌, ◌/◌, ◌%◌, List, length, get_or, All, Bool, true, false, Option, Some, None, is_some, ◌⊎◌, ◌<◌, Ok}
+-- Laws of modes and references. Words: in_mode_u; the laws.
+use Rattle.std.specs.Prelude.{◌≡◌, ◌≢◌, ℕ, ◌/◌, ◌%◌, List, get_or, All, Bool, true, Option, Some, None, is_some, ◌⊎◌, ◌↔◌, ◌<◌, Ok}
 use Rattle.rohc_bits.specs.Bits.{IsOctet}
 use Rattle.rohc_lsb.specs.Interval.{ExactlyOne}
 use Rattle.rohc_frame.specs.declared.header.HeadKind.TheVariants.{IrDyn, Other}
 use Rattle.rohc_frame.specs.Header.{Header}
 use Rattle.rohc_header.specs.declared.fields.Static.{Static}
-use Rattle.rohc_header.specs.Original.{longest_payload}
 use Rattle.rohc_forms.specs.Content.{Content}
 use Rattle.rohc_forms.specs.Kinds.{is_uor2}
-use Rattle.rohc_forms.specs.Packets.{is_extended}
 use Rattle.rohc_context.specs.declared.refusal.Refusal.{Refusal}
 use Rattle.rohc_context.specs.declared.reply.Outcome.TheVariants.{Refused, Delivered}
 use Rattle.rohc_context.specs.declared.settings.Mode.TheVariants.{U}
@@ -18,14 +16,10 @@ use Rattle.rohc_context.specs.Good.{IsGoodRecord}
 use Rattle.rohc_context.specs.Record.{Reference, State, Plain, NoContext, StaticContext, FullContext, Record}
 use Rattle.rohc_context.specs.Response.{Response, delivered}
 use Rattle.rohc_context.specs.Lent.{Saves}
-use Rattle.rohc_context.specs.Failures.{takes}
 use Rattle.rohc_context.specs.Explains.{Explained, Explains}
 use Rattle.rohc_context.specs.Tries.{Fits, unshifted}
 use Rattle.rohc_context.specs.Update.{said_under}
-use Rattle.rohc_context.specs.declared.at_once.AtOnce.{AtOnce}
-use Rattle.rohc_context.specs.declared.at_once.AtOnce.TheVariants.{Any}
-use Rattle.rohc_context.specs.AtOnce.{NeedsStep}
-use Rattle.rohc_context.specs.Step.{LoneStep, counts, counts_within}
+use Rattle.rohc_context.specs.Step.{Update, rule, LoneStep, counts}
 
 -- In U mode a step is what it is in O mode, but for the feedback, of which there is none.
 abbrev pub IsSilentInU : Type 0
@@ -53,24 +47,11 @@ HasOneTry = (r : Record) (fixed : Static) (reference : Reference) (previous : Op
     LoneStep (Some r) s moment h response next → response.outcome ≡ Delivered →
     (e : Explained) × Fits fixed (unshifted reference) c e × (response ≡ delivered e.octets c.payload None)
 
--- In profile 0x0000 a packet of kind Other is always taken at once, if the record counts and any may be.
-abbrev pub PlainAtOnce : Type 0
-PlainAtOnce = (idle_ms moment : ℕ) (r : Record) (h : Header) → r.state ≡ Plain →
-    counts_within idle_ms moment r ≡ true → ¬ NeedsStep Any idle_ms moment r h
-
--- In Full Context a packet is, if it has no extension, isn't too long and fits by the first try.
-abbrev pub FitsAtOnce : Type 0
-FitsAtOnce = (which : AtOnce) (idle_ms moment : ℕ) (r : Record) (fixed : Static) (reference : Reference)
-    (previous : Option Reference) (window : List Bool) (h : Header) (c : Content) (e : Explained) →
-    r.state ≡ FullContext fixed reference previous window → counts_within idle_ms moment r ≡ true →
-    All IsOctet h.rest → is_extended h reference.moving.rnd ≡ false → said_under h reference ≡ Ok c →
-    length c.payload ≤ longest_payload → Fits fixed (unshifted reference) c e →
-    ¬ NeedsStep which idle_ms moment r h
-
 -- Registers are kept exactly if there is a reference: in profile 0x0001, if the state takes a UOR-2.
 abbrev pub SavesByReference : Type 0
 SavesByReference = (state : State) (saved : Option (ℕ × ℕ)) → Saves state saved →
-    (state ≡ Plain → saved ≡ None) × (state ≢ Plain → is_some saved ≡ takes state Other 192)
+    (state ≡ Plain → saved ≡ None)
+    × (state ≢ Plain → (is_some saved ≡ true) ↔ (rule state Other 192 ≡ Update))
 
 -- the static part and the reference against which a record's packets are decoded
 abbrev pub Holds : State → Static → Reference → Type 0

@@ -1,6 +1,6 @@
 -- The code's values as plain data.
--- Words: try_of, explained_of, acceptance_of, verdict_of, IsSound.
-use Rattle.std.specs.Prelude.{ℕ, Option, Some, None, Result, Ok, Err}
+-- Words: try_of, tries_of, explained_of, acceptance_of, verdict_of, IsSound.
+use Rattle.std.specs.Prelude.{ℕ, List, [], ◌∷◌, Option, Some, None, Result, Ok, Err}
 use Rattle.rohc_header.specs.declared.fields.Static.{Static}
 use Rattle.rohc_chain.specs.Good.{IsGoodDynamic}
 use Rattle.rohc_forms.specs.Content.{Content}
@@ -16,6 +16,11 @@ use Rattle.rohc_context.specs.Tries.{Try, Acceptance}
 
 abbrev pub try_of : saved.Reference → ℕ → Try
 try_of reference shift = record { reference = reference_of reference; shift = shift }
+
+-- a try, or none
+abbrev pub tries_of : Option Try → List Try
+tries_of None = []
+tries_of (Some t) = t ∷ []
 
 abbrev pub explained_of : code.Explained → Explained
 explained_of h = record { moving = h.moving; octets = h.header.octets }

@@ -7,12 +7,10 @@ use Rattle.rohc_chain.specs.declared.refusal.ChainRefusal.{ChainRefusal}
 use Rattle.rohc_chain.specs.Chains.{judged_octet}
 use Rattle.rohc_chain.specs.Faults.{dyn_profile_fault}
 use Rattle.rohc_chain.specs.Packets.{DynContent, kept_values, ir_dyn_at}
-use Rattle.rohc_context.specs.declared.settings.Settings.{Settings}
 use Rattle.rohc_context.specs.Record.{Reference, State, Plain, NoContext, StaticContext, FullContext, Record}
 use Rattle.rohc_context.specs.Window.{and_outcome}
-use Rattle.rohc_context.specs.Response.{Response}
 use Rattle.rohc_context.specs.Faults.{fault_of_chain}
-use Rattle.rohc_context.specs.Outcomes.{Ends}
+use Rattle.rohc_context.specs.Outcomes.{Arrival, Ending, ends}
 use Rattle.rohc_context.specs.Renewal.{Delivers}
 
 -- the X and the stride of the held reference, which stay if an IR-DYN doesn't give them
@@ -29,23 +27,19 @@ abbrev pub PlainRefuses : Header → ChainRefusal → Type 0
 PlainRefuses h refusal = judged_octet (dyn_profile_fault 0) h.rest ≡ Err refusal
 
 -- what was said is refused, or leads to Full Context with this static part and this window
-abbrev pub RefreshesTo : Settings → (moment : ℕ) → Header → Record → Static → (window : List Bool) →
-    Result DynContent ChainRefusal → Response → Option Record → Type 0
-RefreshesTo s moment h r fixed window (Err refusal) response next =
-    Ends s moment h (Some r) (Some r) (fault_of_chain refusal) response next
-RefreshesTo s moment h r fixed window (Ok d) response next =
-    Delivers s moment h fixed d.moving d.payload window response next
+abbrev pub RefreshesTo : Arrival → Record → Static → (window : List Bool) → Result DynContent ChainRefusal →
+    Ending → Type 0
+RefreshesTo a r fixed window (Err refusal) ending = ending ≡ ends a (Some r) (Some r) (fault_of_chain refusal)
+RefreshesTo a r fixed window (Ok d) ending = Delivers a fixed d.moving d.payload window ending
 
 -- From Static Context the window of Full Context starts empty; that of Full Context gets a success. No
--- Context doesn't take an IR-DYN, so it doesn't get here.
-abbrev pub RefreshesBy : Settings → (moment : ℕ) → Header → Record → State → Response → Option Record → Type 0
-RefreshesBy s moment h r Plain response next = (refusal : ChainRefusal) × PlainRefuses h refusal
-    × Ends s moment h (Some r) (Some r) (fault_of_chain refusal) response next
-RefreshesBy s moment h r (NoContext nacked) response next = ⊥
-RefreshesBy s moment h r (StaticContext fixed reference first second) response next =
-    RefreshesTo s moment h r fixed [] (dyn_said h reference) response next
-RefreshesBy s moment h r (FullContext fixed reference previous window) response next =
-    RefreshesTo s moment h r fixed (and_outcome false window) (dyn_said h (Some reference)) response next
-
-abbrev pub Refreshes : Settings → (moment : ℕ) → Header → Record → Response → Option Record → Type 0
-Refreshes s moment h r response next = RefreshesBy s moment h r r.state response next
+-- Context never follows the rule Refresh.
+abbrev pub Refreshes : Arrival → Record → State → Ending → Type 0
+Refreshes a r Plain ending =
+    (refusal : ChainRefusal) × PlainRefuses a.header refusal
+    × (ending ≡ ends a (Some r) (Some r) (fault_of_chain refusal))
+Refreshes a r (NoContext nacked) ending = ⊥
+Refreshes a r (StaticContext fixed reference first second) ending =
+    RefreshesTo a r fixed [] (dyn_said a.header reference) ending
+Refreshes a r (FullContext fixed reference previous window) ending =
+    RefreshesTo a r fixed (and_outcome false window) (dyn_said a.header (Some reference)) ending

@@ -9,7 +9,7 @@ use Rattle.rohc_forms.specs.Kinds.{is_uor2}
 use Rattle.rohc_forms.specs.Content.{Content}
 use Rattle.rohc_context.specs.declared.fault.Fault.{Fault}
 use Rattle.rohc_context.specs.declared.fault.Fault.TheVariants.{Unfit}
-use Rattle.rohc_context.specs.declared.settings.Settings.{Settings}
+use Rattle.rohc_context.specs.Settings.{Limits}
 use Rattle.rohc_context.specs.Record.{Reference}
 use Rattle.rohc_context.specs.Explains.{Explained, Explains}
 
@@ -32,9 +32,9 @@ unshifted reference = record { reference = reference; shift = 0 }
 -- The second try assumes that the SN bits wrapped around once. It is for short checks alone, and only if
 -- enough time has passed: with k SN bits in the packet, `packet_ms * 2^k` milliseconds or more since the last
 -- accepted arrival.
-abbrev pub second_tries : Settings → (passed : ℕ) → Reference → Content → List Try
-second_tries s passed reference c =
-    if has_short_check c.kind && nat_le (s.packet_ms * 2 ^ c.sn.count) passed
+abbrev pub second_tries : Limits → (passed : ℕ) → Reference → Content → List Try
+second_tries l passed reference c =
+    if has_short_check c.kind && nat_le (l.packet_ms * 2 ^ c.sn.count) passed
     then record { reference = reference; shift = 2 ^ c.sn.count } ∷ []
     else []
 
@@ -44,10 +44,10 @@ third_tries None c = []
 third_tries (Some previous) c = if has_short_check c.kind then unshifted previous ∷ [] else []
 
 -- the tries in Full Context
-abbrev pub full_tries : Settings → (passed : ℕ) → Reference → (previous : Option Reference) → Content →
+abbrev pub full_tries : Limits → (passed : ℕ) → Reference → (previous : Option Reference) → Content →
     List Try
-full_tries s passed reference previous c =
-    unshifted reference ∷ second_tries s passed reference c ++ third_tries previous c
+full_tries l passed reference previous c =
+    unshifted reference ∷ second_tries l passed reference c ++ third_tries previous c
 
 -- the try in Static Context
 abbrev pub static_tries : Reference → List Try

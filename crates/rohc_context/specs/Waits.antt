@@ -5,6 +5,7 @@ use Rattle.rohc_forms.specs.Content.{Content}
 use Rattle.rohc_context.specs.declared.due.Due.TheVariants.{StaticNack}
 use Rattle.rohc_context.specs.declared.refusal.Refusal.TheVariants.{StateTooLow}
 use Rattle.rohc_context.specs.declared.settings.Settings.{Settings}
+use Rattle.rohc_context.specs.Settings.{limits}
 use Rattle.rohc_context.specs.Record.{Reference, NoContext, Record}
 use Rattle.rohc_context.specs.Response.{Response, failed, refused}
 use Rattle.rohc_context.specs.Due.{sent}
@@ -44,11 +45,11 @@ CountsUntilIdle = (r : Record) (s : Settings) (moment : ℕ) → moment < r.acce
 abbrev pub TriesAfterWait : Type 0
 TriesAfterWait = (r : Record) (s : Settings) (moment : ℕ) (reference : Reference) (c : Content) →
     has_short_check c.kind ≡ true → r.accepted + s.packet_ms * 2 ^ c.sn.count ≤ moment →
-    second_tries s (moment - r.accepted) reference c
+    second_tries (limits s) (moment - r.accepted) reference c
     ≡ record { reference = reference; shift = 2 ^ c.sn.count } ∷ []
 
 -- Before that there is none.
 abbrev pub WaitsToTry : Type 0
 WaitsToTry = (r : Record) (s : Settings) (moment : ℕ) (reference : Reference) (c : Content) →
     s.packet_ms ≢ 0 → moment < r.accepted + s.packet_ms * 2 ^ c.sn.count →
-    second_tries s (moment - r.accepted) reference c ≡ []
+    second_tries (limits s) (moment - r.accepted) reference c ≡ []

@@ -9,7 +9,7 @@ ghost use Rattle.rohc_forms.specs.Packets.{content, id_by, values_by};
 ghost use Rattle.rohc_chain.specs.Good.{IsGoodStride, IsGoodStatic, IsGoodDynamic};
 ghost use Rattle.rohc_context.specs.InForce.{in_force, given_stride};
 ghost use Rattle.rohc_context.specs.Record.{reference_of};
-ghost use Rattle.rohc_context.specs.Explains.{AgreesInTs, AgreesInId, Means, Explains};
+ghost use Rattle.rohc_context.specs.Explains.{AgreesByBits, scale, AgreesInTs, AgreesInId, Means, Explains};
 ghost use Rattle.rohc_context.specs.Saved.{AreRegisters, IsKept};
 ghost use Rattle.rohc_context.specs.Read.{explained_of};
 
@@ -82,6 +82,16 @@ fn timestamp(
     let Some(bits) = bits else {
         return inferred_ts(reference, stride, steps);
     };
+    timestamp_by_bits(reference, stride, tsc, bits)
+}
+
+/// The timestamp that these bits mean, scaled or not (RFC 3095 4.5.3). It isn't inlined, since nearly no packet has any.
+#[inline(never)]
+fn timestamp_by_bits(reference: u32, stride: Option<u32>, tsc: Option<bool>, bits: Bits) -> u32
+    requires stride { IsGoodStride stride }
+    requires bits { 2 ≤ bits.count }
+    ensures { AgreesByBits reference (scale tsc stride) (low_bits bits) result }
+{
     match (tsc, stride) {
         (None | Some(true), Some(stride)) => scaled(reference, stride, bits),
         _ => unscaled(reference, bits),

@@ -29,14 +29,14 @@ fn sn_of(reference: &Option<Reference>) -> Option<u16>
 
 impl State {
     ghost use Rattle.std.specs.Prelude.{◌≡◌, ◌<◌, ◌^◌};
-    ghost use Rattle.rohc_context.specs.Settings.{AreGood};
+    ghost use Rattle.rohc_context.specs.Settings.{AreGood, limits};
     ghost use Rattle.rohc_context.specs.Record.{state_of};
     ghost use Rattle.rohc_context.specs.Failures.{leads_to, after_check, after_low_state};
 
     /// The state after a packet whose check doesn't match, and the feedback that is due.
     pub(crate) fn after_check(&self, settings: &Settings, moment: u64) -> (State, Due)
         requires { AreGood settings.now }
-        ensures { leads_to (state_of result.0) result.1 ≡ after_check settings.now moment (state_of self.now) }
+        ensures { leads_to (state_of result.0) result.1 ≡ after_check (limits settings.now) moment (state_of self.now) }
     {
         match self {
             State::Plain | State::NoContext(_) => (*self, Due::Nothing),
@@ -48,7 +48,7 @@ impl State {
     /// The state after a packet that this state doesn't take, and the feedback that is due.
     pub(crate) fn after_low_state(&self, settings: &Settings, moment: u64) -> (State, Due)
         requires { AreGood settings.now }
-        ensures { leads_to (state_of result.0) result.1 ≡ after_low_state settings.now moment (state_of self.now) }
+        ensures { leads_to (state_of result.0) result.1 ≡ after_low_state (limits settings.now) moment (state_of self.now) }
     {
         match self {
             State::Plain | State::Full(_) => (*self, Due::Nothing),
@@ -69,7 +69,7 @@ impl StaticContext {
     ghost use Rattle.std.specs.Prelude.{◌≡◌, ℕ, option_map};
     ghost use Rattle.rohc_context.specs.Window.{outcomes};
     ghost use Rattle.rohc_context.specs.declared.state.State.TheVariants.{Static as Level};
-    ghost use Rattle.rohc_context.specs.Settings.{AreGood};
+    ghost use Rattle.rohc_context.specs.Settings.{AreGood, limits};
     ghost use Rattle.rohc_context.specs.Record.{reference_of, state_of, StaticContext as Seen};
     ghost use Rattle.rohc_context.specs.Failures.{leads_to, after_check, after_low_state};
 
@@ -86,7 +86,7 @@ impl StaticContext {
 
     fn after_check(&self, settings: &Settings, moment: u64) -> (State, Due)
         requires { AreGood settings.now }
-        ensures { leads_to (state_of result.0) result.1 ≡ after_check settings.now moment (state_of (Level self.now)) }
+        ensures { leads_to (state_of result.0) result.1 ≡ after_check (limits settings.now) moment (state_of (Level self.now)) }
     {
         let first = self.windows.0.and(true);
         let second = self.windows.1.and(true);
@@ -103,7 +103,7 @@ impl StaticContext {
 
     fn after_low_state(&self, settings: &Settings) -> (State, Due)
         requires { AreGood settings.now }
-        ensures { (moment : ℕ) → leads_to (state_of result.0) result.1 ≡ after_low_state settings.now moment (state_of (Level self.now)) }
+        ensures { (moment : ℕ) → leads_to (state_of result.0) result.1 ≡ after_low_state (limits settings.now) moment (state_of (Level self.now)) }
     {
         let first = self.windows.0.and(true);
         let second = self.windows.1;
@@ -118,13 +118,13 @@ impl StaticContext {
 impl FullContext {
     ghost use Rattle.std.specs.Prelude.{◌≡◌, ℕ};
     ghost use Rattle.rohc_context.specs.declared.state.State.TheVariants.{Full as Level};
-    ghost use Rattle.rohc_context.specs.Settings.{AreGood};
+    ghost use Rattle.rohc_context.specs.Settings.{AreGood, limits};
     ghost use Rattle.rohc_context.specs.Record.{state_of};
     ghost use Rattle.rohc_context.specs.Failures.{leads_to, after_check};
 
     fn after_check(&self, settings: &Settings) -> (State, Due)
         requires { AreGood settings.now }
-        ensures { (moment : ℕ) → leads_to (state_of result.0) result.1 ≡ after_check settings.now moment (state_of (Level self.now)) }
+        ensures { (moment : ℕ) → leads_to (state_of result.0) result.1 ≡ after_check (limits settings.now) moment (state_of (Level self.now)) }
     {
         let window = self.windows.0.and(true);
         if window.is_filled(settings.k1, settings.n1) {

@@ -1,74 +1,76 @@
-//! The first try of a packet without an extension 3. It rebuilds the packet in the reply in place, and writes
-//! only those fields of the reference that such a packet changes.
+//! The first try of a packet without an extension 3, which nearly every packet fits by. It writes only those fields of
+//! the reference that such a packet changes.
 
 use crate::explain::meant;
+use crate::other::read_first;
 use crate::reference::Previous;
-use crate::reply::{Delivered, Outcome, Reply};
+use crate::reply::Delivered;
 use crate::state::FullContext;
-use crate::tries::check_of;
+use crate::tries::{check_of, is_short};
 use arrayvec::ArrayVec;
-use rohc_forms::{Form, FormKind, read_at_once, read_unextended};
+use rohc_forms::Form;
 use rohc_frame::Forward;
-use rohc_header::{Dynamic, LONGEST_PAYLOAD, put_header};
+use rohc_header::{Dynamic, head_of};
 
 impl FullContext {
-    ghost use Rattle.std.specs.Prelude.{◌≡◌, ◌≢◌, ◌≤◌, ◌⊎◌, ℕ, List, length, Some, None, Ok, true, false};
+    ghost use Rattle.std.specs.Prelude.{◌≡◌, ◌≢◌, ◌<◌, ◌≤◌, ℕ, List, length, Some, is_some, Ok, Err, true, false, IfSome, IfNone};
     ghost use Rattle.rohc_header.specs.Original.{IsOriginal, longest_payload};
     ghost use Rattle.rohc_header.specs.Prepared.{IsPrepared};
     ghost use Rattle.rohc_chain.specs.Good.{IsGoodDynamic};
     ghost use Rattle.rohc_frame.specs.Reading.{header_of};
-    ghost use Rattle.rohc_forms.specs.Packets.{content, is_extended};
-    ghost use Rattle.rohc_context.specs.declared.settings.Settings.{Settings as Set};
+    ghost use Rattle.rohc_forms.specs.Packets.{IsOther, content};
+    ghost use Rattle.rohc_context.specs.Settings.{Limits};
     ghost use Rattle.rohc_context.specs.declared.state.State.TheVariants.{Full as Level};
     ghost use Rattle.rohc_context.specs.Window.{and_outcome, outcomes};
     ghost use Rattle.rohc_context.specs.Record.{FullContext as Left, reference_of, previous_of, state_of};
-    ghost use Rattle.rohc_context.specs.Response.{response_of, delivered, IsRebuilt};
     ghost use Rattle.rohc_context.specs.Saved.{AreRegisters};
     ghost use Rattle.rohc_context.specs.NextReference.{with_numbers};
     ghost use Rattle.rohc_context.specs.Explains.{Explained};
-    ghost use Rattle.rohc_context.specs.Tries.{Acceptance, check_for, full_tries, unshifted, Fits, Misses};
-    ghost use Rattle.rohc_context.specs.Update.{said_under, Judges, updated};
-    ghost use Rattle.rohc_context.specs.AtOnce.{MissesFirst};
+    ghost use Rattle.rohc_context.specs.Read.{try_of};
+    ghost use Rattle.rohc_context.specs.declared.fault.Fault.TheVariants.{Unfit};
+    ghost use Rattle.rohc_context.specs.Tries.{Acceptance, Fits, Misses, Verdict, check_for, third_tries, full_tries};
+    ghost use Rattle.rohc_context.specs.Update.{said_under, Judges, MissesFirst, updated};
 
-    /// Writes the packet with these fields and this payload into the reply, and returns whether its header has
-    /// this check, of the width that packets of this format carry. If not, what `reply` holds means nothing.
+    /// The header with these fields, if its check is the packet's, of the width that packets of this format carry.
     ///
     /// The payload is at most 65,495 octets. The registers of the reference are those of a header with these
     /// fields, and what is prepared stays of it.
     #[inline(always)]
-    pub(crate) fn rebuild<'a>(
-        &self,
-        kind: FormKind,
-        moving: &Dynamic,
-        check: u8,
-        payload: &'a [u8],
-        reply: &mut Reply<'a>,
-    ) -> bool
-        requires payload { length payload.now ≤ longest_payload }
+    pub(crate) fn rebuild(&self, moving: &Dynamic, form: &Form<'_>) -> Option<ArrayVec<u8, 40>>
+        requires payload { length form.now.payload.now ≤ longest_payload }
         requires good { IsGoodDynamic moving.now }
         requires registers { AreRegisters self.now.fixed moving.now self.now.reference.saved }
         requires prepared { IsPrepared self.now.fixed moving.now self.now.prepared }
-        ensures { (octets : List ℕ) × IsOriginal self.now.fixed moving.now (length payload.entry.now) octets
-            × (response_of reply.new ≡ delivered octets payload.entry.now None)
-            × (result ≡ true → check_for kind octets ≡ check) × (result ≡ false → check_for kind octets ≢ check) }
+        ensures fits { IfSome result (λ head. IsOriginal self.now.fixed moving.now (length form.now.payload.now) head.items
+            × (check_for form.now.kind head.items ≡ form.now.check)) }
+        ensures misses { IfNone result ((octets : List ℕ) × IsOriginal self.now.fixed moving.now (length form.now.payload.now) octets
+            × (check_for form.now.kind octets ≢ form.now.check)) }
     {
-        reply.packet = Some(Delivered {
-            head: ArrayVec::new(),
-            payload,
-        });
-        reply.feedback = None;
-        reply.outcome = Outcome::Delivered;
-        let Some(Delivered { head, .. }) = &mut reply.packet else {
-            unreachable!();
-        };
-        put_header(
-            head,
+        let head = head_of(
             &self.fixed,
             &self.prepared,
             moving,
-            payload.len() as u16,
+            form.payload.len() as u16,
         );
-        check_of(head.as_slice(), self.reference.saved, kind) == check
+        if check_of(head.as_slice(), self.reference.saved, form.kind) != form.check {
+            return None;
+        }
+        Some(head)
+    }
+
+    /// Takes these numbers into the reference, and counts a success.
+    #[inline(always)]
+    fn step_to(&mut self, moving: &Dynamic)
+        requires { IsGoodDynamic moving.now }
+        ensures { state_of (Level self.new) ≡ Left self.old.fixed
+            (record { moving = with_numbers self.old.reference.moving moving.now; carries_sum = self.old.reference.carries_sum })
+            (previous_of self.old) (and_outcome false (outcomes self.old.windows.0)) }
+    {
+        self.reference.moving.sn = moving.sn;
+        self.reference.moving.ts = moving.ts;
+        self.reference.moving.id = moving.id;
+        self.reference.moving.udp_sum = moving.udp_sum;
+        self.windows.0.push(false);
     }
 
     /// Keeps the reference as the previous one, takes these numbers into the reference, and counts a success.
@@ -80,86 +82,84 @@ impl FullContext {
             (Some (reference_of self.old.reference)) (and_outcome false (outcomes self.old.windows.0)) }
     {
         Previous::keep(&mut self.previous, &self.reference);
-        self.reference.moving.sn = moving.sn;
-        self.reference.moving.ts = moving.ts;
-        self.reference.moving.id = moving.id;
-        self.reference.moving.udp_sum = moving.udp_sum;
-        self.windows.0.push(false);
+        self.step_to(moving);
     }
 
-    /// Takes a packet without an extension 3 by the first try, and returns whether it fits. If it doesn't, the
-    /// context stays as it was, and what `reply` holds means nothing.
-    ///
-    /// The payload is at most 65,495 octets.
+    /// Takes a packet without an extension 3 by the try whose sequence number is moved on by `shift`, if it fits, and
+    /// returns its header. Otherwise the context stays as it was.
     #[inline(always)]
-    pub(crate) fn take_first<'a>(&mut self, form: &Form<'a>, reply: &mut Reply<'a>) -> bool
-        requires plain { form.now.values ≡ None }
+    pub(crate) fn take_shifted(&mut self, shift: u32, form: &Form<'_>) -> Option<ArrayVec<u8, 40>>
+        requires shift { shift ≤ 65536 }
+        requires plain { is_some form.now.values ≡ false }
         requires payload { length form.now.payload.now ≤ longest_payload }
-        ensures taken { result ≡ true → (h : Explained)
-            × Fits self.old.fixed (unshifted (reference_of self.old.reference)) (content form.now) h
-            × (response_of reply.new ≡ delivered h.octets form.now.payload.now None)
+        ensures taken { IfSome result (λ head. (h : Explained)
+            × Fits self.old.fixed (try_of self.old.reference shift) (content form.now) h × (head.items ≡ h.octets)
             × (state_of (Level self.new) ≡ updated self.old.fixed (reference_of self.old.reference) (outcomes self.old.windows.0)
-            (record { content = content form.now; reference = reference_of self.old.reference; header = h })) }
-        ensures rebuilt { result ≡ true → IsRebuilt (response_of reply.new) }
-        ensures misses { result ≡ false → Misses self.old.fixed (unshifted (reference_of self.old.reference)) (content form.now) }
-        ensures stays { result ≡ false → self.new ≡ self.old }
+            (record { content = content form.now; reference = reference_of self.old.reference; header = h }))) }
+        ensures long { IfSome result (λ head. length head.items ≡ 40) }
+        ensures misses { IfNone result (Misses self.old.fixed (try_of self.old.reference shift) (content form.now)) }
+        ensures stays { IfNone result (self.new ≡ self.old) }
     {
-        let moving = meant(&self.reference, 0, form);
-        if !self.rebuild(form.kind, &moving, form.check, form.payload, reply) {
-            return false;
-        }
+        let moving = meant(&self.reference, shift, form);
+        let Some(head) = self.rebuild(&moving, form) else {
+            return None;
+        };
         self.follow(&moving);
-        true
+        Some(head)
     }
 
-    /// Takes a packet without an extension 3 that fits by the first try, and returns true. For any other packet it
-    /// returns false: then the context stays as it was, and what `reply` holds means nothing.
-    #[inline(always)]
-    pub(crate) fn take_at_once<'a>(&mut self, forward: &Forward<'a>, reply: &mut Reply<'a>) -> bool
-        ensures taken { result ≡ true → (a : Acceptance)
-            × ((s : Set) (passed : ℕ) → Judges self.old.fixed (full_tries s passed (reference_of self.old.reference) (previous_of self.old))
-            (said_under (header_of forward.now) (reference_of self.old.reference)) (Ok a))
-            × (response_of reply.new ≡ delivered a.header.octets a.content.payload None)
-            × (state_of (Level self.new) ≡ updated self.old.fixed (reference_of self.old.reference) (outcomes self.old.windows.0) a) }
-        ensures missed { result ≡ false → (is_extended (header_of forward.now) self.old.reference.moving.rnd ≡ true)
-            ⊎ MissesFirst self.old.fixed (reference_of self.old.reference) (said_under (header_of forward.now) (reference_of self.old.reference)) }
-        ensures stays { result ≡ false → self.new ≡ self.old }
-    {
-        let kept = &self.reference;
-        let Some(form) = read_at_once(forward, kept.moving.rnd, kept.carries_sum) else {
-            return false;
-        };
-        if form.payload.len() > LONGEST_PAYLOAD {
-            return false;
-        }
-        self.take_first(&form, reply)
-    }
-
-    /// Takes a packet without an extension that fits by the first try, and returns true. For any other packet it
-    /// returns false: then the context stays as it was, and what `reply` holds means nothing.
-    #[inline(always)]
-    pub(crate) fn take_unextended<'a>(
+    /// Takes a packet without an extension 3 by the third try, if it fits, and returns its header. The previous reference,
+    /// which differs from the reference only in its numbers, stays the previous one. Otherwise the context stays as it was.
+    pub(crate) fn take_back(
         &mut self,
-        forward: &Forward<'a>,
-        reply: &mut Reply<'a>,
-    ) -> bool
-        ensures taken { result ≡ true → (a : Acceptance)
-            × ((s : Set) (passed : ℕ) → Judges self.old.fixed (full_tries s passed (reference_of self.old.reference) (previous_of self.old))
-            (said_under (header_of forward.now) (reference_of self.old.reference)) (Ok a))
-            × (response_of reply.new ≡ delivered a.header.octets a.content.payload None)
-            × (state_of (Level self.new) ≡ updated self.old.fixed (reference_of self.old.reference) (outcomes self.old.windows.0) a) }
-        ensures rebuilt { result ≡ true → IsRebuilt (response_of reply.new) }
-        ensures missed { result ≡ false → (is_extended (header_of forward.now) self.old.reference.moving.rnd ≡ true)
-            ⊎ MissesFirst self.old.fixed (reference_of self.old.reference) (said_under (header_of forward.now) (reference_of self.old.reference)) }
-        ensures stays { result ≡ false → self.new ≡ self.old }
+        previous: Previous,
+        form: &Form<'_>,
+    ) -> Option<ArrayVec<u8, 40>>
+        requires previous { self.old.previous ≡ Some previous }
+        requires alike { previous.alike ≡ true }
+        requires plain { is_some form.now.values ≡ false }
+        requires payload { length form.now.payload.now ≤ longest_payload }
+        ensures taken { IfSome result (λ head. (a : Acceptance)
+            × Verdict self.old.fixed (content form.now) (third_tries (previous_of self.old) (content form.now)) (Ok a)
+            × (head.items ≡ a.header.octets) × (a.content ≡ content form.now)
+            × (state_of (Level self.new) ≡ updated self.old.fixed (reference_of self.old.reference) (outcomes self.old.windows.0) a)) }
+        ensures unfit { IfNone result (Verdict self.old.fixed (content form.now) (third_tries (previous_of self.old) (content form.now)) (Err Unfit)) }
+        ensures stays { IfNone result (self.new ≡ self.old) }
     {
-        let kept = &self.reference;
-        let Some(form) = read_unextended(forward, kept.moving.rnd, kept.carries_sum) else {
-            return false;
-        };
-        if form.payload.len() > LONGEST_PAYLOAD {
-            return false;
+        if !is_short(form.kind) {
+            return None;
         }
-        self.take_first(&form, reply)
+        let before = previous.beside(&self.reference);
+        let moving = meant(&before, 0, form);
+        let Some(head) = self.rebuild(&moving, form) else {
+            return None;
+        };
+        self.step_to(&moving);
+        Some(head)
+    }
+
+    /// Takes a UO-0 that fits by the first try, and returns what it was rebuilt to. Otherwise the context stays as it was.
+    #[inline(always)]
+    pub(crate) fn first_try<'a>(&mut self, forward: &Forward<'a>) -> Option<Delivered<'a>>
+        requires first { forward.now.first < 0x80 }
+        ensures taken { IfSome result (λ packet. (a : Acceptance)
+            × ((l : Limits) (passed : ℕ) → Judges self.old.fixed (full_tries l passed (reference_of self.old.reference) (previous_of self.old))
+            (said_under (header_of forward.now) (reference_of self.old.reference)) (Ok a))
+            × (packet.head.items ≡ a.header.octets) × (packet.payload.now ≡ a.content.payload)
+            × (state_of (Level self.new) ≡ updated self.old.fixed (reference_of self.old.reference) (outcomes self.old.windows.0) a)) }
+        ensures long { IfSome result (λ packet. length packet.head.items ≡ 40) }
+        ensures missed { IfNone result (MissesFirst self.old.fixed (reference_of self.old.reference) (said_under (header_of forward.now) (reference_of self.old.reference))) }
+        ensures stays { IfNone result (self.new ≡ self.old) }
+    {
+        let Ok(form) = read_first(forward, &self.reference) else {
+            return None;
+        };
+        let Some(head) = self.take_shifted(0, &form) else {
+            return None;
+        };
+        Some(Delivered {
+            head,
+            payload: form.payload,
+        })
     }
 }

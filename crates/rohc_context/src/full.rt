@@ -19,6 +19,7 @@ impl FullContext {
     ghost use Rattle.rohc_context.specs.Record.{state_of};
     ghost use Rattle.rohc_context.specs.Response.{response_of};
     ghost use Rattle.rohc_context.specs.Renewal.{Delivers};
+    ghost use Rattle.rohc_context.specs.Step.{Answers, arrival};
 
     /// The state after an IR or IR-DYN with these fields, and the answer: the rebuilt packet, with an
     /// ACK if the settings send feedback.
@@ -36,7 +37,7 @@ impl FullContext {
         requires fixed { IsGoodStatic fixed }
         requires moving { IsGoodDynamic moving }
         requires payload { length payload.now ≤ longest_payload }
-        ensures { (moment : ℕ) → Delivers settings.now moment (header_of forward.now) fixed moving payload.entry.now (outcomes window)
+        ensures { (moment : ℕ) → Answers settings.now (header_of forward.now) (Delivers (arrival settings.now moment (header_of forward.now)) fixed moving payload.entry.now (outcomes window))
             (response_of result.1) (Some (record { accepted = moment; state = state_of result.0 })) }
     {
         let prepared = Prepared::of(&fixed, &moving);

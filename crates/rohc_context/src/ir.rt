@@ -10,7 +10,8 @@ ghost use Rattle.rohc_context.specs.Response.{response_of};
 ghost use Rattle.rohc_context.specs.Faults.{fault_of_chain};
 ghost use Rattle.rohc_context.specs.declared.due.Due.TheVariants.{PlainAck as IsPlainAck};
 ghost use Rattle.rohc_context.specs.Due.{sent};
-ghost use Rattle.rohc_context.specs.Renewal.{plain_answer, full_window_of, static_windows_of, Renewed};
+ghost use Rattle.rohc_context.specs.Step.{Answers, arrival};
+ghost use Rattle.rohc_context.specs.Renewal.{plain_answer, full_window, static_windows, Renewed};
 
 use crate::due::Due;
 use crate::fault::Fault;
@@ -25,7 +26,7 @@ use rohc_frame::Forward;
 /// The answer to an IR of profile 0x0000 with this IP packet. If it has no octets, the context is stored
 /// and nothing is delivered.
 fn plain_reply<'a>(settings: &Settings, forward: &Forward<'a>, packet: &'a [u8]) -> Reply<'a>
-    ensures { response_of result ≡ plain_answer packet.entry.now (sent settings.now.mode (header_of forward.now) IsPlainAck) }
+    ensures { response_of result ≡ record (plain_answer packet.entry.now) { feedback = sent settings.now.mode (header_of forward.now) IsPlainAck } }
 {
     let feedback = Due::PlainAck.feedback(settings.mode, forward);
     if packet.is_empty() {
@@ -38,7 +39,7 @@ fn plain_reply<'a>(settings: &Settings, forward: &Forward<'a>, packet: &'a [u8])
 /// The window of Full Context after an IR: from Full Context its window with one more success, from every
 /// other state an empty one.
 fn full_window(counting: Option<State>) -> Window
-    ensures { outcomes result ≡ full_window_of (option_map state_of counting) }
+    ensures { outcomes result ≡ full_window (option_map state_of counting) }
 {
     match counting {
         Some(State::Full(context)) => context.windows.0.and(false),
@@ -49,7 +50,7 @@ fn full_window(counting: Option<State>) -> Window
 /// The windows of Static Context after an IR: from Static Context its windows with one more success each,
 /// from every other state empty ones.
 fn static_windows(counting: Option<State>) -> (Window, Window)
-    ensures { (outcomes result.0, outcomes result.1) ≡ static_windows_of (option_map state_of counting) }
+    ensures { (outcomes result.0, outcomes result.1) ≡ static_windows (option_map state_of counting) }
 {
     match counting {
         Some(State::Static(context)) => (
@@ -72,7 +73,7 @@ pub(crate) fn renewal<'a>(
 ) -> Result<(State, Reply<'a>), Fault>
     requires { IsIr forward.now.kind }
     ensures taken { IfOk result (λ x. (content : IrContent) × (ir_at (header_of forward.now) ≡ Ok content)
-        × ((moment : ℕ) → Renewed settings.now moment (header_of forward.now) (option_map state_of counting) content
+        × ((moment : ℕ) → Answers settings.now (header_of forward.now) (Renewed (arrival settings.now moment (header_of forward.now)) (option_map state_of counting) content)
         (response_of x.1) (Some (record { accepted = moment; state = state_of x.0 })))) }
     ensures fault { IfErr result (λ e. (refusal : ChainRefusal) × (ir_at (header_of forward.now) ≡ Err refusal) × (e ≡ fault_of_chain refusal)) }
 {

@@ -10,6 +10,7 @@ ghost use Rattle.rohc_context.specs.Record.{reference_of, state_of};
 ghost use Rattle.rohc_context.specs.Response.{response_of};
 ghost use Rattle.rohc_context.specs.Saved.{IsKept};
 ghost use Rattle.rohc_context.specs.Renewal.{Delivers};
+ghost use Rattle.rohc_context.specs.Step.{Answers, arrival};
 ghost use Rattle.rohc_context.specs.Refresh.{kept_by, dyn_said, PlainRefuses};
 
 use crate::reference::Reference;
@@ -60,7 +61,7 @@ pub(crate) fn refresh<'a>(
     requires kept { ForSome reference (λ r. IsKept fixed r.moving r.saved) }
     ensures taken { IfOk result (λ x. (d : DynContent)
         × (dyn_said (header_of forward.now) (option_map reference_of reference) ≡ Ok d)
-        × ((moment : ℕ) → Delivers settings.now moment (header_of forward.now) fixed d.moving d.payload (outcomes window)
+        × ((moment : ℕ) → Answers settings.now (header_of forward.now) (Delivers (arrival settings.now moment (header_of forward.now)) fixed d.moving d.payload (outcomes window))
         (response_of x.1) (Some (record { accepted = moment; state = state_of x.0 })))) }
     ensures fault { IfErr result (λ e. dyn_said (header_of forward.now) (option_map reference_of reference) ≡ Err e) }
 {

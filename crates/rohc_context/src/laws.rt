@@ -1,11 +1,12 @@
 //! Laws of one step, as contracts of functions that do nothing. The crates above know a step by these laws alone.
 
 ghost use Rattle.rohc_context.specs.Counts.{WindowsCount, FallsFromFull, FallsFromStatic};
-ghost use Rattle.rohc_context.specs.Modes.{IsSilentInU, KeepsPrevious, HasOneTry, PlainAtOnce, FitsAtOnce, SavesByReference, KeepsFlags, MeansOneUnrefused};
+ghost use Rattle.rohc_context.specs.Modes.{IsSilentInU, KeepsPrevious, HasOneTry, SavesByReference, KeepsFlags, MeansOneUnrefused};
 ghost use Rattle.rohc_context.specs.Waits.{NacksAfterWait, WaitsToNack, IdleIsNone, CountsUntilIdle, TriesAfterWait, WaitsToTry};
 ghost use Rattle.rohc_context.specs.Laws.{HasAnswer, HasNoOther, LeavesGood, BeginsByIr, LeavesNone, NeverPoor, KeepsGood, KeepsRefused, LendsPayload, ChecksChange, LowStatesChange, LowStatesRefuse, ComesToOne, MeansOne, TakesPlain, DeliversHonest, PromotesHonest, DeliversWritten, HasWritten};
 ghost use Rattle.rohc_context.specs.RefusalLaws.{HasNumbers, NumbersDiffer, NamesDiffer, FoundByFraming, FoundInChains, FoundInForms, FoundByContexts, RefusesByRow, KeepsByRow, HasFinder};
 ghost use Rattle.rohc_context.specs.SavedLaws.{ComesBack, RecordIsSpelled};
+ghost use Rattle.rohc_context.specs.ShownLaws.{AnswersAsShown};
 
 /// A step from good values has exactly one answer, and exactly one record after it, or none.
 pub fn one_answer()
@@ -108,13 +109,6 @@ pub fn kept_flags()
     ensures { KeepsFlags }
 {}
 
-/// What is always taken at once, if the record counts: in profile 0x0000 every packet of kind Other, if any packet may be
-/// taken so, and in Full Context one that has no extension, isn't too long and fits by the first try.
-pub fn taken_at_once()
-    ensures plain { PlainAtOnce }
-    ensures full { FitsAtOnce }
-{}
-
 /// A context keeps registers exactly if it has a reference.
 pub fn saved_by_reference()
     ensures { SavesByReference }
@@ -137,6 +131,12 @@ pub fn honest_step()
 pub fn written_is_delivered()
     ensures delivered { DeliversWritten }
     ensures exists { HasWritten }
+{}
+
+/// A step answers as its tries are shown: if one fits, it delivers the header of the first that fits; if none fits, the
+/// refusal is `Check`. A packet that is refused before its tries is refused for that reason.
+pub fn shown_is_answered()
+    ensures { AnswersAsShown }
 {}
 
 /// What is saved of a good record is read as that record, and octets that are read as a record are what is saved of it.

@@ -3,7 +3,6 @@
 //! No function allocates memory; payloads are borrowed from the arrival.
 #![tactic(auto)]
 
-pub mod at_once;
 pub mod context_fault;
 mod due;
 mod explain;
@@ -23,17 +22,20 @@ pub mod reply;
 mod restoring;
 mod saving;
 pub mod settings;
+pub mod shown;
 pub mod standing;
 mod state;
 mod step;
 mod tries;
+pub mod view;
 pub mod window;
 
-pub use at_once::AtOnce;
 pub use context_fault::ContextFault;
 pub use record::Context;
 pub use refusal::Refusal;
 pub use reply::{Delivered, Outcome, Reply};
 pub use settings::{Mode, Settings};
+pub use shown::{Against, Meant, NotMade, Tries, Try, Untried};
 pub use standing::{ContextState, Profile};
+pub use view::{ReferenceView, StateView, View};
 pub use window::Window;

@@ -1,11 +1,13 @@
 //! What a packet of kind Other leads to in profile 0x0001 (RFC 3095 5.7.1 to 5.7.5).
 
-ghost use Rattle.std.specs.Prelude.{◌≡◌, ◌≤◌, List, IfOk, IfErr, Ok, Err, length};
+ghost use Rattle.std.specs.Prelude.{◌≡◌, ◌≢◌, ◌<◌, ◌≤◌, List, IfOk, IfErr, Ok, Err, false, is_some, length};
+ghost use Rattle.std.specs.Result.{result_map_both};
 ghost use Rattle.rohc_frame.specs.Reading.{header_of};
 ghost use Rattle.rohc_header.specs.Original.{longest_payload};
 ghost use Rattle.rohc_header.specs.declared.fields.Static.{Static};
 ghost use Rattle.rohc_forms.specs.Content.{Content};
 ghost use Rattle.rohc_forms.specs.Packets.{IsOther, content};
+ghost use Rattle.rohc_context.specs.declared.fault.Fault.TheVariants.{Unfit};
 ghost use Rattle.rohc_context.specs.Record.{reference_of};
 ghost use Rattle.rohc_context.specs.Tries.{Try};
 ghost use Rattle.rohc_context.specs.Update.{said_under, Judges};
@@ -20,29 +22,63 @@ use crate::state::{FullContext, StaticContext};
 use crate::tries::{Accepted, attempt};
 use crate::window::Window;
 use arrayvec::ArrayVec;
-use rohc_forms::{Form, read_form};
+use rohc_forms::{Form, FormRefusal, read_form, read_uo_0};
 use rohc_frame::Forward;
 use rohc_header::{LONGEST_PAYLOAD, Prepared};
 
-/// Decodes a packet of kind Other with the reference's RND, UDP checksum and stride. It is a fault if the rebuilt
-/// packet would be too long.
-fn read<'a>(forward: &Forward<'a>, reference: &Reference) -> Result<Form<'a>, Fault>
-    requires { IsOther forward.now.kind }
-    ensures read { IfOk result (λ form. said_under (header_of forward.now) (reference_of reference.now) ≡ Ok (content form)) }
-    ensures short { IfOk result (λ form. length form.payload.now ≤ longest_payload) }
-    ensures fault { IfErr result (λ e. (fixed : Static) (tries : Content → List Try) → Judges fixed tries (said_under (header_of forward.now) (reference_of reference.now)) (Err e)) }
+/// The content of a packet, or its fault: that of the reader, or that the rebuilt packet would be too long.
+#[inline(always)]
+fn short<'a>(form: Result<Form<'a>, FormRefusal>) -> Result<Form<'a>, Fault>
+    ensures same { IfOk result (λ short. form.entry ≡ Ok short) }
+    ensures short { IfOk result (λ short. length short.payload.now ≤ longest_payload) }
+    ensures fault { IfErr result (λ e. (fixed : Static) (tries : Content → List Try) → Judges fixed tries (result_map_both content (λ e. e) form.entry) (Err e)) }
+    ensures refused { IfErr result (λ e. e ≢ Unfit) }
 {
-    let kept = &reference.moving;
-    let form = read_form(
-        forward,
-        kept.rnd,
-        reference.carries_sum,
-        kept.stride.is_some(),
-    )?;
+    let form = form?;
     if form.payload.len() > LONGEST_PAYLOAD {
         return Err(Fault::Refused(Refusal::TooLong));
     }
     Ok(form)
+}
+
+/// Decodes a packet of kind Other with the reference's RND, UDP checksum and stride. It is a fault if the rebuilt
+/// packet would be too long.
+#[inline(always)]
+pub(crate) fn read<'a>(forward: &Forward<'a>, reference: &Reference) -> Result<Form<'a>, Fault>
+    requires { IsOther forward.now.kind }
+    ensures read { IfOk result (λ form. said_under (header_of forward.now) (reference_of reference.now) ≡ Ok (content form)) }
+    ensures short { IfOk result (λ form. length form.payload.now ≤ longest_payload) }
+    ensures fault { IfErr result (λ e. (fixed : Static) (tries : Content → List Try) → Judges fixed tries (said_under (header_of forward.now) (reference_of reference.now)) (Err e)) }
+    ensures refused { IfErr result (λ e. e ≢ Unfit) }
+{
+    let kept = &reference.moving;
+    short(read_form(
+        forward,
+        kept.rnd,
+        reference.carries_sum,
+        kept.stride.is_some(),
+    ))
+}
+
+/// Decodes a UO-0, which is tried first, as `read` does.
+#[inline(always)]
+pub(crate) fn read_first<'a>(
+    forward: &Forward<'a>,
+    reference: &Reference,
+) -> Result<Form<'a>, Fault>
+    requires { forward.now.first < 0x80 }
+    ensures read { IfOk result (λ form. said_under (header_of forward.now) (reference_of reference.now) ≡ Ok (content form)) }
+    ensures short { IfOk result (λ form. length form.payload.now ≤ longest_payload) }
+    ensures plain { IfOk result (λ form. is_some form.values ≡ false) }
+    ensures fault { IfErr result (λ e. (fixed : Static) (tries : Content → List Try) → Judges fixed tries (said_under (header_of forward.now) (reference_of reference.now)) (Err e)) }
+{
+    let kept = &reference.moving;
+    short(read_uo_0(
+        forward,
+        kept.rnd,
+        reference.carries_sum,
+        kept.stride.is_some(),
+    ))
 }
 
 /// The rebuilt packet, with this header.
@@ -57,78 +93,121 @@ fn packet<'a>(accepted: &Accepted, form: &Form<'a>) -> Delivered<'a>
 }
 
 impl FullContext {
-    ghost use Rattle.std.specs.Prelude.{◌≡◌, None, IfSome, IfNone, IfOk, IfErr, Ok, Err};
+    ghost use Rattle.std.specs.Prelude.{◌≡◌, ◌≤◌, Result, true, false, is_some, length, None, IfSome, IfNone, IfOk, IfErr, Ok, Err};
+    ghost use Rattle.rohc_context.specs.declared.fault.Fault.{Fault};
     ghost use Rattle.rohc_frame.specs.Reading.{header_of};
+    ghost use Rattle.rohc_header.specs.Original.{longest_payload};
     ghost use Rattle.rohc_forms.specs.Packets.{IsOther, content};
     ghost use Rattle.rohc_context.specs.declared.fault.Fault.TheVariants.{Unfit};
     ghost use Rattle.rohc_context.specs.declared.state.State.TheVariants.{Full as Level};
-    ghost use Rattle.rohc_context.specs.Settings.{AreGood};
+    ghost use Rattle.rohc_context.specs.Settings.{AreGood, limits};
     ghost use Rattle.rohc_context.specs.Window.{outcomes};
     ghost use Rattle.rohc_context.specs.Record.{reference_of, previous_of, state_of};
     ghost use Rattle.rohc_context.specs.Previous.{SharesNumbering};
     ghost use Rattle.rohc_context.specs.Response.{response_of, delivered};
     ghost use Rattle.rohc_context.specs.Read.{acceptance_of, IsSound};
-    ghost use Rattle.rohc_context.specs.Tries.{Acceptance, full_tries};
-    ghost use Rattle.rohc_context.specs.Update.{said_under, Judges, updated};
+    ghost use Rattle.rohc_context.specs.Tries.{Acceptance, Misses, Verdict, unshifted, third_tries, full_tries};
+    ghost use Rattle.rohc_context.specs.Update.{said_under, Judges, MissesFirst, updated};
 
     /// Takes a packet of kind Other, `passed` milliseconds after the last accepted arrival, and writes the rebuilt
-    /// packet into the reply. If it returns a fault, this context stays as it was, and what `reply` holds means
-    /// nothing.
+    /// packet into the reply. `tried` is whether it was tried before, and misses by the first try. If it returns a fault,
+    /// this context stays as it was, and what `reply` holds means nothing.
     pub(crate) fn update<'a>(
         &mut self,
         settings: &Settings,
         passed: u64,
         forward: &Forward<'a>,
+        tried: bool,
         reply: &mut Reply<'a>,
     ) -> Result<(), Fault>
         requires kind { IsOther forward.now.kind }
         requires good { AreGood settings.now }
+        requires missed { tried ≡ true → MissesFirst self.old.fixed (reference_of self.old.reference) (said_under (header_of forward.now) (reference_of self.old.reference)) }
         ensures taken { IfOk result (λ _. (a : Acceptance)
-            × Judges self.old.fixed (full_tries settings.now passed (reference_of self.old.reference) (previous_of self.old))
+            × Judges self.old.fixed (full_tries (limits settings.now) passed (reference_of self.old.reference) (previous_of self.old))
             (said_under (header_of forward.now) (reference_of self.old.reference)) (Ok a)
             × (response_of reply.new ≡ delivered a.header.octets a.content.payload None)
             × (state_of (Level self.new) ≡ updated self.old.fixed (reference_of self.old.reference) (outcomes self.old.windows.0) a)) }
         ensures fault { IfErr result (λ e.
-            Judges self.old.fixed (full_tries settings.now passed (reference_of self.old.reference) (previous_of self.old))
-            (said_under (header_of forward.now) (reference_of self.old.reference)) (Err e)) }
-        ensures stays { IfErr result (λ e. self.new ≡ self.old) }
-    {
-        if self.take_at_once(forward, reply) {
-            return Ok(());
-        }
-        self.update_by_tries(settings, passed, forward, reply)
-    }
-
-    /// Takes a packet as `update` does, by all tries in their order.
-    fn update_by_tries<'a>(
-        &mut self,
-        settings: &Settings,
-        passed: u64,
-        forward: &Forward<'a>,
-        reply: &mut Reply<'a>,
-    ) -> Result<(), Fault>
-        requires kind { IsOther forward.now.kind }
-        requires good { AreGood settings.now }
-        ensures taken { IfOk result (λ _. (a : Acceptance)
-            × Judges self.old.fixed (full_tries settings.now passed (reference_of self.old.reference) (previous_of self.old))
-            (said_under (header_of forward.now) (reference_of self.old.reference)) (Ok a)
-            × (response_of reply.new ≡ delivered a.header.octets a.content.payload None)
-            × (state_of (Level self.new) ≡ updated self.old.fixed (reference_of self.old.reference) (outcomes self.old.windows.0) a)) }
-        ensures fault { IfErr result (λ e.
-            Judges self.old.fixed (full_tries settings.now passed (reference_of self.old.reference) (previous_of self.old))
+            Judges self.old.fixed (full_tries (limits settings.now) passed (reference_of self.old.reference) (previous_of self.old))
             (said_under (header_of forward.now) (reference_of self.old.reference)) (Err e)) }
         ensures stays { IfErr result (λ e. self.new ≡ self.old) }
     {
         let form = read(forward, &self.reference)?;
+        // Only copies are lent to what isn't inlined, so that on the likely way what was read stays in registers.
         if form.values.is_some() {
-            let accepted = self.accepted(settings, passed, &form);
-            return self.take(&form, accepted, reply);
+            let extended = form;
+            let accepted = self.accepted(settings, passed, &extended);
+            return self.take(&extended, accepted, reply);
         }
-        if self.take_first(&form, reply) {
+        if let Some(head) = self.take_plain(settings, passed, &form, tried) {
+            *reply = Reply::delivered(head, form.payload, None);
             return Ok(());
         }
-        let accepted = self.later_tries(settings, passed, &form);
-        self.take(&form, accepted, reply)
+        let left = form;
+        self.take_third(&left, reply)
+    }
+
+    /// Takes a packet without an extension 3 by the third try, and writes the rebuilt packet into the reply. If it doesn't
+    /// fit, the fault is `Unfit`, and this context stays as it was.
+    fn take_third<'a>(&mut self, form: &Form<'a>, reply: &mut Reply<'a>) -> Result<(), Fault>
+        requires plain { is_some form.now.values ≡ false }
+        requires payload { length form.now.payload.now ≤ longest_payload }
+        ensures taken { IfOk result (λ _. (a : Acceptance)
+            × Verdict self.old.fixed (content form.now) (third_tries (previous_of self.old) (content form.now)) (Ok a)
+            × (response_of reply.new ≡ delivered a.header.octets a.content.payload None)
+            × (state_of (Level self.new) ≡ updated self.old.fixed (reference_of self.old.reference) (outcomes self.old.windows.0) a)) }
+        ensures unfit { IfErr result (λ e. Verdict self.old.fixed (content form.now) (third_tries (previous_of self.old) (content form.now)) (Err e)) }
+        ensures stays { IfErr result (λ e. self.new ≡ self.old) }
+    {
+        let Some(previous) = self.previous else {
+            return Err(Fault::Unfit);
+        };
+        if !previous.alike {
+            let accepted = self.third_try(form);
+            return self.take(form, accepted, reply);
+        }
+        let Some(head) = self.take_back(previous, form) else {
+            return Err(Fault::Unfit);
+        };
+        *reply = Reply::delivered(head, form.payload, None);
+        Ok(())
+    }
+
+    /// Takes a packet without an extension 3 by the first or the second try, if one fits, and returns its header. Otherwise
+    /// the context stays as it was. `tried` is whether it misses by the first try.
+    #[inline(always)]
+    fn take_plain(
+        &mut self,
+        settings: &Settings,
+        passed: u64,
+        form: &Form<'_>,
+        tried: bool,
+    ) -> Option<ArrayVec<u8, 40>>
+        requires good { AreGood settings.now }
+        requires plain { is_some form.now.values ≡ false }
+        requires payload { length form.now.payload.now ≤ longest_payload }
+        requires missed { tried ≡ true → Misses self.old.fixed (unshifted (reference_of self.old.reference)) (content form.now) }
+        ensures taken { IfSome result (λ head. (a : Acceptance)
+            × Verdict self.old.fixed (content form.now) (full_tries (limits settings.now) passed (reference_of self.old.reference) (previous_of self.old) (content form.now)) (Ok a)
+            × (head.items ≡ a.header.octets) × (a.content ≡ content form.now)
+            × (state_of (Level self.new) ≡ updated self.old.fixed (reference_of self.old.reference) (outcomes self.old.windows.0) a)) }
+        ensures misses { IfNone result ((verdict : Result Acceptance Fault) → Verdict self.old.fixed (content form.now) (third_tries (previous_of self.old) (content form.now)) verdict
+            → Verdict self.old.fixed (content form.now) (full_tries (limits settings.now) passed (reference_of self.old.reference) (previous_of self.old) (content form.now)) verdict) }
+        ensures stays { IfNone result (self.new ≡ self.old) }
+    {
+        if !tried {
+            if let Some(head) = self.take_shifted(0, form) {
+                return Some(head);
+            }
+        }
+        let Some(shift) = self.second_shift(settings, passed, form) else {
+            return None;
+        };
+        let Some(head) = self.take_shifted(shift, form) else {
+            return None;
+        };
+        Some(head)
     }
 
     /// Updates the reference by an accepted header, and writes the rebuilt packet into the reply. Without one, the

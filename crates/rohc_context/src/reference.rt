@@ -46,13 +46,13 @@ pub(crate) struct Previous {
     /// The registers of the 3-bit and the 7-bit check after the static octets of headers with these
     /// fields.
     pub saved: (u8, u8),
-    /// Set only if it differs from the reference in numbers alone: Identification, UDP checksum, sequence number and
+    /// Set only if it differs from the reference only in its numbers: Identification, UDP checksum, sequence number and
     /// timestamp. It may be unset and differ in no more all the same.
     pub alike: bool,
 }
 
 impl Previous {
-    /// What is kept of this reference. `alike` is whether the next one will differ from it in numbers alone.
+    /// What is kept of this reference. `alike` is whether the next one will differ from it only in its numbers.
     pub(crate) fn of(reference: &Reference, alike: bool) -> Previous
         ensures fields { fields_by reference.now.moving result ≡ reference.now.moving }
         ensures saved { result.saved ≡ reference.now.saved }
@@ -84,7 +84,7 @@ impl Previous {
         *kept = Some(Previous::of(reference, true));
     }
 
-    /// Takes the numbers of this reference, from which the previous one differs in numbers alone.
+    /// Takes the numbers of this reference, from which the previous one differs only in its numbers.
     #[inline(always)]
     pub(crate) fn take_numbers(&mut self, reference: &Reference)
         requires alike { IsAlike reference.now self.old }
@@ -98,7 +98,7 @@ impl Previous {
         self.ts = moving.ts;
     }
 
-    /// Keeps this reference as the previous one, before one that differs from it in numbers alone. If the one before it
+    /// Keeps this reference as the previous one, before one that differs from it only in its numbers. If the one before it
     /// did so too, numbers are all that is written.
     #[inline(always)]
     pub(crate) fn keep(kept: &mut Option<Previous>, reference: &Reference)

@@ -42,11 +42,8 @@ impl<'a> Reply<'a> {
     ghost use Rattle.rohc_context.specs.Response.{response_of, delivered, stored, failed, refused};
 
     /// The answer that delivers a packet with this head and payload, with this feedback or none.
-    pub(crate) fn delivered(
-        head: ArrayVec<u8, 40>,
-        payload: &'a [u8],
-        feedback: Option<Element>,
-    ) -> Self
+    #[inline(always)]
+    pub fn delivered(head: ArrayVec<u8, 40>, payload: &'a [u8], feedback: Option<Element>) -> Self
         ensures { response_of result ≡ delivered head.items payload.entry.now (octets_of feedback) }
     {
         Reply {
@@ -56,21 +53,15 @@ impl<'a> Reply<'a> {
         }
     }
 
-    /// Writes the answer to a Normal packet of profile 0x0000 over what the reply held: the packet is its first octet and
-    /// the rest, its octets without the CID octets (RFC 3095 5.10.2).
+    /// The answer to a Normal packet of profile 0x0000: the packet is its first octet and the rest, its octets without the
+    /// CID octets (RFC 3095 5.10.2).
     #[inline(always)]
-    pub(crate) fn deliver_normal(&mut self, first: u8, rest: &'a [u8])
-        ensures { response_of self.new ≡ delivered (first ∷ []) rest.entry.now None }
+    pub(crate) fn normal(first: u8, rest: &'a [u8]) -> Self
+        ensures { response_of result ≡ delivered (first ∷ []) rest.entry.now None }
     {
-        self.packet = Some(Delivered {
-            head: ArrayVec::new(),
-            payload: rest,
-        });
-        self.feedback = None;
-        self.outcome = Outcome::Delivered;
-        if let Some(Delivered { head, .. }) = &mut self.packet {
-            head.push(first);
-        }
+        let mut head = ArrayVec::new();
+        head.push(first);
+        Reply::delivered(head, rest, None)
     }
 
     /// The answer if the context was made or renewed without a packet, with this feedback or none.

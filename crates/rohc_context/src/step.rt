@@ -1,6 +1,5 @@
 //! One event of one context.
 
-use crate::at_once::AtOnce;
 use crate::due::Due;
 use crate::failures::is_uor_2;
 use crate::fault::Fault;
@@ -8,7 +7,7 @@ use crate::ir::renewal;
 use crate::ir_dyn::{plain_refusal, refresh};
 use crate::record::Context;
 use crate::refusal::Refusal;
-use crate::reply::Reply;
+use crate::reply::{Delivered, Reply};
 use crate::settings::Settings;
 use crate::state::State;
 use crate::window::Window;
@@ -16,20 +15,22 @@ use rohc_chain::ChainRefusal;
 use rohc_frame::{Forward, HeadKind};
 
 impl Context {
-    ghost use Rattle.std.specs.Prelude.{◌≡◌, ◌≤◌, Some, None, option_map, true, IfOk, IfErr, if◌then◌else◌};
+    ghost use Rattle.std.specs.Prelude.{◌≡◌, ◌≤◌, length, Some, None, option_map, true, IfSome, IfNone, IfOk, IfErr, if◌then◌else◌};
     ghost use Rattle.rohc_frame.specs.Reading.{header_of};
     ghost use Rattle.rohc_frame.specs.declared.header.HeadKind.TheVariants.{IrDyn as KindIrDyn, Other as KindOther};
     ghost use Rattle.rohc_chain.specs.Packets.{IsIr, IsIrDyn, ir_at};
     ghost use Rattle.rohc_forms.specs.Packets.{IsOther};
     ghost use Rattle.rohc_context.specs.declared.refusal.Refusal.TheVariants.{StateTooLow as IsStateTooLow};
-    ghost use Rattle.rohc_context.specs.Settings.{AreGood};
+    ghost use Rattle.rohc_context.specs.Settings.{AreGood, limits};
     ghost use Rattle.rohc_context.specs.Record.{record_of, state_of, is_static};
-    ghost use Rattle.rohc_context.specs.Response.{response_of, refused};
+    ghost use Rattle.rohc_context.specs.declared.settings.Settings.{Settings as Set};
+    ghost use Rattle.rohc_context.specs.Response.{response_of, delivered, refused};
+    ghost use Rattle.rohc_context.specs.Update.{MissesIn};
     ghost use Rattle.rohc_context.specs.Failures.{after_low_state};
     ghost use Rattle.rohc_context.specs.Faults.{fault_of_chain};
-    ghost use Rattle.rohc_context.specs.Outcomes.{Fails, Ends};
+    ghost use Rattle.rohc_context.specs.Outcomes.{fails, ends};
     ghost use Rattle.rohc_context.specs.Renewal.{Renews};
-    ghost use Rattle.rohc_context.specs.Step.{LoneStep, Turn, counts_within};
+    ghost use Rattle.rohc_context.specs.Step.{LoneStep, HasMissed, Steps, Gives, Answers, arrival, counts_within};
 
     /// Takes the first arrival for a CID without a record. Returns the record that an IR makes and the answer.
     ///
@@ -79,26 +80,60 @@ impl Context {
         ensures { LoneStep (Some (record_of self.old)) settings.now moment (header_of forward.now) (response_of result) (Some (record_of self.new)) }
     {
         let mut reply = Reply::refused(Refusal::NoContext);
-        if !self.take_at_once(AtOnce::Any, settings.idle_ms, moment, forward, &mut reply) {
-            self.step(settings, moment, forward, &mut reply);
-        }
+        self.step(settings, moment, forward, false, &mut reply);
         reply
     }
 
-    /// Takes an arrival of any kind as `arrive` does, and writes the answer over what `reply` held: for a caller that has
-    /// tried `take_at_once` itself. It isn't inlined, so that its callers keep no stack space for a second reply.
+    /// Takes a packet that begins as a UO-0 does and fits by the first try, if the record counts and is in Full Context, as
+    /// nearly every packet does, and returns what it was rebuilt to: behind a header of 40 octets, without feedback. For any
+    /// other packet the record stays as it was, and `step` takes it.
+    ///
+    /// It is the first half of `arrive`, under any settings with this `idle_ms`. It lends nothing to a call, so what it reads
+    /// stays in registers, and where the compiler knows how a packet begins, it drops all other formats.
+    #[inline(always)]
+    #[tactic(auto, unfolding(crate::specs::Step::LoneStep, crate::specs::Step::HasMissed, crate::specs::Record::record_of))]
+    pub fn take_first<'a>(
+        &mut self,
+        idle_ms: u32,
+        moment: u64,
+        forward: &Forward<'a>,
+    ) -> Option<Delivered<'a>>
+        requires kind { IsOther forward.now.kind }
+        ensures taken { IfSome result (λ packet. (s : Set) → s.idle_ms ≡ idle_ms → LoneStep (Some (record_of self.old)) s moment (header_of forward.now)
+            (delivered packet.head.items packet.payload.now None) (Some (record_of self.new))) }
+        ensures long { IfSome result (λ packet. length packet.head.items ≡ 40) }
+        ensures missed { IfNone result (HasMissed idle_ms moment (record_of self.old) (header_of forward.now)) }
+        ensures stays { IfNone result (self.new ≡ self.old) }
+    {
+        if forward.first >= 0x80 || !self.counts(idle_ms, moment) {
+            return None;
+        }
+        let State::Full(context) = &mut self.state else {
+            return None;
+        };
+        let Some(packet) = context.first_try(forward) else {
+            return None;
+        };
+        self.accepted = moment;
+        Some(packet)
+    }
+
+    /// Takes an arrival of any kind as `arrive` does, and writes the answer over what `reply` held. `tried` is whether
+    /// `take_first` left the packet: then the first try isn't made again.
     ///
     /// The settings are good. `moment` is the arrival time in milliseconds.
     #[inline(never)]
-    #[tactic(auto, unfolding(crate::specs::Step::LoneStep))]
+    #[tactic(auto, unfolding(crate::specs::Step::LoneStep, crate::specs::Step::HasMissed, crate::specs::Record::record_of))]
     pub fn step<'a>(
         &mut self,
         settings: &Settings,
         moment: u64,
         forward: &Forward<'a>,
+        tried: bool,
         reply: &mut Reply<'a>,
     )
         requires good { AreGood settings.now }
+        requires missed { tried ≡ true → HasMissed settings.now.idle_ms moment (record_of self.old) (header_of forward.now) }
         ensures { LoneStep (Some (record_of self.old)) settings.now moment (header_of forward.now) (response_of reply.new) (Some (record_of self.new)) }
     {
         let counts = self.counts(settings.idle_ms, moment);
@@ -108,7 +143,10 @@ impl Context {
                 *reply = Reply::refused(Refusal::NoContext);
             }
             HeadKind::IrDyn => self.refresh(settings, moment, forward, reply),
-            HeadKind::Other => self.update(settings, moment, forward, reply),
+            HeadKind::Other => {
+                let tried = tried && forward.first < 0x80;
+                self.update(settings, moment, forward, tried, reply);
+            }
         }
     }
 
@@ -141,8 +179,8 @@ impl Context {
     )
         requires kind { IsIr forward.now.kind }
         requires good { AreGood settings.now }
-        ensures { Renews settings.now moment (header_of forward.now) (if counts then Some (record_of self.old) else None) (Some (record_of self.old))
-            (ir_at (header_of forward.now)) (response_of reply.new) (Some (record_of self.new)) }
+        ensures { Answers settings.now (header_of forward.now) (Renews (arrival settings.now moment (header_of forward.now)) (if counts then Some (record_of self.old) else None) (Some (record_of self.old)) (ir_at (header_of forward.now)))
+            (response_of reply.new) (Some (record_of self.new)) }
     {
         let renewed = renewal(settings, forward, self.counting(counts));
         match renewed {
@@ -173,7 +211,7 @@ impl Context {
     )
         requires kind { IsIrDyn forward.now.kind }
         requires good { AreGood settings.now }
-        ensures { Turn settings.now moment (header_of forward.now) KindIrDyn (Some (record_of self.old)) (Some (record_of self.old)) (response_of reply.new) (Some (record_of self.new)) }
+        ensures { Answers settings.now (header_of forward.now) (Steps KindIrDyn (Some (record_of self.old)) (Some (record_of self.old)) (arrival settings.now moment (header_of forward.now))) (response_of reply.new) (Some (record_of self.new)) }
     {
         match &self.state {
             State::NoContext(_) => self.refuse_low(settings, moment, forward, reply),
@@ -217,8 +255,8 @@ impl Context {
         requires good { AreGood settings.now }
         ensures reply { IfOk refreshed.entry (λ x. response_of reply.new ≡ response_of x.1) }
         ensures record { IfOk refreshed.entry (λ x. record_of self.new ≡ record { accepted = moment; state = state_of x.0 }) }
-        ensures refused { IfErr refreshed.entry (λ e. Ends settings.now moment (header_of forward.now) (Some (record_of self.old)) (Some (record_of self.old))
-            (fault_of_chain e) (response_of reply.new) (Some (record_of self.new))) }
+        ensures refused { IfErr refreshed.entry (λ e. Gives settings.now (header_of forward.now) (ends (arrival settings.now moment (header_of forward.now)) (Some (record_of self.old)) (Some (record_of self.old))
+            (fault_of_chain e)) (response_of reply.new) (Some (record_of self.new))) }
     {
         match refreshed {
             Ok((state, made)) => {
@@ -230,28 +268,31 @@ impl Context {
         }
     }
 
-    /// Takes a packet of kind Other, and writes the answer into the reply. The record counts.
+    /// Takes a packet of kind Other, and writes the answer into the reply. The record counts. `tried` is whether the packet
+    /// misses by the first try in Full Context.
     #[tactic(auto, unfolding(crate::specs::Record::record_of))]
     fn update<'a>(
         &mut self,
         settings: &Settings,
         moment: u64,
         forward: &Forward<'a>,
+        tried: bool,
         reply: &mut Reply<'a>,
     )
         requires kind { IsOther forward.now.kind }
         requires good { AreGood settings.now }
-        ensures { Turn settings.now moment (header_of forward.now) KindOther (Some (record_of self.old)) (Some (record_of self.old)) (response_of reply.new) (Some (record_of self.new)) }
+        requires missed { tried ≡ true → MissesIn (record_of self.old).state (header_of forward.now) }
+        ensures { Answers settings.now (header_of forward.now) (Steps KindOther (Some (record_of self.old)) (Some (record_of self.old)) (arrival settings.now moment (header_of forward.now))) (response_of reply.new) (Some (record_of self.new)) }
     {
         let passed = moment.saturating_sub(self.accepted);
         match &mut self.state {
             State::Plain => {
-                reply.deliver_normal(forward.first, forward.rest);
+                *reply = Reply::normal(forward.first, forward.rest);
                 self.accepted = moment;
             }
             State::NoContext(_) => self.refuse_low(settings, moment, forward, reply),
             State::Static(_) => self.promote(settings, moment, forward, reply),
-            State::Full(context) => match context.update(settings, passed, forward, reply) {
+            State::Full(context) => match context.update(settings, passed, forward, tried, reply) {
                 Ok(()) => self.accepted = moment,
                 Err(fault) => self.end(settings, moment, forward, fault, reply),
             },
@@ -271,7 +312,7 @@ impl Context {
         requires kind { IsOther forward.now.kind }
         requires good { AreGood settings.now }
         requires state { is_static self.old.state ≡ true }
-        ensures { Turn settings.now moment (header_of forward.now) KindOther (Some (record_of self.old)) (Some (record_of self.old)) (response_of reply.new) (Some (record_of self.new)) }
+        ensures { Answers settings.now (header_of forward.now) (Steps KindOther (Some (record_of self.old)) (Some (record_of self.old)) (arrival settings.now moment (header_of forward.now))) (response_of reply.new) (Some (record_of self.new)) }
     {
         let State::Static(context) = &self.state else {
             return self.refuse_low(settings, moment, forward, reply);
@@ -305,8 +346,8 @@ impl Context {
         reply: &mut Reply<'a>,
     )
         requires good { AreGood settings.now }
-        ensures { Fails settings.now (header_of forward.now) (record_of self.old) IsStateTooLow
-            (after_low_state settings.now moment (record_of self.old).state) (response_of reply.new) (Some (record_of self.new)) }
+        ensures { Answers settings.now (header_of forward.now) (λ ending. ending ≡ fails (record_of self.old) IsStateTooLow
+            (after_low_state (limits settings.now) moment (record_of self.old).state)) (response_of reply.new) (Some (record_of self.new)) }
     {
         let (state, due) = self.state.after_low_state(settings, moment);
         self.state = state;
@@ -325,7 +366,7 @@ impl Context {
         reply: &mut Reply<'a>,
     )
         requires good { AreGood settings.now }
-        ensures { Ends settings.now moment (header_of forward.now) (Some (record_of self.old)) (Some (record_of self.old)) fault
+        ensures { Gives settings.now (header_of forward.now) (ends (arrival settings.now moment (header_of forward.now)) (Some (record_of self.old)) (Some (record_of self.old)) fault)
             (response_of reply.new) (Some (record_of self.new)) }
     {
         match fault {

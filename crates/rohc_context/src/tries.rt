@@ -25,7 +25,7 @@ pub(crate) struct Accepted {
 }
 
 /// Whether packets of this format carry a 3-bit check: UO-0 and the UO-1 formats.
-fn is_short(kind: FormKind) -> bool
+pub(crate) fn is_short(kind: FormKind) -> bool
     ensures { result ≡ has_short_check kind }
 {
     match kind {
@@ -79,18 +79,19 @@ pub(crate) fn attempt(
 }
 
 impl FullContext {
-    ghost use Rattle.std.specs.Prelude.{◌≡◌, ◌≤◌, ◌++◌, length, IfSome};
+    ghost use Rattle.std.specs.Prelude.{◌≡◌, ◌≤◌, ◌++◌, length, option_map, IfSome};
+    ghost use Rattle.std.specs.Option.{ForSome};
     ghost use Rattle.rohc_header.specs.Original.{longest_payload};
     ghost use Rattle.rohc_forms.specs.Packets.{content};
-    ghost use Rattle.rohc_context.specs.Settings.{AreGood};
+    ghost use Rattle.rohc_context.specs.Settings.{AreGood, limits};
     ghost use Rattle.rohc_context.specs.Record.{reference_of, previous_of};
     ghost use Rattle.rohc_context.specs.Previous.{SharesNumbering};
     ghost use Rattle.rohc_context.specs.Tries.{Verdict, second_tries, third_tries, full_tries};
-    ghost use Rattle.rohc_context.specs.Read.{verdict_of, IsSound};
+    ghost use Rattle.rohc_context.specs.Read.{try_of, tries_of, verdict_of, IsSound};
 
     /// The third try: against the previous reference, if there is one and the packet has a 3-bit
     /// check.
-    fn third_try(&self, form: &Form<'_>) -> Option<Accepted>
+    pub(crate) fn third_try(&self, form: &Form<'_>) -> Option<Accepted>
         requires payload { length form.now.payload.now ≤ longest_payload }
         ensures verdict { Verdict self.now.fixed (content form.now)
             (third_tries (previous_of self.now) (content form.now))
@@ -106,34 +107,48 @@ impl FullContext {
         }
     }
 
-    /// The second try, if enough time has passed for it, and then the third.
-    pub(crate) fn later_tries(
+    /// How far the second try moves the sequence number on, if enough time has passed for it. `passed` is the time since
+    /// the last accepted arrival, in milliseconds.
+    #[inline(always)]
+    pub(crate) fn second_shift(
         &self,
         settings: &Settings,
         passed: u64,
         form: &Form<'_>,
-    ) -> Option<Accepted>
+    ) -> Option<u32>
+        requires good { AreGood settings.now }
+        ensures tries { second_tries (limits settings.now) passed (reference_of self.now.reference) (content form.now)
+            ≡ tries_of (option_map (try_of self.now.reference) result) }
+        ensures few { ForSome result (λ shift. shift ≤ 65536) }
+    {
+        let wraps_after = u64::from(settings.packet_ms) << form.sn.count;
+        if !is_short(form.kind) || passed < wraps_after {
+            return None;
+        }
+        Some(1 << form.sn.count)
+    }
+
+    /// The header of the first try that fits of those after the first one.
+    fn later_tries(&self, settings: &Settings, passed: u64, form: &Form<'_>) -> Option<Accepted>
         requires good { AreGood settings.now }
         requires payload { length form.now.payload.now ≤ longest_payload }
         ensures verdict { Verdict self.now.fixed (content form.now)
-            (second_tries settings.now passed (reference_of self.now.reference) (content form.now)
+            (second_tries (limits settings.now) passed (reference_of self.now.reference) (content form.now)
             ++ third_tries (previous_of self.now) (content form.now))
             (verdict_of (content form.now) result) }
         ensures sound { IfSome result (λ a. IsSound self.now.fixed a) }
         ensures near { IfSome result (λ a. SharesNumbering self.now.reference.moving a.reference.moving) }
     {
-        let wraps_after = u64::from(settings.packet_ms) << form.sn.count;
-        if !is_short(form.kind) || passed < wraps_after {
-            return self.third_try(form);
+        if let Some(shift) = self.second_shift(settings, passed, form) {
+            let accepted = attempt(&self.fixed, &self.reference, shift, form);
+            if accepted.is_some() {
+                return accepted;
+            }
         }
-        match attempt(&self.fixed, &self.reference, 1 << form.sn.count, form) {
-            Some(accepted) => Some(accepted),
-            None => self.third_try(form),
-        }
+        self.third_try(form)
     }
 
-    /// The header of the first try that fits. `passed` is the time since the last accepted arrival,
-    /// in milliseconds.
+    /// The header of the first try that fits.
     pub(crate) fn accepted(
         &self,
         settings: &Settings,
@@ -143,7 +158,7 @@ impl FullContext {
         requires good { AreGood settings.now }
         requires payload { length form.now.payload.now ≤ longest_payload }
         ensures verdict { Verdict self.now.fixed (content form.now)
-            (full_tries settings.now passed (reference_of self.now.reference) (previous_of self.now) (content form.now))
+            (full_tries (limits settings.now) passed (reference_of self.now.reference) (previous_of self.now) (content form.now))
             (verdict_of (content form.now) result) }
         ensures sound { IfSome result (λ a. IsSound self.now.fixed a) }
         ensures near { IfSome result (λ a. SharesNumbering self.now.reference.moving a.reference.moving) }

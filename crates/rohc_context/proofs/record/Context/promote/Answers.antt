@@ -4,7 +4,8 @@ use Rattle.rohc_context.specs.declared.due.Due.TheVariants.{Ack}
 use Rattle.rohc_context.specs.declared.state.State.TheVariants.{Full as Level}
 use Rattle.rohc_context.specs.Due.{sent}
 use Rattle.rohc_context.specs.Response.{response_of}
-use Rattle.rohc_context.specs.Update.{Accepts, acknowledged, promoted}
+use Rattle.rohc_context.specs.Update.{settled, acknowledged, promoted}
+use Rattle.rohc_context.specs.Step.{Gives, arrival}
 use Rattle.rohc_frame.specs.Reading.{header_of}
 use Rattle.rohc_context.specs.Window.{outcomes}
 use Rattle.rohc_context.specs.Record.{Reference, reference_of, state_of, record_of}
@@ -29,7 +30,7 @@ returns-in-Ok c =
     (static_is c.args.self.now.state context c.in-Some.reference c.in-Static.is c.in-Some.is)
     c.args.self.now.accepted c.args.moment c.args.settings.now h c.args.forward.now.first (Ok t.0) (response_of c.delivered.result) next
     (sym c.is_uor_2.ensures ∙ c.if-not-is_uor_2.false) t.1
-    (subst (λ x. Accepts c.args.settings.now c.args.moment h r (promoted context.fixed) acknowledged (Ok t.0) x next) (sym c.delivered.ensures)
+    (subst (λ x. Gives c.args.settings.now h (settled (arrival c.args.settings.now c.args.moment h) r (promoted context.fixed) acknowledged (Ok t.0)) x next) (sym c.delivered.ensures)
     (accepts_as c.args.settings.now c.args.moment h r (promoted context.fixed) acknowledged t.0 c.in-Ok.packet.head.items c.in-Ok.packet.payload.now
     (octets_of c.feedback-feedback.result) (state_of (Level c.in-Ok.context)) t.2 t.3 due t.4))
 

@@ -4,10 +4,17 @@ use Rattle.rohc_context.specs.declared.state.State.TheVariants.{Full}
 use Rattle.rohc_context.specs.Record.{reference_of, previous_of, state_of, record_of}
 use Rattle.rohc_context.specs.Response.{response_of}
 use Rattle.rohc_context.specs.Window.{outcomes}
-use Rattle.rohc_context.specs.Outcomes.{Ends}
+use Rattle.rohc_context.specs.Outcomes.{ends}
+use Rattle.rohc_context.specs.Step.{Gives, arrival}
 use Rattle.rohc_context.specs.Update.{updated}
-use Rattle.rohc_context.proofs.UpdateLemmas.{delivers_silently, updates}
+use Rattle.rohc_context.proofs.UpdateLemmas.{delivers_silently, normals, updates}
 use Rattle.rohc_context.proofs.record.Context.update.Goals as goal
+
+pub returns-in-Plain : goal.returns-in-Plain
+unfolding record_of
+returns-in-Plain c =
+    normals (state_of c.args.self.now.state) c.args.self.now.accepted c.args.moment c.args.settings.now (header_of c.args.forward.now) (response_of c.normal.result)
+    (ap state_of c.in-Plain.is) c.normal.ensures
 
 pub returns-in-Ok : goal.returns-in-Ok
 unfolding record_of
@@ -35,4 +42,4 @@ returns-in-Err c =
     accepted c.args.moment c.saturating_sub-passed.result c.args.settings.now h c.args.forward.now.first (Err c.in-Err.fault)
     (response_of c.end.new.reply) (Some (record_of c.end.new.self))
     c.saturating_sub-passed.ensures c.in-Err.ensures.fault
-    (subst (λ r. Ends c.args.settings.now c.args.moment h r r c.in-Err.fault (response_of c.end.new.reply) (Some (record_of c.end.new.self))) found c.end.ensures)
+    (subst (λ r. Gives c.args.settings.now h (ends (arrival c.args.settings.now c.args.moment h) r r c.in-Err.fault) (response_of c.end.new.reply) (Some (record_of c.end.new.self))) found c.end.ensures)

@@ -1,4 +1,4 @@
-use Rattle.std.proofs.Common.{rules}
+use Rattle.std.proofs.Common.{rules, refl}
 use Rattle.std.proofs.Common.{length}
 use Rattle.rohc_context.proofs.Common.{some_holds}
 use Rattle.rohc_context.proofs.Registers.{registers_of}
@@ -15,8 +15,8 @@ invariant_of-context-clause-kept c =
 
 pub returns : goal.returns
 returns c = λ moment. (
-  c.unwrap-header.result.octets,
-  some_holds c.with_prepared.result c.unwrap-header.result _ c.unwrap-header.ensures c.with_prepared.ensures.header,
+  _,
+  (c.unwrap-header.result.octets, some_holds c.with_prepared.result c.unwrap-header.result _ c.unwrap-header.ensures c.with_prepared.ensures.header, refl),
   search rules,
 )
 

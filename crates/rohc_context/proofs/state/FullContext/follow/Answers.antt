@@ -1,4 +1,3 @@
-use Rattle.rohc_context.proofs.Registers.{kept_next}
 use Rattle.rohc_context.proofs.PreviousLemmas.{kept_by, alike}
 use Rattle.rohc_context.proofs.state.FullContext.follow.Goals as goal
 
@@ -7,19 +6,9 @@ invariant_of-self c =
     let context = c.args.self.now in
     record {
       good = context.good;
-      kept = kept_next context.fixed context.reference.moving c.args.moving.now context.reference.saved context.kept c.requires;
+      kept = context.kept;
       stays = context.stays;
       kept_before = kept_by context.fixed context.reference _ c.keep.ensures context.kept;
-      near = λ p e _.
-          let is = alike context.reference _ c.keep.ensures p e in
-          record {
-            tos = is.tos;
-            ttl = is.ttl;
-            payload_type = is.payload_type;
-            df = is.df;
-            padding = is.padding;
-            extension = is.extension;
-            saved = is.saved;
-          };
+      near = λ p e _. alike context.reference _ c.keep.ensures p e;
       one_window = context.one_window;
     }
