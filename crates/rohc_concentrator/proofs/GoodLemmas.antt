@@ -41,7 +41,7 @@ good_settings_of s c good = record {
   idle_ms = good.settings_good.idle_ms;
 }
 
-good_in : (context : Option Context) → IfSome (option_map record_of context) IsGoodRecord
+pub good_in : (context : Option Context) → IfSome (option_map record_of context) IsGoodRecord
 good_in None = tt
 good_in (Some c) = keeps_good c
 

@@ -1,9 +1,9 @@
 -- What is delivered was sent.
-use Rattle.std.proofs.Common.{arith, ◌≡◌, ◌≢◌, ℕ, ◌+◌, ◌<◌, ◌≤◌, List, [], ◌∷◌, ◌++◌, map, Option, Some, None, ◌⊎◌, inl, inr, refl, sym, ap, subst, ◌∙◌}
+use Rattle.std.proofs.Common.{arith, ◌≡◌, ◌≢◌, ℕ, zero, suc, ◌+◌, ◌<◌, ◌≤◌, List, [], ◌∷◌, ◌++◌, map, take, reverse, length-append, Option, Some, None, ◌⊎◌, inl, inr, refl, sym, ap, subst, ◌∙◌}
 use Rattle.std.specs.Prelude.{All, AllPairs, length, IfSome}
 use Rattle.std.proofs.lemmas.List.Elements.{All-head, All-tail, All-nil, All-cons}
 use Rattle.std.proofs.lemmas.List.Kept.{AllPairs-cons}
-use Rattle.std.proofs.lemmas.List.{map-append, append_assoc, append-nil, length-map}
+use Rattle.std.proofs.lemmas.List.{append_assoc, append-nil, reverse-append, reverse-reverse, length-reverse}
 use Rattle.rohc_frame.specs.declared.header.HeadKind.TheVariants.{Other}
 use Rattle.rohc_context.specs.declared.settings.Settings.{Settings}
 use Rattle.rohc_context.specs.Good.{AreGoodValues, IsGoodRecord, IsGoodHeader}
@@ -14,77 +14,151 @@ use Rattle.rohc_context.specs.Response.{Response}
 use Rattle.rohc_context.proofs.StepLaws.{has_answer, leaves_good, delivers_written_packet}
 use Rattle.rohc_context.proofs.WrittenCall.{IsWrittenCall, has_written_call}
 use Rattle.rohc_concentrator.specs.LoneRun.{LoneRun}
-use Rattle.rohc_concentrator.specs.Honest.{references, IsOrdinary, IsHonest, Arrived, Reaches, AreInTime, events_of, deliveries, DeliversWhatWasSent, AsksOrdinaryAlone, Sender, IsHonestCall, IsGoodArrival, HasHonestRun, HasHonestSender}
+use Rattle.rohc_concentrator.specs.Honest.{IsOrdinary, IsHonestFrom, IsHonest, IsHonestEitherWay, Arrived, Reaches, AreInTime, events_of, deliveries, DeliversWhatWasSent, AsksOrdinaryAlone, Sender, IsHonestCall, IsGoodArrival, HasHonestRun, HasHonestSender}
 
--- the header of a packet as a reference
-abbrev reference_of : Held → Written → Held
-reference_of first p = held_by first p.header
+-- this is held at a place of a list
+abbrev At : ℕ → List Held → Held → Type 0
+At k [] held = ⊥
+At zero (x ∷ xs) held = x ≡ held
+At (suc k) (x ∷ xs) held = At k xs held
 
--- if what is held is the last reference of the past, the references of the packets lost since then follow it
-lost_behind : (first held : Held) (past lost : List Written) (older : List Held) → references first past ≡ older ++ held ∷ []
-    → references first (past ++ lost) ≡ older ++ held ∷ map (reference_of first) lost
-lost_behind first held past lost older e =
-    ap (λ l. first ∷ l) (map-append (reference_of first) past lost)
-    ∙ ap (λ (l : List Held). l ++ map (reference_of first) lost) e
-    ∙ append_assoc older (held ∷ []) (map (reference_of first) lost)
+module _ (P : Held → Type 0) where
+  -- what holds of the first ones holds at a place among them
+  of_first : (w k : ℕ) (xs : List Held) (held : Held) → At k xs held → k < w → All P (take w xs) → P held
+  of_first zero k xs held at low all = absurd (omega (arith, low))
+  of_first (suc w) k [] held at low all = absurd at
+  of_first (suc w) zero (x ∷ xs) held at low all = subst P at (All-head P x (take w xs) all)
+  of_first (suc w) (suc k) (x ∷ xs) held at low all = of_first w k xs held at (omega (arith, low)) (All-tail P x (take w xs) all)
 
--- one more packet adds its header as the last reference
-one_more : (first : Held) (past : List Written) (p : Written) → references first (past ++ p ∷ []) ≡ references first past ++ held_by first p.header ∷ []
-one_more first past p = ap (λ l. first ∷ l) (map-append (reference_of first) past (p ∷ []))
+  -- and the other way round
+  to_first : (w : ℕ) (xs : List Held) → ((k : ℕ) (held : Held) → At k xs held → k < w → P held) → All P (take w xs)
+  to_first zero xs each = All-nil P
+  to_first (suc w) [] each = All-nil P
+  to_first (suc w) (x ∷ xs) each = All-cons P x (take w xs) (each 0 x refl (omega arith)) (to_first w xs (λ k held at low. each (suc k) held at (omega (arith, low))))
 
-behind_lost : (sent past lost rest : List Written) (p : Written) (later : List Written) → sent ≡ past ++ rest → rest ≡ lost ++ p ∷ later → sent ≡ (past ++ lost) ++ p ∷ later
-behind_lost sent past lost rest p later e f = e ∙ ap (λ l. past ++ l) f ∙ sym (append_assoc past lost (p ∷ later))
+module _ (w : ℕ) (first : Held) where
+  -- What is held stands at a place. Packets are lost, and then one arrives: if the place is still among the newest w, the
+  -- packet is written for what is held, and what comes next is written from its header on.
+  behind_lost : (references : List Held) (k : ℕ) (held : Held) (lost later : List Written) (p : Written) → At k references held → k + length lost < w
+      → IsHonestFrom w first references (lost ++ p ∷ later) → IsOrdinary p
+      → IsHonestPacket held p × ((before : List Held) × IsHonestFrom w first (held_by first p.header ∷ before) later)
+  behind_lost references k held [] later p at low honest ordinary =
+      (of_first (λ h. IsHonestPacket h p) w k references held at (omega (arith, low)) (honest.0 ordinary), (references, honest.1))
+  behind_lost references k held (q ∷ lost) later p at low honest ordinary =
+      behind_lost (held_by first q.header ∷ references) (suc k) held lost later p at (omega (arith, low)) honest.1 ordinary
 
-module _ (s : Settings) (w : ℕ) (first : Held) (sent : List Written) where
-  -- The past packets were sent, and the record holds the last of their references.
-  record Goes (past rest : List Written) (older : List Held) (held : Held) (before : Record) (arrivals : List Arrived) : Type 0 where
-    split : sent ≡ past ++ rest
-    last : references first past ≡ older ++ held ∷ []
+module _ (s : Settings) (w : ℕ) (first : Held) where
+  -- the record holds the newest reference of those from which the rest is written
+  record Goes (rest : List Written) (held : Held) (before : Record) (arrivals : List Arrived) : Type 0 where
+    older : List Held
+    honest : IsHonestFrom w first (held ∷ older) rest
     same : (p : Written) → held_by held p.header ≡ held_by first p.header
     full : HoldsInFull held before
     reaches : Reaches w rest (map (λ (a : Arrived). a.written) arrivals)
     ordinary : All (λ (a : Arrived). IsOrdinary a.written) arrivals
     in_time : AreInTime s before.accepted arrivals
 
-  goes_on : (past rest : List Written) (older : List Held) (held : Held) (before : Record)
-      (arrivals : List Arrived) (replies : List Response) (after : Option Record) → IsHonest w first sent
-      → Goes past rest older held before arrivals → LoneRun s (Some before) (events_of arrivals) replies after → replies ≡ deliveries arrivals
-  goes_on past rest older held before [] [] after honest g run = refl
-  goes_on past rest older held before [] (reply ∷ replies) after honest g run = absurd run
-  goes_on past rest older held before (a ∷ arrivals) [] after honest g run = absurd run
-  goes_on past rest older held before (a ∷ arrivals) (reply ∷ replies) after honest g (mid, step, run) =
+  goes_on : (rest : List Written) (held : Held) (before : Record) (arrivals : List Arrived) (replies : List Response) (after : Option Record)
+      → Goes rest held before arrivals → LoneRun s (Some before) (events_of arrivals) replies after → replies ≡ deliveries arrivals
+  goes_on rest held before [] [] after g run = refl
+  goes_on rest held before [] (reply ∷ replies) after g run = absurd run
+  goes_on rest held before (a ∷ arrivals) [] after g run = absurd run
+  goes_on rest held before (a ∷ arrivals) (reply ∷ replies) after g (mid, step, run) =
       let p = a.written in
-      let lost = g.reaches.0 in
-      let later = g.reaches.1 in
-      let earlier = past ++ lost in
-      let split = behind_lost sent past lost rest p later g.split g.reaches.2 in
-      let few : length (map (reference_of first) lost) < w = subst (λ n. n < w) (sym (length-map lost (reference_of first))) g.reaches.3 in
-      let written : IsHonestPacket held p = honest earlier later p older (map (reference_of first) lost) held split (lost_behind first held past lost older g.last) few (All-head (λ (b : Arrived). IsOrdinary b.written) a arrivals g.ordinary) in
+      let (lost, later, split, few, reaches) = g.reaches in
+      let honest : IsHonestFrom w first (held ∷ g.older) (lost ++ p ∷ later) = subst (λ l. IsHonestFrom w first (held ∷ g.older) l) split g.honest in
+      let (written, (references, onward)) = behind_lost w first (held ∷ g.older) 0 held lost later p refl (omega (arith, few)) honest (All-head (λ (b : Arrived). IsOrdinary b.written) a arrivals g.ordinary) in
       let (answer, (next, is, moment, full)) = delivers_written_packet held before s a.moment p reply mid g.full written g.in_time.0 step in
-      let on : Goes (earlier ++ p ∷ []) later (references first earlier) (held_by first p.header) next arrivals = record {
-        split = split ∙ sym (append_assoc earlier (p ∷ []) later);
-        last = one_more first earlier p;
+      let on : Goes later (held_by first p.header) next arrivals = record {
+        older = references;
+        honest = onward;
         same = λ q. refl;
         full = subst (λ h. HoldsInFull h next) (g.same p) full;
-        reaches = g.reaches.4;
+        reaches = reaches;
         ordinary = All-tail (λ (b : Arrived). IsOrdinary b.written) a arrivals g.ordinary;
         in_time = subst (λ m. AreInTime s m arrivals) (sym moment) g.in_time.1;
       } in
-      let rest_is = goes_on (earlier ++ p ∷ []) later (references first earlier) (held_by first p.header) next arrivals replies after honest on
-      (subst (λ r. LoneRun s r (events_of arrivals) replies after) is run) in
+      let rest_is = goes_on later (held_by first p.header) next arrivals replies after on (subst (λ r. LoneRun s r (events_of arrivals) replies after) is run) in
       ap (λ r. r ∷ replies) answer ∙ ap (λ l. delivery_of p ∷ l) rest_is
 
 pub delivers_what_was_sent : DeliversWhatWasSent
 delivers_what_was_sent sender s before arrivals replies after call run =
-    goes_on s sender.w sender.first sender.sent [] sender.sent [] sender.first before arrivals replies after call.honest (record {
-      split = refl;
-      last = refl;
+    goes_on s sender.w sender.first sender.sent sender.first before arrivals replies after (record {
+      older = [];
+      honest = call.honest;
       same = λ q. refl;
       full = call.held;
       reaches = call.reaches;
       ordinary = call.ordinary;
       in_time = call.in_time;
     }) run
+
+-- ---- The same said by places
+
+-- the place of what stands before so many others, in the order in which they came
+place_of : (xs older newer : List Held) (held : Held) → xs ≡ newer ++ held ∷ older → At (length newer) xs held
+place_of xs older [] held is = subst (λ l. At 0 l held) (sym is) refl
+place_of [] older (y ∷ newer) held is = absurd (let bad : ◌≡◌ {A = List Held} [] (y ∷ (newer ++ held ∷ older)) = is in cc)
+place_of (x ∷ xs) older (y ∷ newer) held is = place_of xs older newer held (let e : ◌≡◌ {A = List Held} (x ∷ xs) (y ∷ (newer ++ held ∷ older)) = is in cc)
+
+reverse_more : (x : Held) (xs : List Held) → reverse (x ∷ xs) ≡ reverse xs ++ x ∷ []
+reverse_more x xs = reverse-append (x ∷ []) xs
+
+reverse_before : (x : Held) (xs ys : List Held) → reverse (x ∷ xs) ++ ys ≡ reverse xs ++ x ∷ ys
+reverse_before x xs ys = ap (λ l. l ++ ys) (reverse_more x xs) ∙ append_assoc (reverse xs) (x ∷ []) ys
+
+-- a list around one of its places, in the order in which its elements came
+around : (k : ℕ) (xs : List Held) (held : Held) → At k xs held → (older newer : List Held) × (reverse xs ≡ older ++ held ∷ newer) × (length newer ≡ k)
+around k [] held at = absurd at
+around zero (x ∷ xs) held at = (reverse xs, [], reverse_more x xs ∙ ap (λ h. reverse xs ++ h ∷ []) at, refl)
+around (suc k) (x ∷ xs) held at =
+    let (older, newer, split, is) = around k xs held at in
+    (older, newer ++ x ∷ [], reverse_more x xs ∙ ap (λ l. l ++ x ∷ []) split ∙ append_assoc older (held ∷ newer) (x ∷ []), omega (arith, length-append newer (x ∷ []), is))
+
+-- the place of what stands before so many others, counted from the end
+from_end : (xs older newer : List Held) (held : Held) → reverse xs ≡ older ++ held ∷ newer → At (length newer) xs held
+from_end xs older newer held split =
+    let turned : xs ≡ reverse newer ++ held ∷ reverse older = sym (reverse-reverse xs) ∙ ap reverse split ∙ reverse-append older (held ∷ newer) ∙ reverse_before held newer (reverse older) in
+    subst (λ n. At n xs held) (length-reverse newer) (place_of xs (reverse older) (reverse newer) held turned)
+
+module _ (w : ℕ) (first : Held) where
+  abbrev reference_of : Written → Held
+  reference_of p = held_by first p.header
+
+  -- a packet after these references
+  abbrev ByPlaces : (before : List Held) → List Written → Type 0
+  ByPlaces before sent =
+      (earlier later : List Written) (p : Written) (older newer : List Held) (held : Held) → sent ≡ earlier ++ p ∷ later
+      → reverse before ++ map reference_of earlier ≡ older ++ held ∷ newer → length newer < w → IsOrdinary p → IsHonestPacket held p
+
+  by_places : (before : List Held) (sent : List Written) → IsHonestFrom w first before sent → ByPlaces before sent
+  by_places before [] honest [] later p older newer held split last few ordinary = absurd (let e : ◌≡◌ {A = List Written} [] (p ∷ later) = split in cc)
+  by_places before [] honest (x ∷ earlier) later p older newer held split last few ordinary = absurd (let e : ◌≡◌ {A = List Written} [] (x ∷ (earlier ++ p ∷ later)) = split in cc)
+  by_places before (q ∷ sent) honest [] later p older newer held split last few ordinary =
+      let same : q ≡ p = (let e : ◌≡◌ {A = List Written} (q ∷ sent) (p ∷ later) = split in cc) in
+      let at = from_end before older newer held (sym (append-nil (reverse before)) ∙ last) in
+      subst (λ y. IsHonestPacket held y) same (of_first (λ h. IsHonestPacket h q) w (length newer) before held at few (honest.0 (subst IsOrdinary (sym same) ordinary)))
+  by_places before (q ∷ sent) honest (x ∷ earlier) later p older newer held split last few ordinary =
+      let e : ◌≡◌ {A = List Written} (q ∷ sent) (x ∷ (earlier ++ p ∷ later)) = split in
+      let same : q ≡ x = cc in
+      let behind : sent ≡ earlier ++ p ∷ later = cc in
+      by_places (reference_of q ∷ before) sent honest.1 earlier later p older newer held behind
+      (reverse_before (reference_of q) before (map reference_of earlier)
+      ∙ ap (λ (y : Written). reverse before ++ reference_of y ∷ map reference_of earlier) same ∙ last) few ordinary
+
+  over_window : (before : List Held) (sent : List Written) → ByPlaces before sent → IsHonestFrom w first before sent
+  over_window before [] places = tt
+  over_window before (p ∷ sent) places = (
+    λ ordinary. to_first (λ h. IsHonestPacket h p) w before (λ k held at low.
+        let (older, newer, split, is) = around k before held at in
+        places [] sent p older newer held refl (append-nil (reverse before) ∙ split) (omega (arith, is, low)) ordinary),
+    over_window (reference_of p ∷ before) sent (λ earlier later q older newer held split last few ordinary.
+        places (p ∷ earlier) later q older newer held (ap (λ l. p ∷ l) split)
+        (sym (reverse_before (reference_of p) before (map reference_of earlier)) ∙ last) few ordinary),
+  )
+
+pub is_honest_either_way : IsHonestEitherWay
+is_honest_either_way w first sent = (by_places w first (first ∷ []) sent, over_window w first (first ∷ []) sent)
 
 -- ---- There is a run
 
@@ -104,17 +178,6 @@ has_honest_run s before arrivals good settings all = run_from s (Some before) ar
 
 -- ---- There is such a sender
 
--- Each of these packets is written for each of these references, and for the headers of those before it.
-abbrev AreWritten : Held → List Held → List Written → Type 0
-AreWritten first held_before [] = Unit {0}
-AreWritten first held_before (p ∷ later) =
-    All (λ (held : Held). IsHonestPacket held p) held_before × AreWritten first (held_before ++ held_by first p.header ∷ []) later
-
--- what holds of all holds of one between others
-of_one : {X : Type 0} (P : X → Type 0) (older newer : List X) (x : X) → All P (older ++ x ∷ newer) → P x
-of_one P [] newer x all = All-head P x newer all
-of_one P (y ∷ older) newer x all = of_one P older newer x (All-tail P y (older ++ x ∷ newer) all)
-
 -- a packet of which nothing is asked
 abbrev IsFree : Written → Type 0
 IsFree p = (p.packet.kind ≢ Other) ⊎ (p.content.values ≢ None) ⊎ (65535 < 40 + length p.content.payload)
@@ -124,28 +187,13 @@ not_ordinary p (inl kind) ordinary = kind ordinary.kind
 not_ordinary p (inr (inl values)) ordinary = values ordinary.no_values
 not_ordinary p (inr (inr long)) ordinary = let few = ordinary.few in omega (arith, long, few)
 
-pub asks_ordinary_alone : AsksOrdinaryAlone
-asks_ordinary_alone w first sent all earlier later p older newer held split last few ordinary =
-    absurd (not_ordinary p (of_one IsFree earlier later p (subst (λ l. All IsFree l) split all)) ordinary)
+free_from : (w : ℕ) (first : Held) (references : List Held) (sent : List Written) → All IsFree sent → IsHonestFrom w first references sent
+free_from w first references [] all = tt
+free_from w first references (p ∷ sent) all =
+    (λ ordinary. absurd (not_ordinary p (All-head IsFree p sent all) ordinary), free_from w first (held_by first p.header ∷ references) sent (All-tail IsFree p sent all))
 
--- one of them, and one of the references before it
-is_written : (first : Held) (held_before : List Held) (sent earlier later : List Written) (p : Written) (older newer : List Held) (held : Held)
-    → AreWritten first held_before sent → sent ≡ earlier ++ p ∷ later
-    → held_before ++ map (reference_of first) earlier ≡ older ++ held ∷ newer → IsHonestPacket held p
-is_written first held_before [] [] later p older newer held all split last = absurd (let e : ◌≡◌ {A = List Written} [] (p ∷ later) = split in cc)
-is_written first held_before [] (x ∷ earlier) later p older newer held all split last =
-    absurd (let e : ◌≡◌ {A = List Written} [] (x ∷ (earlier ++ p ∷ later)) = split in cc)
-is_written first held_before (q ∷ sent) [] later p older newer held all split last =
-    let same : q ≡ p = (let e : ◌≡◌ {A = List Written} (q ∷ sent) (p ∷ later) = split in cc) in
-    let its : held_before ≡ older ++ held ∷ newer = sym (append-nil held_before) ∙ last in
-    subst (λ w. IsHonestPacket held w) same (of_one (λ (h : Held). IsHonestPacket h q) older newer held (subst (λ l. All (λ (h : Held). IsHonestPacket h q) l) its all.0))
-is_written first held_before (q ∷ sent) (x ∷ earlier) later p older newer held all split last =
-    let e : ◌≡◌ {A = List Written} (q ∷ sent) (x ∷ (earlier ++ p ∷ later)) = split in
-    let same : q ≡ x = cc in
-    let behind : sent ≡ earlier ++ p ∷ later = cc in
-    is_written first (held_before ++ held_by first q.header ∷ []) sent earlier later p older newer held all.1 behind
-    (append_assoc held_before (held_by first q.header ∷ []) (map (reference_of first) earlier)
-    ∙ ap (λ (y : Written). held_before ++ held_by first y.header ∷ map (reference_of first) earlier) same ∙ last)
+pub asks_ordinary_alone : AsksOrdinaryAlone
+asks_ordinary_alone w first sent all = free_from w first (first ∷ []) sent all
 
 -- a packet that is written for a reference is ordinary
 is_ordinary : (held : Held) (p : Written) → IsHonestPacket held p → IsOrdinary p
@@ -168,11 +216,29 @@ module _ (s : Settings) (before : Record) (first : Held) (p q r : Written) (call
   abbrev arrivals : List Arrived
   arrivals = arrived p ∷ arrived r ∷ []
 
-  are_written : AreWritten first (first ∷ []) (p ∷ q ∷ r ∷ [])
-  are_written = (All-cons (λ (h : Held). IsHonestPacket h p) first [] call.p_written (All-nil (λ (h : Held). IsHonestPacket h p)), (call.q_written, (call.r_written, tt)))
+  abbrev from_p : Held
+  from_p = held_by first p.header
+
+  abbrev from_q : Held
+  from_q = held_by first q.header
 
   is_honest : IsHonest 14 first (p ∷ q ∷ r ∷ [])
-  is_honest earlier later w older newer held split last few ordinary = is_written first (first ∷ []) (p ∷ q ∷ r ∷ []) earlier later w older newer held are_written split last
+  is_honest =
+      let for_q : Held → Type 0 = λ h. IsHonestPacket h q in
+      let for_r : Held → Type 0 = λ h. IsHonestPacket h r in
+      let q_later = All-tail for_q first (from_p ∷ []) call.q_written in
+      let r_later = All-tail for_r first (from_p ∷ from_q ∷ []) call.r_written in
+      let r_last = All-tail for_r from_p (from_q ∷ []) r_later in (
+        λ o. All-cons (λ (h : Held). IsHonestPacket h p) first [] call.p_written (All-nil (λ (h : Held). IsHonestPacket h p)),
+        (
+          λ o. All-cons for_q from_p (first ∷ []) (All-head for_q from_p [] q_later) (All-cons for_q first [] (All-head for_q first (from_p ∷ []) call.q_written) (All-nil for_q)),
+          (
+            λ o. All-cons for_r from_q (from_p ∷ first ∷ []) (All-head for_r from_q [] r_last)
+                (All-cons for_r from_p (first ∷ []) (All-head for_r from_p (from_q ∷ []) r_later) (All-cons for_r first [] (All-head for_r first (from_p ∷ from_q ∷ []) call.r_written) (All-nil for_r))),
+            tt,
+          ),
+        ),
+      )
 
   are_ordinary : All (λ (a : Arrived). IsOrdinary a.written) arrivals
   are_ordinary =

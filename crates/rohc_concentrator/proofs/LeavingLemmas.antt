@@ -1,17 +1,15 @@
 -- What is left of the records of a link.
-use Rattle.std.proofs.Common.{◌≡◌, ◌≢◌, ℕ, List, [], ◌∷◌, Bool, true, false, cond, filter, Option, Some, None, nat_eq, refl, sym, ap, ◌∙◌, subst, arith, is_some, unwrap_or, if◌then◌else◌}
-use Rattle.std.specs.Option.{option_map, option_and_then}
+use Rattle.std.proofs.Common.{◌≡◌, ℕ, List, [], ◌∷◌, Bool, true, false, cond, filter, Option, Some, None, nat_eq, refl, sym, ap, ◌∙◌, subst, arith, is_some, if◌then◌else◌}
+use Rattle.std.specs.Option.{option_map}
 use Rattle.std.specs.List.{AllByRecursion, IsDistinct}
 use Rattle.std.specs.Map.{keys_of, lookup}
-use Rattle.std.specs.HashMap.{get, keys, IsUnique}
+use Rattle.std.specs.HashMap.{IsUnique}
 use Rattle.std.proofs.lemmas.Bool.Decides.{nat_tests}
 use Rattle.std.proofs.lemmas.Map.Keys.{IsDistinct-head, IsDistinct-tail}
 use Rattle.rohc_context.specs.declared.record.Context.{Context}
 use Rattle.rohc_context.specs.Record.{Record, record_of}
-use Rattle.rohc_concentrator.specs.declared.concentrator.Concentrator.{Concentrator}
 use Rattle.rohc_concentrator.specs.declared.records.LinkRecords.{LinkRecords}
-use Rattle.rohc_concentrator.specs.Tables.{record_in}
-use Rattle.rohc_concentrator.specs.Leaving.{left_of, LeavesIn, Leaves}
+use Rattle.rohc_concentrator.specs.Leaving.{left_of, LeavesIn}
 
 -- a filter by tests that agree on each item
 filter_same : (f g : ℕ → Bool) (xs : List ℕ) → AllByRecursion (λ x. f x ≡ g x) xs → filter f xs ≡ filter g xs
@@ -83,22 +81,4 @@ module _ (passes : ℕ → Record → Bool) where
   leaves_in old new unique filtered = record {
     records = λ cid. ap (λ es. found es cid) filtered ∙ value_left cid old.contexts.entries unique;
     order = ap keys_of filtered ∙ keys_left old.contexts.entries unique;
-  }
-
--- what is left of the records of one link
-
-module _ (k new : Concentrator) (link : ℕ) (before after : LinkRecords) (found : get nat_eq k.links link ≡ Some before) (written : get nat_eq new.links link ≡ Some after)
-    (others : (l : ℕ) → l ≢ link → get nat_eq new.links l ≡ get nat_eq k.links l) where
-  abbrev record_of_cid : ℕ → Option LinkRecords → Option Record
-  record_of_cid cid o = option_and_then (λ (r : LinkRecords). record_in r cid) o
-
-  abbrev cids_of : Option LinkRecords → List ℕ
-  cids_of o = unwrap_or (option_map (λ (r : LinkRecords). keys r.contexts) o) []
-
-  pub leaves_by : (passes : ℕ → Record → Bool) → LeavesIn before passes after → Leaves k link passes new
-  leaves_by passes l = record {
-    records = λ cid. ap (record_of_cid cid) written ∙ l.records cid ∙ ap (λ o. left_of passes cid (record_of_cid cid o)) (sym found);
-    order = ap cids_of written ∙ l.order ∙ ap (λ o. filter (λ cid. is_some (left_of passes cid (record_of_cid cid o))) (cids_of o)) (sym found);
-    others = λ n cid is. ap (record_of_cid cid) (others n is);
-    elsewhere = λ n is. ap cids_of (others n is);
   }

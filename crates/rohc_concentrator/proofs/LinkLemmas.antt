@@ -1,38 +1,23 @@
 -- Links that come, go and change.
-use Rattle.std.proofs.Common.{◌≡◌, ◌≢◌, ◌<◌, ℕ, List, [], ◌∷◌, ◌++◌, length, map, Bool, true, false, cond, Option, Some, None, nat_eq, refl, sym, ap, ◌∙◌, arith, unwrap_or}
-use Rattle.std.specs.Option.{option_map, option_and_then}
+use Rattle.std.proofs.Common.{◌≡◌, ◌≢◌, ◌<◌, ℕ, List, [], ◌∷◌, ◌++◌, length, map, Bool, true, false, cond, Option, Some, None, nat_eq, refl, ap, ◌∙◌, arith, unwrap_or}
 use Rattle.std.specs.Map.{lookup, set_value, remove_entry}
 use Rattle.std.specs.HashMap.{get, keys, Updates}
 use Rattle.std.proofs.lemmas.List.{map-append, length-map}
 use Rattle.std.proofs.lemmas.Bool.Decides.{nat_tests}
 use Rattle.indexmap.specs.IndexMap.{insert_entry}
 use Rattle.indexmap.proofs.CallerLemmas.{insert_entry-new}
-use Rattle.rohc_context.specs.Record.{Record}
 use Rattle.rohc_concentrator.specs.declared.concentrator.Concentrator.{Concentrator}
 use Rattle.rohc_concentrator.specs.declared.records.LinkRecords.{LinkRecords}
 use Rattle.rohc_concentrator.specs.declared.setting.LinkSetting.{LinkSetting}
 use Rattle.rohc_concentrator.specs.Setting.{IsGoodSetting}
-use Rattle.rohc_concentrator.specs.Tables.{record_in, record_at, identifiers_at}
-use Rattle.rohc_concentrator.specs.Taken.{Stays}
+use Rattle.rohc_concentrator.specs.Tables.{record_in}
 use Rattle.rohc_concentrator.specs.Leaving.{LeavesIn, survives}
-use Rattle.rohc_concentrator.specs.Links.{AddsLink, RemovesLink, ChangesLink}
-use Rattle.rohc_concentrator.proofs.LinkPlaceLemmas.{by_number}
-use Rattle.rohc_concentrator.proofs.LeavingLemmas.{leaves_by}
-
-pub stays_itself : (r : LinkRecords) → Stays r r
-stays_itself r = record { setting = refl; records = λ cid. refl; order = refl }
+use Rattle.rohc_concentrator.specs.Calls.{AddLink, RemoveLink, ChangeLink, Done}
+use Rattle.rohc_concentrator.specs.RunsCall.{RunsCall}
+use Rattle.rohc_concentrator.proofs.RunsLemmas.{runs_at, adds_step, removes_step, changes_step}
 
 abbrev settings_of : List (ℕ × LinkRecords) → List LinkSetting
 settings_of es = map (λ (e : ℕ × LinkRecords). e.1.setting) es
-
-abbrev setting_of : Option LinkRecords → Option LinkSetting
-setting_of o = option_map (λ (r : LinkRecords). r.setting) o
-
-abbrev record_of_cid : ℕ → Option LinkRecords → Option Record
-record_of_cid cid o = option_and_then (λ (r : LinkRecords). record_in r cid) o
-
-abbrev cids_of : Option LinkRecords → List ℕ
-cids_of o = unwrap_or (option_map (λ (r : LinkRecords). keys r.contexts) o) []
 
 -- an entry that is found stands between others, in whose place another may come, or none
 abbrev pub Splits : List (ℕ × LinkRecords) → LinkRecords → List (ℕ × LinkRecords) → (List LinkSetting → List LinkSetting) → Type 0
@@ -69,50 +54,25 @@ another link l is = grind (arith, nat_tests)
 
 module _ (k new : Concentrator) (s : LinkSetting) (r : LinkRecords) (is : r.setting ≡ s) (updates : Updates nat_eq k.links new.links s.link (Some r))
     (entries : new.links.entries ≡ insert_entry nat_eq k.links.entries s.link r) where
-  pub adds_by : length k.links.entries < 256 → IsGoodSetting s → get nat_eq k.links s.link ≡ None → ((cid : ℕ) → record_in r cid ≡ None) → keys r.contexts ≡ []
-      → AddsLink k s new
-  adds_by few good absent empty bare = record {
-    few = omega (arith, length-map k.links.entries (λ (e : ℕ × LinkRecords). e.1.setting));
-    good = good;
-    absent = ap setting_of absent;
-    there = ap setting_of updates.1 ∙ ap Some is;
-    settings = λ l other. ap setting_of (updates.2 l (another s.link l other));
-    in_order = ap settings_of (entries ∙ insert_entry-new nat_eq k.links s.link r absent)
-        ∙ map-append (λ (e : ℕ × LinkRecords). e.1.setting) k.links.entries ((s.link, r) ∷ [])
-        ∙ ap (λ t. settings_of k.links.entries ++ t ∷ []) is;
-    records = λ l cid. by_number (λ n. record_at new n cid ≡ record_at k n cid) s.link
-        (ap (record_of_cid cid) updates.1 ∙ empty cid ∙ sym (ap (record_of_cid cid) absent))
-        (λ n other. ap (record_of_cid cid) (updates.2 n (another s.link n other))) l;
-    order = by_number (λ n. identifiers_at new n ≡ identifiers_at k n) s.link
-        (ap cids_of updates.1 ∙ bare ∙ sym (ap cids_of absent))
-        (λ n other. ap cids_of (updates.2 n (another s.link n other)));
-  }
+  pub adds_runs : length k.links.entries < 256 → IsGoodSetting s → get nat_eq k.links s.link ≡ None → ((cid : ℕ) → record_in r cid ≡ None) → keys r.contexts ≡ []
+      → RunsCall k s.link (AddLink s) Done new
+  adds_runs few good absent empty bare =
+      runs_at k new s.link None (Some r) absent updates.1 (λ l other. updates.2 l (another s.link l other)) (AddLink s) Done (adds_step s r is empty bare good)
+      (omega (arith, length-map k.links.entries (λ (e : ℕ × LinkRecords). e.1.setting)))
+      (ap settings_of (entries ∙ insert_entry-new nat_eq k.links s.link r absent) ∙ map-append (λ (e : ℕ × LinkRecords). e.1.setting) k.links.entries ((s.link, r) ∷ []) ∙ ap (λ t. settings_of k.links.entries ++ t ∷ []) is)
 
 module _ (k new : Concentrator) (link : ℕ) (r : LinkRecords) (found : get nat_eq k.links link ≡ Some r) where
-  pub removes_by : Updates nat_eq k.links new.links link None → new.links.entries ≡ remove_entry (nat_eq link) k.links.entries → RemovesLink k link new
-  removes_by updates entries =
+  pub removes_runs : Updates nat_eq k.links new.links link None → new.links.entries ≡ remove_entry (nat_eq link) k.links.entries → RunsCall k link RemoveLink Done new
+  removes_runs updates entries =
       let split = splits_at_removal (nat_eq link) k.links.entries r found in
-      record {
-        gone = ap setting_of updates.1;
-        forgotten = λ cid. ap (record_of_cid cid) updates.1;
-        settings = λ l other. ap setting_of (updates.2 l (another link l other));
-        in_order = (split.0, split.1, r.setting, ap setting_of found, split.2, ap settings_of entries ∙ split.3);
-        others = λ l cid other. ap (record_of_cid cid) (updates.2 l (another link l other));
-        order = λ l other. ap cids_of (updates.2 l (another link l other));
-      }
+      runs_at k new link (Some r) None found updates.1 (λ l other. updates.2 l (another link l other)) RemoveLink Done (removes_step r) tt
+      (split.0, split.1, r.setting, refl, split.2, ap settings_of entries ∙ split.3)
 
 module _ (k new : Concentrator) (s : LinkSetting) (before after : LinkRecords) (found : get nat_eq k.links s.link ≡ Some before) (written : get nat_eq new.links s.link ≡ Some after)
     (others : (l : ℕ) → l ≢ s.link → get nat_eq new.links l ≡ get nat_eq k.links l) where
-  pub changes_by : IsGoodSetting s → after.setting ≡ s → new.links.entries ≡ set_value (nat_eq s.link) k.links.entries after
-      → LeavesIn before (survives before.setting s) after → ChangesLink k s new
-  changes_by good is entries leaves =
+  pub changes_runs : IsGoodSetting s → after.setting ≡ s → new.links.entries ≡ set_value (nat_eq s.link) k.links.entries after
+      → LeavesIn before (survives before.setting s) after → RunsCall k s.link (ChangeLink s) Done new
+  changes_runs good is entries leaves =
       let split = splits_at_set (nat_eq s.link) k.links.entries before after found in
-      record {
-        good = good;
-        there = ap setting_of written ∙ ap Some is;
-        settings = λ l other. ap setting_of (others l other);
-        before = before.setting;
-        was = ap setting_of found;
-        in_order = (split.0, split.1, split.2, ap settings_of entries ∙ split.3 ∙ ap (λ t. split.0 ++ t ∷ split.1) is);
-        leaves = leaves_by k new s.link before after found written others (survives before.setting s) leaves;
-      }
+      runs_at k new s.link (Some before) (Some after) found written others (ChangeLink s) Done (changes_step before after s good leaves is) tt
+      (split.0, split.1, before.setting, refl, split.2, ap settings_of entries ∙ split.3 ∙ ap (λ t. split.0 ++ t ∷ split.1) is)

@@ -14,11 +14,14 @@ pub keys_of-append : {V : Type 0} (es : List (ℕ × V)) (k : ℕ) (v : V) → k
 keys_of-append [] k v = refl
 keys_of-append (e ∷ es) k v = ap (λ ks. e.0 ∷ ks) (keys_of-append es k v)
 
+-- a new key goes last
+pub goes_last : {S : Type 0} (m n : HashMap ℕ Context S) (cid : ℕ) (first : Context) → get nat_eq m cid ≡ None → n.entries ≡ insert_entry nat_eq m.entries cid first → keys n ≡ keys m ++ cid ∷ []
+goes_last m n cid first absent inserted = ap keys_of (inserted ∙ insert_entry-new nat_eq m cid first absent) ∙ keys_of-append m.entries cid first
+
 -- a first record goes last
 pub order_after_first : {S : Type 0} (m n : HashMap ℕ Context S) (cid : ℕ) (first : Context) → get nat_eq m cid ≡ None → n.entries ≡ insert_entry nat_eq m.entries cid first → KeepsPlace (keys m) (keys n) cid (option_map record_of (get nat_eq m cid))
 order_after_first m n cid first absent inserted =
-    let last : keys n ≡ keys m ++ cid ∷ [] = ap keys_of (inserted ∙ insert_entry-new nat_eq m cid first absent) ∙ keys_of-append m.entries cid first in
-    rw absent (inr last)
+    rw absent (inr (goes_last m n cid first absent inserted))
 
 absent_is : {A B : Type 0} (f : A → B) (x : Option A) → option_map f x ≡ None → x ≡ None
 absent_is f None e = refl

@@ -1,24 +1,33 @@
 -- Two runs of events that agree on a pair answer it the same.
-use Rattle.std.proofs.Common.{◌≡◌, ℕ, ◌<◌, ◌^◌, List, [], ◌∷◌, ◌++◌, filter, Bool, true, false, if◌then◌else◌, ◌==◌, Option, Some, None, Result, Ok, Err, refl, sym, ap, subst}
+use Rattle.std.proofs.Common.{◌≡◌, ℕ, ◌<◌, ◌^◌, List, [], ◌∷◌, ◌++◌, map, filter, Bool, true, false, not, if◌then◌else◌, ◌==◌, Option, Some, None, Result, Ok, Err, refl, sym, ◌∙◌, ap, subst}
 use Rattle.std.specs.List.{AllByRecursion}
 use Rattle.rohc_frame.specs.Header.{Header}
 use Rattle.rohc_frame.specs.Parts.{parts_of}
 use Rattle.rohc_frame.specs.Reading.{Reading}
 use Rattle.rohc_frame.specs.declared.refusal.FrameRefusal.{FrameRefusal}
 use Rattle.rohc_context.specs.Good.{IsGoodHeader}
+use Rattle.rohc_context.specs.Response.{Response}
 use Rattle.rohc_context.specs.declared.settings.Settings.{Settings}
 use Rattle.rohc_concentrator.specs.declared.setting.LinkSetting.{LinkSetting}
 use Rattle.rohc_concentrator.specs.Setting.{settings_of}
-use Rattle.rohc_concentrator.specs.Tables.{record_at}
-use Rattle.rohc_concentrator.specs.Report.{Report}
+use Rattle.rohc_concentrator.specs.Report.{Arrived, is_no_memory}
 use Rattle.rohc_concentrator.specs.Events.{Event, Arrive, Reset}
-use Rattle.rohc_concentrator.specs.LoneRun.{LoneEvent, Arrival, Forget, LoneRun, arrival_of, unmarked}
+use Rattle.rohc_concentrator.specs.LoneRun.{LoneEvent, Arrival, Forget, arrival_of, unmarked}
 use Rattle.rohc_concentrator.specs.Bears.{header_in}
-use Rattle.rohc_concentrator.specs.Isolation.{own_event, own_events, own_replies, is_marked, is_rich}
+use Rattle.rohc_concentrator.specs.Isolation.{own_event, is_rich}
 use Rattle.rohc_concentrator.specs.Laws.{IsFit, SameReplies}
-use Rattle.rohc_concentrator.proofs.GoodLemmas.{good_setting, good_settings_of, good_record_at, good_header}
-use Rattle.rohc_concentrator.proofs.WorldLemmas.{IsGoodEvent, lone_run_one}
-use Rattle.rohc_concentrator.proofs.EventLemmas.{with_mark, isolated_events}
+use Rattle.rohc_concentrator.specs.Seen.{seen_at, held_of}
+use Rattle.rohc_concentrator.specs.Calls.{Reported, is_poor, LoneCall, LoneArrival, LoneForget, LoneAnswer}
+use Rattle.rohc_concentrator.specs.OwnCalls.{Own, own_calls, rich, calls_of, answers_of, calls_to}
+use Rattle.rohc_concentrator.proofs.GoodLemmas.{good_header}
+use Rattle.rohc_concentrator.proofs.WorldLemmas.{IsGoodEvent}
+use Rattle.rohc_concentrator.proofs.EventCalls.{turn_of, events_run, fit_turns}
+use Rattle.rohc_concentrator.proofs.EventLemmas.{event_of, events_in, replies_to, replies_in, IsEventCall, own_same, seen_pair}
+use Rattle.rohc_concentrator.proofs.ViewLemmas.{held_at}
+use Rattle.rohc_concentrator.proofs.OwnLemmas.{same_answers}
+
+abbrev with_mark : Bool → List LoneEvent → List (LoneEvent × Bool)
+with_mark mark events = map (λ event. (event, mark)) events
 
 -- good events, one list behind the other
 abbrev pub AreGoodEvents : Settings → List LoneEvent → Type 0
@@ -59,21 +68,58 @@ module _ (s : LinkSetting) (l c : ℕ) where
       subst (AreGoodEvents (settings_of s c)) (sym (unmarked_with mark (own_event s l c e) more))
       (good_append (settings_of s c) (if mark then [] else own_event s l c e) (unmarked more) (good_where (settings_of s c) mark [] (own_event s l c e) tt (good_event e fit)) good)
 
-  good_own : (turns : List (Event × Option Report)) → AllByRecursion (λ (turn : Event × Option Report). IsFit turn.0) turns → AreGoodEvents (settings_of s c) (unmarked (own_events s l c turns))
-  good_own [] fit = tt
-  good_own ((e, report) ∷ turns) fit = good_more e (is_marked report) (own_events s l c turns) fit.0 (good_own turns fit.1)
+-- own calls, from their events
+abbrev call_of : LoneEvent → LoneCall
+call_of (Arrival m h) = LoneArrival m h
+call_of Forget = LoneForget
+
+call_back : (e : LoneCall) → IsEventCall e → call_of (event_of e) ≡ e
+call_back (LoneArrival m h) is = refl
+call_back LoneForget is = refl
+call_back e is = absurd is
+
+calls_back : (own : List Own) → AllByRecursion (λ (o : Own). IsEventCall o.0) own → map call_of (unmarked (events_in own)) ≡ calls_of (rich own)
+calls_back [] all = refl
+calls_back ((e, a) ∷ own) all = by (is_poor a) (calls_back own all.1)
+  where
+    by : (poor : Bool) → map call_of (unmarked (events_in own)) ≡ calls_of (rich own)
+        → map call_of (if poor then unmarked (events_in own) else event_of e ∷ unmarked (events_in own)) ≡ calls_of (if not poor then (e, a) ∷ rich own else rich own)
+    by true later = later
+    by false later = (λ i. call_back e all.0 i ∷ later i)
+
+abbrev replies_of : List LoneAnswer → List Response
+replies_of [] = []
+replies_of (a ∷ answers) = replies_to a ++ replies_of answers
+
+replies_rich : (own : List Own) → filter is_rich (replies_in own) ≡ replies_of (answers_of (rich own))
+replies_rich [] = refl
+replies_rich ((e, Reported (Arrived c response relayed)) ∷ own) = by (is_no_memory response.outcome) (replies_rich own)
+  where
+    by : (poor : Bool) → filter is_rich (replies_in own) ≡ replies_of (answers_of (rich own))
+        → (if not poor then response ∷ filter is_rich (replies_in own) else filter is_rich (replies_in own)) ≡ replies_of (answers_of (if not poor then (e, Reported (Arrived c response relayed)) ∷ rich own else rich own))
+    by true later = later
+    by false later = ap (λ rs. response ∷ rs) later
+replies_rich ((e, a) ∷ own) = by (is_poor a) (replies_rich own)
+  where
+    by : (poor : Bool) → filter is_rich (replies_in own) ≡ replies_of (answers_of (rich own)) → filter is_rich (replies_in own) ≡ replies_of (answers_of (if not poor then (e, a) ∷ rich own else rich own))
+    by true later = later
+    by false later = later
 
 pub same_replies : SameReplies
 same_replies a b l c agree fit first second same =
-    let s = agree.here in
-    let t = agree.there in
-    let here = ((isolated_events a first).pairs (record { link = l; cid = c; setting = s }) agree.set_here).alone in
-    let there = ((isolated_events b second).pairs (record { link = l; cid = c; setting = t }) agree.set_there).alone in
-    let x = filter is_rich (own_replies l c a.turns) in
-    let y = filter is_rich (own_replies l c b.turns) in
-    let moved : LoneRun (settings_of s c) (record_at a.before l c) (unmarked (own_events s l c a.turns)) y (record_at b.after l c) =
-    subst (λ es. LoneRun (settings_of s c) (record_at a.before l c) es y (record_at b.after l c)) (sym same)
-    (subst (λ z. LoneRun z (record_at a.before l c) (unmarked (own_events t l c b.turns)) y (record_at b.after l c)) (sym agree.settings)
-    (subst (λ z. LoneRun (settings_of t c) z (unmarked (own_events t l c b.turns)) y (record_at b.after l c)) (sym agree.records) there)) in
-    lone_run_one (settings_of s c) (record_at a.before l c) (unmarked (own_events s l c a.turns)) x y (record_at a.after l c) (record_at b.after l c)
-    (good_settings_of s c (good_setting a.before l s agree.set_here)) (good_own s l c a.turns fit) (good_record_at a.before l c) here moved
+    let xs = map turn_of a.turns in
+    let ys = map turn_of b.turns in
+    let here = own_same l c agree.here a.before a.after a.turns first agree.set_here in
+    let there = own_same l c agree.there b.before b.after b.turns second agree.set_there in
+    let calls : calls_to l c a.before xs ≡ calls_to l c b.before ys =
+    ap (λ z. calls_of (rich (own_calls l c z xs))) agree.set_here ∙ sym (calls_back (own_calls l c (Some agree.here) xs) here.calls)
+    ∙ ap (map call_of) (sym (ap unmarked here.events_are) ∙ same ∙ ap unmarked there.events_are)
+    ∙ calls_back (own_calls l c (Some agree.there) ys) there.calls ∙ sym (ap (λ z. calls_of (rich (own_calls l c z ys))) agree.set_there) in
+    let seen : seen_at a.before l c ≡ seen_at b.before l c =
+    seen_pair a.before l c agree.here agree.set_here ∙ (λ i. Some (record { settings = agree.settings i; held = agree.records i })) ∙ sym (seen_pair b.before l c agree.there agree.set_there) in
+    let one = same_answers a.before b.before a.after b.after xs ys l c seen (fit_turns a.turns fit) (events_run a.before a.after a.turns first) (events_run b.before b.after b.turns second) calls in (
+      ap (filter is_rich) here.replies_are ∙ replies_rich (own_calls l c (Some agree.here) xs) ∙ sym (ap (λ z. replies_of (answers_of (rich (own_calls l c z xs)))) agree.set_here)
+          ∙ ap replies_of one.0
+          ∙ ap (λ z. replies_of (answers_of (rich (own_calls l c z ys)))) agree.set_there ∙ sym (replies_rich (own_calls l c (Some agree.there) ys)) ∙ sym (ap (filter is_rich) there.replies_are),
+      sym (held_at a.after l c) ∙ ap held_of one.1 ∙ held_at b.after l c,
+    )

@@ -16,17 +16,20 @@ use Rattle.rohc_context.specs.Good.{AreGoodValues, IsGoodHeader, IsGoodRecord}
 use Rattle.rohc_context.specs.Settings.{AreGood}
 use Rattle.rohc_context.specs.Record.{Record}
 use Rattle.rohc_context.specs.Response.{Response}
-use Rattle.rohc_context.specs.Step.{LoneStep}
-use Rattle.rohc_context.proofs.StepLaws.{has_no_other, leaves_good, leaves_none, never_poor}
+use Rattle.rohc_context.proofs.StepLaws.{has_no_other, leaves_good, never_poor}
 use Rattle.rohc_concentrator.specs.declared.concentrator.Concentrator.{Concentrator}
 use Rattle.rohc_concentrator.specs.declared.setting.LinkSetting.{LinkSetting}
 use Rattle.rohc_concentrator.specs.Setting.{settings_of}
 use Rattle.rohc_concentrator.specs.Tables.{setting_at, record_at}
-use Rattle.rohc_concentrator.specs.Events.{Arrives, Resets}
+use Rattle.rohc_concentrator.specs.Events.{Arrives, Reset, RunsEvent}
+use Rattle.rohc_concentrator.specs.Calls as calls
+use Rattle.rohc_concentrator.specs.Calls.{CallAnswer, Done, NoSuchLink, is_poor, lone_answer, Told}
+use Rattle.rohc_concentrator.specs.RunsCall.{RunsCall}
 use Rattle.rohc_concentrator.specs.Bears.{borne, header_in, cid_in}
 use Rattle.rohc_concentrator.specs.Report.{Report, Arrived, OwnStep, IsArrival, IsCut, IsRead, IsAnswered, is_no_memory, wants_memory, is_refusal, is_refused, OnlyFront, Refused}
 use Rattle.rohc_concentrator.specs.LoneRun.{LoneEvent, Arrival, Forget, LoneRun}
-use Rattle.rohc_concentrator.specs.Laws.{TwoWorlds, NoTrace, WantIsRefusal, IsTakenUp, TakenUpOrRefused, TakenHasALink, AreAlike}
+use Rattle.rohc_concentrator.specs.Laws.{TwoWorlds, WantIsRefusal, IsTakenUp, TakenUpOrRefused, TakenHasALink, AreAlike}
+use Rattle.rohc_concentrator.proofs.ArrivedLemmas.{arrived, arrival_settings, arrival_others, other_record, reset_settings, reset_forgets, reset_answer}
 use Rattle.rohc_concentrator.proofs.GoodLemmas.{good_arrival}
 
 -- no other outcome is want of memory
@@ -79,9 +82,9 @@ two_worlds a b after_a after_b l c m octets x y agree fits all bears p q rich_x 
     let t = agree.there in
     let parts = parts_of s.settings.size s.settings.max_cid octets in
     let borne_here : cid_in (header_in parts) ≡ Some c = subst (λ z. borne z octets ≡ Some c) agree.set_here bears in
-    let here : IsRead s m parts (record_at a l) x (record_at after_a l) = subst (λ z. IsAnswered z (record_at a l) m octets x (record_at after_a l)) agree.set_here p.answer in
+    let here : IsRead s m parts (record_at a l) x (record_at after_a l) = subst (λ z. IsAnswered z (record_at a l) m octets x (record_at after_a l)) agree.set_here (arrived a after_a l m octets x p) in
     let there : IsRead t m parts (record_at b l) y (record_at after_b l) =
-    subst (λ z. IsRead t m z (record_at b l) y (record_at after_b l)) (sym (same_parts s t c octets agree.settings)) (subst (λ z. IsAnswered z (record_at b l) m octets y (record_at after_b l)) agree.set_there q.answer) in
+    subst (λ z. IsRead t m z (record_at b l) y (record_at after_b l)) (sym (same_parts s t c octets agree.settings)) (subst (λ z. IsAnswered z (record_at b l) m octets y (record_at after_b l)) agree.set_there (arrived b after_b l m octets y q)) in
     let bears_cid : (r : Reading) (h : Header) → parts ≡ Ok r → r.header ≡ Some h → h.cid ≡ c =
     λ r h e f. let g : ◌≡◌ {A = Option ℕ} (Some h.cid) (Some c) = sym (ap cid_in f) ∙ sym (ap (λ z. cid_in (header_in z)) e) ∙ borne_here in cc in
     let one = read_one s t m (record_at a l) (record_at b l) (record_at after_a l) (record_at after_b l) x y parts
@@ -104,28 +107,6 @@ taken_outcome : (o : Outcome) → is_refusal o ≡ false → (o ≡ outcomes.Del
 taken_outcome (outcomes.Refused refusal) e = absurd (let f : true ≡ false = e in cc)
 taken_outcome outcomes.Delivered e = inl refl
 taken_outcome outcomes.Stored e = inr refl
-
-own_none : (s : Settings) (m : ℕ) (h : Header) (before : Option Record) (response : Response) (after : Option Record) → OwnStep s m h before response after → is_refusal response.outcome ≡ true → before ≡ None → after ≡ None
-own_none s m h before response after (inl step) refuses none =
-    let refusal = which_refusal response.outcome refuses in
-    leaves_none s m h response after refusal.0 (subst (λ b. LoneStep b s m h response after) none step) refusal.1
-own_none s m h before response after (inr poor) refuses none = poor.1
-
-module _ (s : LinkSetting) (m : ℕ) (before after : ℕ → Option Record) (report : Report) (refuses : is_refused report ≡ true) (c : ℕ) (none : before c ≡ None) where
-  cut_none : (relayed : List (List ℕ)) (header : Option Header) → cid_in header ≡ Some c → IsCut s m relayed header before report after → after c ≡ None
-  cut_none relayed None bears a = absurd (let f : ◌≡◌ {A = Option ℕ} None (Some c) = bears in cc)
-  cut_none relayed (Some h) bears a =
-      let same : h.cid ≡ c = (let f : ◌≡◌ {A = Option ℕ} (Some h.cid) (Some c) = bears in cc) in
-      let refused_here : is_refusal a.0.outcome ≡ true = sym (ap is_refused a.1) ∙ refuses in
-      subst (λ d. after d ≡ None) same (own_none (settings_of s h.cid) m h (before h.cid) a.0 (after h.cid) a.2 refused_here (subst (λ d. before d ≡ None) (sym same) none))
-
-  read_none : (parts : Result Reading FrameRefusal) → cid_in (header_in parts) ≡ Some c → IsRead s m parts before report after → after c ≡ None
-  read_none (Ok r) bears a = cut_none r.elements r.header bears a
-  read_none (Err refusal) bears a = absurd (let f : ◌≡◌ {A = Option ℕ} None (Some c) = bears in cc)
-
-answered_none : (set : Option LinkSetting) (m : ℕ) (octets : List ℕ) (before after : ℕ → Option Record) (report : Report) → is_refused report ≡ true → (c : ℕ) → before c ≡ None → borne set octets ≡ Some c → IsAnswered set before m octets report after → after c ≡ None
-answered_none None m octets before after report refuses c none bears a = absurd (let f : ◌≡◌ {A = Option ℕ} None (Some c) = bears in cc)
-answered_none (Some s) m octets before after report refuses c none bears a = read_none s m before after report refuses c none (parts_of s.settings.size s.settings.max_cid octets) bears a
 
 pub want_is_refusal : WantIsRefusal
 want_is_refusal (Arrived cid response relayed) wants = ap is_refusal (is_no_memory-only response.outcome wants)
@@ -150,18 +131,12 @@ taken_on (Some s) m octets before after report a taken = (s, refl)
 taken_on None m octets before after report a taken = absurd (let f : true ≡ false = sym (ap is_refused a) ∙ taken in cc)
 
 pub taken_has_a_link : TakenHasALink
-taken_has_a_link old new l m octets report a taken = taken_on (setting_at old l) m octets (record_at old l) (record_at new l) report a.answer taken
+taken_has_a_link old new l m octets report a taken = taken_on (setting_at old l) m octets (record_at old l) (record_at new l) report (arrived old new l m octets report a) taken
 
 -- an identifier is borne or it isn't
 borne_or_not : (b : Option ℕ) (c : ℕ) → (b ≡ Some c) ⊎ (b ≢ Some c)
 borne_or_not None c = inr (λ e. let f : ◌≡◌ {A = Option ℕ} None (Some c) = e in cc)
 borne_or_not (Some d) c = ⊎_elim (λ e. inl (ap (λ x. Some x) e)) (λ apart. inr (λ e. apart (let f : ◌≡◌ {A = Option ℕ} (Some d) (Some c) = e in cc))) (cases_eq d c)
-
-pub no_trace : NoTrace
-no_trace old new l m octets report a refuses c none = ⊎_elim
-    (λ bears. answered_none (setting_at old l) m octets (record_at old l) (record_at new l) report refuses c none bears a.answer)
-    (λ apart. a.others l c (inr apart) ∙ none)
-    (borne_or_not (borne (setting_at old l) octets) c)
 
 -- Alike concentrators stay alike.
 
@@ -178,17 +153,17 @@ module _ (a b after_a after_b : Concentrator) (l m : ℕ) (octets : List ℕ) (x
       here there wants
 
   both_answered : AnsweredAlike (setting_at a l)
-  both_answered = answered_alike (setting_at a l) refl p.answer (subst (λ z. IsAnswered z (record_at b l) m octets y (record_at after_b l)) (sym (alike.settings l)) q.answer)
+  both_answered = answered_alike (setting_at a l) refl (arrived a after_a l m octets x p) (subst (λ z. IsAnswered z (record_at b l) m octets y (record_at after_b l)) (sym (alike.settings l)) (arrived b after_b l m octets y q))
 
   others_alike : (k d : ℕ) → (k ≢ l) ⊎ (borne (setting_at a l) octets ≢ Some d) → record_at after_a k d ≡ record_at after_b k d
-  others_alike k d apart = p.others k d apart ∙ alike.records k d ∙ sym (q.others k d (subst (λ z. (k ≢ l) ⊎ (borne z octets ≢ Some d)) (alike.settings l) apart))
+  others_alike k d apart = arrival_others a after_a l m octets x p k d apart ∙ alike.records k d ∙ sym (arrival_others b after_b l m octets y q k d (subst (λ z. (k ≢ l) ⊎ (borne z octets ≢ Some d)) (alike.settings l) apart))
 
   -- an arrival is answered alike, and leaves them alike, where both or neither want memory
   pub arrive_alike : (x ≡ y) × AreAlike after_a after_b
   arrive_alike = (
     both_answered.0,
     record {
-      settings = λ k. p.settings.each k ∙ alike.settings k ∙ sym (q.settings.each k);
+      settings = λ k. (arrival_settings a after_a l m octets x p).each k ∙ alike.settings k ∙ sym ((arrival_settings b after_b l m octets y q).each k);
       records = λ k d. ⊎_elim
           (λ here. ⊎_elim
           (λ bears. subst (λ z. record_at after_a z d ≡ record_at after_b z d) (sym here) (both_answered.1 d bears))
@@ -200,14 +175,29 @@ module _ (a b after_a after_b : Concentrator) (l m : ℕ) (octets : List ℕ) (x
   )
 
 -- and so does a reset
-pub reset_alike : (a b after_a after_b : Concentrator) (l : ℕ) → AreAlike a b → Resets a l after_a → Resets b l after_b → AreAlike after_a after_b
-reset_alike a b after_a after_b l alike p q = record {
-  settings = λ k. p.settings.each k ∙ alike.settings k ∙ sym (q.settings.each k);
-  records = λ k d. ⊎_elim
-      (λ here. subst (λ z. record_at after_a z d ≡ record_at after_b z d) (sym here) (p.forgotten d ∙ sym (q.forgotten d)))
-      (λ apart. p.others k d apart ∙ alike.records k d ∙ sym (q.others k d apart))
-      (cases_eq k l);
-}
+module _ (a b after_a after_b : Concentrator) (l : ℕ) (alike : AreAlike a b) (x y : CallAnswer) (rich_x : is_poor x ≡ false) (rich_y : is_poor y ≡ false)
+    (p : RunsCall a l calls.Reset x after_a) (q : RunsCall b l calls.Reset y after_b) where
+  resets_alike : (lone_answer x ≡ lone_answer y) × AreAlike after_a after_b
+  resets_alike = (
+    reset_answer a after_a l x rich_x p (setting_at a l) refl ∙ sym (reset_answer b after_b l y rich_y q (setting_at a l) (sym (alike.settings l))),
+    record {
+      settings = λ k. (reset_settings a after_a l x rich_x p).each k ∙ alike.settings k ∙ sym ((reset_settings b after_b l y rich_y q).each k);
+      records = λ k d. ⊎_elim
+          (λ here. subst (λ z. record_at after_a z d ≡ record_at after_b z d) (sym here) (reset_forgets a after_a l x rich_x p d ∙ sym (reset_forgets b after_b l y rich_y q d)))
+          (λ apart. other_record a after_a l calls.Reset x p k d apart ∙ alike.records k d ∙ sym (other_record b after_b l calls.Reset y q k d apart))
+          (cases_eq k l);
+    },
+  )
+
+pub reset_alike : (a b after_a after_b : Concentrator) (l : ℕ) (x y : Option Report) → AreAlike a b → RunsEvent a (Reset l) x after_a → RunsEvent b (Reset l) y after_b
+    → (x ≡ y) × AreAlike after_a after_b
+reset_alike a b after_a after_b l None None alike p q = (refl, (resets_alike a b after_a after_b l alike Done Done refl refl p q).1)
+reset_alike a b after_a after_b l None (Some y) alike p q =
+    absurd (let f : Told Done ≡ Told NoSuchLink = (resets_alike a b after_a after_b l alike Done NoSuchLink refl refl p q.0).0 in cc)
+reset_alike a b after_a after_b l (Some x) None alike p q =
+    absurd (let f : Told NoSuchLink ≡ Told Done = (resets_alike a b after_a after_b l alike NoSuchLink Done refl refl p.0 q).0 in cc)
+reset_alike a b after_a after_b l (Some x) (Some y) alike p q =
+    (ap (λ r. Some r) (p.1 ∙ sym q.1), (resets_alike a b after_a after_b l alike NoSuchLink NoSuchLink refl refl p.0 q.0).1)
 
 -- A lone run has one list of replies and one record after it.
 

@@ -1,7 +1,7 @@
 -- What is delivered was sent: a sender's packets, some of which are lost (RFC 3095 4.5.2).
--- Words: references, IsOrdinary, IsHonest; Arrived, Reaches, AreInTime; events_of, deliveries; Sender,
--- IsHonestCall.
-use Rattle.std.specs.Prelude.{◌≡◌, ◌≢◌, ℕ, ◌+◌, ◌<◌, ◌≤◌, ◌^◌, List, [], ◌∷◌, ◌++◌, map, length, All, AllPairs, Option, Some, None, ◌⊎◌}
+-- Words: IsOrdinary, IsHonest; Arrived, Reaches, AreInTime; events_of, deliveries; Sender, IsHonestCall;
+-- IsHonestByPlaces.
+use Rattle.std.specs.Prelude.{◌≡◌, ◌≢◌, ℕ, ◌+◌, ◌<◌, ◌≤◌, ◌^◌, List, [], ◌∷◌, ◌++◌, map, length, take, All, AllPairs, Option, Some, None, ◌⊎◌}
 use Rattle.rohc_frame.specs.declared.header.HeadKind.TheVariants.{Other}
 use Rattle.rohc_frame.specs.Laws.{IsOctet}
 use Rattle.rohc_context.specs.declared.settings.Settings.{Settings}
@@ -12,10 +12,6 @@ use Rattle.rohc_context.specs.Record.{Record}
 use Rattle.rohc_context.specs.Response.{Response}
 use Rattle.rohc_concentrator.specs.LoneRun.{LoneEvent, Arrival, LoneRun}
 
--- what a receiver may hold after these packets: the first reference, or the header of one of them
-abbrev pub references : (first : Held) → List Written → List Held
-references first written = first ∷ map (λ (p : Written). held_by first p.header) written
-
 -- what a packet is that arrives: of kind Other and without an extension 3, and rebuilt it has at most 65,535
 -- octets
 pub record IsOrdinary (p : Written) : Type 0 where
@@ -24,14 +20,18 @@ pub record IsOrdinary (p : Written) : Type 0 where
   pub no_values : p.content.values ≡ None
   pub few : 40 + length p.content.payload ≤ 65535
 
--- Honest writing: each packet is written for its header against every one of the last w references before it.
--- Those are the references with fewer than w others between them and the packet. A packet that isn't ordinary
--- may be anything, as long as it is lost.
+-- Honest writing, from these references on, the newest first: each packet is written for its header against
+-- the newest w, and then its header is one more. A packet that isn't ordinary may be anything, as long as it
+-- is lost.
+abbrev pub IsHonestFrom : (w : ℕ) → (first : Held) → (references : List Held) → List Written → Type 0
+IsHonestFrom w first references [] = Unit {0}
+IsHonestFrom w first references (p ∷ sent) =
+    (IsOrdinary p → All (λ held. IsHonestPacket held p) (take w references))
+    × IsHonestFrom w first (held_by first p.header ∷ references) sent
+
+-- before the first packet there is one reference
 abbrev pub IsHonest : (w : ℕ) → (first : Held) → List Written → Type 0
-IsHonest w first sent =
-    (earlier later : List Written) (p : Written) (older newer : List Held) (held : Held) →
-    sent ≡ earlier ++ p ∷ later → references first earlier ≡ older ++ held ∷ newer → length newer < w →
-    IsOrdinary p → IsHonestPacket held p
+IsHonest w first sent = IsHonestFrom w first (first ∷ []) sent
 
 -- a packet and its arrival time
 pub record Arrived : Type 0 where
@@ -98,6 +98,23 @@ abbrev pub AsksOrdinaryAlone : Type 0
 AsksOrdinaryAlone = (w : ℕ) (first : Held) (sent : List Written) →
     All (λ (p : Written). (p.packet.kind ≢ Other) ⊎ (p.content.values ≢ None)
     ⊎ (65535 < 40 + length p.content.payload)) sent → IsHonest w first sent
+
+-- what a receiver may hold after these packets: the first reference, or the header of one of them
+abbrev pub references : (first : Held) → List Written → List Held
+references first written = first ∷ map (λ (p : Written). held_by first p.header) written
+
+-- The same said by places: each packet is written against every reference with fewer than w others between
+-- them and the packet.
+abbrev pub IsHonestByPlaces : (w : ℕ) → (first : Held) → List Written → Type 0
+IsHonestByPlaces w first sent =
+    (earlier later : List Written) (p : Written) (older newer : List Held) (held : Held) →
+    sent ≡ earlier ++ p ∷ later → references first earlier ≡ older ++ held ∷ newer → length newer < w →
+    IsOrdinary p → IsHonestPacket held p
+
+abbrev pub IsHonestEitherWay : Type 0
+IsHonestEitherWay = (w : ℕ) (first : Held) (sent : List Written) →
+    (IsHonest w first sent → IsHonestByPlaces w first sent)
+    × (IsHonestByPlaces w first sent → IsHonest w first sent)
 
 -- The premise can be met by a call with a loss. Some sender writes three packets, each for the last 14
 -- references. The second is lost. The run over the other two, from a record in Full Context, delivers two

@@ -1,6 +1,6 @@
--- Records of a link that are left while others go. Words: left_of; LeavesIn, Leaves; HaveGone; is_other,
+-- Records of a link that are left while others go. Words: left_of; LeavesIn; HaveGone; is_other,
 -- is_expired, counts_at, survives.
-use Rattle.std.specs.Prelude.{◌≡◌, ◌≢◌, ℕ, ◌+◌, ◌-◌, length, Bool, true, false, not, ◌&&◌, ◌==◌, nat_le, filter, is_some, Option, Some, None, if◌then◌else◌}
+use Rattle.std.specs.Prelude.{◌≡◌, ℕ, ◌+◌, ◌-◌, length, Bool, true, false, not, ◌&&◌, ◌==◌, nat_le, filter, is_some, Option, Some, None, if◌then◌else◌}
 use Rattle.indexmap.specs.IndexMap.{keys}
 use Rattle.rohc_frame.specs.declared.header.CidKind.{CidKind}
 use Rattle.rohc_frame.specs.declared.header.CidKind.TheVariants.{Small, Large}
@@ -8,7 +8,7 @@ use Rattle.rohc_context.specs.Record.{Record}
 use Rattle.rohc_concentrator.specs.declared.concentrator.Concentrator.{Concentrator}
 use Rattle.rohc_concentrator.specs.declared.records.LinkRecords.{LinkRecords}
 use Rattle.rohc_concentrator.specs.declared.setting.LinkSetting.{LinkSetting}
-use Rattle.rohc_concentrator.specs.Tables.{record_in, record_at, identifiers_at}
+use Rattle.rohc_concentrator.specs.Tables.{record_in, identifiers_at}
 
 -- what is left of a CID's record, if it has one: itself if it passes, else none
 abbrev pub left_of : (ℕ → Record → Bool) → ℕ → Option Record → Option Record
@@ -20,15 +20,6 @@ pub record LeavesIn (old : LinkRecords) (passes : ℕ → Record → Bool) (new 
   pub records : (cid : ℕ) → record_in new cid ≡ left_of passes cid (record_in old cid)
   pub order : keys new.contexts ≡
       filter (λ cid. is_some (left_of passes cid (record_in old cid))) (keys old.contexts)
-
--- of the records of a link those are left that pass, in their order; those of other links stay
-pub record Leaves (old : Concentrator) (link : ℕ) (passes : ℕ → Record → Bool) (new : Concentrator) :
-    Type 0 where
-  pub records : (cid : ℕ) → record_at new link cid ≡ left_of passes cid (record_at old link cid)
-  pub order : identifiers_at new link ≡
-      filter (λ cid. is_some (left_of passes cid (record_at old link cid))) (identifiers_at old link)
-  pub others : (l cid : ℕ) → l ≢ link → record_at new l cid ≡ record_at old l cid
-  pub elsewhere : (l : ℕ) → l ≢ link → identifiers_at new l ≡ identifiers_at old l
 
 -- so many records of a link have gone
 abbrev pub HaveGone : ℕ → Concentrator → Concentrator → ℕ → Type 0

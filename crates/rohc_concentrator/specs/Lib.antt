@@ -5,7 +5,6 @@ pub mod Report
 pub mod Taken
 pub mod Putting
 pub mod Leaving
-pub mod Links
 pub mod Setup
 pub mod Events
 pub mod LoneRun
@@ -14,3 +13,11 @@ pub mod Honest
 pub mod Laws
 pub mod Cut
 pub mod Ahead
+pub mod Seen
+pub mod Calls
+pub mod Owns
+pub mod RunsCall
+pub mod OwnCalls
+pub mod CallLaws
+pub mod LinkCalls
+pub mod Sound

@@ -1,5 +1,4 @@
--- The answer to an arrival. Words: Report, the answer as plain data; OwnStep; IsPoor (lack of
--- memory); IsAnswered.
+-- The answer to an arrival. Words: report_of; OwnStep; IsPoor (lack of memory); IsAnswered.
 use Rattle.std.specs.Prelude.{◌≡◌, ℕ, List, Bool, true, false, Option, Some, None, Result, Ok, Err, ◌⊎◌}
 use Rattle.rohc_frame.specs.Header.{Header}
 use Rattle.rohc_frame.specs.Reading.{Reading, elements_of}
@@ -19,13 +18,14 @@ use Rattle.rohc_concentrator.specs.declared.answer.Answer.{Answer}
 use Rattle.rohc_concentrator.specs.declared.answer.Answer.TheVariants as answers
 use Rattle.rohc_concentrator.specs.Setting.{settings_of}
 
--- An answer, apart from where its octets lie in memory.
+-- An answer, apart from where its octets lie in memory. With a CID it is the response of that CID's context;
+-- without, there was padding and feedback alone, or the packet is refused. The lists are relayed feedback.
 pub data Report : Type 0 where
   Arrived : ℕ → Response → List (List ℕ) → Report
   OnlyFront : List (List ℕ) → Report
   Refused : Refusal → Report
 
--- the answer of the code as such a report
+-- the answer of the code as a report
 abbrev pub report_of : Answer → Report
 report_of (answers.Arrived cid reply relayed) = Arrived cid (response_of reply) (elements_of relayed)
 report_of (answers.OnlyFront relayed) = OnlyFront (elements_of relayed)

@@ -1,6 +1,6 @@
 -- What a concentrator keeps. Words: setting_at k l, record_at k l i, identifiers_at k l; AreTables;
--- IsPlaceOf; Keeps, for what stays; KeepsAll, TellAll.
-use Rattle.std.specs.Prelude.{◌≡◌, ◌≢◌, ℕ, List, [], ◌∷◌, ◌++◌, ◌⊎◌, Option, Some, None, nat_eq, map, unwrap_or, ◌<◌, slice_get}
+-- IsPlaceOf; KeepsSettings, KeepsPlace, KeepsAll; TellAll.
+use Rattle.std.specs.Prelude.{◌≡◌, ℕ, List, [], ◌∷◌, ◌++◌, ◌⊎◌, Option, Some, None, nat_eq, map, unwrap_or, ◌<◌, slice_get}
 use Rattle.std.specs.HashMap.{HashMap}
 use Rattle.std.specs.Option.{option_map, option_and_then}
 use Rattle.indexmap.specs.IndexMap.{get, keys, index_map_len}
@@ -54,11 +54,6 @@ pub record KeepsSettings (old new : Concentrator) : Type 0 where
   pub each : (link : ℕ) → setting_at new link ≡ setting_at old link
   pub in_order : settings_in_order new ≡ settings_in_order old
 
--- every record other than that of this CID of this link stays
-abbrev pub KeepsOthers : Concentrator → Concentrator → ℕ → Option ℕ → Type 0
-KeepsOthers old new link borne =
-    (l cid : ℕ) → (l ≢ link) ⊎ (borne ≢ Some cid) → record_at new l cid ≡ record_at old l cid
-
 -- a record that is replaced keeps its place, and a first one goes last
 abbrev pub KeepsPlace : List ℕ → List ℕ → ℕ → Option Record → Type 0
 KeepsPlace old new cid (Some r) = new ≡ old
@@ -68,11 +63,6 @@ KeepsPlace old new cid None = (new ≡ old) ⊎ (new ≡ old ++ cid ∷ [])
 abbrev pub KeepsPlaces : List ℕ → List ℕ → Option ℕ → (ℕ → Option Record) → Type 0
 KeepsPlaces old new None before = new ≡ old
 KeepsPlaces old new (Some cid) before = KeepsPlace old new cid (before cid)
-
--- the CIDs of each link keep their order; a first record on this link goes last
-pub record KeepsOrder (old new : Concentrator) (link : ℕ) (borne : Option ℕ) : Type 0 where
-  pub here : KeepsPlaces (identifiers_at old link) (identifiers_at new link) borne (record_at old link)
-  pub elsewhere : (l : ℕ) → l ≢ link → identifiers_at new l ≡ identifiers_at old l
 
 -- all settings and all records stay, in their order
 pub record KeepsAll (old new : Concentrator) : Type 0 where

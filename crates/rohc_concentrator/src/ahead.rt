@@ -22,11 +22,12 @@ impl Concentrator {
         ensures record { option_map (λ c. record_of c.1.now) result ≡ record_ahead (setting_at self.now link) (record_at self.now link) octets.now }
         ensures place { IfSome result (λ c. slice_get (identifiers_at self.now link) c.0 ≡ borne (setting_at self.now link) octets.now) }
     {
-        let place = place_of(&self.links, &self.places, link)?;
+        let place = place_of(&self.links, self.hints.links.hint(link), link)?;
         let (_, records) = self.links.get_index(place)?;
         let settings = &records.setting.settings;
         let forward = plain_header(settings.size, settings.max_cid, octets)?;
-        let place = place_of(&records.contexts, &records.places, forward.cid)?;
+        let hint = self.hints.context(place, forward.cid);
+        let place = place_of(&records.contexts, hint, forward.cid)?;
         let (_, context) = records.contexts.get_index(place)?;
         Some((place, context))
     }

@@ -4,7 +4,8 @@ ghost use Rattle.std.specs.Prelude.{◌≡◌, []};
 ghost use Rattle.rohc_context.specs.Response.{refused};
 ghost use Rattle.rohc_concentrator.specs.Report.{report_of, Arrived};
 
-use rohc_context::{Refusal, Reply};
+use crate::sink::Sink;
+use rohc_context::{Delivered, Refusal, Reply};
 use rohc_frame::Elements;
 use std::fmt;
 
@@ -39,6 +40,41 @@ impl Answer<'_> {
             reply: Reply::refused(Refusal::NoContext),
             relayed: Elements::none(),
         }
+    }
+}
+
+/// An answer takes all answers.
+impl<'a> Sink<'a> for Answer<'a> {
+    ghost use Rattle.std.specs.Prelude.{◌≡◌};
+    ghost use Rattle.rohc_concentrator.specs.Report.{report_of};
+
+    ghost has_room = { λ _ _. Unit {0} };
+
+    ghost takes = { λ _ report new. report_of new ≡ report };
+
+    #[inline(always)]
+    fn rebuilt(&mut self, cid: u16, packet: Delivered<'a>) {
+        let reply = Reply::delivered(packet.head, packet.payload, None);
+        self.arrived(cid, reply, Elements::none());
+    }
+
+    #[inline(always)]
+    fn arrived(&mut self, cid: u16, reply: Reply<'a>, relayed: Elements<'a>) {
+        *self = Answer::Arrived {
+            cid,
+            reply,
+            relayed,
+        };
+    }
+
+    #[inline(always)]
+    fn only_front(&mut self, relayed: Elements<'a>) {
+        *self = Answer::OnlyFront { relayed };
+    }
+
+    #[inline(always)]
+    fn refused(&mut self, refusal: Refusal) {
+        *self = Answer::Refused(refusal);
     }
 }
 

@@ -2,19 +2,23 @@
 
 use crate::answer::{Answer, NoLink};
 use crate::concentrator::Concentrator;
-use crate::link::{arrive_on, take_any, take_short};
-use crate::place::{place_by_hash, place_of, stands_at};
+use crate::link::{take_first, take_later};
+use crate::place::place_of;
 use crate::records::LinkRecords;
+use crate::sink::Sink;
 use indexmap::IndexMap;
-use rohc_context::{AtOnce, Refusal};
+use rohc_context::{Delivered, Refusal};
 
 impl Concentrator {
-    ghost use Rattle.std.specs.Prelude.{◌≡◌, [], ◌≢◌, ◌↔◌, ℕ, None, true, false, IfSome, IsErr, is_some};
-    ghost use Rattle.rohc_concentrator.specs.Tables.{setting_at, record_at, identifiers_at, AreTables, TellAll, KeepsSettings, KeepsOthers, KeepsOrder, KeepsAll};
-    ghost use Rattle.rohc_concentrator.specs.Report.{report_of, IsAnswered};
+    ghost use Rattle.std.specs.Prelude.{◌≡◌, [], ℕ, Option, None, length, IfSome, IfNone, is_some};
+    ghost use Rattle.rohc_context.specs.Record.{Record};
+    ghost use Rattle.rohc_context.specs.Response.{delivered};
+    ghost use Rattle.rohc_concentrator.specs.Tables.{setting_at, record_at, AreTables, TellAll, KeepsAll};
+    ghost use Rattle.rohc_concentrator.specs.Report.{Report, Arrived, report_of, IsAnswered};
+    ghost use Rattle.rohc_concentrator.specs.Taken.{MissedBy};
     ghost use Rattle.rohc_concentrator.specs.Events.{Arrives};
-    ghost use Rattle.rohc_concentrator.specs.Bears.{borne};
-    ghost use Rattle.rohc_concentrator.specs.Taken.{IsFor, IsRebuiltAlone, IsMissed};
+    ghost use Rattle.rohc_concentrator.specs.Calls.{Reset, plain_answer};
+    ghost use Rattle.rohc_concentrator.specs.RunsCall.{RunsCall};
 
     /// Takes one packet of a link, and returns the answer. `moment` is its arrival time in milliseconds.
     ///
@@ -22,117 +26,84 @@ impl Concentrator {
     /// link that isn't there, changes nothing. Memory is asked for only at an accepted IR for a CID without a
     /// record. If there is none, the outcome is `NoMemory` and nothing changes.
     pub fn arrive<'a>(&mut self, link: u16, moment: u64, octets: &'a [u8]) -> Answer<'a>
-        ensures answer { IsAnswered (setting_at self.old link) (record_at self.old link) moment octets.entry.now
-            (report_of result) (record_at self.new link) }
-        ensures settings { KeepsSettings self.old self.new }
-        ensures others { KeepsOthers self.old self.new link (borne (setting_at self.old link) octets.entry.now) }
-        ensures order { KeepsOrder self.old self.new link (borne (setting_at self.old link) octets.entry.now) }
+        ensures event { Arrives self.old link moment octets.entry.now (report_of result) self.new }
     {
         let mut answer = Answer::blank();
         self.arrive_into(link, moment, octets, &mut answer);
         answer
     }
 
-    /// Takes one packet of a link as `arrive` does, and writes the answer over what `answer` held. A returned
-    /// answer is copied twice more.
-    ///
-    /// It is inlined wherever it is called: a call of it costs one arrival in five, since its head lies in registers.
+    /// Takes one packet of a link as `arrive` does, and puts the answer into the sink: a value, a caller's buffers, or
+    /// whatever else takes answers. The sink must have room for each answer that the packet may have.
     #[inline(always)]
-    pub fn arrive_into<'a>(
+    pub fn arrive_into<'a, S: Sink<'a>>(
         &mut self,
         link: u16,
         moment: u64,
         octets: &'a [u8],
-        answer: &mut Answer<'a>,
+        sink: &mut S,
     )
-        ensures answer { IsAnswered (setting_at self.old link) (record_at self.old link) moment octets.entry.now
-            (report_of answer.new) (record_at self.new link) }
-        ensures settings { KeepsSettings self.old self.new }
-        ensures others { KeepsOthers self.old self.new link (borne (setting_at self.old link) octets.entry.now) }
-        ensures order { KeepsOrder self.old self.new link (borne (setting_at self.old link) octets.entry.now) }
+        requires room { (report : Report) (after : ℕ → Option Record) → IsAnswered (setting_at self.old link) (record_at self.old link) moment octets.now report after
+            → S.has_room sink.old report }
+        ensures event { (report : Report) × Arrives self.old link moment octets.entry.now report self.new × S.takes sink.old report sink.new }
     {
-        // Written out as in `take_at`.
-        let hint = self.places.hint(link);
-        let place = if stands_at(&self.links, hint, link) {
-            hint
-        } else {
-            let Some(found) = place_by_hash(&self.links, link) else {
-                *answer = Answer::Refused(Refusal::NoLink);
-                return;
-            };
-            found
-        };
-        let (_, records) = self.links.pair_mut(place);
-        arrive_on(records, moment, octets, answer);
+        match self.take_first(link, moment, octets) {
+            Some((cid, packet)) => sink.rebuilt(cid, packet),
+            None => self.take_later(link, moment, octets, sink),
+        }
     }
 
-    /// Takes a packet as `arrive_into` does, by the whole step of its context. It is for packets that `take_at_once` didn't
-    /// take, and spares them its look.
-    pub fn arrive_by_step<'a>(
+    /// Takes a packet with nothing before its header that begins as a UO-0 does and fits by the first try, as nearly every
+    /// packet of a call is, and returns its CID and what it was rebuilt to, behind a header of 40 octets. Its answer has no
+    /// feedback of either kind. For any other packet nothing changes, and `take_later` takes it.
+    ///
+    /// It is the first half of `arrive_into`, for a caller who puts the packet where it goes: no sink is lent to a call, so
+    /// the header lies in registers.
+    #[inline(always)]
+    pub fn take_first<'a>(
         &mut self,
         link: u16,
         moment: u64,
         octets: &'a [u8],
-        answer: &mut Answer<'a>,
-    )
-        ensures answer { IsAnswered (setting_at self.old link) (record_at self.old link) moment octets.entry.now
-            (report_of answer.new) (record_at self.new link) }
-        ensures settings { KeepsSettings self.old self.new }
-        ensures others { KeepsOthers self.old self.new link (borne (setting_at self.old link) octets.entry.now) }
-        ensures order { KeepsOrder self.old self.new link (borne (setting_at self.old link) octets.entry.now) }
+    ) -> Option<(u16, Delivered<'a>)>
+        ensures event { IfSome result (λ p. Arrives self.old link moment octets.entry.now (Arrived p.0 (delivered p.1.head.items p.1.payload.now None) []) self.new) }
+        ensures long { IfSome result (λ p. length p.1.head.items ≡ 40) }
+        ensures missed { IfNone result (MissedBy self.new link moment octets.entry.now) }
+        ensures stays { IfNone result (KeepsAll self.old self.new) }
     {
-        let Some(place) = place_of(&self.links, &self.places, link) else {
-            *answer = Answer::Refused(Refusal::NoLink);
-            return;
+        let Some(place) = place_of(&self.links, self.hints.links.hint(link), link) else {
+            return None;
         };
         let (_, records) = self.links.pair_mut(place);
-        take_any(records, moment, octets, answer);
+        let Some(taken) = take_first(records, self.hints.contexts.get(place), moment, octets) else {
+            return None;
+        };
+        Some(taken)
     }
 
-    /// Takes a packet as `arrive_into` does and returns true, if nothing stands before its header, its first octet is that
-    /// of a UO-0, it is one of `which`, and its context takes it at once, as nearly every packet of a call is. Then the
-    /// answer is that of a CID's context, without relayed feedback. Otherwise it returns false: then all settings and
-    /// records stay as they were, what `answer` holds means nothing, and `arrive_into` takes the packet.
-    ///
-    /// It is the head of `arrive_into`. A caller who copies the packet right away tries it first, and so lets the compiler
-    /// write the header where the copy goes.
-    #[inline(always)]
-    pub fn take_at_once<'a>(
+    /// Takes a packet that `take_first` left, and puts the answer into the sink. It is the second half of `arrive_into`.
+    pub fn take_later<'a, S: Sink<'a>>(
         &mut self,
-        which: AtOnce,
         link: u16,
         moment: u64,
         octets: &'a [u8],
-        answer: &mut Answer<'a>,
-    ) -> bool
-        ensures taken { result ≡ true → Arrives self.old link moment octets.entry.now (report_of answer.new) self.new }
-        ensures alone { result ≡ true → (cid : ℕ) × IsFor cid (report_of answer.new) }
-        ensures rebuilt { result ≡ true → which ≡ AtOnce.Rebuilt → IsRebuiltAlone (report_of answer.new) }
-        ensures missed { result ≡ false → IfSome (setting_at self.old link) (λ s. IsMissed which s (record_at self.old link) moment octets.entry.now) }
-        ensures stays { result ≡ false → KeepsAll self.old self.new }
+        sink: &mut S,
+    )
+        requires missed { MissedBy self.old link moment octets.now }
+        requires room { (report : Report) (after : ℕ → Option Record) → IsAnswered (setting_at self.old link) (record_at self.old link) moment octets.now report after
+            → S.has_room sink.old report }
+        ensures event { (report : Report) × Arrives self.old link moment octets.entry.now report self.new × S.takes sink.old report sink.new }
     {
-        // As in `arrive_into`.
-        let hint = self.places.hint(link);
-        let place = if stands_at(&self.links, hint, link) {
-            hint
-        } else {
-            let Some(found) = place_by_hash(&self.links, link) else {
-                return false;
-            };
-            found
+        let Some(place) = place_of(&self.links, self.hints.links.hint(link), link) else {
+            return sink.refused(Refusal::NoLink);
         };
         let (_, records) = self.links.pair_mut(place);
-        take_short(which, records, moment, octets, answer)
+        take_later(records, self.hints.of(place), moment, octets, sink);
     }
 
     /// Forgets every record of a link, and no other record. The error is `NoLink`.
     pub fn reset(&mut self, link: u16) -> Result<(), NoLink>
-        ensures absent { IsErr result ↔ (setting_at self.old link ≡ None) }
-        ensures forgotten { (cid : ℕ) → record_at self.new link cid ≡ None }
-        ensures others { (l cid : ℕ) → l ≢ link → record_at self.new l cid ≡ record_at self.old l cid }
-        ensures settings { KeepsSettings self.old self.new }
-        ensures emptied { identifiers_at self.new link ≡ [] }
-        ensures order { (l : ℕ) → l ≢ link → identifiers_at self.new l ≡ identifiers_at self.old l }
+        ensures event { RunsCall self.old link Reset (plain_answer result) self.new }
     {
         let records = self.links.get_mut(&link).ok_or(NoLink)?;
         records.contexts.clear();

@@ -1,6 +1,6 @@
 //! The contexts of all links.
 
-use crate::place::Places;
+use crate::place::Hints;
 use crate::records::LinkRecords;
 use indexmap::IndexMap;
 
@@ -9,6 +9,6 @@ use indexmap::IndexMap;
 pub struct Concentrator {
     /// The links by number, in the order of their settings.
     pub(crate) links: IndexMap<u16, LinkRecords>,
-    /// Where each link was put.
-    pub(crate) places: Places,
+    /// Where each of them and its records were put.
+    pub(crate) hints: Hints,
 }

@@ -31,20 +31,7 @@ impl LinkSetting {
     }
 }
 
-impl LinkRecords {
-    ghost use Rattle.std.specs.Prelude.{◌≡◌};
-
-    /// Gives back the memory that the link's contexts don't need, and keeps where each stands.
-    pub(crate) fn tidy(&mut self)
-        ensures contexts { self.new.contexts.entries ≡ self.old.contexts.entries }
-        ensures setting { self.new.setting ≡ self.old.setting }
-    {
-        self.contexts.shrink_to_fit();
-        self.places.renew(&self.contexts);
-    }
-}
-
-/// Forgets the record of a CID. Returns how many went.
+/// Forgets the record of a CID. Returns the number of records removed.
 fn forget_in(records: &mut LinkRecords, cid: u16) -> usize
     ensures leaves { LeavesIn records.old (is_other cid) records.new }
     ensures setting { records.new.setting ≡ records.old.setting }
@@ -52,11 +39,11 @@ fn forget_in(records: &mut LinkRecords, cid: u16) -> usize
 {
     let before = records.contexts.len();
     records.contexts.retain(|other, _| *other != cid);
-    records.tidy();
+    records.contexts.shrink_to_fit();
     before - records.contexts.len()
 }
 
-/// Forgets the records of a link that have expired at a moment. Returns how many went.
+/// Forgets the records of a link that have expired at a moment. Returns the number of records removed.
 fn forget_expired_in(records: &mut LinkRecords, moment: u64) -> usize
     ensures leaves { LeavesIn records.old (counts_at records.old.setting.settings.idle_ms moment) records.new }
     ensures setting { records.new.setting ≡ records.old.setting }
@@ -65,43 +52,41 @@ fn forget_expired_in(records: &mut LinkRecords, moment: u64) -> usize
     let before = records.contexts.len();
     let idle_ms = records.setting.settings.idle_ms;
     records.contexts.retain(|_, context| !has_passed(idle_ms, context.accepted(), moment));
-    records.tidy();
+    records.contexts.shrink_to_fit();
     before - records.contexts.len()
 }
 
 impl Concentrator {
-    ghost use Rattle.std.specs.Prelude.{◌≡◌, ◌↔◌, None, IfSome, IsErr, OnOk, IfOk, IfErr};
-    ghost use Rattle.rohc_concentrator.specs.Tables.{setting_at, KeepsSettings, KeepsAll};
-    ghost use Rattle.rohc_concentrator.specs.Leaving.{Leaves, HaveGone, is_other, counts_at};
+    ghost use Rattle.std.specs.Prelude.{IfOk};
+    ghost use Rattle.rohc_concentrator.specs.Leaving.{HaveGone};
+    ghost use Rattle.rohc_concentrator.specs.Calls.{Forget, ForgetExpired, plain_answer};
+    ghost use Rattle.rohc_concentrator.specs.RunsCall.{RunsCall};
 
-    /// Forgets the record of one CID of a link, and no other. Returns how many records went, 0 or 1. The error is
+    /// Forgets the record of one CID of a link, and no other. Returns the number of records removed, 0 or 1. The error is
     /// `NoLink`; then nothing changes.
     pub fn forget(&mut self, link: u16, cid: u16) -> Result<usize, NoLink>
-        ensures absent { IsErr result ↔ (setting_at self.old link ≡ None) }
-        ensures leaves { OnOk result (Leaves self.old link (is_other cid) self.new) }
-        ensures settings { OnOk result (KeepsSettings self.old self.new) }
+        ensures event { RunsCall self.old link (Forget cid) (plain_answer result) self.new }
         ensures gone { IfOk result (λ count. HaveGone count self.old self.new link) }
-        ensures stays { IfErr result (λ e. KeepsAll self.old self.new) }
     {
         let Some(records) = self.links.get_mut(&link) else {
             return Err(NoLink);
         };
-        Ok(forget_in(records, cid))
+        let gone = forget_in(records, cid);
+        self.hints.renew_records(&self.links, link);
+        Ok(gone)
     }
 
     /// Forgets the records of a link that have expired at a moment, in milliseconds of the clock of the arrivals, and
-    /// gives their memory back. Returns how many went. The error is `NoLink`; then nothing changes.
+    /// frees their memory. Returns the number of records removed. The error is `NoLink`; then nothing changes.
     pub fn forget_expired(&mut self, link: u16, moment: u64) -> Result<usize, NoLink>
-        ensures absent { IsErr result ↔ (setting_at self.old link ≡ None) }
-        ensures leaves { OnOk result (IfSome (setting_at self.old link) (λ s.
-            Leaves self.old link (counts_at s.settings.idle_ms moment) self.new)) }
-        ensures settings { OnOk result (KeepsSettings self.old self.new) }
+        ensures event { RunsCall self.old link (ForgetExpired moment) (plain_answer result) self.new }
         ensures gone { IfOk result (λ count. HaveGone count self.old self.new link) }
-        ensures stays { IfErr result (λ e. KeepsAll self.old self.new) }
     {
         let Some(records) = self.links.get_mut(&link) else {
             return Err(NoLink);
         };
-        Ok(forget_expired_in(records, moment))
+        let gone = forget_expired_in(records, moment);
+        self.hints.renew_records(&self.links, link);
+        Ok(gone)
     }
 }

@@ -3,7 +3,11 @@
 ghost use Rattle.rohc_context.specs.Laws.{HasAnswer, HasNoOther};
 ghost use Rattle.rohc_concentrator.specs.Laws.{TwoWorlds, NoTrace, WantIsRefusal, TakenUpOrRefused, TakenHasALink, HoldsGoodRecords, FaultyIsNotFine, FineOrFaulty, HasOneFault, MarkedIsAcceptedIr, LoneRunIsUnmarked, IsolatedEvents, SameReplies, ExpiredIsNone};
 ghost use Rattle.rohc_concentrator.specs.Cut.{CutRun};
-ghost use Rattle.rohc_concentrator.specs.Honest.{DeliversWhatWasSent, AsksOrdinaryAlone, HasHonestRun, HasHonestSender};
+ghost use Rattle.rohc_concentrator.specs.OwnCalls.{IsolatedCalls};
+ghost use Rattle.rohc_concentrator.specs.CallLaws.{SameAnswers, CutCalls, NoTraceOfCalls};
+ghost use Rattle.rohc_concentrator.specs.Sound.{CallsKeepSound};
+ghost use Rattle.rohc_concentrator.specs.LinkCalls.{IsolatedLinks, SameLinks};
+ghost use Rattle.rohc_concentrator.specs.Honest.{DeliversWhatWasSent, AsksOrdinaryAlone, IsHonestEitherWay, HasHonestRun, HasHonestSender};
 
 /// For good values, an arrival has exactly one answer, and exactly one record after it, or none.
 pub fn one_answer()
@@ -85,6 +89,38 @@ pub fn cut_run()
 pub fn honest_runs()
     ensures delivered { DeliversWhatWasSent }
     ensures ordinary { AsksOrdinaryAlone }
+    ensures places { IsHonestEitherWay }
     ensures exists { HasHonestRun }
     ensures sender { HasHonestSender }
+{}
+
+/// Whatever calls change a concentrator one after another, each CID of each link gets the answers of one context run alone
+/// over its own calls, and each link the answers of that link run alone. Calls that are refused because of what others hold
+/// are left out: there is no memory, or there are too many links.
+pub fn isolated_calls()
+    ensures cids { IsolatedCalls }
+    ensures links { IsolatedLinks }
+{}
+
+/// Let two runs of calls begin alike for a CID, or for a link, with the same calls of its own. Then both answer it alike and
+/// end alike for it, whatever else they hold, lack of memory and too many links aside.
+pub fn same_answers()
+    ensures cids { SameAnswers }
+    ensures links { SameLinks }
+{}
+
+/// A run of calls is cut anywhere, and another goes on from what a CID saw at the cut. Then the CID gets the answers of the
+/// whole run, and sees in the end what the whole run leaves.
+pub fn cut_calls()
+    ensures { CutCalls }
+{}
+
+/// A call that is refused makes no record, and changes no setting.
+pub fn no_trace_of_calls()
+    ensures { NoTraceOfCalls }
+{}
+
+/// Calls keep a concentrator sound: its settings are in order, and so are the CIDs of each link.
+pub fn calls_keep_sound()
+    ensures { CallsKeepSound }
 {}

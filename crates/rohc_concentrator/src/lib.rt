@@ -1,5 +1,5 @@
-//! The contexts of all links. A packet is split into its parts, its CID names one context, and that
-//! context alone takes one step.
+//! The contexts of all links. A packet is split into its parts, its CID names one context, and only that
+//! context takes one step.
 #![tactic(auto)]
 
 pub mod ahead;
@@ -15,6 +15,7 @@ pub mod putting;
 pub mod records;
 pub mod setting;
 pub mod setup;
+pub mod sink;
 mod standing;
 
 pub use answer::{Answer, NoLink};
@@ -24,3 +25,4 @@ pub use putting::PutFault;
 pub use records::LinkRecords;
 pub use setting::{CidRange, LinkSetting};
 pub use setup::SetupFault;
+pub use sink::Sink;

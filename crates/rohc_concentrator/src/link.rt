@@ -1,196 +1,166 @@
 //! One arrival on one link.
 
-ghost use Rattle.std.specs.Prelude.{◌≡◌, ◌≢◌, ◌≤◌, ℕ, None, true, false, IfSome, nat_eq};
-ghost use Rattle.indexmap.specs.IndexMap.{get, keys};
-ghost use Rattle.rohc_frame.specs.declared.header.HeadKind.TheVariants.{Other};
-ghost use Rattle.rohc_frame.specs.Reading.{header_of};
-ghost use Rattle.rohc_context.specs.Response.{response_of, IsRebuilt};
-ghost use Rattle.rohc_context.specs.Record.{record_of};
-ghost use Rattle.rohc_context.specs.AtOnce.{NeedsStep};
+ghost use Rattle.std.specs.Prelude.{◌≡◌, ◌≢◌, ◌≤◌, ℕ, [], true, Option, None, length, IfSome, IfNone};
+ghost use Rattle.indexmap.specs.IndexMap.{keys};
+ghost use Rattle.rohc_frame.specs.Reading.{header_of, elements_of};
+ghost use Rattle.rohc_context.specs.Record.{Record};
+ghost use Rattle.rohc_context.specs.Response.{Response, response_of, delivered};
+ghost use Rattle.rohc_context.specs.Step.{HasMissed};
 ghost use Rattle.rohc_concentrator.specs.Setting.{settings_of};
-ghost use Rattle.rohc_concentrator.specs.Tables.{record_in, KeepsPlace, IsPlaceOf};
-ghost use Rattle.rohc_concentrator.specs.Report.{report_of, OwnStep};
-ghost use Rattle.rohc_concentrator.specs.Taken.{TakesOnLink, Stays, IsFor, IsRebuiltAlone, IsMissed};
+ghost use Rattle.rohc_concentrator.specs.Tables.{record_in, KeepsPlace};
+ghost use Rattle.rohc_concentrator.specs.Report.{Report, Arrived, OwnStep, IsAnswered};
+ghost use Rattle.rohc_concentrator.specs.Taken.{TakesOnLink, Stays, MissedOn};
 
-use crate::answer::Answer;
-use crate::place::{place_by_hash, place_of, stands_at};
+use crate::place::{Places, place_of};
 use crate::records::LinkRecords;
-use crate::setting::mode_in;
-use indexmap::IndexMap;
-use rohc_context::{AtOnce, Context, Refusal, Reply};
+use crate::sink::Sink;
+use rohc_context::{Context, Delivered, Refusal, Reply};
 use rohc_frame::{Elements, Forward, cut, plain_header};
 
-/// Takes an arrival on the link that has these records, and writes the answer over what `answer` held.
+/// Takes a packet with nothing before its header that its context takes first, as nearly every packet is, and returns its
+/// CID and what it was rebuilt to. `hints` says where each record was put. For any other packet the records stay.
 #[inline(always)]
-pub(crate) fn arrive_on<'a>(
+pub(crate) fn take_first<'a>(
     records: &mut LinkRecords,
+    hints: Option<&Places>,
     moment: u64,
     octets: &'a [u8],
-    answer: &mut Answer<'a>,
-)
-    ensures { TakesOnLink records.old moment octets.entry.now (report_of answer.new) records.new }
-{
-    if !take_short(AtOnce::Any, records, moment, octets, answer) {
-        take_any(records, moment, octets, answer);
-    }
-}
-
-/// Takes a packet that its context takes at once, with nothing before its header, if it begins as a UO-0 does, as nearly
-/// every packet does, and is one of `which`, and returns true. Otherwise it returns false: then the records stay as they
-/// were, and what `answer` holds means nothing.
-///
-/// It passes nothing on to what follows, which reads the packet again. So what it reads stays in registers.
-#[inline(always)]
-pub(crate) fn take_short<'a>(
-    which: AtOnce,
-    records: &mut LinkRecords,
-    moment: u64,
-    octets: &'a [u8],
-    answer: &mut Answer<'a>,
-) -> bool
-    ensures taken { result ≡ true → TakesOnLink records.old moment octets.entry.now (report_of answer.new) records.new }
-    ensures alone { result ≡ true → (cid : ℕ) × IsFor cid (report_of answer.new) }
-    ensures rebuilt { result ≡ true → which ≡ AtOnce.Rebuilt → IsRebuiltAlone (report_of answer.new) }
-    ensures missed { result ≡ false → IsMissed which records.old.setting (record_in records.old) moment octets.entry.now }
-    ensures stays { result ≡ false → Stays records.old records.new }
+) -> Option<(u16, Delivered<'a>)>
+    ensures taken { IfSome result (λ p. TakesOnLink records.old moment octets.entry.now (Arrived p.0 (delivered p.1.head.items p.1.payload.now None) []) records.new) }
+    ensures long { IfSome result (λ p. length p.1.head.items ≡ 40) }
+    ensures missed { IfNone result (MissedOn records.old.setting (record_in records.old) moment octets.entry.now) }
+    ensures stays { IfNone result (Stays records.old records.new) }
 {
     let settings = &records.setting.settings;
     let Some(forward) = plain_header(settings.size, settings.max_cid, octets) else {
-        return false;
+        return None;
     };
-    // Where the compiler knows that the packet begins as a UO-0, it drops all other formats.
-    if forward.first >= 0x80 {
-        return false;
-    }
-    prepare(answer, forward.cid);
-    let Answer::Arrived { reply, .. } = answer else {
-        return false;
+    let hint = match hints {
+        Some(hints) => hints.hint(forward.cid),
+        None => 0,
     };
-    take_at(which, records, moment, &forward, reply)
+    let Some(place) = place_of(&records.contexts, hint, forward.cid) else {
+        return None;
+    };
+    let idle_ms = settings.idle_ms;
+    let (_, context) = records.contexts.pair_mut(place);
+    let Some(packet) = context.take_first(idle_ms, moment, &forward) else {
+        return None;
+    };
+    Some((forward.cid, packet))
 }
 
-/// Makes the answer one for this CID without relayed feedback. What its reply holds means nothing; a reply that
-/// stands there isn't written.
-#[inline(always)]
-fn prepare(answer: &mut Answer<'_>, cid: u16)
-    ensures { IsFor cid (report_of answer.new) }
-{
-    match answer {
-        Answer::Arrived { cid: held, .. } => *held = cid,
-        Answer::OnlyFront { .. } | Answer::Refused(_) => {
-            *answer = Answer::Arrived {
-                cid,
-                reply: Reply::refused(Refusal::NoContext),
-                relayed: Elements::none(),
-            };
-        }
-    }
-    if let Answer::Arrived { relayed, .. } = answer {
-        *relayed = Elements::none();
-    }
+/// A packet with a header, which `take_first` left.
+#[derive(Clone, Copy)]
+struct Left<'a> {
+    forward: Forward<'a>,
+    relayed: Elements<'a>,
+    /// Whether the header is of kind Other and begins the packet: there is no padding, feedback or Add-CID before it.
+    is_plain: bool,
 }
 
-/// Takes any packet, and writes the answer. Few packets get here.
+/// Takes a packet that `take_first` left, and puts the answer into the sink. The first of `hints` says where each record
+/// was put.
 #[cold]
 #[inline(never)]
-pub(crate) fn take_any<'a>(
+pub(crate) fn take_later<'a, S: Sink<'a>>(
     records: &mut LinkRecords,
+    hints: &mut [Places],
     moment: u64,
     octets: &'a [u8],
-    answer: &mut Answer<'a>,
+    sink: &mut S,
 )
-    ensures { TakesOnLink records.old moment octets.entry.now (report_of answer.new) records.new }
+    requires missed { MissedOn records.old.setting (record_in records.old) moment octets.now }
+    requires room { (report : Report) (after : ℕ → Option Record) → IsAnswered (Some records.old.setting) (record_in records.old) moment octets.now report after
+        → S.has_room sink.old report }
+    ensures { (report : Report) × TakesOnLink records.old moment octets.entry.now report records.new × S.takes sink.old report sink.new }
 {
     let settings = &records.setting.settings;
+    if let Some(forward) = plain_header(settings.size, settings.max_cid, octets) {
+        let packet = Left {
+            forward,
+            relayed: Elements::none(),
+            is_plain: true,
+        };
+        return take_left(records, hints, moment, &packet, sink);
+    }
     let framed = match cut(settings.size, settings.max_cid, octets) {
         Ok(framed) => framed,
-        Err(refusal) => {
-            *answer = Answer::Refused(Refusal::from(refusal));
-            return;
-        }
+        Err(refusal) => return sink.refused(Refusal::from(refusal)),
     };
     let relayed = framed.feedback();
     let Some(forward) = framed.forward else {
-        *answer = Answer::OnlyFront { relayed };
-        return;
+        return sink.only_front(relayed);
     };
-    // The reply is written into the answer in place.
-    prepare(answer, forward.cid);
-    if let Answer::Arrived { relayed: held, .. } = answer {
-        *held = relayed;
-    }
-    if let Answer::Arrived { reply, .. } = answer {
-        arrive_at(records, moment, &forward, reply);
-    }
+    let packet = Left {
+        forward,
+        relayed,
+        is_plain: false,
+    };
+    take_left(records, hints, moment, &packet, sink);
 }
 
-/// Takes a packet at once by the record of its CID, and returns whether there is one that does. If not, the records
-/// stay as they were, and what `reply` holds means nothing.
-#[inline(always)]
-fn take_at<'a>(
-    which: AtOnce,
+/// Takes a packet for a CID, and puts the answer into the sink.
+fn take_left<'a, S: Sink<'a>>(
     records: &mut LinkRecords,
+    hints: &mut [Places],
     moment: u64,
-    forward: &Forward<'a>,
-    reply: &mut Reply<'a>,
-) -> bool
-    ensures own { result ≡ true → OwnStep (settings_of records.old.setting forward.now.cid) moment (header_of forward.now)
-        (record_in records.old forward.now.cid) (response_of reply.new) (record_in records.new forward.now.cid) }
-    ensures others { (cid : ℕ) → cid ≢ forward.now.cid → record_in records.new cid ≡ record_in records.old cid }
+    packet: &Left<'a>,
+    sink: &mut S,
+)
+    requires sized { packet.now.forward.size ≡ records.old.setting.settings.size }
+    requires within { packet.now.forward.cid ≤ records.old.setting.settings.max_cid }
+    requires missed { packet.now.is_plain ≡ true → IfSome (record_in records.old packet.now.forward.cid)
+        (λ r. HasMissed records.old.setting.settings.idle_ms moment r (header_of packet.now.forward)) }
+    requires room { (response : Response) (after : Option Record) → OwnStep (settings_of records.old.setting packet.now.forward.cid) moment (header_of packet.now.forward)
+        (record_in records.old packet.now.forward.cid) response after → S.has_room sink.old (Arrived packet.now.forward.cid response (elements_of packet.now.relayed)) }
+    ensures answer { (response : Response) × OwnStep (settings_of records.old.setting packet.now.forward.cid) moment (header_of packet.now.forward)
+        (record_in records.old packet.now.forward.cid) response (record_in records.new packet.now.forward.cid)
+        × S.takes sink.old (Arrived packet.now.forward.cid response (elements_of packet.now.relayed)) sink.new }
+    ensures others { (cid : ℕ) → cid ≢ packet.now.forward.cid → record_in records.new cid ≡ record_in records.old cid }
     ensures setting { records.new.setting ≡ records.old.setting }
-    ensures order { keys records.new.contexts ≡ keys records.old.contexts }
-    ensures rebuilt { result ≡ true → which ≡ AtOnce.Rebuilt → IsRebuilt (response_of reply.new) }
-    ensures missed { result ≡ false → forward.now.kind ≡ Other → IfSome (record_in records.old forward.now.cid)
-        (λ r. NeedsStep which records.old.setting.settings.idle_ms moment r (header_of forward.now)) }
-    ensures stays { result ≡ false → record_in records.new forward.now.cid ≡ record_in records.old forward.now.cid }
+    ensures order { KeepsPlace (keys records.old.contexts) (keys records.new.contexts) packet.now.forward.cid (record_in records.old packet.now.forward.cid) }
 {
-    // Written out: an option of the place would be tested once more on the likely way.
-    let hint = records.places.hint(forward.cid);
-    let place = if stands_at(&records.contexts, hint, forward.cid) {
-        hint
-    } else {
-        let Some(found) = place_by_hash(&records.contexts, forward.cid) else {
-            return false;
-        };
-        found
-    };
-    let idle_ms = records.setting.settings.idle_ms;
-    let (_, context) = records.contexts.pair_mut(place);
-    context.take_at_once(which, idle_ms, moment, forward, reply)
+    let mut reply = Reply::refused(Refusal::NoContext);
+    step_at(records, hints, moment, packet, &mut reply);
+    sink.arrived(packet.forward.cid, reply, packet.relayed);
 }
 
-/// Takes an arrival for a CID: its record takes one step, or a first IR makes it. The answer overwrites what
-/// `reply` held.
-fn arrive_at<'a>(
+/// Takes a packet for a CID: its record takes one step, or a first IR makes it. The answer overwrites what `reply` held.
+fn step_at<'a>(
     records: &mut LinkRecords,
+    hints: &mut [Places],
     moment: u64,
-    forward: &Forward<'a>,
+    packet: &Left<'a>,
     reply: &mut Reply<'a>,
 )
-    requires sized { forward.now.size ≡ records.old.setting.settings.size }
-    requires within { forward.now.cid ≤ records.old.setting.settings.max_cid }
-    ensures own { OwnStep (settings_of records.old.setting forward.now.cid) moment (header_of forward.now)
-        (record_in records.old forward.now.cid) (response_of reply.new) (record_in records.new forward.now.cid) }
-    ensures others { (cid : ℕ) → cid ≢ forward.now.cid → record_in records.new cid ≡ record_in records.old cid }
+    requires sized { packet.now.forward.size ≡ records.old.setting.settings.size }
+    requires within { packet.now.forward.cid ≤ records.old.setting.settings.max_cid }
+    requires missed { packet.now.is_plain ≡ true → IfSome (record_in records.old packet.now.forward.cid)
+        (λ r. HasMissed records.old.setting.settings.idle_ms moment r (header_of packet.now.forward)) }
+    ensures own { OwnStep (settings_of records.old.setting packet.now.forward.cid) moment (header_of packet.now.forward)
+        (record_in records.old packet.now.forward.cid) (response_of reply.new) (record_in records.new packet.now.forward.cid) }
+    ensures others { (cid : ℕ) → cid ≢ packet.now.forward.cid → record_in records.new cid ≡ record_in records.old cid }
     ensures setting { records.new.setting ≡ records.old.setting }
-    ensures order { KeepsPlace (keys records.old.contexts) (keys records.new.contexts) forward.now.cid (record_in records.old forward.now.cid) }
+    ensures order { KeepsPlace (keys records.old.contexts) (keys records.new.contexts) packet.now.forward.cid (record_in records.old packet.now.forward.cid) }
 {
-    let Some(place) = place_of(&records.contexts, &records.places, forward.cid) else {
-        return first_at(records, moment, forward, reply);
+    let forward = &packet.forward;
+    let hint = match hints.first() {
+        Some(hints) => hints.hint(forward.cid),
+        None => 0,
     };
-    // Copied whole here, since `settings_of` writes them field by field.
-    let mut settings = records.setting.settings;
-    if let Some(mode) = mode_in(records.setting.ranges.as_slice(), forward.cid) {
-        settings.mode = mode;
-    }
+    let Some(place) = place_of(&records.contexts, hint, forward.cid) else {
+        return first_at(records, hints, moment, forward, reply);
+    };
+    let settings = records.setting.settings_of(forward.cid);
     let (_, context) = records.contexts.pair_mut(place);
-    context.step(&settings, moment, forward, reply);
+    context.step(&settings, moment, forward, packet.is_plain, reply);
 }
 
 /// Takes an arrival for a CID without a record, which a first IR makes. The answer overwrites what `reply` held.
-#[inline(never)]
 fn first_at<'a>(
     records: &mut LinkRecords,
+    hints: &mut [Places],
     moment: u64,
     forward: &Forward<'a>,
     reply: &mut Reply<'a>,
@@ -213,12 +183,12 @@ fn first_at<'a>(
         }
     };
     let place = records.contexts.len();
-    if records.places.keep(forward.cid, place).is_err() {
+    if records.contexts.insert(forward.cid, context).is_err() {
         *reply = Reply::refused(Refusal::NoMemory);
         return;
     }
-    match records.contexts.insert(forward.cid, context) {
-        Ok(_) => *reply = made,
-        Err(_) => *reply = Reply::refused(Refusal::NoMemory),
+    if let Some(hints) = hints.first_mut() {
+        hints.keep(forward.cid, place);
     }
+    *reply = made;
 }

@@ -7,7 +7,6 @@ ghost use Rattle.rohc_concentrator.specs.Leaving.{LeavesIn, survives, is_same_ki
 
 use crate::answer::NoLink;
 use crate::concentrator::Concentrator;
-use crate::place::Places;
 use crate::records::LinkRecords;
 use crate::setting::LinkSetting;
 use indexmap::IndexMap;
@@ -55,7 +54,7 @@ fn is_same_kind(before: CidKind, after: CidKind) -> bool
     }
 }
 
-/// Sets the setting of a link, and forgets the records that don't survive it. Returns how many went.
+/// Sets the setting of a link, and removes the records that don't survive it. Returns the number of records removed.
 fn change_in(records: &mut LinkRecords, setting: LinkSetting) -> usize
     requires { IsGoodSetting setting }
     ensures leaves { LeavesIn records.old (survives records.old.setting setting) records.new }
@@ -67,24 +66,23 @@ fn change_in(records: &mut LinkRecords, setting: LinkSetting) -> usize
     let greatest = setting.settings.max_cid;
     records.contexts.retain(|cid, _| same && *cid <= greatest);
     records.setting = setting;
-    records.tidy();
+    records.contexts.shrink_to_fit();
     before - records.contexts.len()
 }
 
 impl Concentrator {
-    ghost use Rattle.std.specs.Prelude.{◌≡◌, ◌↔◌, length, None, IsErr, OnOk, IfOk, IfErr};
-    ghost use Rattle.rohc_concentrator.specs.Tables.{setting_at, identifiers_at, KeepsAll};
+    ghost use Rattle.std.specs.Prelude.{◌≡◌, length, IfOk};
+    ghost use Rattle.rohc_concentrator.specs.Tables.{identifiers_at};
     ghost use Rattle.rohc_concentrator.specs.Leaving.{HaveGone};
-    ghost use Rattle.rohc_concentrator.specs.Links.{AddFaultIn, AddsLink, RemovesLink, ChangeFaultIn, ChangesLink};
+    ghost use Rattle.rohc_concentrator.specs.Calls.{AddLink, RemoveLink, ChangeLink, plain_answer, add_answer, change_answer};
+    ghost use Rattle.rohc_concentrator.specs.RunsCall.{RunsCall};
 
-    /// Adds a link behind the others, without a record.
+    /// Adds a link after the others, without a record.
     ///
     /// The error is the first that holds, in this order: `TooManyLinks`, `BadSetting`, `DuplicateLink`, and `NoMemory`,
     /// which comes only if a request for memory was refused. Then nothing changes.
     pub fn add_link(&mut self, alloc: Global, setting: LinkSetting) -> Result<(), AddFault>
-        ensures added { OnOk result (AddsLink self.old setting self.new) }
-        ensures stays { IfErr result (λ e. KeepsAll self.old self.new) }
-        ensures fault { IfErr result (AddFaultIn self.old setting) }
+        ensures event { RunsCall self.old setting.link (AddLink setting) (add_answer result) self.new }
     {
         let place = self.links.len();
         if place >= 256 {
@@ -97,43 +95,37 @@ impl Concentrator {
         if self.links.contains_key(&link) {
             return Err(AddFault::DuplicateLink);
         }
-        if self.places.keep(link, place).is_err() {
-            return Err(AddFault::NoMemory);
-        }
         let records = LinkRecords {
             setting,
             contexts: IndexMap::new(alloc),
-            places: Places::new(alloc),
         };
-        match self.links.insert(link, records) {
-            Ok(_) => Ok(()),
-            Err(_) => Err(AddFault::NoMemory),
+        if self.links.insert(link, records).is_err() {
+            return Err(AddFault::NoMemory);
         }
+        self.hints.keep_link(link, place);
+        Ok(())
     }
 
-    /// Removes a link with its records. Returns how many records went. The error is `NoLink`; then nothing changes.
+    /// Removes a link with its records. Returns the number of records removed. The error is `NoLink`; then nothing changes.
     pub fn remove_link(&mut self, link: u16) -> Result<usize, NoLink>
-        ensures absent { IsErr result ↔ (setting_at self.old link ≡ None) }
-        ensures removed { OnOk result (RemovesLink self.old link self.new) }
+        ensures event { RunsCall self.old link RemoveLink (plain_answer result) self.new }
         ensures gone { IfOk result (λ gone. gone ≡ length (identifiers_at self.old link)) }
-        ensures stays { IfErr result (λ e. KeepsAll self.old self.new) }
     {
+        let place = self.links.get_index_of(&link);
         let Some(records) = self.links.shift_remove(&link) else {
             return Err(NoLink);
         };
-        self.places.renew(&self.links);
+        self.hints.renew_links(&self.links, place);
         Ok(records.contexts.len())
     }
 
-    /// Changes the setting of the link that `setting` names. Its contexts stay, unless the CID kind changes, or their
-    /// CID is above the new greatest. Returns how many went.
+    /// Changes the setting of the link that `setting` names. A context stays unless the CID kind changes or its CID is above
+    /// the new `max_cid`. Returns the number of contexts removed.
     ///
     /// The error is `NoLink`, or else `BadSetting`. Then nothing changes.
     pub fn change_link(&mut self, setting: LinkSetting) -> Result<usize, ChangeFault>
-        ensures changed { OnOk result (ChangesLink self.old setting self.new) }
+        ensures event { RunsCall self.old setting.link (ChangeLink setting) (change_answer result) self.new }
         ensures gone { IfOk result (λ count. HaveGone count self.old self.new setting.link) }
-        ensures stays { IfErr result (λ e. KeepsAll self.old self.new) }
-        ensures fault { IfErr result (ChangeFaultIn self.old setting) }
     {
         let Some(records) = self.links.get_mut(&setting.link) else {
             return Err(ChangeFault::NoLink);
@@ -141,6 +133,9 @@ impl Concentrator {
         if !setting.is_good() {
             return Err(ChangeFault::BadSetting);
         }
-        Ok(change_in(records, setting))
+        let link = setting.link;
+        let gone = change_in(records, setting);
+        self.hints.renew_records(&self.links, link);
+        Ok(gone)
     }
 }

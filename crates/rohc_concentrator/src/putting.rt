@@ -1,4 +1,4 @@
-//! Putting a context into a concentrator, as one that was restored.
+//! Adding a context to a link, as one that was restored.
 
 ghost use Rattle.std.specs.Prelude.{◌≡◌, ◌≢◌, ◌++◌, ◌∷◌, [], ℕ, None, Some, OnOk, IfErr};
 ghost use Rattle.indexmap.specs.IndexMap.{keys};
@@ -16,7 +16,7 @@ use rohc_context::Context;
 pub enum PutFault {
     /// The link isn't there.
     NoLink,
-    /// The CID is above the greatest of its link.
+    /// The CID is above the link's `max_cid`.
     CidRange,
     /// The CID has a record.
     HasRecord,
@@ -24,21 +24,17 @@ pub enum PutFault {
     NoMemory,
 }
 
-/// Puts a context into the records of a link.
+/// Adds a context to the records of a link.
 fn put_in(records: &mut LinkRecords, cid: u16, context: Context) -> Result<(), PutFault>
     ensures put { OnOk result (PutsIn records.old cid (record_of context) records.new) }
     ensures stays { IfErr result (λ e. Stays records.old records.new) }
-    ensures fault { IfErr result (PutFaultIn (Some records.old.setting) (record_in records.old cid) cid) }
+    ensures fault { IfErr result (PutFaultIn records.old.setting (record_in records.old cid) cid) }
 {
     if cid > records.setting.settings.max_cid {
         return Err(PutFault::CidRange);
     }
     if records.contexts.contains_key(&cid) {
         return Err(PutFault::HasRecord);
-    }
-    let place = records.contexts.len();
-    if records.places.keep(cid, place).is_err() {
-        return Err(PutFault::NoMemory);
     }
     match records.contexts.insert(cid, context) {
         Ok(_) => Ok(()),
@@ -47,23 +43,22 @@ fn put_in(records: &mut LinkRecords, cid: u16, context: Context) -> Result<(), P
 }
 
 impl Concentrator {
-    ghost use Rattle.std.specs.Prelude.{◌≡◌, None, OnOk, IfErr};
     ghost use Rattle.rohc_context.specs.Record.{record_of};
-    ghost use Rattle.rohc_concentrator.specs.Tables.{setting_at, record_at, KeepsAll};
-    ghost use Rattle.rohc_concentrator.specs.Putting.{Puts, PutFaultIn};
+    ghost use Rattle.rohc_concentrator.specs.Calls.{Put, put_answer};
+    ghost use Rattle.rohc_concentrator.specs.RunsCall.{RunsCall};
 
-    /// Puts a context behind those of a link, as the record of a CID that has none.
+    /// Adds a context after those of a link, as the record of a CID that has none.
     ///
     /// The error is the first that holds, in this order: `NoLink`, `CidRange`, `HasRecord`, and `NoMemory`, which comes
     /// only if a request for memory was refused. Then nothing changes.
     pub fn put(&mut self, link: u16, cid: u16, context: Context) -> Result<(), PutFault>
-        ensures put { OnOk result (Puts self.old link cid (record_of context) self.new) }
-        ensures stays { IfErr result (λ e. KeepsAll self.old self.new) }
-        ensures fault { IfErr result (PutFaultIn (setting_at self.old link) (record_at self.old link cid) cid) }
+        ensures event { RunsCall self.old link (Put cid (record_of context)) (put_answer result) self.new }
     {
         let Some(records) = self.links.get_mut(&link) else {
             return Err(PutFault::NoLink);
         };
-        put_in(records, cid, context)
+        put_in(records, cid, context)?;
+        self.hints.keep_last(&self.links, link, cid);
+        Ok(())
     }
 }

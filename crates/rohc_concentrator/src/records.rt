@@ -2,7 +2,6 @@
 
 ghost use Rattle.rohc_concentrator.specs.Setting.{IsGoodSetting};
 
-use crate::place::Places;
 use crate::setting::LinkSetting;
 use indexmap::IndexMap;
 use rohc_context::Context;
@@ -14,7 +13,5 @@ pub struct LinkRecords {
     pub setting: LinkSetting,
     /// The records in the order of their first IR.
     pub contexts: IndexMap<u16, Context>,
-    /// Where the record of each CID was put.
-    pub(crate) places: Places,
     ghost good: { IsGoodSetting setting },
 }

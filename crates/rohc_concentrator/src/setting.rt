@@ -6,9 +6,9 @@ use rohc_context::{Mode, Settings};
 /// A range of CIDs with a mode of its own.
 #[derive(Clone, Copy, Debug, Default, PartialEq, Eq)]
 pub struct CidRange {
-    /// The least CID of the range.
+    /// The first CID of the range.
     pub first: u16,
-    /// The greatest CID of the range, inclusive.
+    /// The last CID of the range, inclusive.
     pub last: u16,
     /// The mode of these CIDs.
     pub mode: Mode,
@@ -60,7 +60,7 @@ fn holds(range: &CidRange, cid: u16) -> bool
 }
 
 /// The mode of the range that holds the CID, if one does.
-pub(crate) fn mode_in(ranges: &[CidRange], cid: u16) -> Option<Mode>
+fn mode_in(ranges: &[CidRange], cid: u16) -> Option<Mode>
     ensures { result ≡ mode_in cid ranges.now }
 {
     for range in ranges {

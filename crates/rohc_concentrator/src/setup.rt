@@ -3,7 +3,7 @@
 ghost use Rattle.std.specs.Prelude.{◌≡◌, ℕ, ◌⊎◌, None, IfOk, OnOk, IfErr};
 
 use crate::concentrator::Concentrator;
-use crate::place::Places;
+use crate::place::Hints;
 use crate::records::LinkRecords;
 use crate::setting::LinkSetting;
 use indexmap::IndexMap;
@@ -105,15 +105,15 @@ fn build(alloc: Global, settings: &[LinkSetting]) -> Result<Concentrator, AllocE
     ensures empty { IfOk result (λ k. (link cid : ℕ) → record_at k link cid ≡ None) }
 {
     let mut links = IndexMap::new(alloc);
-    let mut places = Places::new(alloc);
+    let mut hints = Hints::new(alloc);
     for setting in settings {
-        places.keep(setting.link, links.len())?;
+        let place = links.len();
         let records = LinkRecords {
             setting: setting.clone()?,
             contexts: IndexMap::new(alloc),
-            places: Places::new(alloc),
         };
         links.insert(setting.link, records)?;
+        hints.keep_link(setting.link, place);
     }
-    Ok(Concentrator { links, places })
+    Ok(Concentrator { links, hints })
 }

@@ -8,4 +8,4 @@ use Rattle.rohc_concentrator.proofs.forgetting.forget_in.Goals as goal
 pub returns-clause-leaves : goal.returns-clause-leaves
 returns-clause-leaves c =
     let kept = filter_same_pairs _ (λ e. is_other c.args.cid e.0 (record_of e.1)) _ (λ k v b w f' t. search rules) c.args.records.now.contexts.entries c.retain.new.self.entries c.retain.ensures.filtered in
-    leaves_in (is_other c.args.cid) c.args.records.now _ c.len-before.ensures.unique (c.tidy.ensures.contexts ∙ kept)
+    leaves_in (is_other c.args.cid) c.args.records.now _ c.len-before.ensures.unique (c.shrink_to_fit.ensures.entries ∙ kept)

@@ -1,4 +1,4 @@
-use Rattle.rohc_concentrator.proofs.WorldLemmas.{no_trace}
+use Rattle.rohc_concentrator.proofs.TraceLemmas.{no_trace}
 use Rattle.rohc_concentrator.proofs.laws.no_trace.Goals as goal
 
 pub returns : goal.returns

@@ -2,7 +2,7 @@ use Rattle.std.proofs.Common.{rules, ◌≡◌, None, nat_eq, refl, ap}
 use Rattle.std.specs.Option.{option_map}
 use Rattle.std.specs.HashMap.{get}
 use Rattle.rohc_context.specs.Record.{record_of}
-use Rattle.rohc_concentrator.proofs.PuttingLemmas.{goes_last}
+use Rattle.rohc_concentrator.proofs.OrderLemmas.{goes_last}
 use Rattle.rohc_concentrator.proofs.putting.put_in.Goals as goal
 
 pub returns-in-Ok-clause-put : goal.returns-in-Ok-clause-put

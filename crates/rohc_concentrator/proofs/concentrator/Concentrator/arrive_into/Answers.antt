@@ -1,37 +1,27 @@
-use Rattle.std.proofs.Common.{◌≡◌, Some, refl, ◌∙◌}
-use Rattle.rohc_concentrator.specs.Tables.{setting_at, IsPlaceOf}
-use Rattle.rohc_concentrator.specs.Bears.{borne}
-use Rattle.rohc_concentrator.proofs.PlaceLemmas.{at_place, lent_at}
-use Rattle.rohc_concentrator.proofs.LinkPlaceLemmas.{settings_stay, others_stay, order_stays, answer_by}
+use Rattle.std.proofs.Common.{refl}
+use Rattle.rohc_concentrator.specs.Calls.{Arrive, Reported}
+use Rattle.rohc_concentrator.proofs.ArrivedLemmas.{arrived}
+use Rattle.rohc_concentrator.proofs.KeepLemmas.{runs_after, answered_after}
 use Rattle.rohc_concentrator.proofs.concentrator.Concentrator.arrive_into.Goals as goal
-use Rattle.rohc_concentrator.proofs.concentrator.Concentrator.arrive_into.Goals.{then-stands_at, else-stands_at+in-Some}
 
-pub returns-clause-answer : goal.returns-clause-answer
-returns-clause-answer c =
-    let there : IsPlaceOf c.args.self.now.links c.if-stands_at.place c.args.link = elim c.if-stands_at.branch [ then-stands_at w ↦ at_place refl w.place-is (c.stands_at.ensures w.if-stands_at.true) | else-stands_at+in-Some w ↦ at_place refl w.place-is w.in-Some.ensures.there ] in
-    let lent = c.pair_mut-records.ensures in
-    let at = lent_at c.args.self.now.links c.if-stands_at.place c.args.link there _ _ lent.value in
-    answer_by c.args.self.now c.if-stands_at.place c.args.link c.pair_mut-records.result.1.now c.arrive_on.new.records lent.unique at c.args.moment c.args.octets.now _ c.arrive_on.ensures.answer
+pub rebuilt-requires : goal.rebuilt-requires
+rebuilt-requires g c κs = (
+  (refl, tt),
+  (
+    c.in-Some.ensures.long,
+    c.requires.room _ _ (arrived c.args.self.now c.take_first.new.self c.args.link c.args.moment c.args.octets.now _ c.in-Some.ensures.event),
+  ),
+)
 
-pub returns-clause-settings : goal.returns-clause-settings
-returns-clause-settings c =
-    let there : IsPlaceOf c.args.self.now.links c.if-stands_at.place c.args.link = elim c.if-stands_at.branch [ then-stands_at w ↦ at_place refl w.place-is (c.stands_at.ensures w.if-stands_at.true) | else-stands_at+in-Some w ↦ at_place refl w.place-is w.in-Some.ensures.there ] in
-    let lent = c.pair_mut-records.ensures in
-    let at = lent_at c.args.self.now.links c.if-stands_at.place c.args.link there _ _ lent.value in
-    settings_stay c.args.self.now c.if-stands_at.place c.args.link _ _ lent.unique at c.arrive_on.ensures.setting
+pub take_later-requires : goal.take_later-requires
+take_later-requires g c κs = (
+  (refl, tt),
+  (c.in-None.ensures.missed, λ report after is. c.requires.room report after (answered_after _ _ _ _ _ _ after c.in-None.ensures.stays is)),
+)
 
-pub returns-clause-others : goal.returns-clause-others
-returns-clause-others c =
-    let there : IsPlaceOf c.args.self.now.links c.if-stands_at.place c.args.link = elim c.if-stands_at.branch [ then-stands_at w ↦ at_place refl w.place-is (c.stands_at.ensures w.if-stands_at.true) | else-stands_at+in-Some w ↦ at_place refl w.place-is w.in-Some.ensures.there ] in
-    let lent = c.pair_mut-records.ensures in
-    let at = lent_at c.args.self.now.links c.if-stands_at.place c.args.link there _ _ lent.value in
-    let its : borne (setting_at c.args.self.now c.args.link) c.args.octets.now ≡ borne (Some c.pair_mut-records.result.1.now.setting) c.args.octets.now = rw at.1 refl in
-    others_stay c.args.self.now c.if-stands_at.place c.args.link _ _ lent.unique at _ (λ cid is. c.arrive_on.ensures.others cid (λ same. is (its ∙ same)))
-
-pub returns-clause-order : goal.returns-clause-order
-returns-clause-order c =
-    let there : IsPlaceOf c.args.self.now.links c.if-stands_at.place c.args.link = elim c.if-stands_at.branch [ then-stands_at w ↦ at_place refl w.place-is (c.stands_at.ensures w.if-stands_at.true) | else-stands_at+in-Some w ↦ at_place refl w.place-is w.in-Some.ensures.there ] in
-    let lent = c.pair_mut-records.ensures in
-    let at = lent_at c.args.self.now.links c.if-stands_at.place c.args.link there _ _ lent.value in
-    let its : borne (setting_at c.args.self.now c.args.link) c.args.octets.now ≡ borne (Some c.pair_mut-records.result.1.now.setting) c.args.octets.now = rw at.1 refl in
-    order_stays c.args.self.now c.if-stands_at.place c.args.link _ _ lent.unique at _ (rw its c.arrive_on.ensures.order)
+pub returns-in-None : goal.returns-in-None
+returns-in-None g c = record {
+  event =
+      let all = c.take_later.ensures.event in
+      (all.0, runs_after c.args.self.now c.take_first.new.self c.args.link (Arrive c.args.moment c.args.octets.now) (Reported all.0) c.take_later.new.self c.in-None.ensures.stays all.1, all.2);
+}

@@ -1,17 +1,13 @@
-use Rattle.std.proofs.Common.{rules, nat_eq}
-use Rattle.rohc_concentrator.specs.Leaving.{is_other}
+use Rattle.std.proofs.Common.{rules, nat_eq, Some}
+use Rattle.rohc_concentrator.specs.Calls.{Forget, Done}
 use Rattle.rohc_concentrator.proofs.OrderLemmas.{settings_after}
-use Rattle.rohc_concentrator.proofs.PuttingLemmas.{keeps_settings_by}
-use Rattle.rohc_concentrator.proofs.LeavingLemmas.{leaves_by}
+use Rattle.rohc_concentrator.proofs.RunsLemmas.{runs_at, forgets_step}
 use Rattle.rohc_concentrator.proofs.concentrator.Concentrator.forget.Goals as goal
 
-pub returns-clause-leaves : goal.returns-clause-leaves
-returns-clause-leaves c =
-    leaves_by c.args.self.now (record c.args.self.now { links = c.get_mut.follows.lender c.forget_in.new.records }) c.args.link c.in-Some.records.now c.forget_in.new.records
-    (search rules) (search rules) (search rules) (is_other c.args.cid) c.forget_in.ensures.leaves
-
-pub returns-clause-settings : goal.returns-clause-settings
-returns-clause-settings c =
-    keeps_settings_by c.args.self.now (record c.args.self.now { links = c.get_mut.follows.lender c.forget_in.new.records }) c.args.link c.in-Some.records.now c.forget_in.new.records
-    (search rules) (search rules) (search rules)
-    (settings_after (nat_eq c.args.link) c.args.self.now.links.entries _ c.in-Some.records.now _ (c.get_mut.follows.holds _).0 (search rules) c.forget_in.ensures.setting) c.forget_in.ensures.setting
+pub returns-clause-event : goal.returns-clause-event
+returns-clause-event c =
+    let forgets = c.forget_in-gone.ensures in
+    let records = c.forget_in-gone.new.records in
+    runs_at c.args.self.now (record c.args.self.now { links = c.get_mut.follows.lender records; hints = c.renew_records.new.self }) c.args.link (Some c.in-Some.records.now) (Some records)
+    (search rules) (search rules) (search rules) (Forget c.args.cid) Done (forgets_step c.in-Some.records.now records c.args.cid forgets.leaves forgets.setting) tt
+    (settings_after (nat_eq c.args.link) c.args.self.now.links.entries _ c.in-Some.records.now _ (c.get_mut.follows.holds _).0 (search rules) forgets.setting)
