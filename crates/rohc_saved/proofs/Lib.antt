@@ -3,6 +3,7 @@ pub mod FormLemmas
 pub mod LinkTexts
 pub mod MapLemmas
 pub mod ReadingLemmas
+pub mod PutLemmas
 pub mod RestoringLemmas
 pub mod LinkLemmas
 pub mod KeptLemmas
@@ -12,5 +13,4 @@ pub mod Distinct
 pub mod SoundLemmas
 pub mod RestartLemmas
 pub mod FormOrder
-pub mod RestoredSound
 pub mod LinkLaws

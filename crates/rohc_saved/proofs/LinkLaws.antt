@@ -1,25 +1,24 @@
 -- One link that was restored: it is what was saved, and the concentrator stays sound.
-use Rattle.std.proofs.Common.{◌≡◌, ◌≢◌, ℕ, ◌<◌, ◌≤◌, ◌^◌, List, [], ◌∷◌, Bool, true, false, cond, Option, Some, None, Ok, refl, sym, ap, subst, ◌∙◌, arith, nat_eq}
+use Rattle.std.proofs.Common.{◌≡◌, ℕ, ◌<◌, ◌^◌, List, [], ◌∷◌, Bool, true, false, cond, Option, Some, None, Ok, refl, sym, ap, subst, ◌∙◌, arith}
 use Rattle.std.specs.Prelude.{All, ◌==◌}
-use Rattle.std.specs.List.{AllByRecursion, IsDistinct}
-use Rattle.std.proofs.lemmas.Bool.Decides.{nat_tests}
 use Rattle.std.proofs.lemmas.List.Elements.{All-head, All-tail, All-nil, All-cons}
 use Rattle.rohc_bits.proofs.Steps.{ok_is}
 use Rattle.rohc_concentrator.specs.declared.concentrator.Concentrator.{Concentrator}
 use Rattle.rohc_concentrator.specs.declared.setting.LinkSetting.{LinkSetting}
+use Rattle.rohc_concentrator.specs.CallLaws.{IsFitTurn}
 use Rattle.rohc_concentrator.specs.Setting.{IsGoodSetting}
-use Rattle.rohc_concentrator.specs.Setup.{entry_of, AreFine}
+use Rattle.rohc_concentrator.specs.Setup.{entry_of}
 use Rattle.rohc_concentrator.specs.Tables.{setting_at, record_at, identifiers_at, settings_in_order}
+use Rattle.rohc_concentrator.proofs.SoundLemmas.{calls_keep_sound}
 use Rattle.rohc_saved.specs.declared.fault.SavedFault.{SavedFault}
 use Rattle.rohc_saved.specs.declared.restored.Restored.{Restored}
 use Rattle.rohc_saved.specs.Form.{Link, Form, contexts_of, saved_link_of, saved_link}
 use Rattle.rohc_saved.specs.Reading.{restored}
-use Rattle.rohc_saved.specs.Restoring.{taken_of, IsHeldAt}
+use Rattle.rohc_saved.specs.Restoring.{taken_of}
 use Rattle.rohc_saved.specs.LinkRestoring.{RestoresLink}
 use Rattle.rohc_saved.specs.Laws.{IsGoodLink, IsGoodForm, LinkComesBack, IsLinkRestoredSound}
 use Rattle.rohc_saved.proofs.BackLemmas.{read_back}
-use Rattle.rohc_saved.proofs.FormOrder.{HasApart, form_order}
-use Rattle.rohc_saved.proofs.RestoredSound.{AreTaken, link_taken}
+use Rattle.rohc_saved.proofs.PutLemmas.{all_puts, IsHeldAt, holds_nothing, puts_held}
 use Rattle.rohc_saved.proofs.Distinct.{distinct_none, distinct_more}
 use Rattle.rohc_saved.proofs.SoundLemmas.{if_there, good_of, takes_all, holds_own}
 
@@ -54,7 +53,7 @@ link_comes_back k moment s sound small at = (reads, λ old new told here back. s
     entry = sym (sound.each s.link) ∙ at
 
     good : IsGoodLink (saved_link_of k s)
-    good = good_of k s sound at (of_entry (λ (s : LinkSetting). s.link < 65536) s.link (settings_in_order k) s sound.numbers entry) (of_entry IsGoodSetting s.link (settings_in_order k) s sound.fine.sound.good entry)
+    good = good_of k s sound at (of_entry (λ (s : LinkSetting). s.link < 65536) s.link (settings_in_order k) s sound.numbers entry) (of_entry IsGoodSetting s.link (settings_in_order k) s sound.settings.good entry)
 
     form : Form
     form = record { moment = moment; links = saved_link_of k s ∷ [] }
@@ -70,40 +69,10 @@ link_comes_back k moment s sound small at = (reads, λ old new told here back. s
         let saved : (s.link, back.saved) ≡ saved_link_of k s = one_is (s.link, back.saved) (saved_link_of k s) (sym back.spells.alone ∙ ap (λ (f : Form). f.links) is) in
         let all : taken_of (Some back.setting) back.saved ≡ contexts_of k s.link =
         (λ i. taken_of (Some (setting i)) (saved i).1) ∙ sym (ap (λ o. taken_of o (saved_link_of k s).1) entry) ∙ takes_all k sound s entry good in
-        let new_held : IsHeldAt new s.link (contexts_of k s.link) = subst (IsHeldAt new s.link) all back.held in
+        let new_held : IsHeldAt new s.link (contexts_of k s.link) =
+        subst (IsHeldAt new s.link) all (puts_held s.link (taken_of (Some back.setting) back.saved) [] old new back.puts (holds_nothing old s.link back.ready.empty)) in
         let old_held : IsHeldAt k s.link (contexts_of k s.link) = subst (λ o. IsHeldAt k s.link (if_there o (contexts_of k s.link))) entry (holds_own k sound s.link) in
         (λ cid. new_held.records cid ∙ sym (old_held.records cid), new_held.identifiers ∙ sym old_held.identifiers)
 
 pub link_restored_sound : IsLinkRestoredSound
-link_restored_sound old new link text told back sound = record {
-  fine = subst AreFine (sym in_order) sound.fine;
-  each = λ l. back.elsewhere.settings.each l ∙ sound.each l ∙ ap (entry_of l) (sym in_order);
-  numbers = subst (All (λ (s : LinkSetting). s.link < 65536)) (sym in_order) sound.numbers;
-  apart = λ l. apart l (nat_eq l link) refl;
-  within = λ l s e. within l s (sym (back.elsewhere.settings.each l) ∙ e) (nat_eq l link) refl;
-} where
-  in_order : settings_in_order new ≡ settings_in_order old
-  in_order = back.elsewhere.settings.in_order
-
-  its : HasApart (link, back.saved)
-  its = (subst (AllByRecursion HasApart) back.spells.alone (form_order text back.form back.spells.spelled).each).0
-
-  taken : AreTaken (Some back.setting) (taken_of (Some back.setting) back.saved)
-  taken = link_taken (Some back.setting) (link, back.saved) its
-
-  apart : (l : ℕ) (b : Bool) → nat_eq l link ≡ b → IsDistinct nat_eq (identifiers_at new l)
-  apart l true e =
-      let it : link ≡ l = grind (arith, nat_tests) in
-      subst (λ l. IsDistinct nat_eq (identifiers_at new l)) it (subst (IsDistinct nat_eq) (sym back.held.identifiers) taken.apart)
-  apart l false e =
-      let other : l ≢ link = grind (arith, nat_tests) in
-      subst (IsDistinct nat_eq) (sym (back.elsewhere.order l other)) (sound.apart l)
-
-  within : (l : ℕ) (s : LinkSetting) → setting_at old l ≡ Some s → (b : Bool) → nat_eq l link ≡ b → All (λ cid. cid ≤ s.settings.max_cid) (identifiers_at new l)
-  within l s e true is =
-      let it : link ≡ l = grind (arith, nat_tests) in
-      let own : back.setting ≡ s = some_is back.setting s (sym back.ready.there ∙ ap (setting_at old) it ∙ e) in
-      subst (λ l. All (λ cid. cid ≤ s.settings.max_cid) (identifiers_at new l)) it (subst (All (λ cid. cid ≤ s.settings.max_cid)) (sym back.held.identifiers) (taken.within s (ap Some own)))
-  within l s e false is =
-      let other : l ≢ link = grind (arith, nat_tests) in
-      subst (All (λ cid. cid ≤ s.settings.max_cid)) (sym (back.elsewhere.order l other)) (sound.within l s e)
+link_restored_sound old new link text told back sound = calls_keep_sound old new _ (all_puts IsFitTurn (λ n c. tt) link (taken_of (Some back.setting) back.saved)) back.puts sound

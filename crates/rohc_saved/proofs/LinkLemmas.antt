@@ -1,90 +1,44 @@
--- One link is put into, and the others stay.
-use Rattle.std.proofs.Common.{◌≡◌, ◌≢◌, ℕ, List, [], ◌∷◌, inl, map, Bool, true, false, cond, if◌then◌else◌, Ok, Option, Some, None, nat_eq, refl, sym, ap, subst, ◌∙◌, arith, length, option_map}
+-- One link that is restored.
+use Rattle.std.proofs.Common.{◌≡◌, ◌≢◌, ℕ, List, [], ◌∷◌, map, Bool, true, false, cond, if◌then◌else◌, Ok, Result, Option, Some, None, nat_eq, refl, sym, ap, subst, ◌∙◌, arith, length}
+use Rattle.std.specs.Prelude.{nat_le, filter}
+use Rattle.std.specs.List.{AllByRecursion}
 use Rattle.std.specs.Map.{lookup, keys_of}
 use Rattle.std.specs.HashMap.{HashMap, get}
 use Rattle.std.proofs.lemmas.Bool.Decides.{nat_tests}
-use Rattle.rohc_context.specs.Record.{Record, record_of}
+use Rattle.std.proofs.lemmas.Map.Made.{IsDistinct-keys_filter}
+use Rattle.rohc_context.specs.Record.{Record}
 use Rattle.rohc_context.specs.declared.record.Context.{Context}
+use Rattle.rohc_concentrator.specs.declared.answer.NoLink.{NoLink}
 use Rattle.rohc_concentrator.specs.declared.concentrator.Concentrator.{Concentrator}
+use Rattle.rohc_concentrator.specs.declared.putting.PutFault.{PutFault}
+use Rattle.rohc_concentrator.specs.declared.putting.PutFault.TheVariants as puts
 use Rattle.rohc_concentrator.specs.declared.records.LinkRecords.{LinkRecords}
 use Rattle.rohc_concentrator.specs.declared.setting.LinkSetting.{LinkSetting}
-use Rattle.rohc_concentrator.specs.Tables.{setting_at, record_at, identifiers_at, IsLink, KeepsAll}
-use Rattle.rohc_concentrator.specs.Putting.{Puts}
+use Rattle.rohc_concentrator.specs.Tables.{identifiers_at, IsLink, KeepsAll}
+use Rattle.rohc_concentrator.specs.Calls.{Done, plain_answer}
 use Rattle.rohc_saved.specs.declared.form.SavedLink.{SavedLink}
 use Rattle.rohc_saved.specs.Form.{Link, Form}
 use Rattle.rohc_saved.specs.Read.{link_in, links_in}
-use Rattle.rohc_saved.specs.declared.restored.Restored.{Restored}
 use Rattle.rohc_saved.specs.Reading.{restored}
-use Rattle.rohc_saved.specs.Restoring.{is_same, limit_of, up_to, own, IsHeldAt, AddsContexts, IsToldOfForm}
-use Rattle.rohc_saved.specs.LinkRestoring.{KeepsElsewhere, IsReady, RestoresLink}
-use Rattle.rohc_saved.proofs.RestoringLemmas.{settings_more}
-
--- nothing changes
-pub elsewhere_none : (k : Concentrator) (link : ℕ) → KeepsElsewhere k link k
-elsewhere_none k link = record {
-  settings = record { each = λ l. refl; in_order = refl };
-  others = λ l cid other. refl;
-  order = λ l other. refl;
-}
-
-pub elsewhere_more : (a b c : Concentrator) (link : ℕ) → KeepsElsewhere a link b → KeepsElsewhere b link c → KeepsElsewhere a link c
-elsewhere_more a b c link first second = record {
-  settings = settings_more a b c first.settings second.settings;
-  others = λ l cid other. second.others l cid other ∙ first.others l cid other;
-  order = λ l other. second.order l other ∙ first.order l other;
-}
-
--- a record is put
-pub elsewhere_put : (old new : Concentrator) (link cid : ℕ) (r : Record) → Puts old link cid r new → KeepsElsewhere old link new
-elsewhere_put old new link cid r p = record { settings = p.settings; others = λ l c other. p.others l c (inl other); order = p.elsewhere }
-
--- all stays
-pub elsewhere_all : (old new : Concentrator) (link : ℕ) → KeepsAll old new → KeepsElsewhere old link new
-elsewhere_all old new link keeps = record {
-  settings = keeps.settings;
-  others = λ l cid other. keeps.records l cid;
-  order = λ l other. keeps.order l;
-}
-
--- a link that held nothing holds nothing again, and the others stay: all stays
-pub all_stays : (old new : Concentrator) (link : ℕ) → IsHeldAt old link [] → IsHeldAt new link [] → KeepsElsewhere old link new → KeepsAll old new
-all_stays old new link before after keeps = record {
-  settings = keeps.settings;
-  records = λ l cid. records l cid (nat_eq l link) refl;
-  order = λ l. order l (nat_eq l link) refl;
-} where
-  records : (l cid : ℕ) (b : Bool) → nat_eq l link ≡ b → record_at new l cid ≡ record_at old l cid
-  records l cid true e =
-      let it : link ≡ l = grind (arith, nat_tests) in
-      subst (λ l. record_at new l cid ≡ record_at old l cid) it (after.records cid ∙ sym (before.records cid))
-  records l cid false e = keeps.others l cid (grind (arith, nat_tests))
-
-  order : (l : ℕ) (b : Bool) → nat_eq l link ≡ b → identifiers_at new l ≡ identifiers_at old l
-  order l true e =
-      let it : link ≡ l = grind (arith, nat_tests) in
-      subst (λ l. identifiers_at new l ≡ identifiers_at old l) it (after.identifiers ∙ sym before.identifiers)
-  order l false e = keeps.order l (grind (arith, nat_tests))
+use Rattle.rohc_saved.specs.Restoring.{is_same, limit_of, up_to, StopsAt}
+use Rattle.rohc_saved.specs.LinkRestoring.{IsReady, RunsOut, reset_turn}
+use Rattle.rohc_saved.proofs.FormOrder.{HasApart, form_order}
+use Rattle.rohc_saved.proofs.PutLemmas.{ArePuttable, runs_out}
 
 no_pairs : {V : Type 0} (es : List (ℕ × V)) → length es ≡ 0 → es ≡ []
 no_pairs [] e = refl
 no_pairs (e ∷ es) is = absurd (omega (arith, is))
 
--- a link whose map is empty holds nothing
-pub held_none : (k : Concentrator) (link : ℕ) (r : LinkRecords) → IsLink k link r → length r.contexts.entries ≡ 0 → IsHeldAt k link []
-held_none k link r is none =
-    let empty = no_pairs r.contexts.entries none in
-    record {
-      identifiers = is.identifiers ∙ ap (λ (es : List (ℕ × Context)). keys_of es) empty;
-      records = λ cid. is.records cid ∙ ap (λ (es : List (ℕ × Context)). option_map record_of (lookup (nat_eq cid) es)) empty;
-    }
+-- a link holds nothing exactly if its map is empty
+pub held_none : (k : Concentrator) (link : ℕ) (r : LinkRecords) → IsLink k link r → length r.contexts.entries ≡ 0 → identifiers_at k link ≡ []
+held_none k link r is none = is.identifiers ∙ ap (λ (es : List (ℕ × Context)). keys_of es) (no_pairs r.contexts.entries none)
 
 no_keys : (es : List (ℕ × Context)) → keys_of es ≡ [] → length es ≡ 0
 no_keys [] e = refl
 no_keys (e ∷ es) is = absurd (let never : ◌≡◌ {A = List ℕ} (e.0 ∷ keys_of es) [] = is in cc)
 
--- a link that holds nothing has an empty map
-pub held_some : (k : Concentrator) (link : ℕ) (r : LinkRecords) → IsLink k link r → IsHeldAt k link [] → length r.contexts.entries ≡ 0
-held_some k link r is held = no_keys r.contexts.entries (sym is.identifiers ∙ held.identifiers)
+pub held_some : (k : Concentrator) (link : ℕ) (r : LinkRecords) → IsLink k link r → identifiers_at k link ≡ [] → length r.contexts.entries ≡ 0
+held_some k link r is held = no_keys r.contexts.entries (sym is.identifiers ∙ held)
 
 -- what is found in a map of one entry is the entry
 one_entry : (es : List (ℕ × SavedLink)) (n : ℕ) (l : SavedLink) → length es ≡ 1 → lookup (nat_eq n) es ≡ Some l → es ≡ (n, l) ∷ []
@@ -102,15 +56,7 @@ one_entry (e ∷ []) n l few found = by (nat_eq n e.0) refl found
 pub one_link : {S : Type 0} (m : HashMap ℕ SavedLink S) (n : ℕ) (l : SavedLink) → length m.entries ≡ 1 → get nat_eq m n ≡ Some l → links_in m ≡ (n, link_in l) ∷ []
 one_link m n l few found = ap (map {B = ℕ × Link} (λ (e : ℕ × SavedLink). (e.0, link_in e.1))) (one_entry m.entries n l few found)
 
--- a map of another number of entries, or without this one, is not this entry
-pub many_links : {S : Type 0} (m : HashMap ℕ SavedLink S) (n : ℕ) (l : Link) → links_in m ≡ (n, l) ∷ [] → length m.entries ≡ 1
-many_links m n l is = by m.entries is
-  where
-    by : (es : List (ℕ × SavedLink)) → map {B = ℕ × Link} (λ (e : ℕ × SavedLink). (e.0, link_in e.1)) es ≡ (n, l) ∷ [] → length es ≡ 1
-    by [] is = absurd (let never : ◌≡◌ {A = List (ℕ × Link)} [] ((n, l) ∷ []) = is in cc)
-    by (e ∷ []) is = refl
-    by (e ∷ f ∷ es) is = absurd (let more = ap length is in omega (arith, more))
-
+-- a map without this entry is not this entry alone
 first_is : (x y : ℕ × Link) (xs ys : List (ℕ × Link)) → ◌≡◌ {A = List (ℕ × Link)} (x ∷ xs) (y ∷ ys) → x ≡ y
 first_is x y xs ys e = cc
 
@@ -125,13 +71,7 @@ other_link_found m n l is none = by m.entries is none
         let never : ◌≡◌ {A = Option SavedLink} (Some e.1) None = sym (ap (λ b. cond b (Some e.1) (lookup (nat_eq n) es)) found) ∙ none in
         cc
 
--- contexts were put into an empty link
-pub fills : (old new : Concentrator) (number : ℕ) (cs : List (ℕ × Record)) → AddsContexts old new (own number cs) → IsHeldAt old number [] → IsHeldAt new number cs
-fills old new number cs adds held =
-    let same : nat_eq number number ≡ true = grind (arith, nat_tests) in
-    subst (λ b. IsHeldAt new number (if b then cs else [])) same (adds number [] held)
-
--- a link that is taken is of the same kind, and one that isn't is of the other
+-- a link that is taken is of the same kind
 pub same_kind : (s : LinkSetting) (saved : Link) (greatest : ℕ) → limit_of (Some s) saved ≡ Some greatest → is_same s.settings.size saved.size ≡ true
 same_kind s saved greatest e = by (is_same s.settings.size saved.size) e
   where
@@ -139,24 +79,38 @@ same_kind s saved greatest e = by (is_same s.settings.size saved.size) e
     by true e = refl
     by false e = cc
 
-pub other_kind : (s : LinkSetting) (saved : Link) → limit_of (Some s) saved ≡ None → is_same s.settings.size saved.size ≡ false
-other_kind s saved e = by (is_same s.settings.size saved.size) e
-  where
-    by : (b : Bool) → ◌≡◌ {A = Option ℕ} (if b then Some s.settings.max_cid else None) None → b ≡ false
-    by true e = cc
-    by false e = refl
+-- what is taken of a link under its setting may be put
+puttable : (s : LinkSetting) (link : ℕ) (saved : Link) (greatest : ℕ) → limit_of (Some s) saved ≡ Some greatest → HasApart (link, saved) → ArePuttable s (up_to (Some greatest) saved.contexts)
+puttable s link saved greatest limit apart = record {
+  apart = IsDistinct-keys_filter nat_eq (λ (c : ℕ × Record). nat_le c.0 greatest) saved.contexts apart;
+  within = subst (λ n. AllByRecursion (λ (c : ℕ × Record). nat_le c.0 n ≡ true) (up_to (Some greatest) saved.contexts)) (greatest_is (is_same s.settings.size saved.size) limit) (within saved.contexts);
+} where
+  greatest_is : (b : Bool) → ◌≡◌ {A = Option ℕ} (if b then Some s.settings.max_cid else None) (Some greatest) → greatest ≡ s.settings.max_cid
+  greatest_is true e = cc
+  greatest_is false e = absurd (let f : ◌≡◌ {A = Option ℕ} None (Some greatest) = e in cc)
 
-pub restores_link : (old new : Concentrator) (link : ℕ) (octets : List ℕ) (s : LinkSetting) (form : Form) (saved : Link) (greatest : ℕ) (told : Restored)
-    → IsReady old link s → restored octets ≡ Ok form → form.links ≡ (link, saved) ∷ [] → limit_of (Some s) saved ≡ Some greatest → IsToldOfForm (setting_at old) form told
-    → (IsHeldAt old link [] → IsHeldAt new link (up_to (Some greatest) saved.contexts)) → KeepsElsewhere old link new → RestoresLink old link octets told new
-restores_link old new link octets s form saved greatest told ready spelled alone limit tells held elsewhere = record {
-  setting = s;
-  ready = ready;
-  form = form;
-  saved = saved;
-  spells = record { spelled = spelled; alone = alone };
-  kind = same_kind s saved greatest limit;
-  held = subst (λ limit. IsHeldAt new link (up_to limit saved.contexts)) (sym limit) (held ready.empty);
-  elsewhere = elsewhere;
-  counts = tells;
-}
+  within : (cs : List (ℕ × Record)) → AllByRecursion (λ (c : ℕ × Record). nat_le c.0 greatest ≡ true) (filter (λ (c : ℕ × Record). nat_le c.0 greatest) cs)
+  within [] = tt
+  within (c ∷ cs) = by (within cs) (nat_le c.0 greatest) refl
+    where
+      by : AllByRecursion (λ (c : ℕ × Record). nat_le c.0 greatest ≡ true) (filter (λ (c : ℕ × Record). nat_le c.0 greatest) cs) → (b : Bool) → nat_le c.0 greatest ≡ b
+          → AllByRecursion (λ (c : ℕ × Record). nat_le c.0 greatest ≡ true) (cond b (c ∷ filter (λ (c : ℕ × Record). nat_le c.0 greatest) cs) (filter (λ (c : ℕ × Record). nat_le c.0 greatest) cs))
+      by later true e = (e, later)
+      by later false e = later
+
+-- a put of them was refused, and the link was reset
+pub link_runs_out : (old new : Concentrator) (link : ℕ) (octets : List ℕ) (s : LinkSetting) (form : Form) (saved : Link) (greatest : ℕ) (fault : PutFault) (answer : Result Unit NoLink)
+    → IsReady old link s → restored octets ≡ Ok form → form.links ≡ (link, saved) ∷ [] → limit_of (Some s) saved ≡ Some greatest
+    → StopsAt old link (up_to (Some greatest) saved.contexts) fault (reset_turn (plain_answer answer) link ∷ []) new → RunsOut old link s octets new × KeepsAll old new
+link_runs_out old new link octets s form saved greatest fault answer ready spelled alone limit stops =
+    let apart : HasApart (link, saved) = (subst (AllByRecursion HasApart) alone (form_order octets form spelled).each).0 in
+    let out = runs_out old new link s (up_to (Some greatest) saved.contexts) fault answer ready (puttable s link saved greatest limit apart) stops in (
+      record {
+        form = form;
+        saved = saved;
+        spells = record { spelled = spelled; alone = alone };
+        kind = same_kind s saved greatest limit;
+        stops = subst (λ limit. StopsAt old link (up_to limit saved.contexts) puts.NoMemory (reset_turn Done link ∷ []) new) (sym limit) out.0;
+      },
+      out.1,
+    )

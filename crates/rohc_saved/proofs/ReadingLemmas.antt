@@ -37,10 +37,10 @@ unfolding links_at
 links_stop total count held text e read = rw read refl
 
 -- a reader that was stopped by this fault, or by want of memory
-pub stops : {A B : Type 0} (view : A → B) (result : Result A SavedFault) (behind : List ℕ) (e : SavedFault) (read : Read B)
-    → IsErr result → IsErrAnd result (λ x. x ≡ e) → (e ≡ NoMemory) ⊎ (read ≡ Err e) → Gives view result behind read
+pub stops : {A B wants : Type 0} (view : A → B) (result : Result A SavedFault) (behind : List ℕ) (e : SavedFault) (read : Read B)
+    → IsErr result → IsErrAnd result (λ x. x ≡ e) → ((e ≡ NoMemory) × wants) ⊎ (read ≡ Err e) → Gives view wants result behind read
 stops view (Ok x) behind e read err is why = absurd (let never = err in cc)
-stops view (Err x) behind e read err is (inl poor) = inl (is ∙ poor)
+stops view (Err x) behind e read err is (inl poor) = inl (is ∙ poor.0, poor.1)
 stops view (Err x) behind e read err is (inr stop) = inr (stop ∙ ap Err (sym is))
 
 -- no context is left to read
@@ -53,9 +53,9 @@ unfolding links_at
 links_end total count held text none = rw none refl
 
 -- a fault of one more is that of all
-pub either_by : {P Q R : Type 0} → (Q → R) → P ⊎ Q → P ⊎ R
-either_by f (inl p) = inl p
-either_by f (inr q) = inr (f q)
+pub either_by : {P Q R S : Type 0} → (P → R) → (Q → S) → P ⊎ Q → R ⊎ S
+either_by f g (inl p) = inl (f p)
+either_by f g (inr q) = inr (g q)
 
 -- a CID and a context behind it were read
 pub context_reads : (total greatest cid : ℕ) (held : List (ℕ × Record)) (text mid behind : List ℕ) (r : Record) → cid_at total greatest held text ≡ Ok (cid, mid)

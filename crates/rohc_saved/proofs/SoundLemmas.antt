@@ -1,5 +1,5 @@
 -- What is saved of a sound concentrator comes back.
-use Rattle.std.proofs.Common.{◌≡◌, ℕ, ◌+◌, ◌^◌, ◌<◌, ◌≤◌, zero, suc, List, [], ◌∷◌, ◌++◌, map, length, Bool, true, false, cond, if◌then◌else◌, Option, Some, None, refl, sym, ap, subst, ◌∙◌, arith, append_assoc, append-nil, nat_eq, unwrap_or}
+use Rattle.std.proofs.Common.{◌≡◌, ℕ, ◌+◌, ◌^◌, ◌<◌, ◌≤◌, List, [], ◌∷◌, ◌++◌, map, length, Bool, true, false, cond, if◌then◌else◌, Option, Some, None, refl, sym, ap, subst, ◌∙◌, arith, append_assoc, append-nil, nat_eq, unwrap_or}
 use Rattle.std.specs.Prelude.{All, nat_le}
 use Rattle.std.specs.Option.{option_map, option_and_then}
 use Rattle.std.specs.List.{AllByRecursion, IsDistinct, list_any}
@@ -7,7 +7,7 @@ use Rattle.std.specs.Map.{keys_of, lookup}
 use Rattle.std.specs.HashMap.{get, keys}
 use Rattle.std.proofs.lemmas.Bool.Decides.{nat_tests}
 use Rattle.std.proofs.lemmas.List.{length-map}
-use Rattle.std.proofs.lemmas.List.Elements.{All-head, All-tail}
+use Rattle.std.proofs.lemmas.List.Elements.{All-head, All-tail, All-nil, All-cons}
 use Rattle.std.proofs.lemmas.Map.Keys.{IsDistinct-head, IsDistinct-tail}
 use Rattle.std.proofs.lemmas.Map.Steps.{length-le_from_distinct_below}
 use Rattle.rohc_bits.proofs.Steps.{ok_is}
@@ -22,20 +22,19 @@ use Rattle.rohc_concentrator.specs.declared.records.LinkRecords.{LinkRecords}
 use Rattle.rohc_concentrator.specs.declared.setting.LinkSetting.{LinkSetting}
 use Rattle.rohc_concentrator.specs.Setting.{IsGoodSetting}
 use Rattle.rohc_concentrator.specs.Setup.{entry_of}
+use Rattle.rohc_concentrator.specs.Sound.{IsInOrder}
 use Rattle.rohc_concentrator.specs.Tables.{setting_at, record_in, settings_in_order, IsLink, KeepsAll}
 use Rattle.rohc_saved.specs.declared.fault.SavedFault.{SavedFault}
 use Rattle.rohc_saved.specs.Form.{Link, contexts_of, saved_link_of, form_of}
-use Rattle.rohc_saved.specs.Restoring.{is_same, up_to, taken_of, own, taken_at, IsHeldAt, Restores}
-use Rattle.rohc_saved.specs.Laws.{IsGoodContext, IsGoodLink, IsGoodForm, IsInOrder, ComesBack}
+use Rattle.rohc_saved.specs.Restoring.{is_same, up_to, taken_of, puts_in, Restores}
+use Rattle.rohc_saved.specs.Laws.{IsGoodContext, IsGoodLink, IsGoodForm, ComesBack}
 use Rattle.rohc_saved.proofs.FormLemmas.{contexts_are}
 use Rattle.rohc_saved.proofs.BackLemmas.{read_back}
 use Rattle.rohc_saved.proofs.Distinct.{numbers, links_apart}
+use Rattle.rohc_saved.proofs.PutLemmas.{same, all_puts_in, KeepsTurn, keep_settings, IsHeldAt, holds_none, own, taken_at, links_held}
 
 abbrev seen : List (ℕ × Context) → List (ℕ × Record)
 seen es = map (λ (e : ℕ × Context). (e.0, record_of e.1)) es
-
-same : (n : ℕ) → nat_eq n n ≡ true
-same n = grind (arith, nat_tests)
 
 keys_seen : (es : List (ℕ × Context)) → map (λ (c : ℕ × Record). c.0) (seen es) ≡ keys_of es
 keys_seen [] = refl
@@ -50,17 +49,10 @@ lookup_seen cid (e ∷ es) = by (lookup_seen cid es) (nat_eq cid e.0) refl
     by rest true f = rw f refl
     by rest false f = rw f rest
 
-all_cons : {X : Type 0} (P : X → Type 0) (x : X) (xs : List X) → P x → All P xs → All P (x ∷ xs)
-all_cons P x xs first rest zero d within = first
-all_cons P x xs first rest (suc k) d within = rest k d (omega arith)
-
-all_none : {X : Type 0} (P : X → Type 0) → All P []
-all_none P k d within = absurd (omega arith)
-
 good_seen : (greatest : ℕ) (es : List (ℕ × Context)) → All (λ cid. cid ≤ greatest) (keys_of es) → All (IsGoodContext greatest) (seen es)
-good_seen greatest [] within = all_none (IsGoodContext greatest)
+good_seen greatest [] within = All-nil (IsGoodContext greatest)
 good_seen greatest (e ∷ es) within =
-    all_cons (IsGoodContext greatest) (e.0, record_of e.1) (seen es)
+    All-cons (IsGoodContext greatest) (e.0, record_of e.1) (seen es)
     (record { within = All-head (λ cid. cid ≤ greatest) e.0 (keys_of es) within; good = keeps_good e.1 })
     (good_seen greatest es (All-tail (λ cid. cid ≤ greatest) e.0 (keys_of es) within))
 
@@ -156,7 +148,7 @@ distinct_behind (f ∷ front) ss distinct = distinct_behind front ss (IsDistinct
 
 module _ (k : Concentrator) (sound : IsInOrder k) where
   distinct : IsDistinct nat_eq (numbers (settings_in_order k))
-  distinct = links_apart (settings_in_order k) sound.fine.sound.apart
+  distinct = links_apart (settings_in_order k) sound.settings.apart
 
   -- a setting stands for the link of its number
   stands : (front ss : List LinkSetting) (s : LinkSetting) → settings_in_order k ≡ front ++ s ∷ ss → (setting_at k s.link ≡ Some s) × (entry_of s.link (settings_in_order k) ≡ Some s)
@@ -165,9 +157,9 @@ module _ (k : Concentrator) (sound : IsInOrder k) where
       (sound.each s.link ∙ entry, entry)
 
   all_good : (front ss : List LinkSetting) → settings_in_order k ≡ front ++ ss → All (λ (s : LinkSetting). s.link < 65536) ss → All IsGoodSetting ss → All IsGoodLink (map (saved_link_of k) ss)
-  all_good front [] is small good = all_none IsGoodLink
+  all_good front [] is small good = All-nil IsGoodLink
   all_good front (s ∷ ss) is small good =
-      all_cons IsGoodLink (saved_link_of k s) (map (saved_link_of k) ss)
+      All-cons IsGoodLink (saved_link_of k s) (map (saved_link_of k) ss)
       (good_of k s sound (stands front ss s is).0 (All-head (λ (s : LinkSetting). s.link < 65536) s ss small) (All-head IsGoodSetting s ss good))
       (all_good (front ++ s ∷ []) ss (is ∙ sym (append_assoc front (s ∷ []) ss)) (All-tail (λ (s : LinkSetting). s.link < 65536) s ss small) (All-tail IsGoodSetting s ss good))
 
@@ -178,11 +170,11 @@ module _ (k : Concentrator) (sound : IsInOrder k) where
   good_form : (moment : ℕ) → moment < 2 ^ 64 → IsGoodForm (form_of moment k)
   good_form moment small =
       let count = length-map (settings_in_order k) (saved_link_of k) in
-      let few = sound.fine.few in
+      let few = sound.few in
       record {
         moment = small;
         few = omega (arith, count, few);
-        links = all_good [] (settings_in_order k) refl sound.numbers sound.fine.sound.good;
+        links = all_good [] (settings_in_order k) refl sound.numbers sound.settings.good;
         apart = subst (IsDistinct nat_eq) (sym (numbers_kept (settings_in_order k))) distinct;
       }
 
@@ -194,7 +186,7 @@ module _ (k : Concentrator) (sound : IsInOrder k) where
       ∙ all_up_to s.settings.max_cid (contexts_of k s.link) good.contexts
 
   taken_is : (front ss : List LinkSetting) → settings_in_order k ≡ front ++ ss → All IsGoodLink (map (saved_link_of k) ss) → (l : ℕ)
-      → taken_at (settings_in_order k) (map (saved_link_of k) ss) l ≡ if_there (entry_of l ss) (contexts_of k l)
+      → taken_at (λ n. entry_of n (settings_in_order k)) (map (saved_link_of k) ss) l ≡ if_there (entry_of l ss) (contexts_of k l)
   taken_is front [] is good l = refl
   taken_is front (s ∷ ss) is good l =
       by (takes_all s (stands front ss s is).1 (All-head IsGoodLink (saved_link_of k s) (map (saved_link_of k) ss) good))
@@ -205,7 +197,7 @@ module _ (k : Concentrator) (sound : IsInOrder k) where
       own_part = taken_of (entry_of s.link (settings_in_order k)) (saved_link_of k s).1
 
       rest_part : List (ℕ × Record)
-      rest_part = taken_at (settings_in_order k) (map (saved_link_of k) ss) l
+      rest_part = taken_at (λ n. entry_of n (settings_in_order k)) (map (saved_link_of k) ss) l
 
       later : s.link ≡ l → entry_of l ss ≡ None
       later e =
@@ -245,10 +237,13 @@ module _ (k : Concentrator) (sound : IsInOrder k) where
 
   keeps : (moment : ℕ) → moment < 2 ^ 64 → (new : Concentrator) → Restores (settings_in_order k) (form_of moment k) new → KeepsAll k new
   keeps moment small new back =
+      let set : ℕ → Option LinkSetting = λ n. entry_of n (settings_in_order k) in
+      let links : List (ℕ × Link) = map (saved_link_of k) (settings_in_order k) in
+      let made = keep_settings (puts_in set links) back.made new (all_puts_in KeepsTurn (λ n c. tt) set links) back.puts in
       let same : (l : ℕ) → IsHeldAt new l (if_there (entry_of l (settings_in_order k)) (contexts_of k l)) =
-      λ l. subst (IsHeldAt new l) (taken_is [] (settings_in_order k) refl (good_form moment small).links l) (back.held l) in
+      λ l. subst (IsHeldAt new l) (taken_is [] (settings_in_order k) refl (good_form moment small).links l) (links_held set links l [] back.made new back.puts (holds_none back.made l (back.empty l))) in
       record {
-        settings = record { each = λ l. back.each l ∙ sym (sound.each l); in_order = back.in_order };
+        settings = record { each = λ l. made.each l ∙ back.each l ∙ sym (sound.each l); in_order = made.in_order ∙ back.in_order };
         records = λ l cid. (same l).records cid ∙ sym ((holds_own l).records cid);
         order = λ l. (same l).identifiers ∙ sym (holds_own l).identifiers;
       }

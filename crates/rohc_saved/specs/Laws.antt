@@ -1,6 +1,6 @@
--- Laws of saved concentrators. Words: IsGoodLink, IsGoodForm; FormIsSpelled, IsReadBack; IsInOrder;
--- ComesBack, LinkComesBack; IsMadeSound, StaysSound, IsKeptSound, IsRestoredSound, IsLinkRestoredSound;
--- GoesOnRestored, CutByRestart.
+-- Laws of saved concentrators. Words: IsGoodLink, IsGoodForm; FormIsSpelled, IsReadBack; ComesBack,
+-- LinkComesBack; IsMadeSound, IsKeptSound, IsRestoredSound, IsLinkRestoredSound;
+-- GoesOnRestored, CutByRestart; IsRestoredFrom, CutCallsByRestart.
 use Rattle.std.specs.Prelude.{◌≡◌, ◌++◌, ◌<◌, ◌≤◌, ◌^◌, ℕ, List, [], ◌∷◌, map, length, filter, nat_eq, All, Option, Some, None, Ok}
 use Rattle.std.specs.List.{AllByRecursion, IsDistinct}
 use Rattle.rohc_bits.specs.Bits.{IsOctet}
@@ -16,6 +16,11 @@ use Rattle.rohc_concentrator.specs.Events.{Event, RunsEvents}
 use Rattle.rohc_concentrator.specs.LoneRun.{unmarked}
 use Rattle.rohc_concentrator.specs.Isolation.{EventRun, own_events, own_replies, is_rich}
 use Rattle.rohc_concentrator.specs.Laws.{IsFit}
+use Rattle.rohc_concentrator.specs.Sound.{IsInOrder}
+use Rattle.rohc_concentrator.specs.Seen.{seen_at}
+use Rattle.rohc_concentrator.specs.RunsCall.{Turn, Runs}
+use Rattle.rohc_concentrator.specs.OwnCalls.{calls_to, answers_to}
+use Rattle.rohc_concentrator.specs.CallLaws.{IsFitTurn}
 use Rattle.rohc_saved.specs.Form.{Link, Form, form_text, signed, saved_link_of, form_of, saved_form, saved_link}
 use Rattle.rohc_saved.specs.Reading.{restored}
 use Rattle.rohc_saved.specs.Restoring.{Restores}
@@ -51,16 +56,6 @@ FormIsSpelled = (text : List ℕ) (form : Form) → All IsOctet text → restore
 abbrev pub IsReadBack : Type 0
 IsReadBack = (form : Form) → IsGoodForm form → restored (signed (form_text form)) ≡ Ok form
 
--- The settings are fine, and each stands for the link of its number, which has 16 bits. The CIDs of a link
--- that have a record are apart, and within its greatest.
-pub record IsInOrder (k : Concentrator) : Type 0 where
-  pub fine : AreFine (settings_in_order k)
-  pub each : (link : ℕ) → setting_at k link ≡ entry_of link (settings_in_order k)
-  pub numbers : All (λ (s : LinkSetting). s.link < 65536) (settings_in_order k)
-  pub apart : (link : ℕ) → IsDistinct nat_eq (identifiers_at k link)
-  pub within : (link : ℕ) (s : LinkSetting) → setting_at k link ≡ Some s →
-      All (λ cid. cid ≤ s.settings.max_cid) (identifiers_at k link)
-
 -- What is saved of a sound concentrator is read. A concentrator that is restored from it under the same
 -- settings keeps the same settings and the same records, in the same order.
 abbrev pub ComesBack : Type 0
@@ -80,19 +75,14 @@ LinkComesBack = (k : Concentrator) (moment : ℕ) (s : LinkSetting) → IsInOrde
     ((cid : ℕ) → record_at new s.link cid ≡ record_at k s.link cid)
     × (identifiers_at new s.link ≡ identifiers_at k s.link))
 
--- Concentrators are sound: one that was made from settings whose numbers have 16 bits; one after fit events,
--- if it was sound before; one that keeps all that a sound one keeps; one that was restored, also under other
--- settings; and one of which a link was restored, if it was sound before.
+-- A concentrator is sound if it was made from settings whose numbers have 16 bits, if it keeps all that a sound
+-- one keeps, if it was restored, also under other settings, and if it was sound before one of its links was
+-- restored. Calls keep it sound, by a law of rohc_concentrator.
 abbrev pub IsMadeSound : Type 0
 IsMadeSound = (settings : List LinkSetting) (k : Concentrator) → AreFine settings →
     All (λ (s : LinkSetting). s.link < 65536) settings → settings_in_order k ≡ settings →
     ((link : ℕ) → setting_at k link ≡ entry_of link settings) →
     ((link cid : ℕ) → record_at k link cid ≡ None) → IsInOrder k
-
-abbrev pub StaysSound : Type 0
-StaysSound = (old new : Concentrator) (turns : List (Event × Option Report)) →
-    AllByRecursion (λ (turn : Event × Option Report). IsFit turn.0) turns →
-    RunsEvents old turns new → IsInOrder old → IsInOrder new
 
 abbrev pub IsKeptSound : Type 0
 IsKeptSound = (old new : Concentrator) → KeepsAll old new → IsInOrder old → IsInOrder new
@@ -132,3 +122,21 @@ CutByRestart = (whole : EventRun) (front behind : List (Event × Option Report))
     (filter is_rich (own_replies l c whole.turns)
     ≡ filter is_rich (own_replies l c front ++ own_replies l c other.turns))
     × (record_at whole.after l c ≡ record_at other.after l c))
+
+-- a concentrator was restored from what was saved of another, under the same settings
+pub record IsRestoredFrom (cut other : Concentrator) : Type 0 where
+  pub moment : ℕ
+  pub fits : moment < 2 ^ 64
+  pub form : Form
+  pub saved : restored (saved_form moment cut) ≡ Ok form
+  pub back : Restores (settings_in_order cut) form other
+
+-- The same of any calls: what a CID gets from the run up to the cut and from the one that goes on are the
+-- answers of the whole run, and it sees in the end what the whole run leaves.
+abbrev pub CutCallsByRestart : Type 0
+CutCallsByRestart = (k after : Concentrator) (front behind : List Turn) → Runs k (front ++ behind) after →
+    AllByRecursion IsFitTurn front → AllByRecursion IsFitTurn behind → IsInOrder k →
+    (cut : Concentrator) × Runs k front cut × ((b after_b : Concentrator) (ys : List Turn) (l c : ℕ) →
+    IsRestoredFrom cut b → Runs b ys after_b → calls_to l c cut behind ≡ calls_to l c b ys →
+    (answers_to l c k (front ++ behind) ≡ answers_to l c k front ++ answers_to l c b ys)
+    × (seen_at after l c ≡ seen_at after_b l c))

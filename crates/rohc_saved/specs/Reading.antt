@@ -1,6 +1,6 @@
 -- Reading a saved concentrator from left to right, up to the first fault. A place counts octets from 0, and
--- is the length of the whole text without what is left of it. Words: link_at, form_at; restored.
-use Rattle.std.specs.Prelude.{ℕ, zero, suc, ◌-◌, ◌+◌, ◌*◌, ◌^◌, List, [], ◌∷◌, ◌++◌, length, take, drop, Bool, true, false, not, nat_le, nat_lt, ◌==◌, ◌&&◌, bytes_eq, Result, Ok, Err, MatchResult, ◌≡◌, ◌⊎◌}
+-- is the length of the whole text without what is left of it. Words: link_at, form_at; HasLinks; restored.
+use Rattle.std.specs.Prelude.{ℕ, zero, suc, ◌-◌, ◌+◌, ◌*◌, ◌^◌, ◌≤◌, List, [], ◌∷◌, ◌++◌, length, take, drop, Bool, true, false, not, nat_le, nat_lt, ◌==◌, ◌&&◌, bytes_eq, Result, Ok, Err, MatchResult, ◌≡◌, ◌⊎◌}
 use Rattle.std.specs.List.{list_any}
 use Rattle.sha2.specs.Sha256.{sha256}
 use Rattle.rohc_bits.specs.Reading.{◌>>=◌, next_octet, next_word}
@@ -25,10 +25,11 @@ given true fault x = Ok x
 given false fault x = Err fault
 
 -- What a reader that makes lists gives, and the octets that it left, are what the definition gives; or there
--- is no memory.
-abbrev pub Gives : {A B : Type 0} → (A → B) → Result A SavedFault → List ℕ → Read B → Type 0
-Gives view result behind read =
-    MatchResult result (λ x. read ≡ Ok (view x, behind)) (λ e. (e ≡ NoMemory) ⊎ (read ≡ Err e))
+-- is no memory where some is wanted.
+abbrev pub Gives : {A B : Type 0} → (A → B) → (wants : Type 0) → Result A SavedFault → List ℕ → Read B →
+    Type 0
+Gives view wants result behind read =
+    MatchResult result (λ x. read ≡ Ok (view x, behind)) (λ e. ((e ≡ NoMemory) × wants) ⊎ (read ≡ Err e))
 
 -- One more was read, and is kept behind those before it; or there is no memory.
 abbrev pub AddsNext : {A : Type 0} → Result Unit SavedFault → (old new : List A) → List ℕ → Read A → Type 0
@@ -163,6 +164,19 @@ form_at total text = do
   (count, text) ← word_at total text
   (links, text) ← links_at total count [] text
   Ok (record { moment = moment; links = links }, text)
+
+-- how many links stand behind the name, the version and the moment
+unfoldable pub count_at : ℕ → List ℕ → Read ℕ
+count_at total text = do
+  text ← magic_at text
+  text ← version_at total text
+  (moment, text) ← long_at total text
+  word_at total text
+
+-- the octets begin as those of a saved concentrator do that has links
+abbrev pub HasLinks : ℕ → List ℕ → Type 0
+HasLinks total text = (count : ℕ) × (behind : List ℕ) × (count_at total text ≡ Ok (count, behind))
+    × (1 ≤ count)
 
 -- the digest is that of the octets before it
 unfoldable pub digest_at : (whole text : List ℕ) → Result (List ℕ) SavedFault

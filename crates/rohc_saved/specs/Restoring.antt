@@ -1,14 +1,16 @@
--- What is restored of what was saved, under settings. Words: limit_of, taken_of, taken_at; IsHeldAt;
+-- What is restored of what was saved, under settings. Words: limit_of, taken_of; puts_of, puts_in; StopsAt;
 -- IsToldOfForm; Restores, IsRefusal.
-use Rattle.std.specs.Prelude.{◌≡◌, ℕ, ◌+◌, ◌-◌, List, [], ◌++◌, map, filter, flat_map, length, sum_by, Bool, true, false, nat_eq, nat_le, if◌then◌else◌, Option, Some, None, is_some, ◌⊎◌, Err}
-use Rattle.std.specs.Map.{lookup}
+use Rattle.std.specs.Prelude.{◌≡◌, ℕ, ◌+◌, ◌-◌, List, [], ◌∷◌, ◌++◌, map, filter, flat_map, length, sum_by, Bool, true, false, nat_le, if◌then◌else◌, Option, Some, None, is_some, ◌⊎◌, Err}
 use Rattle.rohc_frame.specs.declared.header.CidKind.{CidKind}
 use Rattle.rohc_frame.specs.declared.header.CidKind.TheVariants.{Small, Large}
 use Rattle.rohc_context.specs.Record.{Record}
 use Rattle.rohc_concentrator.specs.declared.concentrator.Concentrator.{Concentrator}
 use Rattle.rohc_concentrator.specs.declared.setting.LinkSetting.{LinkSetting}
 use Rattle.rohc_concentrator.specs.declared.setup.SetupFault.{SetupFault}
-use Rattle.rohc_concentrator.specs.Tables.{record_at, identifiers_at, setting_at, settings_in_order}
+use Rattle.rohc_concentrator.specs.declared.putting.PutFault.{PutFault}
+use Rattle.rohc_concentrator.specs.Calls.{Put, CallAnswer, Done, NotPut}
+use Rattle.rohc_concentrator.specs.RunsCall.{Turn, Runs}
+use Rattle.rohc_concentrator.specs.Tables.{record_at, setting_at, settings_in_order}
 use Rattle.rohc_concentrator.specs.Setup.{entry_of, IsFault, AreFine}
 use Rattle.rohc_saved.specs.declared.fault.SavedFault.{SavedFault}
 use Rattle.rohc_saved.specs.declared.fault.SavedFault.TheVariants.{Settings, NoMemory}
@@ -38,23 +40,28 @@ up_to (Some greatest) contexts = filter (λ c. nat_le c.0 greatest) contexts
 abbrev pub taken_of : Option LinkSetting → Link → List (ℕ × Record)
 taken_of s link = up_to (limit_of s link) link.contexts
 
--- these contexts, if they are of this link
-abbrev pub own : ℕ → List (ℕ × Record) → ℕ → List (ℕ × Record)
-own number contexts link = if nat_eq number link then contexts else []
+-- ---- The calls that restore
 
--- what is taken for a link
-abbrev pub taken_at : List LinkSetting → List (ℕ × Link) → ℕ → List (ℕ × Record)
-taken_at settings links link = flat_map (λ l. own l.0 (taken_of (entry_of l.0 settings) l.1) link) links
+-- a context is put into a link, with this answer
+abbrev pub put_turn : CallAnswer → ℕ → ℕ × Record → Turn
+put_turn answer link c = record { link = link; call = Put c.0 c.1; answer = answer }
 
--- a link's records are these, in this order
-pub record IsHeldAt (k : Concentrator) (link : ℕ) (contexts : List (ℕ × Record)) : Type 0 where
-  pub identifiers : identifiers_at k link ≡ map (λ c. c.0) contexts
-  pub records : (cid : ℕ) → record_at k link cid ≡ lookup (nat_eq cid) contexts
+-- contexts of a link are put one after another, and each put is done
+abbrev pub puts_of : ℕ → List (ℕ × Record) → List Turn
+puts_of link contexts = map (put_turn Done link) contexts
 
--- behind the records of each link, these were put
-abbrev pub AddsContexts : Concentrator → Concentrator → (ℕ → List (ℕ × Record)) → Type 0
-AddsContexts old new more =
-    (link : ℕ) (held : List (ℕ × Record)) → IsHeldAt old link held → IsHeldAt new link (held ++ more link)
+-- so are those that are taken of links, by their settings if they have some
+abbrev pub puts_in : (ℕ → Option LinkSetting) → List (ℕ × Link) → List Turn
+puts_in settings links = flat_map (λ l. puts_of l.0 (taken_of (settings l.0) l.1)) links
+
+-- the first of these contexts are put, the next one is refused, and these calls follow
+pub record StopsAt (old : Concentrator) (link : ℕ) (contexts : List (ℕ × Record)) (fault : PutFault)
+    (more : List Turn) (new : Concentrator) : Type 0 where
+  pub done : List (ℕ × Record)
+  pub one : ℕ × Record
+  pub behind : List (ℕ × Record)
+  pub parts : contexts ≡ done ++ one ∷ behind
+  pub runs : Runs old (puts_of link done ++ put_turn (NotPut fault) link one ∷ more) new
 
 -- ---- What is told of it: how many links and contexts were taken, and how many left out
 
@@ -113,11 +120,13 @@ pub record IsToldOfForm (settings : ℕ → Option LinkSetting) (form : Form) (t
 
 -- ---- The whole
 
--- a concentrator with these settings, which holds what is taken of the form
+-- a concentrator that was made from these settings, into which what is taken of the form was put
 pub record Restores (settings : List LinkSetting) (form : Form) (k : Concentrator) : Type 0 where
-  pub in_order : settings_in_order k ≡ settings
-  pub each : (link : ℕ) → setting_at k link ≡ entry_of link settings
-  pub held : (link : ℕ) → IsHeldAt k link (taken_at settings form.links link)
+  pub made : Concentrator
+  pub in_order : settings_in_order made ≡ settings
+  pub each : (link : ℕ) → setting_at made link ≡ entry_of link settings
+  pub empty : (link cid : ℕ) → record_at made link cid ≡ None
+  pub puts : Runs made (puts_in (λ link. entry_of link settings) form.links) k
 
 -- the settings have this fault; or they are fine, and there is no memory, or this is the fault of the octets
 abbrev pub IsRefusal : List LinkSetting → List ℕ → SavedFault → Type 0

@@ -1,7 +1,8 @@
 //! Laws of saved concentrators, as contracts of functions that do nothing.
 
-ghost use Rattle.rohc_saved.specs.Laws.{FormIsSpelled, IsReadBack, ComesBack, LinkComesBack, CutByRestart};
-ghost use Rattle.rohc_saved.specs.Laws.{IsMadeSound, StaysSound, IsKeptSound, IsRestoredSound, IsLinkRestoredSound};
+ghost use Rattle.rohc_saved.specs.Laws.{FormIsSpelled, IsReadBack, ComesBack, LinkComesBack, CutByRestart, CutCallsByRestart};
+ghost use Rattle.rohc_saved.specs.Laws.{IsMadeSound, IsKeptSound, IsRestoredSound, IsLinkRestoredSound};
+ghost use Rattle.rohc_concentrator.specs.Sound.{CallsKeepSound};
 
 /// Octets that are read as a form are those of that form, and the octets of a good form are read as that form.
 pub fn spelled()
@@ -19,18 +20,19 @@ pub fn link_comes_back()
     ensures { LinkComesBack }
 {}
 
-/// Concentrators that were made from settings are sound, they stay so, and so is one that keeps all that a sound one
-/// keeps, one that was restored, also under other settings, and one of which a link was restored.
+/// Concentrators that were made from settings are sound, all calls keep them so, and so is one that keeps all that a sound
+/// one keeps, one that was restored, also under other settings, and one of which a link was restored.
 pub fn sound()
     ensures made { IsMadeSound }
-    ensures stays { StaysSound }
+    ensures stays { CallsKeepSound }
     ensures kept { IsKeptSound }
     ensures restored { IsRestoredSound }
     ensures link { IsLinkRestoredSound }
 {}
 
 /// A run is cut anywhere by a restart. Then the CID of a link gets the replies of the whole run, and has the record
-/// that the whole run leaves, lack of memory aside.
+/// that the whole run leaves, lack of memory aside. So it is if any calls come between arrivals and resets.
 pub fn cut_by_restart()
-    ensures { CutByRestart }
+    ensures events { CutByRestart }
+    ensures calls { CutCallsByRestart }
 {}

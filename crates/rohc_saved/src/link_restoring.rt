@@ -1,13 +1,16 @@
 //! One link of a running concentrator, from its octets (docs/FORMATS.md).
 
-ghost use Rattle.std.specs.Prelude.{◌≡◌, ◌≢◌, ◌⊎◌, ℕ, List, [], ◌∷◌, None, Some, Ok, Err, true, false, OnOk, IfOk, IfErr, IfSome, MatchResult};
-ghost use Rattle.rohc_concentrator.specs.Tables.{setting_at, KeepsAll};
-ghost use Rattle.rohc_concentrator.specs.declared.setting.LinkSetting.{LinkSetting};
+ghost use Rattle.std.specs.Prelude.{◌≡◌, ◌≢◌, ◌⊎◌, ℕ, List, [], ◌∷◌, None, Some, Result, Ok, Err, OnOk, IfOk, IfErr, IfSome, MatchResult};
+ghost use Rattle.rohc_concentrator.specs.Tables.{KeepsAll};
+ghost use Rattle.rohc_concentrator.specs.declared.answer.NoLink.{NoLink};
+ghost use Rattle.rohc_concentrator.specs.Calls.{plain_answer};
+ghost use Rattle.rohc_concentrator.specs.RunsCall.{Runs};
+ghost use Rattle.rohc_concentrator.specs.declared.putting.PutFault.{PutFault};
 ghost use Rattle.rohc_saved.specs.Form.{Link, contexts_in};
 ghost use Rattle.rohc_saved.specs.Read.{link_in, links_in, form_in};
 ghost use Rattle.rohc_saved.specs.Reading.{restored};
-ghost use Rattle.rohc_saved.specs.Restoring.{is_same, limit_of, up_to, IsHeldAt};
-ghost use Rattle.rohc_saved.specs.LinkRestoring.{IsReady, RestoresLink, LinkFaultIn, KeepsElsewhere};
+ghost use Rattle.rohc_saved.specs.Restoring.{up_to, puts_of, StopsAt};
+ghost use Rattle.rohc_saved.specs.LinkRestoring.{IsReady, RestoresLink, reset_turn, MayRunOut, LinkFaultIn};
 
 use crate::fault::{LinkFault, SavedFault};
 use crate::form::{SavedForm, SavedLink};
@@ -22,7 +25,7 @@ use std::alloc::Global;
 /// The setting of a link that is there and holds no context.
 fn ready(concentrator: &Concentrator, number: u16) -> Result<&LinkSetting, LinkFault>
     ensures ready { IfOk result (λ s. IsReady concentrator.now number s.now) }
-    ensures fault { IfErr result (λ e. (octets : List ℕ) → LinkFaultIn concentrator.now number octets e) }
+    ensures fault { IfErr result (λ e. (octets : List ℕ) → LinkFaultIn concentrator.now number octets concentrator.now e) }
 {
     let Some(records) = concentrator.tables().get(&number) else {
         return Err(LinkFault::NoLink);
@@ -46,22 +49,23 @@ fn alone(form: &SavedForm, number: u16) -> Option<&SavedLink>
     }
 }
 
-/// Puts contexts into a link that holds none, up to the greatest CID; if there is no memory, it holds none again.
+/// Puts contexts into a link that holds none, up to the greatest CID; if one is refused, the link is reset.
 fn fill(
     concentrator: &mut Concentrator,
     number: u16,
     greatest: u16,
     contexts: &IndexMap<u16, Context>,
 ) -> Result<(), LinkFault>
-    ensures held { OnOk result (IsHeldAt concentrator.old number [] →
-        IsHeldAt concentrator.new number (up_to (Some greatest) (contexts_in contexts.now))) }
-    ensures elsewhere { KeepsElsewhere concentrator.old number concentrator.new }
-    ensures emptied { IfErr result (λ e. (e ≡ LinkFault.NoMemory) × IsHeldAt concentrator.new number []) }
+    ensures puts { OnOk result (Runs concentrator.old
+        (puts_of number (up_to (Some greatest) (contexts_in contexts.now))) concentrator.new) }
+    ensures stops { IfErr result (λ e. (e ≡ LinkFault.NoMemory) × (fault : PutFault) × (answer : Result Unit NoLink)
+        × StopsAt concentrator.old number (up_to (Some greatest) (contexts_in contexts.now)) fault
+        (reset_turn (plain_answer answer) number ∷ []) concentrator.new) }
 {
     match put_contexts(concentrator, number, greatest, contexts) {
         Ok(()) => Ok(()),
         Err(_) => {
-            // The error would be that the link isn't there. Then it holds nothing anyway.
+            // The link is there, so this has no error.
             let _ = concentrator.reset(number);
             Err(LinkFault::NoMemory)
         }
@@ -71,7 +75,7 @@ fn fill(
 /// What octets spell; the error is their first fault, or `NoMemory`.
 fn read_whole(alloc: Global, octets: &[u8]) -> Result<SavedForm, LinkFault>
     ensures reads { MatchResult result (λ form. restored octets.now ≡ Ok (form_in form))
-        (λ e. (e ≡ LinkFault.NoMemory) ⊎ ((fault : SavedFault) × (e ≡ LinkFault.Octets fault) × (restored octets.now ≡ Err fault))) }
+        (λ e. ((e ≡ LinkFault.NoMemory) × MayRunOut octets.now) ⊎ ((fault : SavedFault) × (e ≡ LinkFault.Octets fault) × (restored octets.now ≡ Err fault))) }
 {
     match read(alloc, octets) {
         Ok(form) => Ok(form),
@@ -93,7 +97,7 @@ pub fn restore_link(
 ) -> Result<Restored, LinkFault>
     ensures restores { IfOk result (λ told. RestoresLink concentrator.old link octets.now told concentrator.new) }
     ensures stays { IfErr result (λ e. KeepsAll concentrator.old concentrator.new) }
-    ensures fault { IfErr result (LinkFaultIn concentrator.old link octets.now) }
+    ensures fault { IfErr result (LinkFaultIn concentrator.old link octets.now concentrator.new) }
 {
     let setting = ready(concentrator, link)?;
     let form = read_whole(alloc, octets)?;

@@ -2,12 +2,12 @@
 //!
 //! Each reader takes the length of the whole text, which tells places.
 
-ghost use Rattle.std.specs.Prelude.{◌≡◌, ◌⊎◌, ◌-◌, [], length, nat_eq, None, Ok, Err, IfOk, MatchResult};
+ghost use Rattle.std.specs.Prelude.{◌≡◌, ◌⊎◌, ◌-◌, ◌≤◌, [], length, nat_eq, None, Ok, Err, IfOk, MatchResult};
 ghost use Rattle.indexmap.specs.IndexMap.{get};
 ghost use Rattle.rohc_bits.specs.Reading.{Reads, ReadsAs};
 ghost use Rattle.rohc_saved.specs.Form.{contexts_in};
 ghost use Rattle.rohc_saved.specs.Read.{link_in, links_in, form_in};
-ghost use Rattle.rohc_saved.specs.Reading.{Gives, AddsNext, Passes, part_at, magic_at, octet_at, word_at, quad_at, long_at, version_at, cid_at, context_at, contexts_at, number_at, size_at, reserved_at, greatest_at, link_at, links_at, form_at, digest_at, restored};
+ghost use Rattle.rohc_saved.specs.Reading.{Gives, AddsNext, Passes, part_at, magic_at, octet_at, word_at, quad_at, long_at, version_at, cid_at, context_at, contexts_at, number_at, size_at, reserved_at, greatest_at, link_at, links_at, form_at, HasLinks, digest_at, restored};
 
 use crate::context_reading::context;
 use crate::fault::SavedFault;
@@ -146,7 +146,7 @@ fn contexts(
     greatest: u16,
     count: u16,
 ) -> Result<IndexMap<u16, Context>, SavedFault>
-    ensures reads { Gives contexts_in result cursor.new (contexts_at total greatest count [] cursor.old) }
+    ensures reads { Gives contexts_in (1 ≤ count) result cursor.new (contexts_at total greatest count [] cursor.old) }
 {
     let mut contexts = IndexMap::new(alloc);
     for _ in 0..count {
@@ -246,7 +246,7 @@ fn links(
     cursor: &mut Cursor<'_>,
     count: u16,
 ) -> Result<IndexMap<u16, SavedLink>, SavedFault>
-    ensures reads { Gives links_in result cursor.new (links_at total count [] cursor.old) }
+    ensures reads { Gives links_in (1 ≤ count) result cursor.new (links_at total count [] cursor.old) }
 {
     let mut links = IndexMap::new(alloc);
     for _ in 0..count {
@@ -256,9 +256,9 @@ fn links(
 }
 
 /// Reads all before the digest.
-#[tactic(auto, unfolding(crate::specs::Reading::form_at))]
+#[tactic(auto, unfolding(crate::specs::Reading::form_at, crate::specs::Reading::count_at))]
 fn form(alloc: Global, total: usize, cursor: &mut Cursor<'_>) -> Result<SavedForm, SavedFault>
-    ensures reads { Gives form_in result cursor.new (form_at total cursor.old) }
+    ensures reads { Gives form_in (HasLinks total cursor.old) result cursor.new (form_at total cursor.old) }
 {
     magic(cursor)?;
     version(total, cursor)?;
@@ -286,7 +286,7 @@ fn digest(octets: &[u8], cursor: &mut Cursor<'_>) -> Result<(), SavedFault>
 #[tactic(auto, unfolding(crate::specs::Reading::restored))]
 pub(crate) fn read(alloc: Global, octets: &[u8]) -> Result<SavedForm, SavedFault>
     ensures reads { MatchResult result (λ form. restored octets.now ≡ Ok (form_in form))
-        (λ e. (e ≡ SavedFault.NoMemory) ⊎ (restored octets.now ≡ Err e)) }
+        (λ e. ((e ≡ SavedFault.NoMemory) × HasLinks (length octets.now) octets.now) ⊎ (restored octets.now ≡ Err e)) }
 {
     let total = octets.len();
     let mut cursor = reading::cursor_over(octets);

@@ -1,12 +1,12 @@
 //! A concentrator from its octets (docs/FORMATS.md).
 
-ghost use Rattle.std.specs.Prelude.{◌≡◌, [], ◌∷◌, Some, Ok, flat_map, length, option_map, OnOk, IfOk, IfErr};
+ghost use Rattle.std.specs.Prelude.{◌≡◌, [], ◌∷◌, Some, Ok, length, option_map, OnOk, IfOk, IfErr};
 ghost use Rattle.rohc_context.specs.Record.{record_of};
-ghost use Rattle.rohc_concentrator.specs.Tables.{setting_at, KeepsSettings};
+ghost use Rattle.rohc_concentrator.specs.Tables.{setting_at};
+ghost use Rattle.rohc_concentrator.specs.RunsCall.{Runs};
 ghost use Rattle.rohc_saved.specs.Form.{Form, contexts_in};
 ghost use Rattle.rohc_saved.specs.Read.{link_in, links_in, form_in};
-ghost use Rattle.rohc_saved.specs.LinkRestoring.{KeepsElsewhere};
-ghost use Rattle.rohc_saved.specs.Restoring.{is_same, limit_of, up_to, taken_of, own, AddsContexts, TellsOne, AddsUp, IsToldOfForm, Restores, IsRefusal};
+ghost use Rattle.rohc_saved.specs.Restoring.{is_same, limit_of, up_to, taken_of, puts_of, puts_in, StopsAt, TellsOne, AddsUp, IsToldOfForm, Restores, IsRefusal};
 ghost use Rattle.rohc_saved.specs.Reading.{restored};
 ghost use Rattle.rohc_saved.specs.Output.{counted};
 ghost use Rattle.rohc_concentrator.specs.Setup.{entry_of, AreFine};
@@ -16,7 +16,7 @@ use crate::form::{SavedForm, SavedLink};
 use crate::reading::read;
 use crate::restored::Restored;
 use indexmap::IndexMap;
-use rohc_concentrator::{Concentrator, LinkSetting, SetupFault};
+use rohc_concentrator::{Concentrator, LinkSetting, PutFault, SetupFault};
 use rohc_context::Context;
 use rohc_frame::CidKind;
 use std::alloc::Global;
@@ -55,43 +55,35 @@ fn limit(concentrator: &Concentrator, number: u16, link: &SavedLink) -> Option<u
 }
 
 /// Puts a context of a link into a concentrator, if its CID is at most the greatest.
-#[tactic(auto, using(crate::proofs::RestoringLemmas::adds_none, crate::proofs::LinkLemmas::elsewhere_none, crate::proofs::LinkLemmas::elsewhere_put, crate::proofs::LinkLemmas::elsewhere_all))]
 fn put_context(
     concentrator: &mut Concentrator,
     number: u16,
     greatest: u16,
     cid: u16,
     context: Context,
-) -> Result<(), SavedFault>
-    ensures adds { OnOk result (AddsContexts concentrator.old concentrator.new
-        (own number (up_to (Some greatest) ((cid, record_of context) ∷ [])))) }
-    ensures settings { OnOk result (KeepsSettings concentrator.old concentrator.new) }
-    ensures elsewhere { KeepsElsewhere concentrator.old number concentrator.new }
-    ensures poor { IfErr result (λ e. e ≡ SavedFault.NoMemory) }
+) -> Result<(), PutFault>
+    ensures puts { OnOk result (Runs concentrator.old
+        (puts_of number (up_to (Some greatest) ((cid, record_of context) ∷ []))) concentrator.new) }
+    ensures stops { IfErr result (λ e. StopsAt concentrator.old number
+        (up_to (Some greatest) ((cid, record_of context) ∷ [])) e [] concentrator.new) }
 {
     if cid > greatest {
         return Ok(());
     }
-    // The link is there, the CID is within its greatest, and the reader lets no CID stand twice.
-    match concentrator.put(number, cid, context) {
-        Ok(()) => Ok(()),
-        Err(_) => Err(SavedFault::NoMemory),
-    }
+    concentrator.put(number, cid, context)
 }
 
 /// Puts contexts of a link into a concentrator, up to the greatest CID.
-#[tactic(auto, using(crate::proofs::LinkLemmas::elsewhere_none, crate::proofs::LinkLemmas::elsewhere_more))]
 pub(crate) fn put_contexts(
     concentrator: &mut Concentrator,
     number: u16,
     greatest: u16,
     contexts: &IndexMap<u16, Context>,
-) -> Result<(), SavedFault>
-    ensures adds { OnOk result (AddsContexts concentrator.old concentrator.new
-        (own number (up_to (Some greatest) (contexts_in contexts.now)))) }
-    ensures settings { OnOk result (KeepsSettings concentrator.old concentrator.new) }
-    ensures elsewhere { KeepsElsewhere concentrator.old number concentrator.new }
-    ensures poor { IfErr result (λ e. e ≡ SavedFault.NoMemory) }
+) -> Result<(), PutFault>
+    ensures puts { OnOk result (Runs concentrator.old
+        (puts_of number (up_to (Some greatest) (contexts_in contexts.now))) concentrator.new) }
+    ensures stops { IfErr result (λ e. StopsAt concentrator.old number
+        (up_to (Some greatest) (contexts_in contexts.now)) e [] concentrator.new) }
 {
     for (cid, context) in contexts {
         put_context(concentrator, number, greatest, *cid, *context)?;
@@ -100,16 +92,9 @@ pub(crate) fn put_contexts(
 }
 
 /// Puts the contexts of a link into a concentrator, as far as its settings have them.
-#[tactic(auto, using(crate::proofs::RestoringLemmas::adds_none))]
-fn take_link(
-    concentrator: &mut Concentrator,
-    number: u16,
-    link: &SavedLink,
-) -> Result<(), SavedFault>
-    ensures adds { OnOk result (AddsContexts concentrator.old concentrator.new
-        (own number (taken_of (setting_at concentrator.old number) (link_in link.now)))) }
-    ensures settings { OnOk result (KeepsSettings concentrator.old concentrator.new) }
-    ensures poor { IfErr result (λ e. e ≡ SavedFault.NoMemory) }
+fn take_link(concentrator: &mut Concentrator, number: u16, link: &SavedLink) -> Result<(), PutFault>
+    ensures puts { OnOk result (Runs concentrator.old
+        (puts_of number (taken_of (setting_at concentrator.old number) (link_in link.now))) concentrator.new) }
 {
     match limit(concentrator, number, link) {
         Some(greatest) => put_contexts(concentrator, number, greatest, &link.contexts),
@@ -121,11 +106,9 @@ fn take_link(
 fn take_links(
     concentrator: &mut Concentrator,
     links: &IndexMap<u16, SavedLink>,
-) -> Result<(), SavedFault>
-    ensures adds { OnOk result (AddsContexts concentrator.old concentrator.new
-        (λ link. flat_map (λ l. own l.0 (taken_of (setting_at concentrator.old l.0) l.1) link) (links_in links.now))) }
-    ensures settings { OnOk result (KeepsSettings concentrator.old concentrator.new) }
-    ensures poor { IfErr result (λ e. e ≡ SavedFault.NoMemory) }
+) -> Result<(), PutFault>
+    ensures puts { OnOk result (Runs concentrator.old
+        (puts_in (setting_at concentrator.old) (links_in links.now)) concentrator.new) }
 {
     for (number, link) in links {
         take_link(concentrator, *number, link)?;
@@ -234,7 +217,10 @@ pub fn restore(
         Err(fault) => return Err(SavedFault::Settings(fault)),
     };
     let form = read(alloc, octets)?;
-    take_links(&mut concentrator, &form.links)?;
+    // The CIDs of a link are apart and within its greatest, so a put is refused only for lack of memory.
+    let Ok(()) = take_links(&mut concentrator, &form.links) else {
+        return Err(SavedFault::NoMemory);
+    };
     let told = tell(&concentrator, &form);
     Ok((concentrator, told))
 }

@@ -24,6 +24,21 @@ fn links(rt: &(impl AllocGlobal + Abort), first: u16, second: u16) -> Links {
     read_links(rt.alloc(), text.as_str()).expect(rt, "no memory")
 }
 
+// The links of a file with 256 numbers from this one on.
+fn many_links(rt: &(impl AllocGlobal + Abort), first: u16) -> Links {
+    let mut text = String::new(rt.alloc());
+    text.push_str("version = 1\n").expect(rt, "no memory");
+    for place in 0..256u16 {
+        let number = first.saturating_add(place);
+        let entry = format!(in rt.alloc(); "[[link]]\nnumber = {number}{REST}").expect(
+            rt,
+            "no memory",
+        );
+        text.push_str(entry.as_str()).expect(rt, "no memory");
+    }
+    read_links(rt.alloc(), text.as_str()).expect(rt, "no memory")
+}
+
 // A station with these two links.
 fn station(rt: &(impl AllocGlobal + Abort), first: u16, second: u16) -> Station {
     let links = links(rt, first, second);
@@ -98,6 +113,24 @@ fn takes_and_reloads(rt: HostRuntime) {
     assert!(rt; station.totals().datagrams == 2 && station.totals().bad_datagrams == 1);
     assert!(rt; station.take_known(1000, &[0, 6, 0xfd, 0x01]).sends.refused);
     assert!(rt; station.reset(4, Some(0)).expect(&rt, "it works") == 1);
+}
+
+#[test]
+fn replaces_as_many_links_as_there_may_be(rt: HostRuntime) {
+    let before = many_links(&rt, 0);
+    let concentrator = Concentrator::new(rt.alloc(), before.settings()).expect(&rt, "no memory");
+    let mut station = Station::new(rt.alloc(), concentrator, before).expect(&rt, "no memory");
+    let report = station
+        .reload(rt.alloc(), many_links(&rt, 256))
+        .expect(&rt, "it works");
+    let wanted = ReloadReport {
+        added: 256,
+        changed: 0,
+        removed: 256,
+        contexts_gone: 0,
+    };
+    assert!(rt; report == wanted);
+    assert!(rt; station.concentrator().tables().contains_key(&511));
 }
 
 #[test]
