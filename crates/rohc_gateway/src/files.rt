@@ -1,6 +1,6 @@
 //! The files of a gateway: read whole, and written so that a good one always stands.
 
-use rohc_text::Why;
+use rohc_text::Reason;
 use std::alloc::Global;
 use std::fs::{File, OpenFile};
 use std::io::{ErrorKind, Read, Write};
@@ -13,70 +13,35 @@ const LONGEST_TEXT: u64 = 1_048_576;
 /// The longest state file, in octets: 256 links of 16,384 contexts take less.
 const LONGEST_STATE: u64 = 1_073_741_824;
 
-/// Why a file can't be read.
-#[derive(Clone, Copy)]
-pub(crate) enum Unread {
-    /// The system says why.
-    System(io::Error),
-    /// It has more than this many octets.
-    Long(u64),
-    /// It is no UTF-8.
-    NotUtf8,
-}
-
-impl Unread {
-    /// Whether there was no memory.
-    pub(crate) fn is_memory(&self) -> bool {
-        match self {
-            Unread::System(error) => error.kind() == ErrorKind::OutOfMemory,
-            _ => false,
-        }
-    }
-}
-
-impl fmt::Display for Unread {
-    fn fmt<W: fmt::Write>(&self, f: &mut fmt::Formatter<W>) -> fmt::Result {
-        match self {
-            Unread::System(error) => write!(f, "{}", Why(error)),
-            Unread::Long(longest) => write!(f, "longer than {longest} octets"),
-            Unread::NotUtf8 => f.write_str("not UTF-8"),
-        }
-    }
-}
-
-impl From<io::Error> for Unread {
-    fn from(error: io::Error) -> Unread {
-        Unread::System(error)
-    }
-}
-
 /// Reads a file of at most this many octets.
-fn read_file<R: Files + AllocGlobal>(rt: &R, path: &str, longest: u64) -> Result<Vec<u8>, Unread> {
-    let file = fs::open(rt, path)?;
+fn read_file<R: Files + AllocGlobal>(rt: &R, path: &str, longest: u64) -> Result<Vec<u8>, Reason> {
+    let file = fs::open(rt, path).map_err(|e| Reason::of(&e))?;
     let mut octets = Vec::new(rt.alloc());
     let mut limited = file.take(longest.saturating_add(1));
-    limited.read_to_end(&mut octets)?;
+    limited
+        .read_to_end(&mut octets)
+        .map_err(|e| Reason::of(&e))?;
     if octets.len() as u64 > longest {
-        return Err(Unread::Long(longest));
+        return Err(Reason::TooLong(longest));
     }
     Ok(octets)
 }
 
 /// Reads the text of a gateway file or a links file.
-pub(crate) fn read_text<R: Files + AllocGlobal>(rt: &R, path: &str) -> Result<String, Unread> {
+pub(crate) fn read_text<R: Files + AllocGlobal>(rt: &R, path: &str) -> Result<String, Reason> {
     let octets = read_file(rt, path, LONGEST_TEXT)?;
-    String::from_utf8(octets).map_err(|_| Unread::NotUtf8)
+    String::from_utf8(octets).map_err(|_| Reason::NotUtf8)
 }
 
 /// Reads a state file; `None` if there is none.
 pub(crate) fn read_state<R: Files + AllocGlobal>(
     rt: &R,
     path: &str,
-) -> Result<Option<Vec<u8>>, Unread> {
+) -> Result<Option<Vec<u8>>, Reason> {
     match read_file(rt, path, LONGEST_STATE) {
         Ok(octets) => Ok(Some(octets)),
-        Err(Unread::System(error)) if error.kind() == ErrorKind::NotFound => Ok(None),
-        Err(unread) => Err(unread),
+        Err(Reason::Missing) => Ok(None),
+        Err(reason) => Err(reason),
     }
 }
 
@@ -111,7 +76,7 @@ impl Unwritten {
 impl fmt::Display for Unwritten {
     fn fmt<W: fmt::Write>(&self, f: &mut fmt::Formatter<W>) -> fmt::Result {
         match self {
-            Unwritten::System { path, error } => write!(f, "{path}: {}", Why(error)),
+            Unwritten::System { path, error } => write!(f, "{path}: {}", Reason::of(error)),
             Unwritten::Memory => f.write_str("out of memory"),
         }
     }

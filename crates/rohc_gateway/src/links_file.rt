@@ -4,6 +4,7 @@ use crate::files::read_text;
 use crate::lines::Lines;
 use rohc_faults::write_faults;
 use rohc_links::{Links, LinksFault, read_links};
+use rohc_text::Reason;
 use std::alloc::Global;
 use std::io;
 use std::io::Write;
@@ -40,16 +41,16 @@ impl NoLinks {
 
 /// The text of a links file.
 fn links_text<R: Files + AllocGlobal>(rt: &R, path: &str) -> Result<String, NoLinks> {
-    let unread = match read_text(rt, path) {
+    let reason = match read_text(rt, path) {
         Ok(text) => return Ok(text),
-        Err(unread) if unread.is_memory() => return Err(NoLinks::Memory),
-        Err(unread) => unread,
+        Err(Reason::Memory) => return Err(NoLinks::Memory),
+        Err(reason) => reason,
     };
     let mut lines = Lines::new(rt.alloc());
     let expected = "expected a links file that this user can read";
     match writeln!(
         &mut lines,
-        "{path}: {unread}; {expected} (rohctl links --new writes one)"
+        "{path}: {reason}; {expected} (rohctl links --new writes one)"
     ) {
         Ok(()) => Err(NoLinks::Refused("Unreadable", lines)),
         Err(_) => Err(NoLinks::Memory),

@@ -54,7 +54,9 @@ fn main(rt: HostRuntime) -> ExitCode {
             Err(ending) => ending,
         },
         Err(e) if e.kind() == io::ErrorKind::InvalidData => {
-            let _ = eprintln!(rt; "error: a word of the command line is not UTF-8; expected UTF-8");
+            let _ = eprintln!(rt;
+                "error: a word of the command line is not UTF-8; expected UTF-8, also in file names"
+            );
             Ending::CommandLine
         }
         Err(_) => Ending::Memory,

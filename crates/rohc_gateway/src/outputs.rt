@@ -170,7 +170,7 @@ fn write_no_socket<R: Files, W: Write>(
     write_place(out, file, reading.place_of(control.key))?;
     writeln!(
         out,
-        "control would overwrite {path}, which is no socket; expected the path of a new socket"
+        "control would overwrite {path}, which is not a socket; expected the path of a new socket"
     )
 }
 

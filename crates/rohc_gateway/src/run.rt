@@ -11,7 +11,7 @@ use mio::{Events, Poll, Token};
 use rohc_gateway_file::{Config, Ending, Options};
 use rohc_saved::Restored;
 use rohc_station::{GatewayFigures, Station};
-use rohc_text::Why;
+use rohc_text::Reason;
 use std::alloc::{AllocError, Global};
 use std::io;
 use std::net::Net;
@@ -248,7 +248,7 @@ fn tell_end<R: Eprint>(rt: &R, served: io::Result<()>) -> Result<Ending, Ending>
         Err(e) => {
             let _ = eprintln!(rt;
                 "<3>rohc-gateway: waiting for datagrams failed: {}",
-                Why(&e)
+                Reason::of(&e)
             );
             Err(Ending::Socket)
         }

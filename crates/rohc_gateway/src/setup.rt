@@ -8,6 +8,7 @@ use rohc_concentrator::{Concentrator, SetupFault};
 use rohc_gateway_file::{Config, Options, Reading, read_config};
 use rohc_links::Links;
 use rohc_saved::{Restored, SavedFault, restore};
+use rohc_text::{Reason, shown_word};
 use std::alloc::Global;
 use std::io::{self, ErrorKind, Write};
 use std::rt::Files;
@@ -80,10 +81,11 @@ fn config_of<R: Files + AllocGlobal>(
 ) -> io::Result<Option<Config>> {
     match read_text(rt, file) {
         Ok(text) => config_in(rt, file, text.as_str(), options, lines),
-        Err(unread) if unread.is_memory() => Err(no_memory()),
-        Err(unread) => {
+        Err(Reason::Memory) => Err(no_memory()),
+        Err(reason) => {
             let expected = "expected a gateway file that this user can read";
-            writeln!(lines, "{file}: {unread}; {expected} (man rohc-gateway)")?;
+            let file = shown_word(file);
+            writeln!(lines, "{file}: {reason}; {expected} (man rohc-gateway)")?;
             Ok(None)
         }
     }
@@ -125,6 +127,21 @@ fn links_of<R: Files + AllocGlobal>(
     }
 }
 
+/// Writes why the octets of a state file are refused.
+fn write_unsaved<W: Write>(out: &mut W, fault: &SavedFault) -> io::Result<()> {
+    match fault {
+        SavedFault::NotSaved => write!(out, "it is not a state file"),
+        SavedFault::Version { place } => write!(out, "it has an unknown version, at octet {place}"),
+        SavedFault::Short { place } => write!(out, "it is cut off, at octet {place}"),
+        SavedFault::Long { place } => write!(out, "octets follow its end, at octet {place}"),
+        SavedFault::Digest { .. } => write!(out, "it is damaged: its digest does not match"),
+        SavedFault::BadLink { place }
+        | SavedFault::BadContext { place }
+        | SavedFault::BadOrder { place } => write!(out, "it has a bad value, at octet {place}"),
+        SavedFault::Settings(_) | SavedFault::NoMemory => write!(out, "{fault}"),
+    }
+}
+
 /// Restores the contexts that these octets save; `None` if they are refused.
 fn restored_in(
     alloc: Global,
@@ -137,11 +154,10 @@ fn restored_in(
         Ok(restored) => Ok(Some(restored)),
         Err(SavedFault::NoMemory) => Err(no_memory()),
         Err(fault) => {
-            let expected = "expected a state file of this version, whole";
-            writeln!(
-                lines,
-                "{path}: {fault}; {expected} (run --fresh starts without it)"
-            )?;
+            write!(lines, "{path}: ")?;
+            write_unsaved(lines, &fault)?;
+            let expected = "expected a complete state file of this version";
+            writeln!(lines, "; {expected} (run --fresh starts without it)")?;
             Ok(None)
         }
     }
@@ -157,10 +173,10 @@ fn restored_of<R: Files + AllocGlobal>(
     match read_state(rt, path) {
         Ok(Some(octets)) => restored_in(rt.alloc(), path, links, octets.as_slice(), lines),
         Ok(None) => Ok(None),
-        Err(unread) if unread.is_memory() => Err(no_memory()),
-        Err(unread) => {
+        Err(Reason::Memory) => Err(no_memory()),
+        Err(reason) => {
             let expected = "expected a state file that this user can read, or none";
-            writeln!(lines, "{path}: {unread}; {expected}")?;
+            writeln!(lines, "{path}: {reason}; {expected}")?;
             Ok(None)
         }
     }

@@ -4,7 +4,7 @@ use mio::event::Source;
 use mio::net::{TcpListener, UdpSocket, UnixListener};
 use mio::{Interest, Poll, Token};
 use rohc_gateway_file::Config;
-use rohc_text::Why;
+use rohc_text::Reason;
 use std::fs::Permissions;
 use std::io::ErrorKind;
 use std::net::{Ipv4Addr, Net, SocketAddr};
@@ -57,31 +57,55 @@ pub(crate) struct SocketFault<'a> {
     error: io::Error,
 }
 
+/// What the system says if a process has too many files open (EMFILE), or all processes have (ENFILE).
+const TOO_MANY: [i32; 2] = [24, 23];
+
+/// What is expected if this process can open no more files.
+const DESCRIPTORS: &str = "expected free file descriptors (ulimit -n)";
+
+/// Whether no more files can be opened.
+fn is_too_many(error: &io::Error) -> bool {
+    match error.raw_os_error() {
+        Some(code) => TOO_MANY.contains(&code),
+        None => false,
+    }
+}
+
 /// What is expected of a port that can't be bound.
-fn expected_port(kind: ErrorKind) -> &'static str {
-    match kind {
+fn expected_port(error: &io::Error) -> &'static str {
+    match error.kind() {
         ErrorKind::AddrInUse => "expected a free port (ss -anp shows who uses it)",
         ErrorKind::PermissionDenied => "expected a port above 1023",
+        _ if is_too_many(error) => DESCRIPTORS,
         _ => "expected a port that can be bound",
+    }
+}
+
+/// What is expected of a control socket that can't be bound.
+fn expected_path(error: &io::Error) -> &'static str {
+    if is_too_many(error) {
+        DESCRIPTORS
+    } else {
+        "expected a path in a directory that this user may write"
     }
 }
 
 impl fmt::Display for SocketFault<'_> {
     fn fmt<W: fmt::Write>(&self, f: &mut fmt::Formatter<W>) -> fmt::Result {
-        let why = Why(&self.error);
-        let expected = expected_port(self.error.kind());
+        let why = Reason::of(&self.error);
+        let expected = expected_port(&self.error);
         match self.opened {
-            Opened::Poll => write!(f, "sockets: {why}; expected free file descriptors"),
+            Opened::Poll => write!(f, "sockets: {why}; {DESCRIPTORS}"),
             Opened::Udp(key, port) => {
                 write!(f, "{key}: UDP 127.0.0.1:{port}: {why}; {expected}")
             }
             Opened::Tcp(port) => {
                 write!(f, "metrics_port: TCP 127.0.0.1:{port}: {why}; {expected}")
             }
-            Opened::Control(path) => write!(
-                f,
-                "control: {path}: {why}; expected a path in a folder that this user may write"
-            ),
+            Opened::Control(path) => {
+                let expected = expected_path(&self.error);
+                write!(f, "control: {path}: {why}; {expected}")
+            }
         }
     }
 }

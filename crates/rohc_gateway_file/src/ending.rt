@@ -1,6 +1,6 @@
 //! How a run of `rohc-gateway` ends: its exit status, and the line that it prints on standard error.
 
-use rohc_text::Why;
+use rohc_text::Reason;
 use std::{fmt, io};
 
 /// How a run of the program ends.
@@ -16,8 +16,6 @@ pub enum Ending {
     Refused,
     /// A socket can't be opened, or polled. What is wrong was printed.
     Socket,
-    /// The clock can't be read.
-    Clock,
     /// A write to standard output or standard error failed.
     Write(io::Error),
     /// There is no memory.
@@ -37,7 +35,7 @@ impl Ending {
             Ending::Findings => 1,
             Ending::CommandLine => 2,
             Ending::Refused => 3,
-            Ending::Socket | Ending::Clock | Ending::Write(_) => 4,
+            Ending::Socket | Ending::Write(_) => 4,
             Ending::Memory => 5,
         }
     }
@@ -51,9 +49,12 @@ impl fmt::Display for Ending {
             | Ending::CommandLine
             | Ending::Refused
             | Ending::Socket => Ok(()),
-            Ending::Clock => f.write_str("<3>rohc-gateway: the system's clock can't be read\n"),
             Ending::Write(error) => {
-                write!(f, "<3>rohc-gateway: standard output: {}\n", Why(error))
+                write!(
+                    f,
+                    "<3>rohc-gateway: standard output: {}\n",
+                    Reason::of(error)
+                )
             }
             Ending::Memory => f.write_str(
                 "<3>rohc-gateway: out of memory; rohctl plan --calls COUNT shows what calls need\n",

@@ -2,3 +2,4 @@ mod PlaceLemmas
 mod AbsentLemmas
 mod OfferLemmas
 mod TurnLemmas
+mod RunLemmas

@@ -4,3 +4,4 @@ pub mod Tally
 pub mod Acts
 pub mod Sending
 pub mod Turns
+pub mod Laws

@@ -5,6 +5,7 @@
 
 pub mod datagram;
 pub mod front;
+pub mod laws;
 mod sending;
 pub mod sends;
 pub mod server;

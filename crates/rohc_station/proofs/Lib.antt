@@ -1,8 +1,9 @@
 pub mod PlaceLemmas
-pub mod KeepLemmas
-pub mod TellLemmas
-pub mod SettleLemmas
-pub mod AlikeLemmas
-pub mod LifeLemmas
-pub mod CallLemmas
 pub mod NumberLemmas
+pub mod SameLemmas
+pub mod CallLemmas
+pub mod RemoveLemmas
+pub mod ChangeLemmas
+pub mod AddLemmas
+pub mod ReloadLemmas
+pub mod LifeLemmas

@@ -1,48 +1,52 @@
 -- The numbers of links, and the counts for them.
-use Rattle.std.proofs.Common.{◌≡◌, ℕ, zero, suc, ◌+◌, ◌<◌, ◌≤◌, List, [], ◌∷◌, ◌++◌, length, map, take, get_or, ◌⊎◌, ⊎_elim, Bool, true, false, ◌||◌, ◌==◌, if◌then◌else◌, nat_eq, Option, Some, None, arith, refl, sym, ap, subst, ◌∙◌, eq-eqb, ne_eqb}
-use Rattle.std.specs.Prelude.{is_some}
+use Rattle.std.proofs.Common.{◌≡◌, ℕ, ◌+◌, ◌<◌, List, [], ◌∷◌, ◌++◌, length, map, take, get_or, ⊎_elim, Bool, true, false, ◌==◌, if◌then◌else◌, nat_eq, Option, Some, None, Result, Ok, Err, refl, sym, ap, subst, ◌∙◌, eq-eqb, ne_eqb}
+use Rattle.std.specs.Prelude.{is_some, IfOk, OnOk}
+use Rattle.std.specs.Cmp.{nat_eq_equiv}
+use Rattle.std.specs.List.{AllByRecursion}
+use Rattle.std.specs.Map.{keys_of}
 use Rattle.std.specs.Option.{option_or}
-use Rattle.std.specs.HashMap.{HashMap, get, keys, Updates}
+use Rattle.std.specs.HashMap.{HashMap, get, keys, Updates, IsUnique}
 use Rattle.std.proofs.lemmas.Bool.{cases_eq}
 use Rattle.std.proofs.lemmas.List.{take_more}
-use Rattle.std.proofs.lemmas.List.Folds.{find-append, list_any-append}
+use Rattle.std.proofs.lemmas.List.Folds.{find-append}
+use Rattle.std.proofs.lemmas.Option.{slice_get-get_or}
 use Rattle.std.proofs.lemmas.Map.Made.{is_some-lookup}
+use Rattle.std.proofs.lemmas.Map.Entries.{hash_map_get_place}
+use Rattle.rohc_concentrator.specs.declared.concentrator.Concentrator.{Concentrator}
 use Rattle.rohc_concentrator.specs.declared.records.LinkRecords.{LinkRecords}
 use Rattle.rohc_concentrator.specs.declared.setting.LinkSetting.{LinkSetting}
 use Rattle.rohc_concentrator.specs.Setup.{entry_of}
+use Rattle.rohc_concentrator.specs.Tables.{setting_at, AreTables}
+use Rattle.rohc_concentrator.proofs.WayLemmas.{each_of}
 use Rattle.rohc_station.specs.declared.counters.LinkCounters.{LinkCounters}
 use Rattle.rohc_station.specs.Counting.{KeepsCounts}
-use Rattle.rohc_station.specs.Reload.{is_among}
-
-or_false : (a b : Bool) → (a || b) ≡ false → (a ≡ false) × (b ≡ false)
-or_false false false e = (refl, refl)
-or_false false true e = absurd (let bad : true ≡ false = e in cc)
-or_false true b e = absurd (let bad : true ≡ false = e in cc)
-
-pub not_among : (l : ℕ) (xs ys : List ℕ) → is_among l (xs ++ ys) ≡ false → (is_among l xs ≡ false) × (is_among l ys ≡ false)
-not_among l xs ys e = or_false (is_among l xs) (is_among l ys) (sym (list_any-append (nat_eq l) xs ys) ∙ e)
+use Rattle.rohc_station.specs.Reload.{AreLinks}
 
 none_if : {X : Type 0} (o : Option X) → is_some o ≡ false → o ≡ None
 none_if None e = refl
 none_if (Some x) e = absurd (let bad : true ≡ false = e in cc)
 
--- a number that isn't a key has no value
-pub no_key : {S : Type 0} (m : HashMap ℕ LinkRecords S) (l : ℕ) → is_among l (keys m) ≡ false → get nat_eq m l ≡ None
-no_key m l e = none_if (get nat_eq m l) (is_some-lookup (nat_eq l) m.entries ∙ e)
+-- the keys of a table have the settings of its records
+settings_of_keys : (f : ℕ → Option LinkSetting) (es : List (ℕ × LinkRecords)) → AllByRecursion (λ (e : ℕ × LinkRecords). f e.0 ≡ Some e.1.setting) es
+    → map f (keys_of es) ≡ map (λ (s : LinkSetting). Some s) (map (λ (e : ℕ × LinkRecords). e.1.setting) es)
+settings_of_keys f [] all = refl
+settings_of_keys f (e ∷ es) all = (λ i. all.0 i ∷ settings_of_keys f es all.1 i)
 
--- a number that no setting has isn't listed
-pub not_listed : (l : ℕ) (settings : List LinkSetting) → is_among l (map (λ (s : LinkSetting). s.link) settings) ≡ false → entry_of l settings ≡ None
-not_listed l [] e = refl
-not_listed l (s ∷ settings) e =
-    let parts = or_false (nat_eq l s.link) (is_among l (map (λ (s : LinkSetting). s.link) settings)) e in
-    let other : (s.link == l) ≡ false = ne_eqb s.link l (λ same. let yes : (l == s.link) ≡ true = eq-eqb l s.link (sym same) in let bad : false ≡ true = sym parts.0 ∙ yes in cc) in
-    rw other (not_listed l settings parts.1)
+-- so the keys of a concentrator's tables are the numbers of its links
+numbers_are : {S : Type 0} (k : Concentrator) (tables : HashMap ℕ LinkRecords S) (numbers : List ℕ) → AreTables k tables → IsUnique nat_eq tables → numbers ≡ keys tables → AreLinks k numbers
+numbers_are k tables numbers are unique is = subst (AreLinks k) (sym is) (record {
+  in_order = settings_of_keys (setting_at k) tables.entries (each_of (λ (e : ℕ × LinkRecords). setting_at k e.0 ≡ Some e.1.setting) tables.entries (λ j d within.
+      let e : ℕ × LinkRecords = get_or tables.entries j d in
+      (are.there e.0 e.1 (hash_map_get_place nat_eq_equiv tables j e.0 e.1 unique (slice_get-get_or tables.entries j d within))).setting))
+      ∙ ap (map (λ (s : LinkSetting). Some s)) are.in_order;
+  apart = unique;
+  whole = λ l none. are.absent l (none_if (get nat_eq tables l) (is_some-lookup (nat_eq l) tables.entries ∙ none));
+})
 
-pub take_whole : {A : Type 0} (xs : List A) (n : ℕ) → length xs ≤ n → take n xs ≡ xs
-take_whole [] zero h = refl
-take_whole [] (suc n) h = refl
-take_whole (x ∷ xs) zero h = absurd (omega arith)
-take_whole (x ∷ xs) (suc n) h = ap (λ ys. x ∷ ys) (take_whole xs n (omega arith))
+pub numbers_if : {S V E : Type 0} (k : Concentrator) (tables : HashMap ℕ LinkRecords S) (are : AreTables k tables) (items : V → List ℕ) (r : Result V E) → IfOk r (λ v. items v ≡ keys tables) → OnOk r (IsUnique nat_eq tables)
+    → IfOk r (λ v. AreLinks k (items v))
+numbers_if k tables are items (Ok v) is unique = numbers_are k tables (items v) are unique is
+numbers_if k tables are items (Err e) is unique = tt
 
 entry_more : (l : ℕ) (xs : List LinkSetting) (n : ℕ) (s : LinkSetting) → n < length xs → s ≡ get_or xs n s → entry_of l (take (n + 1) xs) ≡ option_or (entry_of l (take n xs)) (if s.link == l then Some s else None)
 entry_more l xs n s within is =

@@ -2,9 +2,8 @@ pub mod Timed
 pub mod Told
 pub mod Counting
 pub mod Taking
+pub mod Same
 pub mod Reload
-pub mod Settling
 pub mod Reset
 pub mod Requests
 pub mod Life
-pub mod CallLife

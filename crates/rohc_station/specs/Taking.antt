@@ -1,7 +1,7 @@
--- What a station does with a datagram. Words: counters_at a link; TakesPacket; IsRefusedUnread; dated;
--- Takes; begins_call; call_in, timed_call_in; TakesUnless, TakesKnownPacket, TakesKnown;
--- CountsFailedSends, FailsSends.
-use Rattle.std.specs.Prelude.{◌≡◌, ◌≢◌, ℕ, List, Option, Some, None, nat_eq, not, is_some, Bool, true, false}
+-- What a station does with a datagram. Words: counters_at a link; arrival, TakesPacket; IsRefusedUnread;
+-- dated; Takes; begins_call; call_in, timed_call_in; TakesUnless, TakesKnown; CountsFailedSends,
+-- FailsSends.
+use Rattle.std.specs.Prelude.{◌≡◌, ◌≢◌, ℕ, List, [], ◌∷◌, Option, Some, None, nat_eq, not, is_some, Bool, true, false}
 use Rattle.std.specs.Option.{option_map}
 use Rattle.indexmap.specs.IndexMap.{get}
 use Rattle.rohc_context.specs.Record.{Record}
@@ -9,7 +9,8 @@ use Rattle.rohc_concentrator.specs.declared.concentrator.Concentrator.{Concentra
 use Rattle.rohc_concentrator.specs.Tables.{setting_at, record_at}
 use Rattle.rohc_concentrator.specs.Bears.{borne}
 use Rattle.rohc_concentrator.specs.Report.{Report}
-use Rattle.rohc_concentrator.specs.Events.{Arrives}
+use Rattle.rohc_concentrator.specs.Calls.{Arrive, Reported}
+use Rattle.rohc_concentrator.specs.RunsCall.{RunsCall, Turn}
 use Rattle.rohc_serve.specs.Datagram.{named_link, datagram_packet, ports_of}
 use Rattle.rohc_station.specs.declared.counters.LinkCounters.{LinkCounters}
 use Rattle.rohc_station.specs.declared.station.Station.{Station}
@@ -21,19 +22,27 @@ use Rattle.rohc_station.specs.Told.{Told, told_unread, told_for}
 abbrev pub counters_at : Station → ℕ → Option LinkCounters
 counters_at s link = get nat_eq s.counters link
 
--- A packet of a link arrives: what is told is the concentrator's answer to the link's ports, and what is
--- counted is that answer, for that link alone.
-pub record TakesPacket (old new : Station) (link moment : ℕ) (packet : List ℕ) (told : Told) : Type 0 where
+-- the call of a packet that arrives, with the report on it
+abbrev pub arrival : (link moment : ℕ) → List ℕ → Report → Turn
+arrival link moment packet report =
+    record { link = link; call = Arrive moment packet; answer = Reported report }
+
+-- A packet of a link arrives, which is one call of the concentrator. What is told is its report, to the
+-- link's ports, and what is counted is that report, only for that link.
+pub record TakesPacket (old new : Station) (link moment : ℕ) (packet : List ℕ) (told : Told)
+    (calls : List Turn) : Type 0 where
   pub report : Report
-  pub arrives : Arrives old.concentrator link moment packet report new.concentrator
+  pub these : calls ≡ arrival link moment packet report ∷ []
+  pub call : RunsCall old.concentrator link (Arrive moment packet) (Reported report) new.concentrator
   pub tells : told ≡ told_for (ports_of link old.links) report
   pub counts : CountsAnswer report (counters_at old link) (counters_at new link)
   pub others : (l : ℕ) → l ≢ link → counters_at new l ≡ counters_at old l
   pub totals : new.totals ≡ with_datagram old.totals (not (is_some (ports_of link old.links)))
   pub links : new.links ≡ old.links
 
--- a datagram that is too short, or turned away: nothing is sent, and no link's counts change
-pub record IsRefusedUnread (old new : Station) (told : Told) : Type 0 where
+-- a datagram that is too short, or turned away: nothing is called or sent, and no link's counts change
+pub record IsRefusedUnread (old new : Station) (told : Told) (calls : List Turn) : Type 0 where
+  pub none : calls ≡ []
   pub concentrator : new.concentrator ≡ old.concentrator
   pub tells : told ≡ told_unread
   pub counters : new.counters ≡ old.counters
@@ -47,9 +56,9 @@ dated moment octets =
     (named_link octets)
 
 -- a datagram is taken, as it was read: a packet with its link and its moment, if it could be read
-abbrev pub Takes : Station → Station → Option TimedPacket → Told → Type 0
-Takes old new None told = IsRefusedUnread old new told
-Takes old new (Some t) told = TakesPacket old new t.link t.moment t.packet told
+abbrev pub Takes : Station → Station → Option TimedPacket → Told → List Turn → Type 0
+Takes old new None told calls = IsRefusedUnread old new told calls
+Takes old new (Some t) told calls = TakesPacket old new t.link t.moment t.packet told calls
 
 -- this CID, if there is one, has no record
 abbrev pub is_unknown : Option ℕ → (ℕ → Option Record) → Bool
@@ -71,13 +80,14 @@ timed_call_in k None = None
 timed_call_in k (Some t) = call_in k (Some t.link) t.packet
 
 -- while no call is begun, a packet that would begin one is refused, and every other is taken
-abbrev pub TakesUnless : Bool → Station → Station → TimedPacket → Told → Type 0
-TakesUnless true old new t told = IsRefusedUnread old new told
-TakesUnless false old new t told = TakesPacket old new t.link t.moment t.packet told
+abbrev pub TakesUnless : Bool → Station → Station → TimedPacket → Told → List Turn → Type 0
+TakesUnless true old new t told calls = IsRefusedUnread old new told calls
+TakesUnless false old new t told calls = TakesPacket old new t.link t.moment t.packet told calls
 
-abbrev pub TakesKnown : Station → Station → Option TimedPacket → Told → Type 0
-TakesKnown old new None told = IsRefusedUnread old new told
-TakesKnown old new (Some t) told = TakesUnless (begins_call old.concentrator t.link t.packet) old new t told
+abbrev pub TakesKnown : Station → Station → Option TimedPacket → Told → List Turn → Type 0
+TakesKnown old new None told calls = IsRefusedUnread old new told calls
+TakesKnown old new (Some t) told calls =
+    TakesUnless (begins_call old.concentrator t.link t.packet) old new t told calls
 
 -- sends for a packet of this link failed, and are counted for it, if it has counts
 pub record CountsFailedSends (old new : Station) (link failed : ℕ) : Type 0 where

@@ -70,66 +70,52 @@ fn is_same_setting(before: &LinkSetting, after: &LinkSetting) -> bool
         && are_same_ranges(before.ranges.as_slice(), after.ranges.as_slice())
 }
 
-/// What was done with one link.
+/// What a file did to some links.
 #[derive(Clone, Copy)]
-pub(crate) enum Step {
-    Kept,
-    Added,
-    Changed(usize),
-    Removed(usize),
+struct Tally {
+    /// How many links there were.
+    links: u64,
+    /// The number of their contexts that were removed.
+    contexts: u64,
 }
 
-impl ReloadReport {
+impl Tally {
     ghost use Rattle.std.specs.Prelude.{◌≡◌};
-    ghost use Rattle.rohc_station.specs.Settling.{with_step};
+    ghost use Rattle.rohc_links.specs.Limits.{counted};
 
-    /// Adds what was done with one more link.
-    fn add(&mut self, step: Step)
-        ensures { self.new ≡ with_step self.old step }
+    /// Adds one link and the number of its contexts that were removed.
+    fn add(&mut self, gone: usize)
+        ensures links { self.new.links ≡ counted self.old.links 1 }
+        ensures contexts { self.new.contexts ≡ counted self.old.contexts gone }
     {
-        match step {
-            Step::Kept => {}
-            Step::Added => self.added = self.added.saturating_add(1),
-            Step::Changed(gone) => {
-                self.changed = self.changed.saturating_add(1);
-                self.contexts_gone = self.contexts_gone.saturating_add(gone as u64);
-            }
-            Step::Removed(gone) => {
-                self.removed = self.removed.saturating_add(1);
-                self.contexts_gone = self.contexts_gone.saturating_add(gone as u64);
-            }
-        }
+        self.links = self.links.saturating_add(1);
+        self.contexts = self.contexts.saturating_add(gone as u64);
     }
 }
 
-ghost use Rattle.std.specs.Prelude.{ℕ, ◌<◌, ◌^◌, length, option_map, nat_eq, true, false, IfSome, IfNone, IfErr, IfOk, OnOk, OnErr, None, Some};
-ghost use Rattle.indexmap.specs.IndexMap.{get, keys};
+ghost use Rattle.std.specs.Prelude.{ℕ, ◌<◌, ◌≤◌, ◌+◌, ◌++◌, ◌^◌, ◌≢◌, ◌⊎◌, List, length, map, option_map, nat_eq, true, false, sum_by, IfSome, IfErr, IfOk, OnOk, OnErr, None, Some};
+ghost use Rattle.indexmap.specs.IndexMap.{get, keys, IsUnique};
 ghost use Rattle.rohc_concentrator.specs.declared.setting.LinkSetting.{LinkSetting};
-ghost use Rattle.rohc_concentrator.specs.Tables.{setting_at};
-ghost use Rattle.rohc_concentrator.specs.Setup.{entry_of, AreFine};
+ghost use Rattle.rohc_concentrator.specs.Setting.{IsGoodSetting};
+ghost use Rattle.rohc_concentrator.specs.Tables.{setting_at, identifiers_at, settings_in_order};
+ghost use Rattle.rohc_concentrator.specs.Leaving.{HaveGone};
+ghost use Rattle.rohc_concentrator.specs.Setup.{entry_of, names_link, AreFine};
+ghost use Rattle.rohc_concentrator.specs.Calls.{AddLink, RemoveLink, ChangeLink, Done, NotAdded};
+ghost use Rattle.rohc_concentrator.specs.RunsCall.{RunsCall, Turn, Runs};
+ghost use Rattle.rohc_concentrator.specs.declared.links.AddFault.TheVariants as adds;
+ghost use Rattle.rohc_links.specs.Limits.{counted};
 ghost use Rattle.rohc_station.specs.Counting.{KeepsCounts};
-ghost use Rattle.rohc_station.specs.Reload.{IsUntouched, IsBrought, LeftOrBrought, Tells, is_among, IsReloadFault};
-ghost use Rattle.rohc_station.specs.Settling.{StandsAs, Settles};
+ghost use Rattle.rohc_station.specs.Same.{is_same_setting};
+ghost use Rattle.rohc_station.specs.Reload.{is_among, AreLinks, removed, differs, changed, added, removing, changing, adding, refused_add, reload_turns, contexts_on, gone_on, Tells, StopsIn, IsReloadFault};
 
-/// The first setting of a link.
-fn entry_of(settings: &[LinkSetting], link: u16) -> Option<&LinkSetting>
-    ensures entry { option_map (λ s. s.now) result ≡ entry_of link settings.now }
-    ensures link { IfSome result (λ s. s.now.link ≡ link) }
+/// Whether one of the settings is of a link.
+fn names_link(settings: &[LinkSetting], link: u16) -> bool
+    ensures { result ≡ names_link link settings.now }
 {
-    settings.iter().find(|setting| setting.link == link)
+    settings.iter().any(|setting| setting.link == link)
 }
 
-/// Removes a link that isn't in the file, if it stands.
-fn remove(concentrator: &mut Concentrator, link: u16) -> Step
-    ensures { Settles concentrator.old None link result concentrator.new }
-{
-    match concentrator.remove_link(link) {
-        Ok(gone) => Step::Removed(gone),
-        Err(_) => Step::Kept,
-    }
-}
-
-/// The setting of a link, if it stands.
+/// The setting of a link, if it is there.
 pub(crate) fn setting_of(concentrator: &Concentrator, link: u16) -> Option<&LinkSetting>
     ensures { option_map (λ s. s.now) result ≡ setting_at concentrator.now link }
 {
@@ -139,89 +125,169 @@ pub(crate) fn setting_of(concentrator: &Concentrator, link: u16) -> Option<&Link
     }
 }
 
-/// Whether the link stands, and then whether its setting is this one.
-fn stands_as(concentrator: &Concentrator, setting: &LinkSetting) -> Option<bool>
-    ensures same { IfSome result (StandsAs concentrator.now setting.now) }
-    ensures absent { IfNone result (setting_at concentrator.now setting.now.link ≡ None) }
+/// Whether a link is there with another setting than this one.
+fn differs(concentrator: &Concentrator, setting: &LinkSetting) -> bool
+    ensures { result ≡ differs (setting_at concentrator.now setting.now.link) setting.now }
 {
     match setting_of(concentrator, setting.link) {
-        Some(standing) => Some(is_same_setting(standing, setting)),
-        None => None,
+        Some(before) => !is_same_setting(before, setting),
+        None => false,
     }
 }
 
-/// Brings a link to its setting in the file: it is added, changed, or kept as it is.
-///
-/// The error is lack of memory: no other fault is left, since all settings were judged.
-fn bring(
+/// Removes a link that is there. Returns the number of contexts removed.
+fn remove(concentrator: &mut Concentrator, link: u16) -> usize
+    requires there { setting_at concentrator.old link ≢ None }
+    ensures call { RunsCall concentrator.old link RemoveLink Done concentrator.new }
+    ensures gone { result ≡ length (identifiers_at concentrator.old link) }
+{
+    match concentrator.remove_link(link) {
+        Ok(gone) => gone,
+        Err(_) => 0,
+    }
+}
+
+/// Removes the links that the file leaves out.
+fn remove_links(concentrator: &mut Concentrator, settings: &[LinkSetting], numbers: &[u16]) -> Tally
+    requires links { AreLinks concentrator.old numbers.now }
+    requires few { length numbers.now < 2 ^ 63 }
+    ensures runs { Runs concentrator.old (map removing (removed settings.now numbers.now)) concentrator.new }
+    ensures links { result.links ≡ length (removed settings.now numbers.now) }
+    ensures contexts { result.contexts ≡ counted 0 (sum_by (contexts_on concentrator.old) (removed settings.now numbers.now)) }
+{
+    let mut tally = Tally {
+        links: 0,
+        contexts: 0,
+    };
+    for link in numbers {
+        if !names_link(settings, *link) {
+            let gone = remove(concentrator, *link);
+            tally.add(gone);
+        }
+    }
+    tally
+}
+
+/// Changes the setting of a link that is there. Returns the number of contexts removed.
+fn change(concentrator: &mut Concentrator, setting: LinkSetting) -> usize
+    requires there { setting_at concentrator.old setting.link ≢ None }
+    requires good { IsGoodSetting setting }
+    ensures call { RunsCall concentrator.old setting.link (ChangeLink setting) Done concentrator.new }
+    ensures gone { HaveGone result concentrator.old concentrator.new setting.link }
+{
+    match concentrator.change_link(setting) {
+        Ok(gone) => gone,
+        Err(_) => 0,
+    }
+}
+
+/// Changes the settings of links that are there with another one. The error is lack of memory.
+fn change_links(
+    concentrator: &mut Concentrator,
+    settings: &[LinkSetting],
+) -> Result<Tally, AllocError>
+    requires { AreFine settings.now }
+    ensures runs { OnOk result (Runs concentrator.old (map changing (changed concentrator.old settings.now)) concentrator.new) }
+    ensures links { IfOk result (λ tally. tally.links ≡ length (changed concentrator.old settings.now)) }
+    ensures contexts { IfOk result (λ tally. tally.contexts ≡ counted 0 (sum_by (gone_on concentrator.old concentrator.new) (changed concentrator.old settings.now))) }
+    ensures poor { OnErr result ((front behind : List LinkSetting) × (changed concentrator.old settings.now ≡ front ++ behind)
+        × Runs concentrator.old (map changing front) concentrator.new) }
+{
+    let mut tally = Tally {
+        links: 0,
+        contexts: 0,
+    };
+    for setting in settings {
+        if differs(concentrator, setting) {
+            let gone = change(concentrator, setting.clone()?);
+            tally.add(gone);
+        }
+    }
+    Ok(tally)
+}
+
+/// Adds a link that isn't there, where there is room for it. The error is lack of memory.
+fn add(
     alloc: Global,
     concentrator: &mut Concentrator,
     setting: &LinkSetting,
-) -> Result<Step, AllocError>
-    ensures brought { IfOk result (λ step. Settles concentrator.old (Some setting.now) setting.now.link step concentrator.new) }
-    ensures poor { OnErr result ((l : ℕ) → IsUntouched concentrator.old concentrator.new l) }
+) -> Result<(), AllocError>
+    requires few { length (settings_in_order concentrator.old) < 256 }
+    requires good { IsGoodSetting setting.now }
+    requires absent { setting_at concentrator.old setting.now.link ≡ None }
+    ensures added { OnOk result (RunsCall concentrator.old setting.now.link (AddLink setting.now) Done concentrator.new) }
+    ensures poor { OnErr result ((concentrator.new ≡ concentrator.old)
+        ⊎ RunsCall concentrator.old setting.now.link (AddLink setting.now) (NotAdded adds.NoMemory) concentrator.new) }
 {
-    match stands_as(concentrator, setting) {
-        Some(true) => Ok(Step::Kept),
-        Some(false) => match concentrator.change_link(setting.clone()?) {
-            Ok(gone) => Ok(Step::Changed(gone)),
-            Err(_) => Err(AllocError),
-        },
-        None => match concentrator.add_link(alloc, setting.clone()?) {
-            Ok(()) => Ok(Step::Added),
-            Err(_) => Err(AllocError),
-        },
+    match concentrator.add_link(alloc, setting.clone()?) {
+        Ok(()) => Ok(()),
+        Err(_) => Err(AllocError),
     }
 }
 
-/// Brings the link of this number to its setting in the file, if it is there.
-fn settle(
+/// Whether a number is among these.
+fn is_among(numbers: &[u16], link: u16) -> bool
+    ensures { result ≡ is_among link numbers.now }
+{
+    numbers.iter().any(|number| link == *number)
+}
+
+/// Adds the links of the file whose numbers aren't among these. Returns how many. The error is lack of memory.
+fn add_links(
     alloc: Global,
     concentrator: &mut Concentrator,
     settings: &[LinkSetting],
-    link: u16,
-) -> Result<Step, AllocError>
-    ensures settled { IfOk result (λ step. Settles concentrator.old (entry_of link settings.now) link step concentrator.new) }
-    ensures poor { OnErr result ((l : ℕ) → IsUntouched concentrator.old concentrator.new l) }
+    numbers: &[u16],
+) -> Result<u64, AllocError>
+    requires fine { AreFine settings.now }
+    requires absent { (l : ℕ) → is_among l numbers.now ≡ false → setting_at concentrator.old l ≡ None }
+    requires few { length (settings_in_order concentrator.old) + length (added numbers.now settings.now) ≤ 256 }
+    ensures runs { OnOk result (Runs concentrator.old (map adding (added numbers.now settings.now)) concentrator.new) }
+    ensures links { IfOk result (λ links. links ≡ length (added numbers.now settings.now)) }
+    ensures poor { OnErr result ((calls : List Turn) × StopsIn (map adding (added numbers.now settings.now)) calls
+        × Runs concentrator.old calls concentrator.new) }
 {
-    match entry_of(settings, link) {
-        Some(setting) => bring(alloc, concentrator, setting),
-        None => Ok(remove(concentrator, link)),
+    let mut links = 0u64;
+    for setting in settings {
+        if !is_among(numbers, setting.link) {
+            add(alloc, concentrator, setting)?;
+            links = links.saturating_add(1);
+        }
     }
+    Ok(links)
 }
 
-/// Brings the links of these numbers to their settings in the file, in this order.
-fn settle_all(
+/// Brings the links to their settings in the file: removes links, changes others, and then adds new ones. So there are
+/// never more links than were there or are in the file.
+fn bring(
     alloc: Global,
     concentrator: &mut Concentrator,
     settings: &[LinkSetting],
     numbers: &[u16],
 ) -> Result<ReloadReport, AllocError>
-    requires { length numbers.now < 2 ^ 64 }
-    ensures each { LeftOrBrought concentrator.old settings.now concentrator.new }
-    ensures brought { OnOk result ((l : ℕ) → is_among l numbers.now ≡ true →
-        IsBrought concentrator.old concentrator.new l (entry_of l settings.now)) }
-    ensures tells { IfOk result (Tells concentrator.old concentrator.new) }
+    requires fine { AreFine settings.now }
+    requires links { AreLinks concentrator.old numbers.now }
+    requires few { length numbers.now < 2 ^ 63 }
+    ensures runs { OnOk result (Runs concentrator.old (reload_turns concentrator.old numbers.now settings.now) concentrator.new) }
+    ensures tells { IfOk result (λ report. Tells concentrator.old numbers.now settings.now report concentrator.new) }
+    ensures poor { OnErr result ((calls : List Turn) × StopsIn (reload_turns concentrator.old numbers.now settings.now) calls
+        × Runs concentrator.old calls concentrator.new) }
 {
-    let mut report = ReloadReport {
-        added: 0,
-        changed: 0,
-        removed: 0,
-        contexts_gone: 0,
-    };
-    for link in numbers {
-        let step = settle(alloc, concentrator, settings, *link)?;
-        report.add(step);
-    }
-    Ok(report)
+    let removed = remove_links(concentrator, settings, numbers);
+    let changed = change_links(concentrator, settings)?;
+    let added = add_links(alloc, concentrator, settings, numbers)?;
+    Ok(ReloadReport {
+        added,
+        changed: changed.links,
+        removed: removed.links,
+        contexts_gone: removed.contexts.saturating_add(changed.contexts),
+    })
 }
 
 /// The numbers of the links in these tables.
-fn standing_numbers(
-    alloc: Global,
-    tables: &IndexMap<u16, LinkRecords>,
-) -> Result<Vec<u16>, AllocError>
-    ensures { IfOk result (λ numbers. numbers.items ≡ keys tables.now) }
+fn keys_of(alloc: Global, tables: &IndexMap<u16, LinkRecords>) -> Result<Vec<u16>, AllocError>
+    ensures keys { IfOk result (λ numbers. numbers.items ≡ keys tables.now) }
+    ensures apart { OnOk result (IsUnique nat_eq tables.now) }
 {
     let mut numbers = Vec::new(alloc);
     for (link, _) in tables {
@@ -230,20 +296,11 @@ fn standing_numbers(
     Ok(numbers)
 }
 
-/// The numbers of the links that stand, and then of those in the file: so links go before others come.
-fn numbers_of(
-    alloc: Global,
-    concentrator: &Concentrator,
-    settings: &[LinkSetting],
-) -> Result<Vec<u16>, AllocError>
-    ensures stand { IfOk result (λ numbers. (l : ℕ) → is_among l numbers.items ≡ false → setting_at concentrator.now l ≡ None) }
-    ensures listed { IfOk result (λ numbers. (l : ℕ) → is_among l numbers.items ≡ false → entry_of l settings.now ≡ None) }
+/// The numbers of the links that are there, in their order.
+fn numbers_of(alloc: Global, concentrator: &Concentrator) -> Result<Vec<u16>, AllocError>
+    ensures { IfOk result (λ numbers. AreLinks concentrator.now numbers.items) }
 {
-    let mut numbers = standing_numbers(alloc, concentrator.tables())?;
-    for setting in settings {
-        numbers.push(setting.link)?;
-    }
-    Ok(numbers)
+    keys_of(alloc, concentrator.tables())
 }
 
 /// The counts of a link, or none yet if it has no counts.
@@ -296,26 +353,28 @@ impl From<AllocError> for ReloadFault {
 }
 
 impl Station {
-    ghost use Rattle.std.specs.Prelude.{OnOk, IfOk, IfErr};
+    ghost use Rattle.std.specs.Prelude.{List, OnOk, IfOk, IfErr};
     ghost use Rattle.rohc_concentrator.specs.Setup.{AreFine};
+    ghost use Rattle.rohc_concentrator.specs.RunsCall.{Turn};
     ghost use Rattle.rohc_station.specs.Reload.{Reloads, IsReloadFault, ReloadStays};
 
-    /// Takes the links of a file that was read anew. A link that stays with the same setting keeps exactly
-    /// its records and its counts; one that is changed keeps its counts, and of its records what `change_link` of
-    /// rohc_concentrator keeps; others go and come. Returns how many.
+    /// Takes the links of a file that was read anew: removes the links that the file leaves out, changes the settings
+    /// that differ, and then adds new links. A link that stays with the same setting keeps exactly its records and its
+    /// counts; one that is changed keeps its counts, and of its records what `change_link` of rohc_concentrator keeps.
+    /// Returns how many links and contexts there were of each kind.
     ///
     /// All settings are judged first: at the error `Settings` all is as it was. `NoMemory` comes only if a
     /// request for memory was refused. Then each link is as it was or as the file has it.
     pub fn reload(&mut self, alloc: Global, links: Links) -> Result<ReloadReport, ReloadFault>
-        ensures reloads { IfOk result (λ report. Reloads self.old links report self.new) }
+        ensures reloads { IfOk result (λ report. (calls : List Turn) × Reloads self.old links report calls self.new) }
         ensures fine { OnOk result (AreFine links.settings) }
         ensures fault { IfErr result (IsReloadFault links.settings) }
-        ensures stays { IfErr result (ReloadStays self.old links self.new) }
+        ensures stays { IfErr result (λ fault. (calls : List Turn) × ReloadStays self.old links fault calls self.new) }
     {
         judge(alloc, links.settings())?;
-        let numbers = numbers_of(alloc, &self.concentrator, links.settings())?;
+        let numbers = numbers_of(alloc, &self.concentrator)?;
         let counters = counters_for(alloc, &self.counters, links.settings())?;
-        let told = settle_all(
+        let told = bring(
             alloc,
             &mut self.concentrator,
             links.settings(),

@@ -97,8 +97,9 @@ fn call_on(concentrator: &Concentrator, link: u16, packet: &[u8]) -> Option<(u16
 }
 
 impl Station {
-    ghost use Rattle.std.specs.Prelude.{◌≡◌, ◌↔◌, ℕ, None, IsErr, IfOk, IfErr};
-    ghost use Rattle.rohc_concentrator.specs.Tables.{setting_at};
+    ghost use Rattle.std.specs.Prelude.{◌≡◌, ℕ, List, None, IfOk, IfErr};
+    ghost use Rattle.rohc_concentrator.specs.Calls.{plain_answer};
+    ghost use Rattle.rohc_concentrator.specs.RunsCall.{Turn};
     ghost use Rattle.rohc_concentrator.specs.Leaving.{HaveGone};
     ghost use Rattle.rohc_concentrator.specs.Setup.{entry_of};
     ghost use Rattle.rohc_saved.specs.Form.{saved_form};
@@ -167,8 +168,7 @@ impl Station {
     /// Forgets the records of a link, or that of one CID of it, and no other. Returns how many went. The
     /// error is `NoLink`; then nothing changes.
     pub fn reset(&mut self, link: u16, cid: Option<u16>) -> Result<usize, NoLink>
-        ensures forgets { Forgets self.old self.new link cid }
-        ensures absent { IsErr result ↔ (setting_at self.old.concentrator link ≡ None) }
+        ensures forgets { Forgets self.old self.new link cid (plain_answer result) }
         ensures gone { IfOk result (λ count. HaveGone count self.old.concentrator self.new.concentrator link) }
     {
         match cid {
@@ -193,7 +193,7 @@ impl Station {
 
     /// Takes a packet of a link that arrived at this moment.
     fn take_packet<'a>(&mut self, link: u16, moment: u64, packet: &'a [u8]) -> Taken<'a>
-        ensures { TakesPacket self.old self.new link moment packet.entry.now (told_of result) }
+        ensures { (calls : List Turn) × TakesPacket self.old self.new link moment packet.entry.now (told_of result) calls }
     {
         let answer = self.concentrator.arrive(link, moment, packet);
         count_answer(&mut self.counters, link, &answer);
@@ -204,7 +204,7 @@ impl Station {
 
     /// Refuses a datagram that is too short, or turned away.
     fn refuse<'a>(&mut self) -> Taken<'a>
-        ensures { IsRefusedUnread self.old self.new (told_of result) }
+        ensures { (calls : List Turn) × IsRefusedUnread self.old self.new (told_of result) calls }
     {
         self.totals.add(true);
         unread()
@@ -212,8 +212,8 @@ impl Station {
 
     /// Takes a packet of a link, unless it would begin a call.
     fn take_known_packet<'a>(&mut self, link: u16, moment: u64, packet: &'a [u8]) -> Taken<'a>
-        ensures { TakesUnless (begins_call self.old.concentrator link packet.entry.now) self.old self.new
-            (record { link = link; moment = moment; packet = packet.entry.now }) (told_of result) }
+        ensures { (calls : List Turn) × TakesUnless (begins_call self.old.concentrator link packet.entry.now) self.old self.new
+            (record { link = link; moment = moment; packet = packet.entry.now }) (told_of result) calls }
     {
         if begins_call(&self.concentrator, link, packet) {
             self.refuse()
@@ -230,7 +230,7 @@ impl Station {
     /// `rohc_serve::answer_datagram`.
     pub fn take<'a>(&mut self, moment: u64, datagram: &'a [u8]) -> Taken<'a>
         ensures answer { Answers self.old.links self.old.concentrator moment datagram.entry.now (outgoing_of result.sends) self.new.concentrator }
-        ensures taken { Takes self.old self.new (dated moment datagram.entry.now) (told_of result) }
+        ensures taken { (calls : List Turn) × Takes self.old self.new (dated moment datagram.entry.now) (told_of result) calls }
     {
         match named_link(datagram) {
             Some((link, packet)) => self.take_packet(link, moment, packet),
@@ -241,7 +241,7 @@ impl Station {
     /// Takes a timed datagram (`timed_datagram`), as `take` does at the moment that stands in it. One of
     /// fewer than ten octets is refused.
     pub fn take_timed<'a>(&mut self, datagram: &'a [u8]) -> Taken<'a>
-        ensures { Takes self.old self.new (timed_in datagram.entry.now) (told_of result) }
+        ensures { (calls : List Turn) × Takes self.old self.new (timed_in datagram.entry.now) (told_of result) calls }
     {
         match timed_datagram(datagram) {
             Some(timed) => self.take_packet(timed.link, timed.moment, timed.packet),
@@ -252,7 +252,7 @@ impl Station {
     /// Takes a datagram as `take` does, but refuses one that would begin a call: whose packet bears a CID
     /// that has no record. Calls that stand go on.
     pub fn take_known<'a>(&mut self, moment: u64, datagram: &'a [u8]) -> Taken<'a>
-        ensures { TakesKnown self.old self.new (dated moment datagram.entry.now) (told_of result) }
+        ensures { (calls : List Turn) × TakesKnown self.old self.new (dated moment datagram.entry.now) (told_of result) calls }
     {
         match named_link(datagram) {
             Some((link, packet)) => self.take_known_packet(link, moment, packet),
@@ -262,7 +262,7 @@ impl Station {
 
     /// Takes a timed datagram as `take_timed` does, but refuses one that would begin a call.
     pub fn take_timed_known<'a>(&mut self, datagram: &'a [u8]) -> Taken<'a>
-        ensures { TakesKnown self.old self.new (timed_in datagram.entry.now) (told_of result) }
+        ensures { (calls : List Turn) × TakesKnown self.old self.new (timed_in datagram.entry.now) (told_of result) calls }
     {
         match timed_datagram(datagram) {
             Some(timed) => self.take_known_packet(timed.link, timed.moment, timed.packet),

@@ -1,5 +1,6 @@
-use Rattle.std.proofs.Common.{rules, sym}
+use Rattle.std.proofs.Common.{rules, sym, ◌∙◌}
 use Rattle.rohc_concentrator.specs.Report.{report_of}
+use Rattle.rohc_concentrator.proofs.ArrivedLemmas.{arrival_settings}
 use Rattle.rohc_serve.proofs.AbsentLemmas.{answers_absent}
 use Rattle.rohc_serve.proofs.datagram.answer_datagram.Goals as goal
 
@@ -10,10 +11,14 @@ returns-in_default-ports_of-clause-answer c =
 
 pub returns-clause-answer : goal.returns-clause-answer
 returns-clause-answer c =
-    let said = c.arrive.ensures in
     let named = c.in-Some.ensures.named in
     rw (named.0, named.1) (
       report_of c.arrive.result,
-      record { answer = said.answer; settings = said.settings; others = said.others; order = said.order },
+      c.arrive.ensures.event,
       search rules,
     )
+
+pub returns-clause-settings : goal.returns-clause-settings
+returns-clause-settings c =
+    let keeps = arrival_settings _ _ _ _ _ _ c.arrive.ensures.event in
+    record { in_order = keeps.in_order ∙ c.requires.in_order; each = λ l. keeps.each l ∙ c.requires.each l }
