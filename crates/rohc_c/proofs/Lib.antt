@@ -6,3 +6,4 @@ pub mod ManyLemmas
 pub mod PacketLemmas
 pub mod PayloadLemmas
 mod SavedLemmas
+pub mod AnyLemmas

@@ -7,7 +7,8 @@ pub mod Relay
 pub mod Written
 pub mod Counting
 pub mod Calls
-pub mod Changing
+pub mod Caller
 pub mod Many
 pub mod Names
 pub mod Saved
+pub mod AnyCalls

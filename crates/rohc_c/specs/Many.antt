@@ -1,8 +1,10 @@
--- Many arrivals in one call. Words: octets_of; needed, buffers_in; LieWithin, HasRoomForMany; HaveArrived.
+-- Many arrivals in one call. Words: octets_of; needed, buffers_in; LieWithin, HasRoomForMany;
+-- AreTold, HaveArrived.
 use Rattle.std.specs.Prelude.{◌≡◌, ℕ, ◌+◌, ◌≤◌, length, List, [], ◌∷◌, take, drop, All, sum_by}
 use Rattle.rohc_concentrator.specs.declared.concentrator.Concentrator.{Concentrator}
 use Rattle.rohc_concentrator.specs.Report.{Report}
-use Rattle.rohc_concentrator.specs.Events.{Arrives}
+use Rattle.rohc_concentrator.specs.Calls.{Arrive, Reported}
+use Rattle.rohc_concentrator.specs.RunsCall.{Turn, Runs}
 use Rattle.rohc_c.specs.Written.{Buffers, IsAnswerWritten}
 use Rattle.rohc_c.specs.declared.arrival.RohcArrival.{RohcArrival}
 use Rattle.rohc_c.specs.declared.many.RohcPacket.{RohcPacket}
@@ -36,13 +38,22 @@ pub record HasRoomForMany (packets : List RohcPacket) (octets room : List ℕ) (
   pub within : LieWithin packets (length octets)
   pub fits : sum_by (λ p. needed p.count) packets ≤ length room
 
--- packets arrive one after the other, and the answer to each is written as that of a single call, in its own
--- part of the room
-abbrev pub HaveArrived : Concentrator → List RohcPacket → (octets room : List ℕ) → List RohcArrival →
-    Concentrator → Type 0
-HaveArrived old [] octets room answers new = new ≡ old
-HaveArrived old (p ∷ ps) octets room [] new = ⊥
-HaveArrived old (p ∷ ps) octets room (a ∷ answers) new =
-    (mid : Concentrator) × (report : Report) × Arrives old p.link p.moment (octets_of p octets) report mid
+-- the arrival of a packet, with this report
+abbrev pub arrival_of : RohcPacket → List ℕ → Report → Turn
+arrival_of p octets report =
+    record { link = p.link; call = Arrive p.moment (octets_of p octets); answer = Reported report }
+
+-- the answer to each packet is written as that of a single call, in its own part of the room
+abbrev pub AreTold : List RohcPacket → (octets room : List ℕ) → List RohcArrival → List Turn → Type 0
+AreTold [] octets room answers turns = turns ≡ []
+AreTold (p ∷ ps) octets room [] turns = ⊥
+AreTold (p ∷ ps) octets room (a ∷ answers) turns =
+    (report : Report) × (rest : List Turn) × (turns ≡ arrival_of p octets report ∷ rest)
     × IsAnswerWritten report (buffers_in p.count room) a
-    × HaveArrived mid ps octets (drop (needed p.count) room) answers new
+    × AreTold ps octets (drop (needed p.count) room) answers rest
+
+-- packets arrive one after the other, and all are told
+abbrev pub HaveArrived : List RohcPacket → (octets room : List ℕ) → List RohcArrival → Concentrator →
+    Concentrator → Type 0
+HaveArrived packets octets room answers k n =
+    (turns : List Turn) × AreTold packets octets room answers turns × Runs k turns n

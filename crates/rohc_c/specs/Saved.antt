@@ -6,7 +6,7 @@ use Rattle.rohc_concentrator.specs.declared.concentrator.Concentrator.{Concentra
 use Rattle.rohc_concentrator.specs.declared.setup.SetupFault.TheVariants as setup
 use Rattle.rohc_concentrator.specs.Setup.{AreFine, entry_of}
 use Rattle.rohc_concentrator.specs.declared.setting.LinkSetting.{LinkSetting}
-use Rattle.rohc_concentrator.specs.Tables.{setting_at}
+use Rattle.rohc_concentrator.specs.Tables.{setting_at, KeepsAll}
 use Rattle.rohc_saved.specs.Form.{Form, saved_form, saved_link}
 use Rattle.rohc_saved.specs.Reading.{restored}
 use Rattle.rohc_saved.specs.Restoring.{Restores, IsToldOfForm, IsRefusal}
@@ -126,7 +126,7 @@ not_back_place (BadOrder place) = place
 not_back_place (Digest place) = place
 not_back_place (Long place) = place
 
--- an empty link now holds what the octets spell of it, nothing else changes, and what is told of it
+-- what the octets spell of an empty link was put into it, and what is told of it
 pub record IsLinkBack (link : ℕ) (octets : List ℕ) (r : RohcRestored) (old new : Concentrator) : Type 0 where
   pub tally : Restored
   pub restores : RestoresLink old link octets tally new
@@ -151,9 +151,11 @@ link_back_place link_faults.OtherKind = 0
 link_back_place link_faults.NoMemory = 0
 link_back_place (link_faults.Octets fault) = not_back_place (fault_of_saved fault)
 
--- why one link isn't restored: the first fault, its status and its place
-pub record IsNotLinkBack (k : Concentrator) (link : ℕ) (octets : List ℕ) (status place : ℕ) : Type 0 where
-  pub fault : LinkFault
-  pub first : LinkFaultIn k link octets fault
-  pub number : status ≡ link_back_number fault
-  pub at : place ≡ link_back_place fault
+-- why one link isn't restored: the first fault, its status and its place; all stays
+pub record IsNotLinkBack (link : ℕ) (octets : List ℕ) (status place : ℕ) (old new : Concentrator) : Type 0
+  where
+    pub fault : LinkFault
+    pub first : LinkFaultIn old link octets new fault
+    pub number : status ≡ link_back_number fault
+    pub at : place ≡ link_back_place fault
+    pub stays : KeepsAll old new

@@ -1,21 +1,14 @@
 //! Writing an answer into the caller's struct and buffers.
 
-ghost use Rattle.std.specs.Prelude.{◌≡◌, false, ℕ, ◌≤◌, ◌+◌, ◌-◌, List, [], ◌++◌, ◌∷◌, length, drop, None, IfSome};
-ghost use Rattle.rohc_frame.specs.Reading.{elements_of};
+ghost use Rattle.std.specs.Prelude.{◌≡◌, ℕ, ◌≤◌, ◌+◌, ◌-◌, List, [], ◌++◌, length, drop, None};
 ghost use Rattle.rohc_context.specs.Response.{response_of, delivered};
-ghost use Rattle.rohc_concentrator.specs.Report.{report_of, Arrived};
-ghost use Rattle.rohc_concentrator.specs.Taken.{IsRebuiltAlone};
-ghost use Rattle.rohc_c.specs.Relay.{FitsInRoom};
-ghost use Rattle.rohc_c.specs.Written.{whole_packet, relayed_in, StandsIn, IsPartTold, IsAnswerWritten, IsPacketWithin, IsWithin};
+ghost use Rattle.rohc_concentrator.specs.Report.{Arrived};
+ghost use Rattle.rohc_c.specs.Written.{whole_packet, StandsIn, IsPartTold, IsPacketWithin, IsAnswerWritten};
 
 use crate::payload::put_payload;
-use crate::relay::put_elements;
 use crate::room::HEAD;
 use rohc_bits::put_behind;
-use rohc_concentrator::Answer;
-use rohc_context::{Delivered, Outcome, Reply};
-use rohc_counts::outcome_number;
-use rohc_frame::Elements;
+use rohc_context::{Delivered, Reply};
 
 /// The answer to an arrival: `struct polorowan_arrival` of include/polorowan.h. Its octets stand in the caller's buffers.
 #[repr(C)]
@@ -58,7 +51,7 @@ fn put_head(head: &[u8], place: &mut [u8])
 /// Writes a packet into a buffer, and returns its length. The payload comes first, since the head was just written in
 /// parts of two to eight octets, and reading it back at once in wider parts would wait for that.
 #[inline(always)]
-pub(crate) fn put_packet(delivered: &Delivered<'_>, place: &mut [u8]) -> usize
+fn put_packet(delivered: &Delivered<'_>, place: &mut [u8]) -> usize
     requires { 40 + length delivered.now.payload.now ≤ length place.old }
     ensures { StandsIn (delivered.now.head.items ++ delivered.now.payload.now) result place.new }
 {
@@ -105,7 +98,7 @@ pub(crate) fn put_long(long: &Delivered<'_>, place: &mut [u8]) -> usize
 
 /// Writes a reply's packet into its buffer. Returns whether there is one, and its length.
 #[inline(always)]
-fn tell_packet(reply: &Reply<'_>, place: &mut [u8]) -> (bool, usize)
+pub(crate) fn tell_packet(reply: &Reply<'_>, place: &mut [u8]) -> (bool, usize)
     requires head { 40 ≤ length place.old }
     requires within { IsPacketWithin (length place.old - 40) (response_of reply.now).packet }
     ensures { IsPartTold (whole_packet (response_of reply.now).packet) place.new result.0 result.1 }
@@ -118,7 +111,7 @@ fn tell_packet(reply: &Reply<'_>, place: &mut [u8]) -> (bool, usize)
 
 /// Writes a reply's feedback into its buffer. Returns whether there is some, and its length.
 #[inline(always)]
-fn tell_feedback(reply: &Reply<'_>, place: &mut [u8]) -> (bool, usize)
+pub(crate) fn tell_feedback(reply: &Reply<'_>, place: &mut [u8]) -> (bool, usize)
     requires { 8 ≤ length place.old }
     ensures { IsPartTold (response_of reply.now).feedback place.new result.0 result.1 }
 {
@@ -128,122 +121,6 @@ fn tell_feedback(reply: &Reply<'_>, place: &mut [u8]) -> (bool, usize)
             (true, element.len())
         }
         None => (false, 0),
-    }
-}
-
-/// Writes a context's answer, and the feedback that the packet relays, into the buffers.
-#[inline(always)]
-fn tell_reply(
-    cid: u16,
-    reply: &Reply<'_>,
-    elements: Elements<'_>,
-    packet: &mut [u8],
-    feedback: &mut [u8],
-    relayed: &mut [u8],
-) -> RohcArrival
-    requires head { 40 ≤ length packet.old }
-    requires packet { IsPacketWithin (length packet.old - 40) (response_of reply.now).packet }
-    requires feedback { 8 ≤ length feedback.old }
-    requires relayed { FitsInRoom (elements_of elements) (length relayed.old) }
-    ensures { IsAnswerWritten (Arrived cid (response_of reply.now) (elements_of elements.entry))
-        (record { packet = packet.new; feedback = feedback.new; relayed = relayed.new }) result }
-{
-    let (has_packet, packet_length) = tell_packet(reply, packet);
-    let (has_feedback, feedback_length) = tell_feedback(reply, feedback);
-    let told = put_elements(elements, relayed);
-    RohcArrival {
-        kind: 0,
-        outcome: outcome_number(reply.outcome),
-        cid,
-        has_packet,
-        has_feedback,
-        packet_length,
-        feedback_length,
-        relayed_length: told.length,
-        relayed_count: told.count,
-    }
-}
-
-/// Writes an answer into the buffers.
-#[inline(always)]
-pub(crate) fn write(
-    answer: &Answer<'_>,
-    packet: &mut [u8],
-    feedback: &mut [u8],
-    relayed: &mut [u8],
-) -> RohcArrival
-    requires head { 40 ≤ length packet.old }
-    requires packet { IsWithin (length packet.old - 40) (report_of answer.now) }
-    requires feedback { 8 ≤ length feedback.old }
-    requires relayed { FitsInRoom (relayed_in (report_of answer.now)) (length relayed.old) }
-    ensures { IsAnswerWritten (report_of answer.now)
-        (record { packet = packet.new; feedback = feedback.new; relayed = relayed.new }) result }
-{
-    match answer {
-        Answer::Arrived {
-            cid,
-            reply,
-            relayed: elements,
-        } => tell_reply(*cid, reply, *elements, packet, feedback, relayed),
-        Answer::OnlyFront { relayed: elements } => {
-            let told = put_elements(*elements, relayed);
-            RohcArrival {
-                kind: 1,
-                relayed_length: told.length,
-                relayed_count: told.count,
-                ..RohcArrival::default()
-            }
-        }
-        Answer::Refused(refusal) => RohcArrival {
-            kind: 2,
-            outcome: refusal.number(),
-            ..RohcArrival::default()
-        },
-    }
-}
-
-/// The CID and the packet of an answer that delivers one, without feedback for the compressor. Nearly every answer does.
-#[inline(always)]
-pub(crate) fn packet_in<'b, 'a>(answer: &'b Answer<'a>) -> Option<(u16, &'b Delivered<'a>)>
-    ensures { IfSome result (λ p. report_of answer.now ≡
-        Arrived p.0 (delivered p.1.now.head.items p.1.now.payload.now None) (relayed_in (report_of answer.now))) }
-{
-    let Answer::Arrived { cid, reply, .. } = answer else {
-        return None;
-    };
-    if reply.outcome != Outcome::Delivered || reply.feedback.is_some() {
-        return None;
-    }
-    reply.packet.as_ref().map(|packet| (*cid, packet))
-}
-
-/// The CID and the packet of an answer that delivers one behind a rebuilt header, without feedback.
-#[inline(always)]
-pub(crate) fn rebuilt_in<'b, 'a>(answer: &'b Answer<'a>) -> (u16, &'b Delivered<'a>)
-    requires { IsRebuiltAlone (report_of answer.now) }
-    ensures report { report_of answer.now ≡ Arrived result.0 (delivered result.1.now.head.items result.1.now.payload.now None) [] }
-    ensures long { length result.1.now.head.items ≡ 40 }
-{
-    let Answer::Arrived { cid, reply, .. } = answer else {
-        unreachable!();
-    };
-    let Some(packet) = &reply.packet else {
-        unreachable!();
-    };
-    (*cid, packet)
-}
-
-/// Whether an answer relays feedback.
-#[inline(always)]
-pub(crate) fn relays(answer: &Answer<'_>) -> bool
-    ensures { result ≡ false → relayed_in (report_of answer.now) ≡ [] }
-{
-    match answer {
-        Answer::Arrived { relayed, .. } | Answer::OnlyFront { relayed } => {
-            let mut elements = *relayed;
-            elements.next().is_some()
-        }
-        Answer::Refused(_) => false,
     }
 }
 

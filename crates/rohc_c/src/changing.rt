@@ -1,90 +1,32 @@
-//! Adding a link and changing one, as a caller in C describes it.
+//! Why a link isn't added or changed, as C reads it.
 
-ghost use Rattle.std.specs.Prelude.{◌≡◌, OnOk, IfOk, IfErr};
-ghost use Rattle.rohc_concentrator.specs.Tables.{KeepsAll};
-ghost use Rattle.rohc_concentrator.specs.Leaving.{HaveGone};
-ghost use Rattle.rohc_concentrator.specs.Links.{AddsLink, ChangesLink};
-ghost use Rattle.rohc_c.specs.Settings.{setting_of};
-ghost use Rattle.rohc_c.specs.Changing.{IsAddFault, IsChangeFault};
+ghost use Rattle.std.specs.Prelude.{◌≡◌, ◌≢◌, ◌≤◌};
+ghost use Rattle.rohc_concentrator.specs.Calls.{NotAdded, NotChanged};
+ghost use Rattle.rohc_c.specs.Calls.{status_of};
 
-use crate::link::{RohcLink, setting_of};
-use rohc_concentrator::{AddFault, ChangeFault, Concentrator};
-use std::alloc::Global;
+use rohc_concentrator::{AddFault, ChangeFault};
 
-/// Why a link isn't added or changed.
-#[derive(Clone, Copy, PartialEq, Eq)]
-pub enum LinkFault {
-    /// There are 256 links.
-    TooManyLinks,
-    /// The link counts more than eight ranges.
-    TooManyRanges,
-    /// The settings or ranges are outside their limits.
-    BadSetting,
-    /// The link is there.
-    DuplicateLink,
-    /// There is no memory.
-    NoMemory,
-    /// The link isn't there.
-    NoLink,
-}
-
-impl LinkFault {
-    ghost use Rattle.std.specs.Prelude.{◌≡◌};
-    ghost use Rattle.rohc_c.specs.Changing.{link_fault_number};
-
-    /// The status that C gets for the fault.
-    pub(crate) fn number(self) -> u8
-        ensures { result ≡ link_fault_number self }
-    {
-        match self {
-            LinkFault::TooManyLinks => 2,
-            LinkFault::TooManyRanges => 3,
-            LinkFault::BadSetting => 4,
-            LinkFault::DuplicateLink => 5,
-            LinkFault::NoMemory => 6,
-            LinkFault::NoLink => 7,
-        }
-    }
-}
-
-/// Adds a link behind the others.
-pub(crate) fn add_link(
-    alloc: Global,
-    concentrator: &mut Concentrator,
-    link: &RohcLink,
-) -> Result<(), LinkFault>
-    ensures added { OnOk result (AddsLink concentrator.old (setting_of link.now) concentrator.new) }
-    ensures stays { IfErr result (λ e. KeepsAll concentrator.old concentrator.new) }
-    ensures fault { IfErr result (IsAddFault concentrator.old link.now) }
+/// The status that C gets if a link isn't added.
+pub(crate) fn add_number(fault: AddFault) -> u8
+    ensures number { result ≡ status_of (NotAdded fault) }
+    ensures some { 2 ≤ result }
+    ensures apart { result ≢ 3 }
 {
-    if link.range_count > 8 {
-        return Err(LinkFault::TooManyRanges);
-    }
-    match concentrator.add_link(alloc, setting_of(link)) {
-        Ok(()) => Ok(()),
-        Err(AddFault::TooManyLinks) => Err(LinkFault::TooManyLinks),
-        Err(AddFault::BadSetting) => Err(LinkFault::BadSetting),
-        Err(AddFault::DuplicateLink) => Err(LinkFault::DuplicateLink),
-        Err(AddFault::NoMemory) => Err(LinkFault::NoMemory),
+    match fault {
+        AddFault::TooManyLinks => 2,
+        AddFault::BadSetting => 4,
+        AddFault::DuplicateLink => 5,
+        AddFault::NoMemory => 6,
     }
 }
 
-/// Changes the setting of the link of this number. Returns how many contexts went.
-pub(crate) fn change_link(
-    concentrator: &mut Concentrator,
-    link: &RohcLink,
-) -> Result<usize, LinkFault>
-    ensures changed { OnOk result (ChangesLink concentrator.old (setting_of link.now) concentrator.new) }
-    ensures gone { IfOk result (λ count. HaveGone count concentrator.old concentrator.new link.now.link) }
-    ensures stays { IfErr result (λ e. KeepsAll concentrator.old concentrator.new) }
-    ensures fault { IfErr result (IsChangeFault concentrator.old link.now) }
+/// The status that C gets if a link isn't changed.
+pub(crate) fn change_number(fault: ChangeFault) -> u8
+    ensures number { result ≡ status_of (NotChanged fault) }
+    ensures some { 4 ≤ result }
 {
-    if link.range_count > 8 {
-        return Err(LinkFault::TooManyRanges);
-    }
-    match concentrator.change_link(setting_of(link)) {
-        Ok(count) => Ok(count),
-        Err(ChangeFault::NoLink) => Err(LinkFault::NoLink),
-        Err(ChangeFault::BadSetting) => Err(LinkFault::BadSetting),
+    match fault {
+        ChangeFault::BadSetting => 4,
+        ChangeFault::NoLink => 7,
     }
 }

@@ -3,6 +3,7 @@
 ghost use Rattle.std.specs.Prelude.{◌≡◌, ◌≢◌, ◌≤◌, ◌⊎◌, ◌↔◌, length, IsTrue, Some, None, true, false, IfSome, IsSome};
 ghost use Rattle.rohc_concentrator.specs.declared.setting.LinkSetting.{LinkSetting};
 ghost use Rattle.rohc_concentrator.specs.Tables.{setting_at};
+ghost use Rattle.rohc_c.specs.Calls.{concentrator_in, Changes};
 ghost use Rattle.rohc_c.specs.Setup.{IsNew, IsNewFault, fault_number, fault_place};
 ghost use Rattle.rohc_c.specs.declared.setup.NewFault.{NewFault};
 
@@ -33,7 +34,7 @@ pub extern "C" fn polorowan_new(
     links: &[RohcLink],
     place: &mut usize,
 ) -> u8
-    ensures made { result ≡ 0 → IsSome gateway.new.handle.concentrator × IfSome gateway.new.handle.concentrator (IsNew links.now)
+    ensures made { result ≡ 0 → IsSome (concentrator_in gateway.new) × IfSome (concentrator_in gateway.new) (IsNew links.now)
         × (place.new ≡ 0) }
     ensures fault { result ≢ 0 → (e : NewFault) × IsNewFault links.now e × (result ≡ fault_number e) × (place.new ≡ fault_place e) }
     ensures kept { result ≢ 0 → gateway.new ≡ gateway.old }
@@ -55,7 +56,7 @@ pub extern "C" fn polorowan_new(
 /// Frees the concentrator, if there is one, and leaves none.
 #[unsafe(no_mangle)]
 pub extern "C" fn polorowan_free(alloc: Global, gateway: &mut Gateway)
-    ensures { gateway.new.handle.concentrator ≡ None }
+    ensures { concentrator_in gateway.new ≡ None }
 {
     if gateway.live {
         drop(gateway.take(alloc));
@@ -81,12 +82,12 @@ pub extern "C" fn polorowan_arrive(
     relayed: &mut [u8],
     arrival: &mut RohcArrival,
 ) -> u8
-    ensures done { result ≡ 0 → HasArrived (record { old = gateway.old.handle.concentrator; new = gateway.new.handle.concentrator })
-        link moment octets.now (record { packet = packet.new; feedback = feedback.new; relayed = relayed.new }) arrival.new }
-    ensures absent { (result ≡ 1) ↔ (gateway.old.handle.concentrator ≡ None) }
-    ensures tight { IsSome gateway.old.handle.concentrator → ((result ≡ 2) ↔
+    ensures event { result ≡ 0 → Changes (concentrator_in gateway.old) (concentrator_in gateway.new)
+        (HasArrived link moment octets.now (record { packet = packet.new; feedback = feedback.new; relayed = relayed.new }) arrival.new) }
+    ensures absent { (result ≡ 1) ↔ (concentrator_in gateway.old ≡ None) }
+    ensures tight { IsSome (concentrator_in gateway.old) → ((result ≡ 2) ↔
         (¬ HasRoom octets.now (record { packet = packet.old; feedback = feedback.old; relayed = relayed.old }))) }
-    ensures there { IsSome gateway.old.handle.concentrator →
+    ensures there { IsSome (concentrator_in gateway.old) →
         HasRoom octets.now (record { packet = packet.old; feedback = feedback.old; relayed = relayed.old }) → result ≡ 0 }
     ensures kept { (result ≡ 1) ⊎ (result ≡ 2) → (gateway.new ≡ gateway.old) × (packet.new ≡ packet.old)
         × (feedback.new ≡ feedback.old) × (relayed.new ≡ relayed.old) × (arrival.new ≡ arrival.old) }
@@ -110,7 +111,6 @@ pub extern "C" fn polorowan_arrive(
     0
 }
 
-ghost use Rattle.rohc_c.specs.Changing.{Changes};
 ghost use Rattle.rohc_c.specs.Many.{HasRoomForMany, HaveArrived};
 
 /// Takes packets one after the other, as so many single calls do, and writes the answers: the structs in their order, and
@@ -127,10 +127,10 @@ pub extern "C" fn polorowan_arrive_many(
     room: &mut [u8],
     answers: &mut [RohcArrival],
 ) -> u8
-    ensures done { result ≡ 0 → Changes (record { old = gateway.old.handle.concentrator; new = gateway.new.handle.concentrator })
-        (λ k n. HaveArrived k packets.now octets.now room.new answers.new n) }
-    ensures absent { (result ≡ 1) ↔ (gateway.old.handle.concentrator ≡ None) }
-    ensures tight { IsSome gateway.old.handle.concentrator → ((result ≡ 2) ↔ (¬ HasRoomForMany packets.now octets.now room.old answers.old)) }
+    ensures event { result ≡ 0 → Changes (concentrator_in gateway.old) (concentrator_in gateway.new)
+        (HaveArrived packets.now octets.now room.new answers.new) }
+    ensures absent { (result ≡ 1) ↔ (concentrator_in gateway.old ≡ None) }
+    ensures tight { IsSome (concentrator_in gateway.old) → ((result ≡ 2) ↔ (¬ HasRoomForMany packets.now octets.now room.old answers.old)) }
     ensures kept { (result ≡ 1) ⊎ (result ≡ 2) → (gateway.new ≡ gateway.old) × (room.new ≡ room.old) × (answers.new ≡ answers.old) }
     ensures within { result ≤ 2 }
 {
@@ -144,16 +144,15 @@ pub extern "C" fn polorowan_arrive_many(
     0
 }
 
-ghost use Rattle.rohc_c.specs.Calls.{HasReset, has_link, has_record};
+ghost use Rattle.rohc_concentrator.specs.Calls.{Reset};
+ghost use Rattle.rohc_c.specs.Calls.{HasCalled, has_record};
 
 /// Forgets every record of a link, and no other record. Returns 0 if that is done, 1 if there is no concentrator, and
 /// 2 if it has no such link.
 #[unsafe(no_mangle)]
 pub extern "C" fn polorowan_reset(gateway: &mut Gateway, link: u16) -> u8
-    ensures done { result ≢ 1 → HasReset (record { old = gateway.old.handle.concentrator; new = gateway.new.handle.concentrator }) link }
-    ensures known { (result ≡ 0) ↔ IsTrue (has_link gateway.old.handle.concentrator link) }
-    ensures unknown { result ≢ 0 → result ≢ 1 → result ≡ 2 }
-    ensures absent { (result ≡ 1) ↔ (gateway.old.handle.concentrator ≡ None) }
+    ensures event { result ≢ 1 → Changes (concentrator_in gateway.old) (concentrator_in gateway.new) (HasCalled link Reset result) }
+    ensures absent { (result ≡ 1) ↔ (concentrator_in gateway.old ≡ None) }
     ensures kept { result ≡ 1 → gateway.new ≡ gateway.old }
 {
     if !gateway.live {
@@ -169,7 +168,7 @@ pub extern "C" fn polorowan_reset(gateway: &mut Gateway, link: u16) -> u8
 /// no concentrator.
 #[unsafe(no_mangle)]
 pub extern "C" fn polorowan_has_context(gateway: &mut Gateway, link: u16, cid: u16) -> bool
-    ensures answer { result ≡ has_record gateway.old.handle.concentrator link cid }
+    ensures answer { result ≡ has_record (concentrator_in gateway.old) link cid }
     ensures kept { gateway.new ≡ gateway.old }
 {
     if !gateway.live {
@@ -187,7 +186,7 @@ pub extern "C" fn polorowan_has_expired(
     cid: u16,
     moment: u64,
 ) -> bool
-    ensures answer { result ≡ has_expired gateway.old.handle.concentrator link cid moment }
+    ensures answer { result ≡ has_expired (concentrator_in gateway.old) link cid moment }
     ensures kept { gateway.new ≡ gateway.old }
 {
     if !gateway.live {
@@ -203,8 +202,8 @@ ghost use Rattle.rohc_c.specs.Standing.{link_at, identifier_at, IsContextAt, has
 /// After the last link, and without a concentrator, `link` stays as it was.
 #[unsafe(no_mangle)]
 pub extern "C" fn polorowan_link_at(gateway: &mut Gateway, place: usize, link: &mut u16) -> bool
-    ensures shown { result ≡ true → link_at gateway.old.handle.concentrator place ≡ Some link.new }
-    ensures behind { result ≡ false → (link_at gateway.old.handle.concentrator place ≡ None) × (link.new ≡ link.old) }
+    ensures shown { result ≡ true → link_at (concentrator_in gateway.old) place ≡ Some link.new }
+    ensures behind { result ≡ false → (link_at (concentrator_in gateway.old) place ≡ None) × (link.new ≡ link.old) }
     ensures kept { gateway.new ≡ gateway.old }
 {
     if !gateway.live {
@@ -228,8 +227,8 @@ pub extern "C" fn polorowan_context_at(
     place: usize,
     context: &mut RohcContextInfo,
 ) -> bool
-    ensures shown { result ≡ true → IsContextAt gateway.old.handle.concentrator link place context.new }
-    ensures behind { result ≡ false → (identifier_at gateway.old.handle.concentrator link place ≡ None) × (context.new ≡ context.old) }
+    ensures shown { result ≡ true → IsContextAt (concentrator_in gateway.old) link place context.new }
+    ensures behind { result ≡ false → (identifier_at (concentrator_in gateway.old) link place ≡ None) × (context.new ≡ context.old) }
     ensures kept { gateway.new ≡ gateway.old }
 {
     if !gateway.live {
@@ -282,9 +281,9 @@ pub extern "C" fn polorowan_save(
     octets: &mut [u8],
     length: &mut usize,
 ) -> u8
-    ensures saved { result ≡ 0 → IfSome gateway.old.handle.concentrator (λ k. IsStored k moment octets.new length.new) }
-    ensures short { result ≡ 2 → IfSome gateway.old.handle.concentrator (λ k. TooShort k moment octets.old length.new) }
-    ensures absent { (result ≡ 1) ↔ (gateway.old.handle.concentrator ≡ None) }
+    ensures saved { result ≡ 0 → IfSome (concentrator_in gateway.old) (λ k. IsStored k moment octets.new length.new) }
+    ensures short { result ≡ 2 → IfSome (concentrator_in gateway.old) (λ k. TooShort k moment octets.old length.new) }
+    ensures absent { (result ≡ 1) ↔ (concentrator_in gateway.old ≡ None) }
     ensures kept { gateway.new ≡ gateway.old }
     ensures untouched { result ≢ 0 → octets.new ≡ octets.old }
     ensures unknown { (result ≡ 1) ⊎ (result ≡ 3) → length.new ≡ length.old }
@@ -318,11 +317,11 @@ pub extern "C" fn polorowan_save_link(
     octets: &mut [u8],
     length: &mut usize,
 ) -> u8
-    ensures saved { result ≡ 0 → IfSome gateway.old.handle.concentrator (λ k. IsLinkStored k link moment octets.new length.new) }
-    ensures short { result ≡ 2 → IfSome gateway.old.handle.concentrator (λ k. IsLinkTooLong k link moment octets.old length.new) }
-    ensures absent { (result ≡ 1) ↔ (gateway.old.handle.concentrator ≡ None) }
-    ensures unknown_link { result ≡ 4 → IfSome gateway.old.handle.concentrator (λ k. setting_at k link ≡ None) }
-    ensures poor { result ≡ 3 → IfSome gateway.old.handle.concentrator (λ k. (s : LinkSetting) × (setting_at k link ≡ Some s)) }
+    ensures saved { result ≡ 0 → IfSome (concentrator_in gateway.old) (λ k. IsLinkStored k link moment octets.new length.new) }
+    ensures short { result ≡ 2 → IfSome (concentrator_in gateway.old) (λ k. IsLinkTooLong k link moment octets.old length.new) }
+    ensures absent { (result ≡ 1) ↔ (concentrator_in gateway.old ≡ None) }
+    ensures unknown_link { result ≡ 4 → IfSome (concentrator_in gateway.old) (λ k. setting_at k link ≡ None) }
+    ensures poor { result ≡ 3 → IfSome (concentrator_in gateway.old) (λ k. (s : LinkSetting) × (setting_at k link ≡ Some s)) }
     ensures kept { gateway.new ≡ gateway.old }
     ensures untouched { result ≢ 0 → octets.new ≡ octets.old }
     ensures unknown { (result ≡ 1) ⊎ (result ≡ 3) ⊎ (result ≡ 4) → length.new ≡ length.old }
@@ -361,7 +360,7 @@ pub extern "C" fn polorowan_restore(
     restored: &mut RohcRestored,
     place: &mut usize,
 ) -> u8
-    ensures back { result ≡ 0 → IsSome gateway.new.handle.concentrator × IfSome gateway.new.handle.concentrator
+    ensures back { result ≡ 0 → IsSome (concentrator_in gateway.new) × IfSome (concentrator_in gateway.new)
         (λ k. IsBack links.now octets.now k restored.new) × (place.new ≡ 0) }
     ensures fault { result ≢ 0 → (e : BackFault) × IsNotBack links.now octets.now e × (result ≡ not_back_number e) × (place.new ≡ not_back_place e) }
     ensures kept { result ≢ 0 → (gateway.new ≡ gateway.old) × (restored.new ≡ restored.old) }

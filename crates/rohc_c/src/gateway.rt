@@ -1,6 +1,6 @@
 //! The gateway that a caller in C keeps: a concentrator, or none.
 
-ghost use Rattle.std.specs.Prelude.{◌≡◌, Some, None, IsSome, is_some};
+ghost use Rattle.std.specs.Prelude.{◌≡◌, is_some};
 
 use crate::handle::Handle;
 use crate::loose::Loose;
@@ -20,9 +20,12 @@ pub struct Gateway {
 }
 
 impl Gateway {
+    ghost use Rattle.std.specs.Prelude.{◌≡◌, Some, None, IsSome};
+    ghost use Rattle.rohc_c.specs.Calls.{concentrator_in};
+
     /// Puts a concentrator into the gateway.
     pub(crate) fn put(&mut self, concentrator: Box<Concentrator>)
-        ensures { self.new.handle.concentrator ≡ Some concentrator.value }
+        ensures { concentrator_in self.new ≡ Some concentrator.value }
     {
         self.live = true;
         self.handle = Handle::of(Loose::of(concentrator));
@@ -30,9 +33,9 @@ impl Gateway {
 
     /// Takes the concentrator out of the gateway, and leaves none.
     pub(crate) fn take(&mut self, alloc: Global) -> Box<Concentrator>
-        requires { IsSome self.old.handle.concentrator }
-        ensures taken { self.old.handle.concentrator ≡ Some result.value }
-        ensures none { self.new.handle.concentrator ≡ None }
+        requires { IsSome (concentrator_in self.old) }
+        ensures taken { concentrator_in self.old ≡ Some result.value }
+        ensures none { concentrator_in self.new ≡ None }
     {
         self.live = false;
         let handle = std::mem::replace(&mut self.handle, Handle::none());

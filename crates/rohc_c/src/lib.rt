@@ -1,15 +1,17 @@
 //! The concentrator as a library for C.
 //!
-//! Each exported function restates the contract clauses of the safe function that it calls. include/polorowan.h declares
-//! the functions, and says what the caller must guarantee. tools/library_calls.c tests each of them from C.
+//! The contract of an exported function says which call of the concentrator it makes, and what it writes. include/polorowan.h
+//! declares the functions, and says what the caller must guarantee. tools/library_calls.c tests each of them from C.
 #![tactic(auto)]
 
 pub mod arrival;
+mod caller;
 pub mod changing;
 pub mod counting;
 pub mod exports;
 pub mod gateway;
 pub mod handle;
+pub mod laws;
 mod lending;
 pub mod link;
 mod loose;

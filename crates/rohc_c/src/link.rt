@@ -60,6 +60,17 @@ fn size_of(large: bool) -> CidKind
     }
 }
 
+/// A range of CIDs with a mode of its own.
+fn range_of(range: &RohcRange) -> CidRange
+    ensures { result ≡ range_of range.now }
+{
+    CidRange {
+        first: range.first,
+        last: range.last,
+        mode: mode_of(range.optimistic),
+    }
+}
+
 /// The ranges with their modes.
 fn ranges_of(ranges: &[RohcRange]) -> ArrayVec<CidRange, 8>
     requires { length ranges.now ≤ 8 }
@@ -67,11 +78,7 @@ fn ranges_of(ranges: &[RohcRange]) -> ArrayVec<CidRange, 8>
 {
     let mut list = ArrayVec::new();
     for range in ranges {
-        list.push(CidRange {
-            first: range.first,
-            last: range.last,
-            mode: mode_of(range.optimistic),
-        });
+        list.push(range_of(range));
     }
     list
 }

@@ -1,17 +1,16 @@
 //! The functions that C calls to change links, to restore one, and to forget contexts while a gateway runs.
 
-ghost use Rattle.std.specs.Prelude.{◌≡◌, ◌≢◌, ◌↔◌, Some, None, true, false, IfSome, OnSome};
-ghost use Rattle.rohc_concentrator.specs.Tables.{setting_at, identifiers_at, KeepsSettings, KeepsAll};
-ghost use Rattle.rohc_concentrator.specs.Leaving.{Leaves, HaveGone, is_other, counts_at};
-ghost use Rattle.rohc_concentrator.specs.Links.{AddsLink, RemovesLink, ChangesLink};
+ghost use Rattle.std.specs.Prelude.{◌≡◌, ◌≢◌, ◌<◌, ◌↔◌, ◌⊎◌, length, None, IfSome, IsSome};
+ghost use Rattle.rohc_concentrator.specs.Tables.{identifiers_at};
+ghost use Rattle.rohc_concentrator.specs.Leaving.{HaveGone};
+ghost use Rattle.rohc_concentrator.specs.Calls.{Forget, ForgetExpired, AddLink, RemoveLink, ChangeLink};
 ghost use Rattle.rohc_c.specs.Settings.{setting_of};
-ghost use Rattle.rohc_c.specs.Changing.{Changes, IsAddFault, IsChangeFault, link_fault_number};
+ghost use Rattle.rohc_c.specs.Calls.{concentrator_in, Changes, HasCalled};
 ghost use Rattle.rohc_c.specs.Saved.{IsLinkBack, IsNotLinkBack};
-ghost use Rattle.rohc_c.specs.declared.changing.LinkFault.{LinkFault};
 
-use crate::changing::{add_link, change_link};
+use crate::changing::{add_number, change_number};
 use crate::gateway::Gateway;
-use crate::link::RohcLink;
+use crate::link::{RohcLink, setting_of};
 use crate::saved::{RohcRestored, link_back_number, link_back_place, tell};
 use rohc_saved::restore_link;
 use std::alloc::Global;
@@ -23,32 +22,31 @@ use std::alloc::Global;
 /// all but 0 nothing changes.
 #[unsafe(no_mangle)]
 pub extern "C" fn polorowan_add_link(alloc: Global, gateway: &mut Gateway, link: &RohcLink) -> u8
-    ensures added { result ≡ 0 → Changes (record { old = gateway.old.handle.concentrator; new = gateway.new.handle.concentrator })
-        (λ k n. AddsLink k (setting_of link.now) n) }
-    ensures absent { (result ≡ 1) ↔ (gateway.old.handle.concentrator ≡ None) }
-    ensures fault { result ≢ 0 → IfSome gateway.old.handle.concentrator (λ k.
-        (e : LinkFault) × IsAddFault k link.now e × (result ≡ link_fault_number e)) }
-    ensures stays { result ≢ 0 → result ≢ 1 → Changes (record { old = gateway.old.handle.concentrator; new = gateway.new.handle.concentrator }) KeepsAll }
-    ensures kept { result ≡ 1 → gateway.new ≡ gateway.old }
+    ensures event { result ≢ 1 → result ≢ 3 → Changes (concentrator_in gateway.old) (concentrator_in gateway.new)
+        (HasCalled link.now.link (AddLink (setting_of link.now)) result) }
+    ensures absent { (result ≡ 1) ↔ (concentrator_in gateway.old ≡ None) }
+    ensures ranges { IsSome (concentrator_in gateway.old) → ((result ≡ 3) ↔ (8 < link.now.range_count)) }
+    ensures kept { (result ≡ 1) ⊎ (result ≡ 3) → gateway.new ≡ gateway.old }
 {
     if !gateway.live {
         return 1;
     }
-    match add_link(alloc, gateway.handle.lend(), link) {
+    if link.range_count > 8 {
+        return 3;
+    }
+    match gateway.handle.lend().add_link(alloc, setting_of(link)) {
         Ok(()) => 0,
-        Err(fault) => fault.number(),
+        Err(fault) => add_number(fault),
     }
 }
 
 /// Removes a link with its contexts. Returns 0 if that is done, 1 if there is no concentrator, and 2 if it has no such
-/// link. `count` is set to how many contexts went, at 0 alone.
+/// link. If it returns 0, it sets `count` to the number of contexts removed.
 #[unsafe(no_mangle)]
 pub extern "C" fn polorowan_remove_link(gateway: &mut Gateway, link: u16, count: &mut usize) -> u8
-    ensures removed { result ≡ 0 → Changes (record { old = gateway.old.handle.concentrator; new = gateway.new.handle.concentrator })
-        (λ k n. RemovesLink k link n × HaveGone count.new k n link) }
-    ensures absent { (result ≡ 1) ↔ (gateway.old.handle.concentrator ≡ None) }
-    ensures unknown { result ≢ 0 → result ≢ 1 → (result ≡ 2) × IfSome gateway.old.handle.concentrator (λ k. setting_at k link ≡ None) }
-    ensures stays { result ≡ 2 → Changes (record { old = gateway.old.handle.concentrator; new = gateway.new.handle.concentrator }) KeepsAll }
+    ensures event { result ≢ 1 → Changes (concentrator_in gateway.old) (concentrator_in gateway.new) (HasCalled link RemoveLink result) }
+    ensures gone { result ≡ 0 → IfSome (concentrator_in gateway.old) (λ k. count.new ≡ length (identifiers_at k link)) }
+    ensures absent { (result ≡ 1) ↔ (concentrator_in gateway.old ≡ None) }
     ensures kept { result ≡ 1 → gateway.new ≡ gateway.old }
     ensures untold { result ≢ 0 → count.new ≡ count.old }
 {
@@ -75,24 +73,25 @@ pub extern "C" fn polorowan_change_link(
     link: &RohcLink,
     count: &mut usize,
 ) -> u8
-    ensures changed { result ≡ 0 → Changes (record { old = gateway.old.handle.concentrator; new = gateway.new.handle.concentrator })
-        (λ k n. ChangesLink k (setting_of link.now) n × HaveGone count.new k n link.now.link) }
-    ensures absent { (result ≡ 1) ↔ (gateway.old.handle.concentrator ≡ None) }
-    ensures fault { result ≢ 0 → IfSome gateway.old.handle.concentrator (λ k.
-        (e : LinkFault) × IsChangeFault k link.now e × (result ≡ link_fault_number e)) }
-    ensures stays { result ≢ 0 → result ≢ 1 → Changes (record { old = gateway.old.handle.concentrator; new = gateway.new.handle.concentrator }) KeepsAll }
-    ensures kept { result ≡ 1 → gateway.new ≡ gateway.old }
+    ensures event { result ≢ 1 → result ≢ 3 → Changes (concentrator_in gateway.old) (concentrator_in gateway.new)
+        (λ k n. HasCalled link.now.link (ChangeLink (setting_of link.now)) result k n × (result ≡ 0 → HaveGone count.new k n link.now.link)) }
+    ensures absent { (result ≡ 1) ↔ (concentrator_in gateway.old ≡ None) }
+    ensures ranges { IsSome (concentrator_in gateway.old) → ((result ≡ 3) ↔ (8 < link.now.range_count)) }
+    ensures kept { (result ≡ 1) ⊎ (result ≡ 3) → gateway.new ≡ gateway.old }
     ensures untold { result ≢ 0 → count.new ≡ count.old }
 {
     if !gateway.live {
         return 1;
     }
-    match change_link(gateway.handle.lend(), link) {
+    if link.range_count > 8 {
+        return 3;
+    }
+    match gateway.handle.lend().change_link(setting_of(link)) {
         Ok(gone) => {
             *count = gone;
             0
         }
-        Err(fault) => fault.number(),
+        Err(fault) => change_number(fault),
     }
 }
 
@@ -112,11 +111,11 @@ pub extern "C" fn polorowan_restore_link(
     restored: &mut RohcRestored,
     place: &mut usize,
 ) -> u8
-    ensures back { result ≡ 0 → Changes (record { old = gateway.old.handle.concentrator; new = gateway.new.handle.concentrator })
+    ensures back { result ≡ 0 → Changes (concentrator_in gateway.old) (concentrator_in gateway.new)
         (IsLinkBack link octets.now restored.new) × (place.new ≡ 0) }
-    ensures absent { (result ≡ 1) ↔ (gateway.old.handle.concentrator ≡ None) }
-    ensures fault { result ≢ 0 → IfSome gateway.old.handle.concentrator (λ k. IsNotLinkBack k link octets.now result place.new) }
-    ensures stays { result ≢ 0 → result ≢ 1 → Changes (record { old = gateway.old.handle.concentrator; new = gateway.new.handle.concentrator }) KeepsAll }
+    ensures fault { result ≢ 0 → result ≢ 1 → Changes (concentrator_in gateway.old) (concentrator_in gateway.new)
+        (IsNotLinkBack link octets.now result place.new) }
+    ensures absent { (result ≡ 1) ↔ (concentrator_in gateway.old ≡ None) }
     ensures kept { result ≡ 1 → (gateway.new ≡ gateway.old) × (place.new ≡ place.old) }
     ensures untold { result ≢ 0 → restored.new ≡ restored.old }
 {
@@ -137,7 +136,7 @@ pub extern "C" fn polorowan_restore_link(
 }
 
 /// Forgets the context of one CID of a link, and no other. Returns 0 if that is done, 1 if there is no concentrator, and 2
-/// if it has no such link. `count` is set to how many contexts went, 0 or 1, at 0 alone.
+/// if it has no such link. If it returns 0, it sets `count` to the number of contexts removed, 0 or 1.
 #[unsafe(no_mangle)]
 pub extern "C" fn polorowan_forget(
     gateway: &mut Gateway,
@@ -145,11 +144,9 @@ pub extern "C" fn polorowan_forget(
     cid: u16,
     count: &mut usize,
 ) -> u8
-    ensures forgotten { result ≡ 0 → Changes (record { old = gateway.old.handle.concentrator; new = gateway.new.handle.concentrator })
-        (λ k n. Leaves k link (is_other cid) n × KeepsSettings k n × HaveGone count.new k n link) }
-    ensures absent { (result ≡ 1) ↔ (gateway.old.handle.concentrator ≡ None) }
-    ensures unknown { result ≢ 0 → result ≢ 1 → (result ≡ 2) × IfSome gateway.old.handle.concentrator (λ k. setting_at k link ≡ None) }
-    ensures stays { result ≡ 2 → Changes (record { old = gateway.old.handle.concentrator; new = gateway.new.handle.concentrator }) KeepsAll }
+    ensures event { result ≢ 1 → Changes (concentrator_in gateway.old) (concentrator_in gateway.new)
+        (λ k n. HasCalled link (Forget cid) result k n × (result ≡ 0 → HaveGone count.new k n link)) }
+    ensures absent { (result ≡ 1) ↔ (concentrator_in gateway.old ≡ None) }
     ensures kept { result ≡ 1 → gateway.new ≡ gateway.old }
     ensures untold { result ≢ 0 → count.new ≡ count.old }
 {
@@ -166,8 +163,8 @@ pub extern "C" fn polorowan_forget(
 }
 
 /// Forgets the contexts of a link that have expired at a moment, in milliseconds of the clock of the arrivals, and gives
-/// their memory back. Returns 0 if that is done, 1 if there is no concentrator, and 2 if it has no such link. `count` is
-/// set to how many contexts went, at 0 alone.
+/// their memory back. Returns 0 if that is done, 1 if there is no concentrator, and 2 if it has no such link. If it returns
+/// 0, it sets `count` to the number of contexts removed.
 #[unsafe(no_mangle)]
 pub extern "C" fn polorowan_forget_expired(
     gateway: &mut Gateway,
@@ -175,11 +172,9 @@ pub extern "C" fn polorowan_forget_expired(
     moment: u64,
     count: &mut usize,
 ) -> u8
-    ensures forgotten { result ≡ 0 → Changes (record { old = gateway.old.handle.concentrator; new = gateway.new.handle.concentrator })
-        (λ k n. IfSome (setting_at k link) (λ s. Leaves k link (counts_at s.settings.idle_ms moment) n) × KeepsSettings k n × HaveGone count.new k n link) }
-    ensures absent { (result ≡ 1) ↔ (gateway.old.handle.concentrator ≡ None) }
-    ensures unknown { result ≢ 0 → result ≢ 1 → (result ≡ 2) × IfSome gateway.old.handle.concentrator (λ k. setting_at k link ≡ None) }
-    ensures stays { result ≡ 2 → Changes (record { old = gateway.old.handle.concentrator; new = gateway.new.handle.concentrator }) KeepsAll }
+    ensures event { result ≢ 1 → Changes (concentrator_in gateway.old) (concentrator_in gateway.new)
+        (λ k n. HasCalled link (ForgetExpired moment) result k n × (result ≡ 0 → HaveGone count.new k n link)) }
+    ensures absent { (result ≡ 1) ↔ (concentrator_in gateway.old ≡ None) }
     ensures kept { result ≡ 1 → gateway.new ≡ gateway.old }
     ensures untold { result ≢ 0 → count.new ≡ count.old }
 {

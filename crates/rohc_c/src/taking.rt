@@ -1,22 +1,16 @@
 //! One arrival on the concentrator, answered in the caller's struct and buffers.
 
-ghost use Rattle.std.specs.Prelude.{◌≤◌, ◌-◌, length};
-ghost use Rattle.rohc_concentrator.specs.Report.{Report, report_of};
-ghost use Rattle.rohc_concentrator.specs.Events.{Arrives};
-ghost use Rattle.rohc_c.specs.Calls.{HasRoom};
-ghost use Rattle.rohc_c.specs.Relay.{FitsInRoom};
-ghost use Rattle.rohc_c.specs.Written.{relayed_in, IsWithin, IsAnswerWritten};
+ghost use Rattle.rohc_concentrator.specs.Taken.{MissedBy};
+ghost use Rattle.rohc_c.specs.Calls.{HasRoom, HasArrived};
 
-use crate::arrival::{
-    RohcArrival, packet_in, put_long, put_packet, rebuilt_in, relays, tell_alone, write,
-};
-use rohc_concentrator::{Answer, Concentrator};
-use rohc_context::AtOnce;
+use crate::arrival::{RohcArrival, put_long, tell_alone};
+use crate::caller::Caller;
+use rohc_concentrator::Concentrator;
 
 /// Takes one packet of a link, and writes the answer into the struct and the buffers.
 ///
-/// Nearly every packet is taken at once. Then the answer is lent to no function that isn't inlined, and the compiler
-/// writes a header of 40 octets into the buffer part by part, as it is rebuilt.
+/// Nearly every packet is taken first. Then the compiler writes its header of 40 octets into the buffer part by part, as it
+/// is rebuilt.
 #[inline(always)]
 pub(crate) fn take_packet(
     concentrator: &mut Concentrator,
@@ -29,12 +23,12 @@ pub(crate) fn take_packet(
     arrival: &mut RohcArrival,
 )
     requires { HasRoom octets.now (record { packet = packet.old; feedback = feedback.old; relayed = relayed.old }) }
-    ensures { (report : Report) × Arrives concentrator.old link moment octets.now report concentrator.new
-        × IsAnswerWritten report (record { packet = packet.new; feedback = feedback.new; relayed = relayed.new }) arrival.new }
+    ensures { HasArrived link moment octets.now (record { packet = packet.new; feedback = feedback.new; relayed = relayed.new })
+        arrival.new concentrator.old concentrator.new }
 {
-    let mut answer = Answer::blank();
-    if !concentrator.take_at_once(AtOnce::Rebuilt, link, moment, octets, &mut answer) {
-        return take_longer(
+    match concentrator.take_first(link, moment, octets) {
+        Some((cid, rebuilt)) => *arrival = tell_alone(cid, put_long(&rebuilt, packet)),
+        None => take_later(
             concentrator,
             link,
             moment,
@@ -43,34 +37,14 @@ pub(crate) fn take_packet(
             feedback,
             relayed,
             arrival,
-        );
-    }
-    let (cid, rebuilt) = rebuilt_in(&answer);
-    *arrival = tell_alone(cid, put_long(rebuilt, packet));
-}
-
-/// Takes one packet that isn't taken at once as a rebuilt one. If its first octet isn't that of a UO-0, it goes by the whole
-/// step: of such packets only Normal ones behind an Add-CID octet would be taken at once.
-#[inline(always)]
-fn arrive<'a>(
-    concentrator: &mut Concentrator,
-    link: u16,
-    moment: u64,
-    octets: &'a [u8],
-    answer: &mut Answer<'a>,
-)
-    ensures { Arrives concentrator.old link moment octets.entry.now (report_of answer.new) concentrator.new }
-{
-    match octets {
-        [0x00..=0x7f, ..] => concentrator.arrive_into(link, moment, octets, answer),
-        _ => concentrator.arrive_by_step(link, moment, octets, answer),
+        ),
     }
 }
 
-/// Takes one packet of a link that isn't taken at once, and writes the answer into the struct and the buffers.
+/// Takes one packet that wasn't taken first, and writes the answer into the struct and the buffers.
 #[cold]
 #[inline(never)]
-fn take_longer(
+fn take_later(
     concentrator: &mut Concentrator,
     link: u16,
     moment: u64,
@@ -80,16 +54,16 @@ fn take_longer(
     relayed: &mut [u8],
     arrival: &mut RohcArrival,
 )
-    requires { HasRoom octets.now (record { packet = packet.old; feedback = feedback.old; relayed = relayed.old }) }
-    ensures { (report : Report) × Arrives concentrator.old link moment octets.now report concentrator.new
-        × IsAnswerWritten report (record { packet = packet.new; feedback = feedback.new; relayed = relayed.new }) arrival.new }
+    requires missed { MissedBy concentrator.old link moment octets.now }
+    requires room { HasRoom octets.now (record { packet = packet.old; feedback = feedback.old; relayed = relayed.old }) }
+    ensures { HasArrived link moment octets.now (record { packet = packet.new; feedback = feedback.new; relayed = relayed.new })
+        arrival.new concentrator.old concentrator.new }
 {
-    let mut answer = Answer::blank();
-    arrive(concentrator, link, moment, octets, &mut answer);
-    *arrival = match packet_in(&answer) {
-        Some((cid, delivered)) if !relays(&answer) => {
-            tell_alone(cid, put_packet(delivered, packet))
-        }
-        _ => write(&answer, packet, feedback, relayed),
+    let mut caller = Caller {
+        packet,
+        feedback,
+        relayed,
+        arrival,
     };
+    concentrator.take_later(link, moment, octets, &mut caller);
 }

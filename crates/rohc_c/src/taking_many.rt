@@ -1,9 +1,7 @@
 //! Many arrivals on the concentrator, one after the other.
 
 ghost use Rattle.std.specs.Prelude.{◌≡◌, ◌+◌, ◌≤◌, ◌↔◌, IsTrue, length, sum_by};
-ghost use Rattle.rohc_concentrator.specs.Report.{Report};
-ghost use Rattle.rohc_concentrator.specs.Events.{Arrives};
-ghost use Rattle.rohc_c.specs.Written.{IsAnswerWritten};
+ghost use Rattle.rohc_c.specs.Calls.{HasArrived};
 ghost use Rattle.rohc_c.specs.Many.{octets_of, needed, buffers_in, LieWithin, HasRoomForMany, HaveArrived};
 
 use crate::arrival::RohcArrival;
@@ -60,8 +58,8 @@ fn take_one(
 )
     requires within { packet.now.at + packet.now.count ≤ length octets.now }
     requires room { length part.old ≡ needed packet.now.count }
-    ensures { (report : Report) × Arrives concentrator.old packet.now.link packet.now.moment (octets_of packet.now octets.now) report concentrator.new
-        × IsAnswerWritten report (buffers_in packet.now.count part.new) answer.new }
+    ensures { HasArrived packet.now.link packet.now.moment (octets_of packet.now octets.now) (buffers_in packet.now.count part.new)
+        answer.new concentrator.old concentrator.new }
 {
     let (rebuilt, behind) = part.split_at_mut(packet.count + HEAD);
     let (feedback, relayed) = behind.split_at_mut(FEEDBACK);
@@ -88,7 +86,7 @@ pub(crate) fn take_many(
     requires within { LieWithin packets.now (length octets.now) }
     requires room { sum_by (λ p. needed p.count) packets.now ≤ length room.old }
     requires answers { length packets.now ≤ length answers.old }
-    ensures { HaveArrived concentrator.old packets.now octets.now room.new answers.new concentrator.new }
+    ensures { HaveArrived packets.now octets.now room.new answers.new concentrator.old concentrator.new }
 {
     let Some((packet, later)) = packets.split_first() else {
         return;

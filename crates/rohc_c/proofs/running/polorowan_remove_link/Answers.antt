@@ -1,8 +1,9 @@
-use Rattle.std.proofs.Common.{rules, refl, sym}
+use Rattle.std.proofs.Common.{refl, sym}
+use Rattle.rohc_concentrator.specs.Calls.{Done, NoSuchLink}
 use Rattle.rohc_c.proofs.running.polorowan_remove_link.Goals as goal
 
-pub returns-in-Ok-clause-removed : goal.returns-in-Ok-clause-removed
-returns-in-Ok-clause-removed c = λ _. record { before = c.lend.result.now; after = c.remove_link.new.self; was = sym c.lend.ensures.value; is = refl; holds = (c.in-Ok.ensures.removed, search rules) }
+pub returns-in-Ok-clause-event : goal.returns-in-Ok-clause-event
+returns-in-Ok-clause-event c = λ _. record { before = c.lend.result.now; after = c.remove_link.new.self; was = sym c.lend.ensures.value; is = refl; holds = (Done, refl, c.in-Ok.ensures.event) }
 
-pub returns-in-Err-clause-stays : goal.returns-in-Err-clause-stays
-returns-in-Err-clause-stays c = λ _. record { before = c.lend.result.now; after = c.remove_link.new.self; was = sym c.lend.ensures.value; is = refl; holds = c.in-Err.ensures.stays }
+pub returns-in-Err-clause-event : goal.returns-in-Err-clause-event
+returns-in-Err-clause-event c = λ _. record { before = c.lend.result.now; after = c.remove_link.new.self; was = sym c.lend.ensures.value; is = refl; holds = (NoSuchLink, refl, c.in-Err.ensures.event) }

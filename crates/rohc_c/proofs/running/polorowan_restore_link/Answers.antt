@@ -13,5 +13,11 @@ returns-in-Ok-clause-back c = λ _. (
   refl,
 )
 
-pub returns-in-Err-clause-stays : goal.returns-in-Err-clause-stays
-returns-in-Err-clause-stays c = λ _ _. record { before = c.lend.result.now; after = c.restore_link.new.concentrator; was = sym c.lend.ensures.value; is = refl; holds = c.in-Err.ensures.stays }
+pub returns-in-Err-clause-fault : goal.returns-in-Err-clause-fault
+returns-in-Err-clause-fault c = λ _ _. record {
+  before = c.lend.result.now;
+  after = c.restore_link.new.concentrator;
+  was = sym c.lend.ensures.value;
+  is = refl;
+  holds = record { fault = c.in-Err.fault; first = c.in-Err.ensures.fault; number = c.link_back_number.ensures.number; at = c.link_back_place.ensures; stays = c.in-Err.ensures.stays };
+}

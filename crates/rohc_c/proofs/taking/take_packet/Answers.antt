@@ -1,6 +1,6 @@
-use Rattle.std.proofs.Common.{◌≤◌, arith, length, subst}
-use Rattle.rohc_concentrator.proofs.KeepLemmas.{arrives_after}
-use Rattle.rohc_c.specs.Written.{IsWithin}
+use Rattle.std.proofs.Common.{◌≤◌, arith, length}
+use Rattle.rohc_concentrator.proofs.ArrivedLemmas.{arrived}
+use Rattle.rohc_concentrator.proofs.KeepLemmas.{runs_after}
 use Rattle.rohc_c.proofs.RelayLemmas.{all_octets}
 use Rattle.rohc_c.proofs.PacketLemmas.{answer_within}
 use Rattle.rohc_c.proofs.taking.take_packet.Goals as goal
@@ -8,11 +8,13 @@ use Rattle.rohc_c.proofs.taking.take_packet.Goals as goal
 pub put_long-requires-clause-room : goal.put_long-requires-clause-room
 put_long-requires-clause-room c =
     let all = all_octets c.args.octets.now (λ i. omega (arith, c.type_inv.octets i)) in
-    let within = answer_within _ _ _ _ _ _ all (c.take_at_once.ensures.taken c.if-not-take_at_once.false).answer in
-    let payload : length c.rebuilt_in-cid.result.1.now.payload.now ≤ length c.args.octets.now = subst (IsWithin (length c.args.octets.now)) c.rebuilt_in-cid.ensures.report within in
-    omega (arith, payload, c.requires.packet)
+    let within : length c.in-Some.rebuilt.payload.now ≤ length c.args.octets.now = answer_within _ _ _ _ _ _ all (arrived _ _ _ _ _ _ c.in-Some.ensures.event) in
+    omega (arith, within, c.requires.packet)
 
-pub returns-then-not-take_at_once : goal.returns-then-not-take_at_once
-returns-then-not-take_at_once c =
-    let after = c.take_longer.ensures in
-    (after.0, arrives_after _ _ _ _ _ _ _ (c.take_at_once.ensures.stays c.if-not-take_at_once.true) after.1, after.2)
+pub returns-in-None : goal.returns-in-None
+returns-in-None c =
+    let after = c.take_later.ensures in
+    (after.0, runs_after _ _ _ _ _ _ c.in-None.ensures.stays after.1, after.2)
+
+pub returns-in-Some : goal.returns-in-Some
+returns-in-Some c = (_, c.in-Some.ensures.event, c.tell_alone.ensures c.in-Some.rebuilt.head.items c.in-Some.rebuilt.payload.now _ _ _ c.put_long.ensures)
