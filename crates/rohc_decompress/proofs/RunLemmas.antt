@@ -10,9 +10,10 @@ use Rattle.rohc_concentrator.specs.Events.{Event, RunsEvents}
 use Rattle.rohc_capture.specs.declared.choice.Rule.{Rule}
 use Rattle.rohc_concentrator.specs.Isolation.{IsIsolatedRun}
 use Rattle.rohc_concentrator.specs.Tables.{KeepsAll}
+use Rattle.rohc_concentrator.specs.Calls.{Arrive, Reported}
 use Rattle.rohc_capture.specs.declared.writer.Format.{Format}
 use Rattle.rohc_concentrator.proofs.EventLemmas.{isolated_events}
-use Rattle.rohc_concentrator.proofs.KeepLemmas.{arrives_after}
+use Rattle.rohc_concentrator.proofs.KeepLemmas.{runs_after}
 use Rattle.rohc_capture.specs.declared.fault.FrameFault.{FrameFault}
 use Rattle.rohc_capture.specs.declared.fault.CaptureFault.{CaptureFault}
 use Rattle.rohc_capture.specs.declared.fault.FaultKind.TheVariants.{Read}
@@ -84,7 +85,7 @@ pub takes_after : (format : Format) (padded : Bool) (link nanos : ℕ) (packet :
     TakesPacket format padded link nanos packet (work mid old.packets old.feedback) new → TakesPacket format padded link nanos packet old new
 takes_after format padded link nanos packet old mid new kept t = record {
   report = t.report;
-  arrives = arrives_after old.concentrator mid link (nanos / 1000000) packet t.report new.concentrator kept t.arrives;
+  arrives = runs_after old.concentrator mid link (Arrive (nanos / 1000000) packet) (Reported t.report) new.concentrator kept t.arrives;
   packets = t.packets;
   feedback = t.feedback;
 }

@@ -1,11 +1,12 @@
 //! A run over a capture.
 
-ghost use Rattle.std.specs.Prelude.{◌≡◌, List, [], ◌∷◌, ◌++◌, Some, None, Ok, OnOk, IfErr, IfSome, length, true, false};
+ghost use Rattle.std.specs.Prelude.{◌≡◌, ◌/◌, List, [], ◌∷◌, ◌++◌, Some, None, Ok, OnOk, IfErr, IfSome, length, true, false};
 ghost use Rattle.std.specs.Option.{option_map};
 ghost use Rattle.std.specs.Io.KnownBytes.{append_known, Appends, Keeps};
 ghost use Rattle.rohc_context.specs.Response.{response_of};
 ghost use Rattle.rohc_feedback.specs.Element.{octets_of};
 ghost use Rattle.rohc_concentrator.specs.Report.{report_of};
+ghost use Rattle.rohc_concentrator.specs.Taken.{MissedBy};
 ghost use Rattle.rohc_capture.specs.Written.{head_of};
 ghost use Rattle.rohc_capture.specs.Records.{Entry, standing};
 ghost use Rattle.rohc_capture.specs.Standing.{entry_of, frame_of, rest_of, place_of, ReadsOn};
@@ -22,7 +23,7 @@ use rohc_capture::{
     packet_in, put_record, write_head, write_record,
 };
 use rohc_concentrator::{Answer, Concentrator};
-use rohc_context::{AtOnce, Delivered, Outcome, Reply};
+use rohc_context::{Delivered, Outcome, Reply};
 use rohc_feedback::Element;
 use rohc_frame::Elements;
 use std::io::{Read, Write};
@@ -364,8 +365,8 @@ fn take_any_frame<W: Write, V: Write>(
 /// Takes a packet of a link that was captured at this time: it arrives, and what is delivered is put into the batch, or is
 /// written behind it.
 ///
-/// Nearly every packet is taken at once, and its record put into the batch. Then the answer is lent to no function that
-/// isn't inlined, and the compiler writes a header of 40 octets to where it goes, part by part.
+/// Nearly every packet is taken first, and its record put into the batch. Then the compiler writes its header of 40 octets
+/// to where it goes, part by part.
 ///
 /// Each of two callers has a function of its own, by `APART`, which the compiler inlines there.
 ///
@@ -386,10 +387,12 @@ pub fn take_packet<const APART: bool, W: Write, V: Write>(
         (work concentrator.old (append_known (W.contents packets.old) batch.old) (V.contents feedback.old))
         (work concentrator.new (append_known (W.contents packets.new) batch.new) (V.contents feedback.new))) }
 {
-    let mut answer = Answer::blank();
-    let moment = nanos / 1_000_000;
-    if !concentrator.take_at_once(AtOnce::Rebuilt, link, moment, packet, &mut answer) {
-        return take_longer(
+    match concentrator.take_first(link, nanos / 1_000_000, packet) {
+        Some((_, long)) => {
+            more(&mut tally.delivered);
+            put_at_once(bulk, nanos, &long, batch, packets)
+        }
+        None => take_later(
             concentrator,
             bulk,
             link,
@@ -399,21 +402,14 @@ pub fn take_packet<const APART: bool, W: Write, V: Write>(
             packets,
             feedback,
             tally,
-        );
-    }
-    match long_in(&answer) {
-        Some(long) => {
-            more(&mut tally.delivered);
-            put_at_once(bulk, nanos, long, batch, packets)
-        }
-        None => take_other(bulk, link, nanos, answer, batch, packets, feedback, tally),
+        ),
     }
 }
 
-/// Takes a packet that isn't taken at once.
+/// Takes a packet that wasn't taken first.
 #[cold]
 #[inline(never)]
-fn take_longer<W: Write, V: Write>(
+fn take_later<W: Write, V: Write>(
     concentrator: &mut Concentrator,
     bulk: &Bulk<'_>,
     link: u16,
@@ -424,33 +420,14 @@ fn take_longer<W: Write, V: Write>(
     feedback: &mut V,
     tally: &mut Tally,
 ) -> Result<(), WriteFault>
+    requires { MissedBy concentrator.old link (nanos / 1000000) packet.now }
     ensures { OnOk result (TakesPacket bulk.now.format bulk.now.padded link nanos packet.now
         (work concentrator.old (append_known (W.contents packets.old) batch.old) (V.contents feedback.old))
         (work concentrator.new (append_known (W.contents packets.new) batch.new) (V.contents feedback.new))) }
 {
     let mut answer = Answer::blank();
-    concentrator.arrive_into(link, nanos / 1_000_000, packet, &mut answer);
+    concentrator.take_later(link, nanos / 1_000_000, packet, &mut answer);
     take_answer(bulk, link, nanos, &answer, batch, packets, feedback, tally)
-}
-
-/// The packet of an answer that delivers one whose head has 40 octets, without feedback for the compressor. Nearly every
-/// answer does.
-#[inline(always)]
-fn long_in<'b, 'a>(answer: &'b Answer<'a>) -> Option<&'b Delivered<'a>>
-    ensures packet { IfSome result (λ long. packet_of (report_of answer.now) ≡ Some (delivered_packet long.now)) }
-    ensures feedback { IfSome result (λ long. feedback_of (report_of answer.now) ≡ None) }
-    ensures long { IfSome result (λ long. length long.now.head.items ≡ 40) }
-{
-    let Answer::Arrived { reply, .. } = answer else {
-        return None;
-    };
-    if reply.outcome != Outcome::Delivered || reply.feedback.is_some() {
-        return None;
-    }
-    match &reply.packet {
-        Some(long) if long.head.len() == HEAD => Some(long),
-        _ => None,
-    }
 }
 
 /// Puts the record of a packet whose head has 40 octets into the batch, or writes it behind the batch. For the latter the
@@ -509,28 +486,6 @@ fn put_long(bulk: &Bulk<'_>, nanos: u64, long: &Delivered<'_>, batch: &mut Batch
     let head = &long.head.as_slice()[..HEAD];
     let payload = shown(bulk.padded, head, long.payload);
     put_record(batch, bulk.format, nanos, head, payload)
-}
-
-/// Takes an answer whose packet isn't put into the batch.
-#[cold]
-#[inline(never)]
-fn take_other<W: Write, V: Write>(
-    bulk: &Bulk<'_>,
-    link: u16,
-    nanos: u64,
-    answer: Answer<'_>,
-    batch: &mut Batch,
-    packets: &mut W,
-    feedback: &mut V,
-    tally: &mut Tally,
-) -> Result<(), WriteFault>
-    ensures packets { OnOk result (Appends (append_known (W.contents packets.old) batch.old)
-        (append_known (W.contents packets.new) batch.new)
-        (packet_text bulk.now.format bulk.now.padded nanos (packet_of (report_of answer.entry)))) }
-    ensures feedback { OnOk result (Appends (V.contents feedback.old) (V.contents feedback.new)
-        (feedback_text bulk.now.format link nanos (feedback_of (report_of answer.entry)))) }
-{
-    take_answer(bulk, link, nanos, &answer, batch, packets, feedback, tally)
 }
 
 /// Counts the feedback in a packet.

@@ -6,6 +6,7 @@ use rohc_text::{write_quoted, write_toml_reason, write_value};
 use std::alloc::Global;
 use std::io;
 use std::io::{ErrorKind, Write};
+use toml::Value;
 
 /// Writes where a fault is. An entry whose link has another entry too is named by its place.
 fn write_place<W: Write>(out: &mut W, path: &str, finding: &Finding<'_>) -> io::Result<()> {
@@ -60,6 +61,17 @@ fn write_unfit<W: Write>(out: &mut W, finding: &Finding<'_>) -> io::Result<()> {
     write!(out, "; expected {}", finding.may)
 }
 
+/// Writes how many entries there are.
+fn write_count<W: Write>(out: &mut W, finding: &Finding<'_>) -> io::Result<()> {
+    match finding.value {
+        Some(Value::Array(values)) => {
+            write!(out, "{} has {} tables", finding.name, values.len())?
+        }
+        _ => write!(out, "{} is missing", finding.name)?,
+    }
+    write!(out, "; expected {}", finding.may)
+}
+
 /// Writes what is wrong.
 fn write_wrong<W: Write>(out: &mut W, finding: &Finding<'_>) -> io::Result<()> {
     match finding.wrong {
@@ -74,7 +86,8 @@ fn write_wrong<W: Write>(out: &mut W, finding: &Finding<'_>) -> io::Result<()> {
         }
         Wrong::Twice { earlier, free } => write_used(out, finding.link, earlier, free),
         Wrong::OneTable => write!(out, "[link] is one table; write [[link]] before each link"),
-        Wrong::Unfit | Wrong::Beyond | Wrong::Count => write_unfit(out, finding),
+        Wrong::Unfit | Wrong::Beyond => write_unfit(out, finding),
+        Wrong::Count => write_count(out, finding),
     }
 }
 

@@ -4,12 +4,13 @@ use Rattle.std.specs.List.{flat_map}
 use Rattle.std.proofs.lemmas.Bool.{cases_eq}
 use Rattle.rohc_context.specs.Response.{Response}
 use Rattle.rohc_context.specs.declared.refusal.Refusal.TheVariants as refusals
+use Rattle.rohc_concentrator.proofs.ArrivedLemmas.{arrived}
 use Rattle.rohc_concentrator.proofs.GoodLemmas.{HasFitCid, report_fits}
 use Rattle.rohc_concentrator.specs.declared.concentrator.Concentrator.{Concentrator}
 use Rattle.rohc_concentrator.specs.declared.setting.LinkSetting.{LinkSetting}
 use Rattle.rohc_concentrator.specs.Tables.{setting_at, record_at}
 use Rattle.rohc_concentrator.specs.Report.{Report, Arrived, OnlyFront, Refused}
-use Rattle.rohc_concentrator.specs.Events.{Event, Arrive, Reset, reset_report, RunsEvent}
+use Rattle.rohc_concentrator.specs.Events.{Event, Arrive, Reset, RunsEvent}
 use Rattle.rohc_concentrator.specs.Isolation.{reply_of, own_reply}
 use Rattle.rohc_replay.specs.AnswerLines.{report_lines, event_lines, response_lines, relay_line, bad_line, long_line}
 use Rattle.rohc_replay.specs.Isolation.{is_pair_line}
@@ -46,14 +47,11 @@ module _ (l c : ℕ) (lf : l < 2 ^ 16) (cf : c < 2 ^ 16) where
       (λ apart. let away : (k == l) ≡ false = ne_eqb k l apart in rw away (other_left_out k d relayed response kf df (λ g. apart (sym g.0))))
       (cases_eq k l)
 
-  reset_left_out : (k : ℕ) (set : Option LinkSetting) → k < 2 ^ 16 → filter (is_pair_line l c) (event_lines (Reset k) (reset_report set)) ≡ []
-  reset_left_out k (Some s) kf = refl
-  reset_left_out k None kf = refusal_left_out l c k refusals.NoLink lf cf kf
-
   pub event_told : (old new : Concentrator) (e : Event) (report : Option Report) → IsEvent e → RunsEvent old e report new → filter (is_pair_line l c) (event_lines e report) ≡ flat_map (response_lines l c) (own_reply l c e report)
   event_told old new (Arrive k m octets) None fits turn = absurd turn
-  event_told old new (Arrive k m octets) (Some report) fits turn = report_told k report fits.0 (report_fits old k m octets (record_at new k) report fits.3 turn.answer)
-  event_told old new (Reset k) report fits turn = ap (λ r. filter (is_pair_line l c) (event_lines (Reset k) r)) turn.1 ∙ reset_left_out k (setting_at old k) fits
+  event_told old new (Arrive k m octets) (Some report) fits turn = report_told k report fits.0 (report_fits old k m octets (record_at new k) report fits.3 (arrived old new k m octets report turn))
+  event_told old new (Reset k) None fits turn = refl
+  event_told old new (Reset k) (Some report) fits turn = rw turn.1 (refusal_left_out l c k refusals.NoLink lf cf fits)
 
 -- a line that is no event is left out
 pub bad_left_out : (l c : ℕ) → l < 2 ^ 16 → filter (is_pair_line l c) (bad_line ∷ []) ≡ []

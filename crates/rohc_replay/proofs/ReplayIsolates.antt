@@ -10,7 +10,8 @@ use Rattle.rohc_concentrator.specs.Report.{Report, is_no_memory}
 use Rattle.rohc_concentrator.specs.Events.{Event}
 use Rattle.rohc_concentrator.specs.Isolation.{Pair, own_events, own_replies, is_rich, IsAnsweredAlone}
 use Rattle.rohc_concentrator.specs.LoneRun.{LoneEvent, LoneRun, MarkedRun, unmarked}
-use Rattle.rohc_concentrator.proofs.EventLemmas.{is_no_memory-not, IsRichOrPoor, each_rich_or_poor, isolated_events}
+use Rattle.rohc_concentrator.proofs.EventLemmas.{IsRichOrPoor, each_rich_or_poor, isolated_events}
+use Rattle.rohc_concentrator.proofs.OutcomeLemmas.{is_no_memory-not}
 use Rattle.rohc_concentrator.proofs.SameLemmas.{unmarked_with}
 use Rattle.rohc_replay.specs.declared.tally.Tally.{Tally}
 use Rattle.rohc_replay.specs.declared.fault.RunFault.{RunFault}

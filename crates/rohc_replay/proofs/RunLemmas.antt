@@ -6,7 +6,7 @@ use Rattle.rohc_concentrator.proofs.WorldLemmas.{arrive_alike, reset_alike}
 use Rattle.rohc_replay.specs.AnswerLines.{event_lines}
 use Rattle.rohc_replay.specs.Laws.{IsFront, BeginsAlike}
 use Rattle.rohc_replay.specs.Run.{Runs, marked_of}
-use Rattle.rohc_concentrator.specs.Events.{Event, Arrive, Reset, reset_report, RunsEvent}
+use Rattle.rohc_concentrator.specs.Events.{Event, Arrive, Reset, RunsEvent}
 use Rattle.rohc_concentrator.specs.Report.{Report}
 use Rattle.rohc_concentrator.specs.Isolation.{is_marked}
 use Rattle.rohc_replay.specs.Script.{IsEvent, Line, Good, Bad, Long, lines_of}
@@ -26,7 +26,7 @@ event_alike a b mid_a mid_b (Arrive l m octets) (Some x) None p q alike fits mar
 event_alike a b mid_a mid_b (Arrive l m octets) (Some x) (Some y) p q alike fits marks =
     let one = arrive_alike a b mid_a mid_b l m octets x y alike fits.1 fits.3 p q (sym marks) in
     (ap (λ r. Some r) one.0, one.1)
-event_alike a b mid_a mid_b (Reset l) x y p q alike fits marks = (p.1 ∙ ap reset_report (alike.settings l) ∙ sym q.1, reset_alike a b mid_a mid_b l alike p.0 q.0)
+event_alike a b mid_a mid_b (Reset l) x y p q alike fits marks = reset_alike a b mid_a mid_b l x y alike p q
 
 same_mark : (line : Line) (m n : Bool) → ◌≡◌ {A = Line × Bool} (line, m) (line, n) → m ≡ n
 same_mark line m n e = ap (λ (p : Line × Bool). p.1) e

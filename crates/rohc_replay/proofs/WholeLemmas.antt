@@ -3,12 +3,13 @@ use Rattle.std.proofs.Common.{◌≡◌, ℕ, ◌<◌, ◌^◌, List, [], ◌∷
 use Rattle.std.specs.List.{flat_map}
 use Rattle.std.proofs.lemmas.Grind.{flat_map-append}
 use Rattle.rohc_context.specs.declared.refusal.Refusal.TheVariants as refusals
+use Rattle.rohc_concentrator.proofs.ArrivedLemmas.{arrived}
 use Rattle.rohc_concentrator.proofs.GoodLemmas.{HasFitCid, report_fits}
 use Rattle.rohc_concentrator.specs.declared.concentrator.Concentrator.{Concentrator}
 use Rattle.rohc_concentrator.specs.declared.setting.LinkSetting.{LinkSetting}
 use Rattle.rohc_concentrator.specs.Tables.{setting_at, record_at}
 use Rattle.rohc_concentrator.specs.Report.{Report, Arrived, OnlyFront, Refused}
-use Rattle.rohc_concentrator.specs.Events.{Event, Arrive, Reset, reset_report, RunsEvent}
+use Rattle.rohc_concentrator.specs.Events.{Event, Arrive, Reset, RunsEvent}
 use Rattle.rohc_replay.specs.AnswerLines.{report_lines, event_lines, response_lines, relay_line, text_of}
 use Rattle.rohc_replay.specs.Run.{Runs}
 use Rattle.rohc_replay.specs.Script.{IsEvent, Line, Good, Bad, Long, lines_of}
@@ -21,14 +22,11 @@ report_whole l (Arrived c response relayed) lf cf = whole_append (map (relay_lin
 report_whole l (OnlyFront relayed) lf cf = relays_whole l relayed lf
 report_whole l (Refused refusal) lf cf = (refusal_whole l refusal lf, tt)
 
-reset_whole : (k : ℕ) (set : Option LinkSetting) → k < 2 ^ 16 → AreWhole (event_lines (Reset k) (reset_report set))
-reset_whole k (Some s) kf = tt
-reset_whole k None kf = (refusal_whole k refusals.NoLink kf, tt)
-
 event_whole : (old new : Concentrator) (e : Event) (report : Option Report) → RunsEvent old e report new → IsEvent e → AreWhole (event_lines e report)
 event_whole old new (Arrive k m octets) None turn fits = absurd turn
-event_whole old new (Arrive k m octets) (Some report) turn fits = report_whole k report fits.0 (report_fits old k m octets (record_at new k) report fits.3 turn.answer)
-event_whole old new (Reset k) report turn fits = subst (λ r. AreWhole (event_lines (Reset k) r)) (sym turn.1) (reset_whole k (setting_at old k) fits)
+event_whole old new (Arrive k m octets) (Some report) turn fits = report_whole k report fits.0 (report_fits old k m octets (record_at new k) report fits.3 (arrived old new k m octets report turn))
+event_whole old new (Reset k) None turn fits = tt
+event_whole old new (Reset k) (Some report) turn fits = rw turn.1 (refusal_whole k refusals.NoLink fits, tt)
 
 run_whole : (old : Concentrator) (lines : List Line) (answers : List (List (List ℕ))) (new : Concentrator) → Runs old lines answers new → AreFit lines → AreWhole (flat_map (λ a. a) answers)
 run_whole old [] [] new run fit = tt

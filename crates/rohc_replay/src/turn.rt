@@ -9,7 +9,7 @@ ghost use Rattle.rohc_replay.specs.Turn.{TakesTurn, TakesLongTurn};
 use crate::counts::Counts;
 use crate::output::Stopped;
 use crate::words::{Words, read_words};
-use rohc_concentrator::{Answer, Concentrator};
+use rohc_concentrator::Concentrator;
 use rohc_context::Refusal;
 use std::io::Write;
 
@@ -32,8 +32,7 @@ pub(crate) fn take_turn<W: Write>(
     match read_words(line, packet) {
         Some(Words::Arrive { link, moment, size }) => {
             counts.tally.events = counts.tally.events.saturating_add(1);
-            let mut answer = Answer::blank();
-            concentrator.arrive_into(link, moment, &packet[..size], &mut answer);
+            let answer = concentrator.arrive(link, moment, &packet[..size]);
             counts.answers.offer_answer(writer, link, &answer)
         }
         Some(Words::Reset { link }) => {
