@@ -1,9 +1,10 @@
-//! What a person asks about one packet: its fields in their places, what its context has, the tries that were made,
-//! the answer, and what usually causes it.
+//! What a person asks about one packet, beside what its context makes of it: its fields in their places, and what usually
+//! causes a refusal.
 #![tactic(auto)]
 
 mod base;
 mod bits;
+mod cause;
 mod chains;
 mod extension;
 mod field;
@@ -11,5 +12,6 @@ mod front;
 mod packet;
 mod telling;
 
+pub use cause::{Cause, cause_of};
 pub use field::{Field, FieldName};
 pub use packet::{PacketFields, PacketKind, Terms, packet_fields};

@@ -170,7 +170,7 @@ fn kind_of(octet: Option<u8>, terms: Option<Terms>) -> PacketKind {
 /// isn't known.
 ///
 /// The number of each field is the one of the bits in its place, and no bit before the payload stands in no field or
-/// in two. Which fields there are is only tested: the caller compares them with what the readers of the formats read.
+/// in two. Which fields there are is only tested.
 pub fn packet_fields(
     alloc: Global,
     size: CidKind,

@@ -9,7 +9,7 @@ use crate::style::{POLICY, STYLE};
 use crate::table::{write_number, write_table};
 use crate::worst::CallRow;
 use rohc_context::Refusal;
-use rohc_tries::cause_of;
+use rohc_explain::cause_of;
 use std::alloc::Global;
 use std::io;
 use std::io::Write;

@@ -1,8 +1,9 @@
 //! What a context would take next, before a packet arrives: its age, the SN that is expected, and how far it is from
 //! its next fall (docs/FORMATS.md, *States*).
 
-use crate::packet::{Explained, View, counts_after};
-use rohc_context::{ContextState, Mode, Settings, Window};
+use crate::held::sn_in;
+use crate::packet::{Explained, counts_after};
+use rohc_context::{ContextState, Mode, Settings, StateView, View, Window};
 
 /// How many of the last `n` outcomes are failures.
 pub(crate) fn failures(window: &Window, n: u8) -> u32 {
@@ -56,24 +57,23 @@ pub(crate) struct Expected {
 
 /// What lies ahead of a context that counts.
 fn ahead_of(view: &View, settings: &Settings, moment: u64) -> Ahead {
-    match (view.state, &view.windows) {
-        (ContextState::FullContext, Some((first, _))) => Ahead::Falls {
+    match &view.state {
+        StateView::Plain => Ahead::Nothing,
+        StateView::Full { window, .. } => Ahead::Falls {
             to: ContextState::StaticContext,
-            after: failures_to_fill(first, settings.k1, settings.n1),
+            after: failures_to_fill(window, settings.k1, settings.n1),
         },
-        (ContextState::StaticContext, Some((_, second))) => Ahead::Falls {
+        StateView::Static { windows, .. } => Ahead::Falls {
             to: ContextState::NoContext,
-            after: failures_to_fill(second, settings.k2, settings.n2),
+            after: failures_to_fill(&windows.1, settings.k2, settings.n2),
         },
-        (ContextState::NoContext, _) if settings.mode == Mode::U => Ahead::Silent,
-        (ContextState::NoContext, _) => {
-            let nacked = view.nacked.unwrap_or(0);
-            let passed = moment.saturating_sub(nacked);
+        StateView::NoContext { .. } if settings.mode == Mode::U => Ahead::Silent,
+        StateView::NoContext { nacked } => {
+            let passed = moment.saturating_sub(*nacked);
             Ahead::StaticNack {
                 wait: u64::from(settings.static_nack_ms).saturating_sub(passed),
             }
         }
-        _ => Ahead::Nothing,
     }
 }
 
@@ -92,7 +92,7 @@ pub(crate) fn expected_of(explained: &Explained) -> Option<Expected> {
     }
     Some(Expected {
         age,
-        sn: view.sn.map(|sn| sn.wrapping_add(1)),
+        sn: sn_in(view).map(|sn| sn.wrapping_add(1)),
         ahead: ahead_of(view, settings, explained.moment),
     })
 }

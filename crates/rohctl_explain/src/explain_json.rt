@@ -4,9 +4,10 @@ use crate::expected::{Ahead, Expected, expected_of, failures};
 use crate::explain_text::{
     answer_name, format_name, profile_name, state_word, write_flow, write_number,
 };
-use crate::packet::{Explained, Got, View};
-use rohc_explain::{Field, PacketFields};
-use rohc_tries::{Told, cause_of};
+use crate::held::{profile_in, sn_in, state_in};
+use crate::packet::{Explained, Got};
+use rohc_context::{Settings, StateView, Try, View};
+use rohc_explain::{Field, PacketFields, cause_of};
 use std::io;
 use std::io::Write;
 
@@ -43,6 +44,19 @@ fn write_fields<W: Write>(out: &mut W, told: &PacketFields) -> io::Result<()> {
     )
 }
 
+/// Writes the failures that a context has counted in both windows. Full Context has only the first.
+fn write_failures<W: Write>(out: &mut W, view: &View, settings: &Settings) -> io::Result<()> {
+    let (first, second) = match &view.state {
+        StateView::Plain | StateView::NoContext { .. } => return Ok(()),
+        StateView::Static { windows, .. } => (
+            failures(&windows.0, settings.n1),
+            failures(&windows.1, settings.n2),
+        ),
+        StateView::Full { window, .. } => (failures(window, settings.n1), 0),
+    };
+    write!(out, ",\"failures\":[{first},{second}]")
+}
+
 /// Writes what is told of a context.
 fn write_view<W: Write>(
     out: &mut W,
@@ -56,20 +70,15 @@ fn write_view<W: Write>(
     write!(
         out,
         ",\"{name}\":{{\"state\":\"{}\",\"profile\":\"{}\",\"accepted\":{}",
-        state_word(view.state),
-        profile_name(view.profile),
+        state_word(state_in(view)),
+        profile_name(profile_in(view)),
         view.accepted
     )?;
-    if let Some(sn) = view.sn {
+    if let Some(sn) = sn_in(view) {
         write!(out, ",\"sn\":{sn}")?;
     }
-    if let (Some((first, second)), Some(settings)) = (&view.windows, &explained.settings) {
-        write!(
-            out,
-            ",\"failures\":[{},{}]",
-            failures(first, settings.n1),
-            failures(second, settings.n2)
-        )?;
+    if let Some(settings) = &explained.settings {
+        write_failures(out, view, settings)?;
     }
     write!(out, "}}")
 }
@@ -102,7 +111,7 @@ fn write_expected<W: Write>(out: &mut W, explained: &Explained) -> io::Result<()
 }
 
 /// Writes a try.
-fn write_try<W: Write>(out: &mut W, told: &Told) -> io::Result<()> {
+fn write_try<W: Write>(out: &mut W, told: &Try) -> io::Result<()> {
     match &told.result {
         Ok(meant) => write!(
             out,
@@ -119,7 +128,7 @@ fn write_try<W: Write>(out: &mut W, told: &Told) -> io::Result<()> {
 }
 
 /// Writes the tries.
-fn write_tries<W: Write>(out: &mut W, tries: &[Told]) -> io::Result<()> {
+fn write_tries<W: Write>(out: &mut W, tries: &[Try]) -> io::Result<()> {
     write!(out, ",\"tries\":[")?;
     for (place, told) in tries.iter().enumerate() {
         write_comma(out, place)?;
@@ -168,7 +177,7 @@ fn write_head<W: Write>(out: &mut W, line: u64, explained: &Explained) -> io::Re
     }
     if let Some(fixed) = explained.fixed() {
         write!(out, ",\"text\":\"")?;
-        write_flow(out, &fixed)?;
+        write_flow(out, fixed)?;
         write!(out, "\"")?;
     }
     write!(out, ",\"format\":\"{}\"", format_name(explained))

@@ -1,12 +1,15 @@
 //! A packet, explained for a reader.
 
 use crate::expected::{Ahead, Expected, expected_of, failures};
-use crate::packet::{Explained, Got, View, counts_after};
-use rohc_context::{ContextState, Profile, Settings};
-use rohc_explain::{Field, FieldName, PacketFields, PacketKind};
+use crate::held::{profile_in, sn_in, state_in};
+use crate::packet::{Explained, Got, counts_after};
+use rohc_context::{
+    Against, ContextState, NotMade, Profile, Settings, StateView, Try, View, Window,
+};
+use rohc_explain::{Field, FieldName, PacketFields, PacketKind, cause_of};
+use rohc_feedback::{Word, read};
 use rohc_forms::FormKind;
 use rohc_header::Static;
-use rohc_tries::{Against, NotMade, Told, cause_of};
 use std::io;
 use std::io::Write;
 
@@ -16,7 +19,7 @@ pub(crate) fn format_name(explained: &Explained) -> &'static str {
         return "-";
     };
     match (told.kind, &explained.before) {
-        (PacketKind::Unknown, Some(view)) if view.profile == Profile::Uncompressed => "Normal",
+        (PacketKind::Unknown, Some(view)) if profile_in(view) == Profile::Uncompressed => "Normal",
         (kind, _) => kind_name(kind),
     }
 }
@@ -139,15 +142,17 @@ fn write_field<W: Write>(out: &mut W, field: &Field) -> io::Result<()> {
 
 /// Writes the failures that a context has counted, and how many lead to its next fall.
 fn write_windows<W: Write>(out: &mut W, view: &View, settings: &Settings) -> io::Result<()> {
-    let Some((first, second)) = &view.windows else {
-        return Ok(());
+    let (first, second): (&Window, Option<&Window>) = match &view.state {
+        StateView::Plain | StateView::NoContext { .. } => return Ok(()),
+        StateView::Static { windows, .. } => (&windows.0, Some(&windows.1)),
+        StateView::Full { window, .. } => (window, None),
     };
     let (k, n) = (settings.k1, settings.n1);
     let failed = failures(first, n);
     write!(out, ", failures {failed} of the last {n} (falls at {k})")?;
-    if view.state != ContextState::StaticContext {
+    let Some(second) = second else {
         return Ok(());
-    }
+    };
     let (k, n) = (settings.k2, settings.n2);
     let failed = failures(second, n);
     write!(out, " and {failed} of {n} (falls at {k})")
@@ -158,11 +163,11 @@ fn write_standing<W: Write>(out: &mut W, title: &str, view: &View) -> io::Result
     write!(
         out,
         "{title}: {}, profile {}, last accepted at {}",
-        state_name(view.state),
-        profile_name(view.profile),
+        state_name(state_in(view)),
+        profile_name(profile_in(view)),
         view.accepted
     )?;
-    match view.sn {
+    match sn_in(view) {
         Some(sn) => write!(out, ", SN {sn}"),
         None => Ok(()),
     }
@@ -230,11 +235,14 @@ fn taken_by(view: Option<&View>) -> &'static str {
     let Some(view) = view else {
         return "only an IR";
     };
-    match view.state {
-        ContextState::FullContext => "every packet",
-        ContextState::StaticContext if view.sn.is_some() => "an IR, an IR-DYN or a UOR-2",
-        ContextState::StaticContext => "an IR or an IR-DYN",
-        ContextState::NoContext => "only an IR",
+    match &view.state {
+        StateView::Plain | StateView::Full { .. } => "every packet",
+        StateView::Static {
+            reference: Some(_),
+            ..
+        } => "an IR, an IR-DYN or a UOR-2",
+        StateView::Static { .. } => "an IR or an IR-DYN",
+        StateView::NoContext { .. } => "only an IR",
     }
 }
 
@@ -270,7 +278,7 @@ fn write_not_made<W: Write>(out: &mut W, reason: NotMade) -> io::Result<()> {
 }
 
 /// Writes a try.
-fn write_try<W: Write>(out: &mut W, number: usize, told: &Told) -> io::Result<()> {
+fn write_try<W: Write>(out: &mut W, number: usize, told: &Try) -> io::Result<()> {
     let reference = match told.against {
         Against::Reference => "the last header",
         Against::Previous => "the one before it",
@@ -308,10 +316,32 @@ fn write_answer<W: Write>(out: &mut W, explained: &Explained) -> io::Result<()> 
             writeln!(out, "usual cause: {} ({})", cause.usual, cause.section)?;
         }
     }
-    if let Some(element) = &explained.feedback {
-        writeln!(out, "feedback: {} octets", element.len())?;
+    write_feedback(out, explained)
+}
+
+/// The name of a kind of feedback.
+fn word_name(word: Word) -> &'static str {
+    match word {
+        Word::Ack => "ACK",
+        Word::Nack => "NACK",
+        Word::StaticNack => "STATIC-NACK",
+        Word::Plain => "FEEDBACK-1",
     }
-    Ok(())
+}
+
+/// Writes the feedback that a packet made due: how long it is, its kind, and the low 12 bits of the SN in it.
+fn write_feedback<W: Write>(out: &mut W, explained: &Explained) -> io::Result<()> {
+    let (Some(element), Some(settings)) = (&explained.feedback, &explained.settings) else {
+        return Ok(());
+    };
+    write!(out, "feedback: {} octets", element.len())?;
+    if let Some(reading) = read(settings.size, element.as_slice()) {
+        write!(out, ", {}", word_name(reading.word))?;
+        if let Some(sn) = reading.sn {
+            write!(out, ", SN {sn}")?;
+        }
+    }
+    writeln!(out, "")
 }
 
 /// Where a packet stands.
@@ -358,7 +388,7 @@ fn write_fields<W: Write>(out: &mut W, told: &PacketFields) -> io::Result<()> {
 }
 
 /// Writes the tries of a packet.
-fn write_tries<W: Write>(out: &mut W, tries: &[Told]) -> io::Result<()> {
+fn write_tries<W: Write>(out: &mut W, tries: &[Try]) -> io::Result<()> {
     for (place, told) in tries.iter().enumerate() {
         write_try(out, place.saturating_add(1), told)?;
     }
@@ -394,7 +424,7 @@ fn write_call<W: Write>(out: &mut W, explained: &Explained) -> io::Result<()> {
         return Ok(());
     };
     write!(out, "call: ")?;
-    write_flow(out, &fixed)?;
+    write_flow(out, fixed)?;
     writeln!(out, "")
 }
 

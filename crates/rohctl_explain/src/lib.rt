@@ -6,9 +6,11 @@ mod expected;
 mod explain;
 mod explain_json;
 mod explain_text;
+mod held;
 mod packet;
 
 pub use asked::{Asked, Source, Telling, Which};
 pub use explain::run_explain;
 pub use explain_text::{Place, write_whole};
-pub use packet::{Explained, Got, View, explain_packet};
+pub use held::state_in;
+pub use packet::{Explained, Got, explain_packet};

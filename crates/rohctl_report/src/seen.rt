@@ -2,7 +2,7 @@
 
 use rohc_context::ContextState;
 use rohc_report::{Became, is_behind};
-use rohctl_explain::{Explained, Got};
+use rohctl_explain::{Explained, Got, state_in};
 
 /// Whether a packet was delivered behind another. An IR may begin anew, so it is never late.
 fn is_late(explained: &Explained) -> bool {
@@ -12,7 +12,7 @@ fn is_late(explained: &Explained) -> bool {
     }
 }
 
-/// What became of a packet: as the step answered, by the try that fits, which is compared with that answer.
+/// What became of a packet: as the step answered, by the try that fits.
 pub(crate) fn became_of(explained: &Explained) -> Became {
     match explained.got {
         Got::Refused(refusal) => Became::Refused(refusal),
@@ -36,5 +36,5 @@ pub(crate) fn feedback_of(explained: &Explained) -> Option<&[u8]> {
 
 /// The state of the packet's context behind it, if there is one.
 pub(crate) fn state_of(explained: &Explained) -> Option<ContextState> {
-    explained.after.as_ref().map(|view| view.state)
+    explained.after.as_ref().map(|view| state_in(view))
 }
