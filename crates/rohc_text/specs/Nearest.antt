@@ -8,7 +8,8 @@ abbrev pub edits : List ℕ → List ℕ → ℕ
 edits name other = levenshtein_row nat_eq (chars name) (chars other) (length (chars other))
 
 -- the first of the known names to which the fewest edits lead, at most three
-pub record IsFirstNearest {X : Type 0} (text : X → List ℕ) (name : List ℕ) (known : List X) (near : X) : Type 0 where
+pub record IsFirstNearest {X : Type 0} (text : X → List ℕ) (name : List ℕ) (known : List X) (near : X) :
+    Type 0 where
   pub place : ℕ
   pub there : slice_get known place ≡ Some near
   pub few : edits name (text near) ≤ 3

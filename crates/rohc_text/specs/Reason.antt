@@ -12,6 +12,7 @@ reason_of kind.NotADirectory = Some reason.NotADirectory
 reason_of kind.PermissionDenied = Some reason.Denied
 reason_of kind.ReadOnlyFilesystem = Some reason.ReadOnly
 reason_of kind.InvalidFilename = Some reason.LongName
+reason_of kind.InvalidInput = Some reason.Invalid
 reason_of kind.StorageFull = Some reason.NoSpace
 reason_of kind.QuotaExceeded = Some reason.NoSpace
 reason_of kind.AddrInUse = Some reason.InUse

@@ -9,6 +9,6 @@ mod reason;
 mod toml_fault;
 
 pub use nearest::nearest_name;
-pub use quoted::{write_json_text, write_octets, write_quoted, write_value};
-pub use reason::{Reason, Why};
+pub use quoted::{shown_word, write_json_text, write_octets, write_quoted, write_value};
+pub use reason::Reason;
 pub use toml_fault::{error_line, write_toml_reason};

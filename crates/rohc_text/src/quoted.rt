@@ -1,8 +1,18 @@
 //! Texts of a file, so that they can put no control character on a terminal and break no JSON line.
 
+ghost use Rattle.std.specs.Prelude.{◌≡◌, if◌then◌else◌, codes};
+ghost use Rattle.std.specs.Str.{bytes_eq};
+
 use std::io;
 use std::io::Write;
 use toml::Value;
+
+/// A word of the command line as it is shown: an empty one as two quotes.
+pub fn shown_word(word: &str) -> &str
+    ensures { result.now ≡ (if bytes_eq word.now (codes "") then codes "''" else word.now) }
+{
+    if word == "" { "''" } else { word }
+}
 
 /// How many characters of a text are shown.
 const SHOWN: usize = 60;
@@ -57,9 +67,10 @@ pub fn write_value<W: Write>(out: &mut W, value: Option<&Value>) -> io::Result<(
         Some(Value::String(text)) => write_quoted(out, text.as_str()),
         Some(Value::Integer(number)) => write!(out, "{number}"),
         Some(Value::Boolean(truth)) => write!(out, "{truth}"),
-        Some(Value::Float(_)) => write!(out, "a number with a point"),
+        Some(Value::Float(_)) => write!(out, "a floating-point number"),
         Some(Value::Datetime(_)) => write!(out, "a date"),
-        Some(Value::Array(values)) => write!(out, "an array of {}", values.len()),
+        Some(Value::Array(values)) if values.is_empty() => write!(out, "an empty array"),
+        Some(Value::Array(_)) => write!(out, "an array"),
         Some(Value::Table(_)) => write!(out, "a table"),
     }
 }

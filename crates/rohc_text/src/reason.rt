@@ -20,6 +20,8 @@ pub enum Reason {
     ReadOnly,
     /// The name is longer than the system allows.
     LongName,
+    /// The system can't use the path, be it empty.
+    Invalid,
     NoSpace,
     /// Another process has the address.
     InUse,
@@ -56,6 +58,7 @@ impl Reason {
             ErrorKind::PermissionDenied => Reason::Denied,
             ErrorKind::ReadOnlyFilesystem => Reason::ReadOnly,
             ErrorKind::InvalidFilename => Reason::LongName,
+            ErrorKind::InvalidInput => Reason::Invalid,
             ErrorKind::StorageFull | ErrorKind::QuotaExceeded => Reason::NoSpace,
             ErrorKind::AddrInUse => Reason::InUse,
             ErrorKind::ConnectionRefused => Reason::NoListener,
@@ -76,13 +79,15 @@ impl fmt::Display for Reason {
             Reason::Denied => f.write_str("permission denied"),
             Reason::ReadOnly => f.write_str("the file system is read-only"),
             Reason::LongName => f.write_str("the name is too long"),
+            Reason::Invalid => f.write_str("invalid argument"),
             Reason::NoSpace => f.write_str("no space left on the device"),
             Reason::InUse => f.write_str("address already in use"),
             Reason::NoListener => f.write_str("nothing listens there"),
-            Reason::TimedOut => f.write_str("it took too long"),
+            Reason::TimedOut => f.write_str("timed out"),
             Reason::Closed => f.write_str("the reader went away"),
             Reason::Memory => f.write_str("out of memory"),
-            Reason::Other(number) => write!(f, "error {number} of the system"),
+            Reason::Other(0) => f.write_str("unknown error"),
+            Reason::Other(number) => write!(f, "{}", io::Error::from_raw_os_error(*number)),
             Reason::NotUtf8 => f.write_str("it is not UTF-8"),
             Reason::TooLong(octets) => write!(f, "it is longer than {octets} octets"),
             Reason::Beyond => {
@@ -91,27 +96,6 @@ impl fmt::Display for Reason {
                 )
             }
             Reason::Changed => f.write_str("it changed while it was read"),
-        }
-    }
-}
-
-/// An error as `rohc-gateway` prints it: folders by that name, and an error without words of its own as the system says
-/// it.
-#[derive(Clone, Copy)]
-pub struct Why<'a>(pub &'a io::Error);
-
-impl fmt::Display for Why<'_> {
-    fn fmt<W: fmt::Write>(&self, f: &mut fmt::Formatter<W>) -> fmt::Result {
-        let reason = Reason::of(self.0);
-        match reason {
-            Reason::Missing => f.write_str("no such file or folder"),
-            Reason::Directory => f.write_str("it is a folder"),
-            Reason::NotADirectory => f.write_str("a part of the path is not a folder"),
-            Reason::TimedOut => f.write_str("no answer in time"),
-            Reason::Denied | Reason::NoSpace | Reason::InUse | Reason::NoListener => {
-                write!(f, "{reason}")
-            }
-            _ => write!(f, "{}", self.0),
         }
     }
 }

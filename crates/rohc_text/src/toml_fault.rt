@@ -82,15 +82,16 @@ fn write_twice<W: Write>(out: &mut W, rest: &str) -> io::Result<()> {
     write!(out, "]] before each one")
 }
 
-/// Writes what is wrong with the value of a key. The text begins where the value should.
-fn write_no_value<W: Write>(out: &mut W, key: &str, rest: &str) -> io::Result<()> {
+/// Writes what is wrong with the value of a key. The rest begins where the reader stopped, and the text where the value
+/// should.
+fn write_no_value<W: Write>(out: &mut W, key: &str, text: &str, rest: &str) -> io::Result<()> {
     let word = first_word(rest);
     if needs_quotes(word) {
         write_name(out, word)?;
         write!(out, " needs quotes; write ")?;
         return write_quoted(out, word);
     }
-    let value = rest.split("\n").next().unwrap_or("").trim();
+    let value = text.split("\n").next().unwrap_or("").trim();
     write_name(out, key)?;
     if value.is_empty() {
         return write!(out, " has no value; expected a number, or a text in quotes");
@@ -98,6 +99,17 @@ fn write_no_value<W: Write>(out: &mut W, key: &str, rest: &str) -> io::Result<()
     write!(out, " is ")?;
     write_quoted(out, value)?;
     write!(out, "; expected a number, or a text in quotes")
+}
+
+/// Writes what the reader of TOML says in words of its own.
+fn write_message<W: Write>(out: &mut W, message: &str) -> io::Result<()> {
+    match message.split_once(", expected ") {
+        Some((wrong, expected)) => write!(out, "not TOML: {wrong}; expected {expected}"),
+        None => write!(
+            out,
+            "not TOML: {message}; expected a TOML document (toml.io)"
+        ),
+    }
 }
 
 /// Writes why a text is no TOML, and what to write instead.
@@ -109,17 +121,20 @@ pub fn write_toml_reason<W: Write>(out: &mut W, text: &str, error: &Error) -> io
         Some((_, line)) => line,
         None => before,
     };
-    let key = match line.split_once("=") {
-        Some((key, _)) => key.trim(),
-        None => line.trim(),
+    let (key, front) = match line.split_once("=") {
+        Some((key, front)) => (key.trim(), front.trim_start()),
+        None => (line.trim(), ""),
     };
+    let value = text
+        .get(offset.saturating_sub(front.len())..)
+        .unwrap_or(rest);
     match error.message() {
         TWICE => write_twice(out, rest),
         UNQUOTED => write!(
             out,
             "a quote is missing; expected one before and one after the text"
         ),
-        message if message.starts_with(NO_VALUE) => write_no_value(out, key, rest),
+        message if message.starts_with(NO_VALUE) => write_no_value(out, key, value, rest),
         message if message.starts_with(NO_EQUALS) => {
             write_name(out, key)?;
             write!(out, " has no value; expected = and a value after it")
@@ -130,6 +145,6 @@ pub fn write_toml_reason<W: Write>(out: &mut W, text: &str, error: &Error) -> io
                 "more text follows the value; expected the end of the line"
             )
         }
-        message => write!(out, "not TOML: {message}"),
+        message => write_message(out, message),
     }
 }

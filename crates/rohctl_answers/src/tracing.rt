@@ -2,7 +2,8 @@
 
 use rohc_trace::{TraceFault, trace};
 use rohctl_ground::{
-    Ending, STREAM, Screen, Told, concentrator_of, input_name, make_target, open_source,
+    CAPTURE, Ending, STREAM, Screen, Told, concentrator_of, input_name, is_capture_front,
+    make_target, open_source,
 };
 use std::io::{self, Write};
 use std::rt::Files;
@@ -54,12 +55,16 @@ impl<W: Write + Drop> Write for Noticing<W> {
     }
 }
 
-/// Prints that the lines of a script end with a carriage return.
-fn hint_carriage<R: Eprint>(rt: &R, script: &str) {
+/// Prints why a script may have lines that are no events: it is a capture, or they end with a carriage return.
+fn hint<R: Eprint>(rt: &R, script: &str, is_capture: bool, has_carriage: bool) {
     let name = input_name(script);
-    let _ = eprintln!(rt;
-        "rohctl: {name}: lines end with a carriage return; remove it: tr -d '\\r'"
-    );
+    let _ = if is_capture {
+        eprintln!(rt; "rohctl: {name}: {CAPTURE}")
+    } else if has_carriage {
+        eprintln!(rt; "rohctl: {name}: lines end with a carriage return; remove it: tr -d '\\r'")
+    } else {
+        Ok(())
+    };
 }
 
 /// The ending for a trace that came to its end: whether each line was an event.
@@ -90,8 +95,13 @@ where
     let flushed = out.flush();
     match traced {
         Ok(()) if flushed.is_ok() => {
-            if out.noticed.bad && lines.has_carriage() {
-                hint_carriage(rt, script);
+            if out.noticed.bad {
+                hint(
+                    rt,
+                    script,
+                    is_capture_front(lines.front()),
+                    lines.has_carriage(),
+                );
             }
             Ok(end_of(out.noticed.bad))
         }

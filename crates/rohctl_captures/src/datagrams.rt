@@ -18,8 +18,12 @@ pub(crate) struct Datagrams<W: Write + Drop> {
     pub(crate) port: u16,
     /// The lines without a datagram: no arrivals, or what a capture can't hold.
     pub(crate) left_out: u64,
-    /// The datagrams.
-    pub(crate) written: u64,
+    /// Whether there is a datagram.
+    pub(crate) written: bool,
+    /// The lines that are arrivals.
+    pub(crate) arrivals: u64,
+    /// The lines that are resets.
+    pub(crate) resets: u64,
 }
 
 /// The header sum of an IPv4 header whose own sum is 0.
@@ -91,11 +95,18 @@ impl<W: Write + Drop> Taker for Datagrams<W> {
                 link,
                 moment,
                 packet,
-            } => self.arrived(link, moment, packet)?,
-            Line::Reset { .. } | Line::Bad => false,
+            } => {
+                self.arrivals = self.arrivals.saturating_add(1);
+                self.arrived(link, moment, packet)?
+            }
+            Line::Reset { .. } => {
+                self.resets = self.resets.saturating_add(1);
+                false
+            }
+            Line::Bad => false,
         };
         if written {
-            self.written = self.written.saturating_add(1);
+            self.written = true;
         } else {
             self.left_out = self.left_out.saturating_add(1);
         }

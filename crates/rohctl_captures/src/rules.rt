@@ -1,5 +1,8 @@
 //! Whose packets a capture has: the rules of the options.
 
+ghost use Rattle.std.specs.Prelude.{◌≡◌, ◌<◌, length, IfOk, IfErr};
+ghost use Rattle.rohctl_ground.specs.Ending.{status_of};
+
 use rohc_capture::Rule;
 use rohc_concentrator::Concentrator;
 use rohctl_ground::{Ending, Misuse, Nothing};
@@ -99,7 +102,9 @@ fn add_rules<'a>(
 }
 
 /// The rules that are asked for: those of VLANs, of ports, and of the link that has all others.
-pub fn rules_of<'a>(alloc: Global, asked: &RuleWords<'a>) -> Result<Vec<Rule>, Ending<'a>> {
+pub fn rules_of<'a>(alloc: Global, asked: &RuleWords<'a>) -> Result<Vec<Rule>, Ending<'a>>
+    ensures some { IfOk result (λ rules. 0 < length rules.items) }
+{
     let mut rules = Vec::new(alloc);
     add_rules(&mut rules, Naming::Vlan, asked.vlan)?;
     add_rules(&mut rules, Naming::Port, asked.port)?;
@@ -126,7 +131,9 @@ pub fn check_links<'a>(
     concentrator: &Concentrator,
     links: &'a str,
     rules: &[Rule],
-) -> Result<(), Ending<'a>> {
+) -> Result<(), Ending<'a>>
+    ensures nothing { IfErr result (λ ending. status_of ending ≡ 6) }
+{
     for rule in rules {
         if let Some(link) = link_of(*rule)
             && concentrator.tables().get(&link).is_none()

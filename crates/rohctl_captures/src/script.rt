@@ -9,8 +9,8 @@ use hex::encode_to_slice;
 use rohc_capture::{Capture, Format, Record, Rule, packet_in, write_head};
 use rohc_decompress::BulkFault;
 use rohctl_ground::{
-    Ending, Misuse, Nothing, Screen, Stop, Told, Written, keep_apart, make_target, open_source,
-    read_script, target_of,
+    Ending, Misuse, Nothing, Screen, Stop, Told, Written, is_capture_front, keep_apart,
+    make_target, open_source, read_script, target_of,
 };
 use std::io;
 use std::io::{Read, Write};
@@ -232,7 +232,9 @@ fn datagrams_of<'a, 'p, R: Files + Print + AllocGlobal>(
             format: asked.format,
             port,
             left_out: 0,
-            written: 0,
+            written: false,
+            arrivals: 0,
+            resets: 0,
         }),
         Err(_) => Err(out.unwritten(asked.output)),
     }
@@ -241,7 +243,30 @@ fn datagrams_of<'a, 'p, R: Files + Print + AllocGlobal>(
 /// Prints how many lines have no datagram, if there are some.
 fn tell_left_out<R: Eprint>(rt: &R, left_out: u64) {
     if left_out > 0 {
-        let _ = eprintln!(rt; "skipped {left_out} lines (not arrivals, or too long for a capture)");
+        let lines = if left_out == 1 { "line" } else { "lines" };
+        let _ = eprintln!(rt;
+            "skipped {left_out} {lines} (not arrivals, or too long for a capture)"
+        );
+    }
+}
+
+/// Why no line of a script has a datagram.
+fn nothing_of<W: Write + Drop>(
+    datagrams: &Datagrams<W>,
+    is_capture: bool,
+    carriage: bool,
+) -> Nothing {
+    let lines = datagrams.left_out;
+    if lines == 0 {
+        Nothing::Empty
+    } else if is_capture {
+        Nothing::Capture
+    } else if datagrams.arrivals > 0 {
+        Nothing::Beyond
+    } else if datagrams.resets > 0 {
+        Nothing::NoPacket
+    } else {
+        Nothing::NoEvent { lines, carriage }
     }
 }
 
@@ -275,15 +300,15 @@ where
     let mut datagrams = datagrams_of(rt, asked, port)?;
     let ran = read_script(rt.alloc(), &mut lines, &mut datagrams);
     let flushed = datagrams.out.flush();
-    tell_left_out(rt, datagrams.left_out);
+    if datagrams.written {
+        tell_left_out(rt, datagrams.left_out);
+    }
     match ran {
-        Ok(()) if flushed.is_ok() && datagrams.written == 0 => Err(Ending::Nothing(
-            asked.input,
-            Nothing::NoEvent {
-                lines: datagrams.left_out,
-                carriage: lines.has_carriage(),
-            },
-        )),
+        Ok(()) if flushed.is_ok() && !datagrams.written => {
+            let is_capture = is_capture_front(lines.front());
+            let nothing = nothing_of(&datagrams, is_capture, lines.has_carriage());
+            Err(Ending::Nothing(asked.input, nothing))
+        }
         Ok(()) if flushed.is_ok() => Ok(Ending::Good),
         Ok(()) | Err(Stop::Write(_)) => Err(datagrams.out.unwritten(asked.output)),
         Err(stop) => Err(stop.ending(asked.input, asked.output)),

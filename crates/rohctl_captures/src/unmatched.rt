@@ -1,5 +1,7 @@
 //! What is said of a capture of which no frame carries a packet of a link.
 
+ghost use Rattle.std.specs.Prelude.{◌≡◌};
+
 use rohc_capture::{Capture, Carrier, Protocol, carried_in, network_in};
 use rohctl_ground::{Ending, input_name};
 use std::alloc::Global;
@@ -121,7 +123,9 @@ impl fmt::Display for FirstFrame {
 }
 
 /// Prints that no frame of a capture carries a packet of a link, and what its first frame is. Returns the ending.
-pub fn no_frame<R: Eprint + AllocGlobal>(rt: &R, path: &str, front: &[u8]) -> Ending<'static> {
+pub fn no_frame<R: Eprint + AllocGlobal>(rt: &R, path: &str, front: &[u8]) -> Ending<'static>
+    ensures { result ≡ Ending.NoFrame }
+{
     let name = input_name(path);
     let _ = match first_frame(rt.alloc(), front) {
         Some(first) => eprintln!(rt; "rohctl: {name}: nothing to show: no frame matches; {first}"),

@@ -5,8 +5,8 @@ ghost use Rattle.std.specs.IoError.{error_kind};
 ghost use Rattle.std.specs.Str.{bytes_eq};
 
 use crate::hex_word::HexFault;
-use rohc_capture::CaptureFault;
-use rohc_text::Reason;
+use rohc_capture::{CaptureFault, FaultKind};
+use rohc_text::{Reason, shown_word};
 use std::io::ErrorKind;
 use std::{fmt, io};
 
@@ -59,8 +59,12 @@ pub enum Nothing {
     NoCall { link: u16, cid: u16 },
     /// The script has only resets.
     NoPacket,
+    /// A capture can hold none of the packets.
+    Beyond,
     /// The links file has no such link.
     NoLink(u16),
+    /// The list of digests has none.
+    NoDigest,
 }
 
 /// How a run of the program ends.
@@ -159,23 +163,25 @@ impl Ending<'_> {
 
 /// The name of an input.
 pub fn input_name(path: &str) -> &str
-    ensures { result.now ≡ (if bytes_eq path.now (codes "-") then codes "standard input" else path.now) }
+    ensures { result.now ≡ (if bytes_eq path.now (codes "-") then codes "standard input"
+        else (if bytes_eq path.now (codes "") then codes "''" else path.now)) }
 {
     if path == STREAM {
         "standard input"
     } else {
-        path
+        shown_word(path)
     }
 }
 
 /// The name of an output.
 fn output_name(path: &str) -> &str
-    ensures { result.now ≡ (if bytes_eq path.now (codes "-") then codes "standard output" else path.now) }
+    ensures { result.now ≡ (if bytes_eq path.now (codes "-") then codes "standard output"
+        else (if bytes_eq path.now (codes "") then codes "''" else path.now)) }
 {
     if path == STREAM {
         "standard output"
     } else {
-        path
+        shown_word(path)
     }
 }
 
@@ -201,22 +207,24 @@ impl fmt::Display for Misuse<'_> {
                 word,
                 given,
                 expected,
-            } => write!(f, "{word} {given}: expected {expected}"),
+            } => write!(f, "{word} {}: expected {expected}", shown_word(given)),
             Misuse::Missing { word, expected } => write!(
                 f,
                 "{word} is missing; expected {expected}"
             ),
             Misuse::Packet(fault) => write_packet(f, *fault),
-            Misuse::NotUtf8 => f.write_str("a word of the command line is not UTF-8"),
+            Misuse::NotUtf8 => f.write_str(
+                "a word of the command line is not UTF-8; expected UTF-8, also in file names",
+            ),
             Misuse::Overwrites { output, input } => write!(
                 f,
-                "{}: refusing to overwrite the input {}; name another file",
+                "{}: refusing to overwrite the input {}; choose another output",
                 output_name(output),
                 input_name(input)
             ),
             Misuse::OneOutput(output) => write!(
                 f,
-                "{}: two outputs have this name; name another file",
+                "{}: two outputs would be written to it; choose another for one of them",
                 output_name(output)
             ),
             Misuse::Terminal => f.write_str(
@@ -225,6 +233,16 @@ impl fmt::Display for Misuse<'_> {
         }
     }
 }
+
+/// A line of a script.
+const ARRIVAL: &str = "arrive 1 0 fc00b745aa";
+
+/// What a script has.
+const EVENTS: &str = "a script, with lines such as 'arrive 1 0 fc00b745aa'";
+
+/// What is said of a capture where a script was expected.
+pub const CAPTURE: &str =
+    "it is a capture; expected a script ('rohctl script' converts a capture into one)";
 
 /// Writes why no line is an event.
 fn write_no_event<W: fmt::Write>(
@@ -236,27 +254,68 @@ fn write_no_event<W: fmt::Write>(
     if carriage {
         f.write_str("they end with a carriage return (remove it: tr -d '\\r')")
     } else {
-        f.write_str("expected a script, with lines such as 'arrive 1 0 fc00b745aa'")
+        write!(f, "expected {EVENTS}")
     }
 }
 
 impl fmt::Display for Nothing {
     fn fmt<W: fmt::Write>(&self, f: &mut fmt::Formatter<W>) -> fmt::Result {
         match self {
-            Nothing::Empty => f.write_str("it is empty"),
-            Nothing::Capture => f.write_str(
-                "it is a capture; expected a script ('rohctl script' makes one of it)",
-            ),
+            Nothing::Empty => write!(f, "it is empty; expected {EVENTS}"),
+            Nothing::Capture => write!(f, "{CAPTURE}"),
             Nothing::NoEvent { lines, carriage } => write_no_event(f, *lines, *carriage),
             Nothing::NoLine { line, lines } => {
                 write!(f, "there is no line {line}; the last line is {lines}")
             }
-            Nothing::NoArrival(line) => write!(f, "line {line} is not an arrival"),
-            Nothing::NoCall { link, cid } => write!(f, "no packet of link {link}, CID {cid}"),
-            Nothing::NoPacket => f.write_str("it has resets and no arrival"),
-            Nothing::NoLink(link) => write!(f, "it has no link {link}"),
+            Nothing::NoArrival(line) => write!(
+                f,
+                "line {line} is not an arrival; expected the number of a line such as '{ARRIVAL}'"
+            ),
+            Nothing::NoCall { link, cid } => write!(
+                f,
+                "no packet of link {link}, CID {cid}; without --call all packets are shown"
+            ),
+            Nothing::NoPacket => write!(
+                f,
+                "it has resets but no arrival; expected lines such as '{ARRIVAL}'"
+            ),
+            Nothing::Beyond => write!(f, "{}", Reason::Beyond),
+            Nothing::NoDigest => f.write_str(
+                "it has no digest; expected a list as sha256sum writes it",
+            ),
+            Nothing::NoLink(link) => write!(
+                f,
+                "it has no link {link}; 'rohctl links' lists those it has"
+            ),
         }
     }
+}
+
+/// Writes why a capture can't be read on.
+fn write_capture<W: fmt::Write>(
+    f: &mut fmt::Formatter<W>,
+    path: &str,
+    fault: &CaptureFault,
+) -> fmt::Result {
+    let octet = fault.place;
+    write!(f, "rohctl: {}: ", input_name(path))?;
+    match fault.kind {
+        FaultKind::NotACapture => return f.write_str("not a capture; expected pcap or pcapng\n"),
+        FaultKind::CutOff => write!(f, "the capture is cut off in the record at octet {octet}")?,
+        FaultKind::TooLong => write!(f, "the record at octet {octet} is longer than 1 MiB")?,
+        FaultKind::BlockLength => write!(f, "the block at octet {octet} has a wrong length")?,
+        FaultKind::ByteOrder => write!(f, "the section at octet {octet} has no known byte order")?,
+        FaultKind::NoInterface => write!(
+            f,
+            "the packet at octet {octet} is of an interface that its section does not describe"
+        )?,
+        FaultKind::TooManyInterfaces => write!(
+            f,
+            "the section at octet {octet} describes more than 65536 interfaces"
+        )?,
+        FaultKind::NoMemory | FaultKind::Read => write!(f, "cannot read octet {octet}")?,
+    }
+    f.write_str("; the frames before it were read\n")
 }
 
 /// Writes what could not be done at a place, and why.
@@ -288,14 +347,14 @@ impl fmt::Display for Ending<'_> {
             Ending::Differs => f.write_str(
                 "rohctl: internal error: rohctl and the decompressor disagree; please report this\n",
             ),
-            Ending::Capture(path, fault) => {
-                write_at(f, input_name(path), "cannot read the capture on", fault)
-            }
+            Ending::Capture(path, fault) => write_capture(f, path, fault),
             Ending::Read(path, reason) => write_at(f, input_name(path), "cannot read it", reason),
             Ending::Write(path, reason) => {
                 write_at(f, output_name(path), "cannot write to it", reason)
             }
-            Ending::Memory => f.write_str("rohctl: out of memory\n"),
+            Ending::Memory => f.write_str(
+                "rohctl: out of memory; try a smaller input, or raise the limit (ulimit -v)\n",
+            ),
             Ending::Nothing(path, nothing) => {
                 write_at(f, input_name(path), "nothing to show", nothing)
             }

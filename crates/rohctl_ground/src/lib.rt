@@ -10,10 +10,12 @@ mod links;
 mod streams;
 
 pub use apart::{keep_apart, overwritten};
-pub use ending::{Ending, Misuse, Nothing, STREAM, input_name, unprinted, unread, unwritten};
+pub use ending::{
+    CAPTURE, Ending, Misuse, Nothing, STREAM, input_name, unprinted, unread, unwritten,
+};
 pub use lines::{Line, Stop, Taker, read_packets, read_script};
 pub use links::{concentrator_of, good_links, links_text, text_at};
-pub use rohc_text::{Reason, write_octets, write_quoted, write_value};
+pub use rohc_text::{Reason, nearest_name, shown_word, write_octets, write_quoted, write_value};
 pub use streams::{
     Screen, Source, Target, Told, Written, is_capture_front, make_target, open_file, open_source,
     target_of,

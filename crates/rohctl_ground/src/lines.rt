@@ -1,6 +1,6 @@
 //! The lines of a script, one after another, as rohcd reads them.
 
-ghost use Rattle.std.specs.Prelude.{◌≡◌, length};
+ghost use Rattle.std.specs.Prelude.{◌≡◌, ◌≢◌, length};
 ghost use Rattle.rohc_links.specs.Limits.{longest_packet};
 
 use crate::ending::{Ending, Misuse, unread, unwritten};
@@ -39,8 +39,6 @@ pub enum Line<'a> {
 pub enum Stop {
     /// A packet that was given isn't one.
     Words(HexFault),
-    /// What was found is not what rohcd finds.
-    Differs,
     /// A read failed.
     Read(Reason),
     /// A write failed.
@@ -51,10 +49,16 @@ pub enum Stop {
 
 impl Stop {
     /// How a run of the program ends by it, that reads and writes at these paths.
-    pub fn ending<'a>(self, input: &'a str, output: &'a str) -> Ending<'a> {
+    pub fn ending<'a>(self, input: &'a str, output: &'a str) -> Ending<'a>
+        ensures words { (fault : HexFault) → self ≡ Stop.Words fault → result ≡ Ending.Misuse (Misuse.Packet fault) }
+        ensures memory { self ≡ Stop.Memory → result ≡ Ending.Memory }
+        ensures read { (reason : Reason) → self ≡ Stop.Read reason → reason ≢ Reason.Memory
+            → result ≡ Ending.Read input.entry reason }
+        ensures write { (reason : Reason) → self ≡ Stop.Write reason → reason ≢ Reason.Memory → reason ≢ Reason.Closed
+            → result ≡ Ending.Write output.entry reason }
+    {
         match self {
             Stop::Words(fault) => Ending::Misuse(Misuse::Packet(fault)),
-            Stop::Differs => Ending::Differs,
             Stop::Read(reason) => unread(input, reason),
             Stop::Write(reason) => unwritten(output, reason),
             Stop::Memory => Ending::Memory,

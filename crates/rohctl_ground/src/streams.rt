@@ -1,5 +1,7 @@
 //! What is read and written by name: files, and standard input and output for `-`.
 
+ghost use Rattle.std.specs.Prelude.{◌≡◌};
+ghost use Rattle.rohctl_ground.specs.Magic.{is_magic, begins_capture};
 ghost use Rattle.rohctl_ground.specs.Streams.{source_remaining, target_contents};
 
 use crate::ending::{Ending, STREAM, unread, unwritten};
@@ -250,20 +252,27 @@ fn keep(front: &mut Vec<u8>, read: &[u8]) {
     let _ = front.extend_from_slice(kept);
 }
 
-/// The first octets of captures: pcap in microseconds and in nanoseconds, in either order of octets, and pcapng.
-const MAGICS: [[u8; 4]; 5] = [
-    [0xa1, 0xb2, 0xc3, 0xd4],
-    [0xd4, 0xc3, 0xb2, 0xa1],
-    [0xa1, 0xb2, 0x3c, 0x4d],
-    [0x4d, 0x3c, 0xb2, 0xa1],
-    [0x0a, 0x0d, 0x0d, 0x0a],
-];
+/// Whether a capture begins with this number of four octets: pcap in microseconds or in nanoseconds, in either order of
+/// octets, or pcapng.
+fn is_magic(magic: u32) -> bool
+    ensures { result ≡ is_magic magic }
+{
+    match magic {
+        0xa1b2_c3d4 | 0xd4c3_b2a1 => true,
+        0xa1b2_3c4d | 0x4d3c_b2a1 => true,
+        0x0a0d_0d0a => true,
+        _ => false,
+    }
+}
 
 /// Whether these are the first octets of a capture.
-pub fn is_capture_front(octets: &[u8]) -> bool {
-    MAGICS
-        .iter()
-        .any(|magic| octets.starts_with(magic.as_slice()))
+pub fn is_capture_front(octets: &[u8]) -> bool
+    ensures { result ≡ begins_capture octets.now }
+{
+    match octets.first_chunk::<4>() {
+        Some(front) => is_magic(u32::from_be_bytes(*front)),
+        None => false,
+    }
 }
 
 impl<R: Eprint + AllocGlobal, S: Read> Read for Told<'_, R, S> {

@@ -15,6 +15,12 @@ const LONGEST_NAME: usize = 32;
 /// What stands before a process.
 const ENTRY: &str = "[[process]]";
 
+/// The keys of the top.
+const TOP_KEYS: [&str; 2] = ["port", "process"];
+
+/// The keys of a process.
+const PROCESS_KEYS: [&str; 4] = ["name", "address", "port", "links"];
+
 /// A range of links that a process takes.
 #[derive(Clone, Copy, PartialEq, Eq)]
 pub(crate) struct Share {
@@ -60,6 +66,8 @@ pub(crate) struct Hosts<'a> {
 pub(crate) enum HostsFault {
     /// A key of the top, or of the process at this place, counted from 1, is missing or wrong.
     BadKey(usize, &'static str),
+    /// The links of the process at this place have something at this index that names none.
+    BadShare(usize, usize),
     /// There is a key that isn't known, at the top or in the process at this place.
     UnknownKey(usize),
     /// Two processes have one name; the place of the later.
@@ -150,31 +158,44 @@ fn shares_in(alloc: Global, table: &Table, place: usize) -> Result<Vec<Share>, H
         return Err(wrong);
     };
     let mut shares = Vec::new(alloc);
-    for value in values {
+    for (index, value) in values.iter().enumerate() {
         match share_in(value) {
             Some(share) => {
                 if shares.push(share).is_err() {
                     return Err(HostsFault::NoMemory);
                 }
             }
-            None => return Err(wrong),
+            None => return Err(HostsFault::BadShare(place, index)),
         }
     }
     Ok(shares)
 }
 
-/// Whether the table has only these keys.
-fn has_only(table: &Table, keys: &[&str]) -> bool {
+/// The keys of the top, or of the process at this place.
+pub(crate) fn keys_at(place: usize) -> &'static [&'static str] {
+    if place == 0 { &TOP_KEYS } else { &PROCESS_KEYS }
+}
+
+/// The first key of a table that is none of these.
+pub(crate) fn unknown_in<'a>(table: &'a Table, keys: &[&'static str]) -> Option<&'a str> {
     for (name, _) in table {
         let mut known = false;
         for key in keys {
             known = known || name.as_str() == *key;
         }
         if !known {
-            return false;
+            return Some(name.as_str());
         }
     }
-    true
+    None
+}
+
+/// The table of the top, or of the process at this place.
+pub(crate) fn table_at<'a>(table: &'a Table, place: usize) -> Option<&'a Table> {
+    match place.checked_sub(1) {
+        Some(index) => table.get("process")?.as_array()?.get(index)?.as_table(),
+        None => Some(table),
+    }
 }
 
 /// The name of a process.
@@ -206,7 +227,7 @@ fn process_in<'a>(
     table: &'a Table,
     place: usize,
 ) -> Result<Process<'a>, HostsFault> {
-    if !has_only(table, &["name", "address", "port", "links"]) {
+    if unknown_in(table, keys_at(place)).is_some() {
         return Err(HostsFault::UnknownKey(place));
     }
     let name = name_in(table, place)?;
@@ -254,7 +275,7 @@ fn processes_in<'a>(alloc: Global, entries: &'a [Value]) -> Result<Vec<Process<'
 
 /// The processes of a hosts file.
 pub(crate) fn hosts_in<'a>(alloc: Global, table: &'a Table) -> Result<Hosts<'a>, HostsFault> {
-    if !has_only(table, &["port", "process"]) {
+    if unknown_in(table, keys_at(0)).is_some() {
         return Err(HostsFault::UnknownKey(0));
     }
     let Some(port) = port_at(table, "port", Some(PORT)) else {

@@ -1,17 +1,18 @@
 //! The subcommand `spread`: the rules that bring each datagram to the process of its link, and a links file for each.
 
-use crate::hosts::{Hosts, HostsFault, Process, hosts_in, line_of};
+use crate::hosts::{Hosts, HostsFault, Process, hosts_in, keys_at, line_of, table_at, unknown_in};
 use crate::settings::write_entry;
 use rohc_faults::{no_toml, write_sentence};
 use rohc_links::Links;
 use rohctl_ground::{
-    Ending, Misuse, Reason, good_links, overwritten, text_at, unprinted, unread, unwritten,
+    Ending, Misuse, Reason, good_links, nearest_name, overwritten, text_at, unprinted, unread,
+    unwritten, write_quoted, write_value,
 };
 use std::alloc::{AllocError, Global};
 use std::fs;
-use std::io::{self, BufWriter, Write};
+use std::io::{self, BufWriter, ErrorKind, Write};
 use std::rt::Files;
-use toml::Table;
+use toml::{Table, Value};
 
 /// What is asked of `spread`.
 #[derive(Clone, Copy)]
@@ -67,37 +68,104 @@ fn expected_at(key: &str) -> &'static str {
     match key {
         "name" => "1 to 32 letters, digits, - and _, in quotes",
         "address" => "an IPv4 address in quotes, as \"10.0.0.1\"",
-        "port" => "1 to 65535",
-        "links" => "an array of numbers and texts such as \"4-9\"",
+        "port" => "a number from 1 to 65535",
+        "links" => "an array of link numbers and ranges, as [1, \"4-9\"]",
         _ => "at least one table [[process]]",
     }
 }
 
+/// What is at a key of the hosts file: of the top, or of the process at this place.
+fn value_at<'a>(table: &'a Table, place: usize, key: &str) -> Option<&'a Value> {
+    table_at(table, place)?.get(key)
+}
+
+/// Writes that a key is missing or wrong.
+fn write_bad_key<W: Write>(out: &mut W, value: Option<&Value>, key: &str) -> io::Result<()> {
+    write!(out, "{key} is ")?;
+    match value {
+        None => write!(out, "missing")?,
+        value => write_value(out, value)?,
+    }
+    write!(out, "; expected {}", expected_at(key))
+}
+
+/// Writes that the links of a process have something at this index that names none.
+fn write_bad_share<W: Write>(out: &mut W, value: Option<&Value>, index: usize) -> io::Result<()> {
+    let share = match value {
+        Some(value) => match value.as_array() {
+            Some(shares) => shares.get(index),
+            None => None,
+        },
+        None => None,
+    };
+    write!(out, "links has ")?;
+    write_value(out, share)?;
+    write!(
+        out,
+        "; expected a number from 0 to 65535, or a range such as \"4-9\""
+    )
+}
+
+/// Writes that a key isn't known.
+fn write_unknown<W: Write>(
+    out: &mut W,
+    alloc: Global,
+    table: &Table,
+    place: usize,
+) -> io::Result<()> {
+    let keys = keys_at(place);
+    let Some(table) = table_at(table, place) else {
+        return Ok(());
+    };
+    let name = unknown_in(table, keys).unwrap_or("");
+    write!(out, "unknown key ")?;
+    write_quoted(out, name)?;
+    match nearest_name(alloc, name, keys)? {
+        Some(near) => write!(out, "; did you mean {near}?"),
+        None if place == 0 => write!(out, "; expected port and [[process]]"),
+        None => write!(out, "; expected name, address, port and links"),
+    }
+}
+
+/// Writes that an earlier process has the name of this one.
+fn write_same_name<W: Write>(out: &mut W, name: Option<&Value>) -> io::Result<()> {
+    write!(out, "name ")?;
+    write_value(out, name)?;
+    write!(
+        out,
+        " is already used by an earlier process; expected another"
+    )
+}
+
 /// Writes what is wrong with the hosts file.
-fn write_fault<W: Write>(out: &mut W, path: &str, text: &str, fault: HostsFault) -> io::Result<()> {
+fn write_fault<W: Write>(
+    out: &mut W,
+    alloc: Global,
+    path: &str,
+    text: &str,
+    table: &Table,
+    fault: HostsFault,
+) -> io::Result<()> {
     match fault {
         HostsFault::BadKey(place, key) => {
             write_place(out, path, text, place)?;
-            writeln!(
-                out,
-                "{key} is missing or wrong; expected {}",
-                expected_at(key)
-            )
+            write_bad_key(out, value_at(table, place, key), key)?;
+        }
+        HostsFault::BadShare(place, index) => {
+            write_place(out, path, text, place)?;
+            write_bad_share(out, value_at(table, place, "links"), index)?;
         }
         HostsFault::UnknownKey(place) => {
             write_place(out, path, text, place)?;
-            if place == 0 {
-                writeln!(out, "unknown key; expected port and [[process]]")
-            } else {
-                writeln!(out, "unknown key; expected name, address, port and links")
-            }
+            write_unknown(out, alloc, table, place)?;
         }
         HostsFault::SameName(place) => {
             write_place(out, path, text, place)?;
-            writeln!(out, "an earlier process has this name; expected another")
+            write_same_name(out, value_at(table, place, "name"))?;
         }
-        HostsFault::NoMemory => Ok(()),
+        HostsFault::NoMemory => return Err(io::Error::from(ErrorKind::OutOfMemory)),
     }
+    writeln!(out)
 }
 
 /// Writes that a link has no process, or two.
@@ -110,10 +178,16 @@ fn write_owner<W: Write>(
 ) -> io::Result<()> {
     match owner {
         Owner::One(_) => Ok(()),
-        Owner::Nobody => writeln!(out, "{path}: link {link} is not assigned to any process"),
+        Owner::Nobody => writeln!(
+            out,
+            "{path}: link {link} is not assigned to any process; add it to the links of one"
+        ),
         Owner::Two(_, later) => {
             write_place(out, path, text, later.saturating_add(1))?;
-            writeln!(out, "link {link} is already assigned to an earlier process")
+            writeln!(
+                out,
+                "link {link} is already assigned to an earlier process; remove it from one of the two"
+            )
         }
     }
 }
@@ -431,7 +505,7 @@ where
     let written = match hosts_in(rt.alloc(), table) {
         Ok(hosts) => return write_rules(rt, out, asked, text, &hosts, links),
         Err(HostsFault::NoMemory) => return Err(Ending::Memory),
-        Err(fault) => write_fault(out, asked.hosts, text, fault),
+        Err(fault) => write_fault(out, rt.alloc(), asked.hosts, text, table, fault),
     };
     match written {
         Ok(()) => Ok(Ending::Findings),

@@ -1,6 +1,6 @@
 //! What is asked of `decompress` and `script`.
 
-use crate::words_in::{input_of, value_of};
+use crate::words_in::{input_of, keep_streams_apart, value_of};
 use clap::ArgMatches;
 use rohc_capture::Format;
 use rohctl_captures::{Decompress, RuleWords, Script};
@@ -29,9 +29,12 @@ pub(crate) fn decompress_of<'a>(
     options: &ArgMatches<'a>,
     is_terminal: bool,
 ) -> Result<Decompress<'a>, Ending<'a>> {
+    let links = value_of(options, "links")?;
+    let input = input_of(options, "IN", is_terminal)?;
+    keep_streams_apart(links, "IN", input)?;
     Ok(Decompress {
-        links: value_of(options, "links")?,
-        input: input_of(options, "IN", is_terminal)?,
+        links,
+        input,
         output: value_of(options, "OUT")?,
         feedback: options.get_str("feedback"),
         rules: rules_of(options),

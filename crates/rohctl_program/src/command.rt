@@ -4,7 +4,9 @@ use crate::capture_words::{decompress_of, script_of};
 use crate::control::Wish;
 use crate::explain_words::explain_of;
 use crate::report_words::report_of;
-use crate::words_in::{call_in, input_of, link_number, number_of, value_of, wrong_value};
+use crate::words_in::{
+    call_in, input_of, keep_streams_apart, link_number, number_of, value_of, wrong_value,
+};
 use clap::ArgMatches;
 use clap::error::ErrorKind;
 use rohctl_answers::{Asked as Totals, Compared, Form};
@@ -204,17 +206,20 @@ fn diff_of<'a>(options: &ArgMatches<'a>) -> Result<Request<'a>, Ending<'a>> {
 
 /// The request `trace`.
 fn trace_of<'a>(options: &ArgMatches<'a>, is_terminal: bool) -> Result<Request<'a>, Ending<'a>> {
-    Ok(Request::Trace {
-        links: value_of(options, "links")?,
-        script: input_of(options, "SCRIPT", is_terminal)?,
-    })
+    let links = value_of(options, "links")?;
+    let script = input_of(options, "SCRIPT", is_terminal)?;
+    keep_streams_apart(links, "SCRIPT", script)?;
+    Ok(Request::Trace { links, script })
 }
 
 /// The request `spread`.
 fn spread_of<'a>(options: &ArgMatches<'a>) -> Result<Request<'a>, Ending<'a>> {
+    let links = value_of(options, "LINKS")?;
+    let hosts = value_of(options, "hosts")?;
+    keep_streams_apart(links, "--hosts", hosts)?;
     Ok(Request::Spread(Spread {
-        links: value_of(options, "LINKS")?,
-        hosts: value_of(options, "hosts")?,
+        links,
+        hosts,
         nginx: options.get_flag("nginx"),
         out: options.get_str("out"),
     }))

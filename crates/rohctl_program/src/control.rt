@@ -1,7 +1,7 @@
 //! What is asked of a running gateway, at its control socket.
 
-use rohc_text::{Reason, Why};
-use rohctl_ground::{Ending, unprinted};
+use rohc_text::Reason;
+use rohctl_ground::{Ending, shown_word, unprinted};
 use std::alloc::Global;
 use std::io::{self, Read, Write};
 use std::net::Net;
@@ -31,8 +31,8 @@ const ANSWER: &[u8] = b"HTTP/1.1 ";
 enum Fault {
     /// The path of the socket has too many octets.
     LongPath,
-    /// A folder is at the path.
-    Folder,
+    /// A directory is at the path.
+    Directory,
     /// Something else that is no socket is at the path.
     NoSocket,
     /// The socket can't be reached, or fails.
@@ -52,17 +52,20 @@ impl fmt::Display for Fault {
                 f,
                 "the path is too long for a socket; expected at most {LONGEST_PATH} octets (give a shorter or a relative path)"
             ),
-            Fault::Folder => f.write_str("it is a folder; expected the control socket in it"),
+            Fault::Directory => {
+                let reason = Reason::Directory;
+                write!(f, "{reason}; expected the control socket in it")
+            }
             Fault::NoSocket => f.write_str(
-                "it is no socket; expected what the gateway file has as control",
+                "it is not a socket; expected the path that the gateway file sets as control",
             ),
             Fault::Socket(error) => {
-                let why = Why(error);
-                let hint = hint_for(Reason::of(error));
-                write!(f, "{why}; {hint}")
+                let reason = Reason::of(error);
+                let hint = hint_for(reason);
+                write!(f, "{reason}; {hint}")
             }
             Fault::NoAnswer => f.write_str(
-                "no whole answer of a rohc-gateway; expected the control socket of one that runs",
+                "no complete answer; expected the control socket of a running rohc-gateway",
             ),
             Fault::Output(_) | Fault::Memory => Ok(()),
         }
@@ -73,14 +76,14 @@ impl fmt::Display for Fault {
 fn hint_for(reason: Reason) -> &'static str {
     match reason {
         Reason::Missing => {
-            "expected the control socket of a gateway that runs (systemctl status rohc-gateway@NAME)"
+            "expected the control socket of a running gateway (systemctl status rohc-gateway@NAME)"
         }
         Reason::NoListener => {
             "the gateway that made this socket has ended (systemctl start rohc-gateway@NAME)"
         }
         Reason::Denied => "expected the gateway's user or root (sudo -u USER rohctl ..)",
-        Reason::TimedOut => "the gateway is too busy or stopped (try again)",
-        _ => "expected the control socket of a gateway that runs",
+        Reason::TimedOut => "the gateway is too busy or was stopped (try again)",
+        _ => "expected the control socket of a running gateway",
     }
 }
 
@@ -91,6 +94,7 @@ impl Fault {
             Fault::Output(error) => unprinted(error),
             Fault::Memory => Ending::Memory,
             _ => {
+                let control = shown_word(control);
                 let _ = eprintln!(rt; "rohctl: {control}: {self}");
                 Ending::NoGateway
             }
@@ -245,7 +249,7 @@ fn connected<R: Net>(rt: &R, control: &str) -> io::Result<UnixStream> {
 /// Why a socket can't be reached: what is at its path, otherwise what the system says.
 fn fault_at<R: Files>(rt: &R, control: &str, error: io::Error) -> Fault {
     match fs::metadata(rt, control) {
-        Ok(found) if found.is_dir() => Fault::Folder,
+        Ok(found) if found.is_dir() => Fault::Directory,
         Ok(found) if !found.file_type().is_socket() => Fault::NoSocket,
         _ => Fault::Socket(error),
     }

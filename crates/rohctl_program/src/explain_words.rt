@@ -1,6 +1,6 @@
 //! What is asked of `explain`.
 
-use crate::words_in::{call_in, input_of, link_number, value_of, wrong_value};
+use crate::words_in::{call_in, input_of, keep_streams_apart, link_number, value_of, wrong_value};
 use clap::ArgMatches;
 use rohctl_explain::{Asked, Source, Telling, Which};
 use rohctl_ground::{Ending, Misuse};
@@ -30,7 +30,9 @@ fn script_of<'a>(options: &ArgMatches<'a>, is_terminal: bool) -> Result<&'a str,
             "one script; packets in hexadecimal digits need --link",
         ));
     }
-    input_of(options, "SCRIPT", is_terminal)
+    let script = input_of(options, "SCRIPT", is_terminal)?;
+    keep_streams_apart(value_of(options, "links")?, "SCRIPT", script)?;
+    Ok(script)
 }
 
 /// Where the packets stand.

@@ -1,7 +1,7 @@
 //! What is asked of `report`.
 
 use crate::capture_words::rules_of;
-use crate::words_in::{input_of, value_of};
+use crate::words_in::{input_of, keep_streams_apart, value_of};
 use clap::ArgMatches;
 use rohctl_ground::Ending;
 use rohctl_report::Asked;
@@ -11,9 +11,12 @@ pub(crate) fn report_of<'a>(
     options: &ArgMatches<'a>,
     is_terminal: bool,
 ) -> Result<Asked<'a>, Ending<'a>> {
+    let links = value_of(options, "links")?;
+    let input = input_of(options, "INPUT", is_terminal)?;
+    keep_streams_apart(links, "INPUT", input)?;
     Ok(Asked {
-        links: value_of(options, "links")?,
-        input: input_of(options, "INPUT", is_terminal)?,
+        links,
+        input,
         output: value_of(options, "output")?,
         rules: rules_of(options),
     })

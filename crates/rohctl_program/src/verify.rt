@@ -1,7 +1,7 @@
 //! The subcommand `verify`: whether files are as they were packed.
 
 use hex::encode_to_slice;
-use rohctl_ground::{Ending, Reason, open_file, unprinted, unread};
+use rohctl_ground::{Ending, Nothing, Reason, open_file, unprinted, unread};
 use sha2::{Digest, Sha256};
 use std::alloc::{AllocError, Global};
 use std::fs;
@@ -22,7 +22,16 @@ const DIGITS: usize = 64;
 enum Found {
     AsPacked,
     Other,
-    Missing,
+    Unread(Reason),
+}
+
+/// What is found of all files of a list.
+#[derive(Clone, Copy)]
+struct Verified {
+    /// How many lines the list has, without comments.
+    count: u64,
+    /// Whether each file is as it was packed.
+    good: bool,
 }
 
 /// The text of the list.
@@ -67,13 +76,35 @@ fn path_below(alloc: Global, folder: &str, path: &str) -> Result<String, AllocEr
 
 /// What is found of a file with this digest.
 fn found_at<R: Files + AllocGlobal>(rt: &R, path: &str, digits: &str) -> Found {
-    let Ok(mut file) = fs::open(rt, path) else {
-        return Found::Missing;
+    let mut file = match fs::open(rt, path) {
+        Ok(file) => file,
+        Err(error) => return Found::Unread(Reason::of(&error)),
     };
     match digits_of(&mut file) {
         Ok(found) if found.as_slice() == digits.as_bytes() => Found::AsPacked,
         Ok(_) => Found::Other,
-        Err(_) => Found::Missing,
+        Err(error) => Found::Unread(Reason::of(&error)),
+    }
+}
+
+/// The digest and the path of a line as `sha256sum` writes it.
+fn digest_in(line: &str) -> Option<(&str, &str)> {
+    let (digits, path) = line.split_once("  ")?;
+    let is_digest = digits.len() == DIGITS && digits.bytes().all(|octet| octet.is_ascii_hexdigit());
+    if is_digest && !path.is_empty() {
+        Some((digits, path))
+    } else {
+        None
+    }
+}
+
+/// Writes what is found of a file, unless it is as it was packed.
+fn write_found<W: Write>(out: &mut W, path: &str, found: Found) -> io::Result<()> {
+    let path = path.escape_default();
+    match found {
+        Found::AsPacked => Ok(()),
+        Found::Other => writeln!(out, "{path}: it differs from the package; install it again"),
+        Found::Unread(reason) => writeln!(out, "{path}: cannot read it: {reason}"),
     }
 }
 
@@ -81,49 +112,60 @@ fn found_at<R: Files + AllocGlobal>(rt: &R, path: &str, digits: &str) -> Found {
 fn verify_line<R: Files + AllocGlobal, W: Write>(
     rt: &R,
     out: &mut W,
+    list: &str,
     root: &str,
+    number: usize,
     line: &str,
 ) -> Result<bool, Ending<'static>> {
-    let Some((digits, path)) = line.split_once("  ") else {
-        writeln!(out, "not a digest and a path: {}", line.escape_default()).map_err(
-            |error| unprinted(&error),
-        )?;
-        return Ok(false);
+    let Some((digits, path)) = digest_in(line) else {
+        return match writeln!(
+            out,
+            "{list}:{number}: not a digest and a path; expected a line as sha256sum writes it"
+        ) {
+            Ok(()) => Ok(false),
+            Err(error) => Err(unprinted(&error)),
+        };
     };
     let whole = path_below(rt.alloc(), root, path).map_err(|_| Ending::Memory)?;
-    let what = match found_at(rt, whole.as_str(), digits) {
-        Found::AsPacked => return Ok(true),
-        Found::Other => "differs",
-        Found::Missing => "cannot be read",
-    };
-    writeln!(out, "{} {what}", path.escape_default()).map_err(|error| unprinted(&error))?;
-    Ok(false)
+    let found = found_at(rt, whole.as_str(), digits);
+    if found == Found::Unread(Reason::Memory) {
+        return Err(Ending::Memory);
+    }
+    match write_found(out, path, found) {
+        Ok(()) => Ok(found == Found::AsPacked),
+        Err(error) => Err(unprinted(&error)),
+    }
 }
 
-/// Compares the files of a list below a folder, and writes which aren't as they were packed. Returns how many there are,
-/// if all are.
+/// Compares the files of a list below a folder, and writes which aren't as they were packed.
 fn verify_lines<R: Files + AllocGlobal, W: Write>(
     rt: &R,
     out: &mut W,
+    list: &str,
     root: &str,
     text: &str,
-) -> Result<Option<u64>, Ending<'static>> {
-    let mut count = 0u64;
-    let mut good = true;
-    for line in text.split("\n") {
+) -> Result<Verified, Ending<'static>> {
+    let mut verified = Verified {
+        count: 0,
+        good: true,
+    };
+    for (place, line) in text.split("\n").enumerate() {
         if line.is_empty() || line.starts_with("#") {
             continue;
         }
-        count = count.saturating_add(1);
-        good = verify_line(rt, out, root, line)? && good;
+        let number = place.saturating_add(1);
+        verified.count = verified.count.saturating_add(1);
+        verified.good = verify_line(rt, out, list, root, number, line)? && verified.good;
     }
-    Ok(if good && count > 0 { Some(count) } else { None })
+    Ok(verified)
 }
 
-/// Writes that so many files are as they were packed, if they are.
-fn write_end<W: Write>(out: &mut W, good: Option<u64>) -> io::Result<()> {
-    if let Some(count) = good {
-        writeln!(out, "{count} files are as packaged")?;
+/// Writes how many files are as they were packed, if all are.
+fn write_end<W: Write>(out: &mut W, verified: Verified) -> io::Result<()> {
+    match verified {
+        Verified { good: false, .. } => {}
+        Verified { count: 1, .. } => writeln!(out, "1 file is as packaged")?,
+        Verified { count, .. } => writeln!(out, "{count} files are as packaged")?,
     }
     out.flush()
 }
@@ -137,10 +179,13 @@ where
     let Ok(mut out) = BufWriter::new(rt.alloc(), io::writer(rt)) else {
         return Err(Ending::Memory);
     };
-    let good = verify_lines(rt, &mut out, root, text.as_str())?;
-    match write_end(&mut out, good) {
+    let verified = verify_lines(rt, &mut out, list, root, text.as_str())?;
+    if verified.count == 0 {
+        return Err(Ending::Nothing(list, Nothing::NoDigest));
+    }
+    match write_end(&mut out, verified) {
         Err(error) => Err(unprinted(&error)),
-        Ok(()) if good.is_some() => Ok(Ending::Good),
+        Ok(()) if verified.good => Ok(Ending::Good),
         Ok(()) => Ok(Ending::Findings),
     }
 }

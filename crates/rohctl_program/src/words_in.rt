@@ -46,6 +46,23 @@ pub(crate) fn input_of<'a>(
     }
 }
 
+/// Refuses an input that is standard input if the links file is standard input too.
+pub(crate) fn keep_streams_apart<'a>(
+    links: &'a str,
+    word: &'static str,
+    input: &'a str,
+) -> Result<(), Ending<'a>> {
+    if links == STREAM && input == STREAM {
+        Err(wrong_value(
+            word,
+            input,
+            "a file, since the links file is standard input",
+        ))
+    } else {
+        Ok(())
+    }
+}
+
 /// A number that may be missing.
 pub(crate) fn number_of<'a>(
     options: &ArgMatches<'a>,
@@ -70,7 +87,7 @@ pub(crate) fn link_number<'a>(word: &'static str, text: &'a str) -> Result<u16, 
 
 /// The link and the CID of a call, L/C.
 pub(crate) fn call_in<'a>(word: &'static str, text: &'a str) -> Result<(u16, u16), Ending<'a>> {
-    let wrong = wrong_value(word, text, "LINK/CID, as 1/0");
+    let wrong = wrong_value(word, text, "LINK/CID, as 1/0: each from 0 to 65535");
     let Some((link, cid)) = text.split_once("/") else {
         return Err(wrong);
     };

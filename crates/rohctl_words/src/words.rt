@@ -111,8 +111,8 @@ fn spread_words<'a>(given: Given<'_>) -> Result<Command<'a>, AllocError> {
             ),
             valued(
                 "out",
-                "FOLDER",
-                "Also write a links file for each process into this folder",
+                "DIR",
+                "Also write a links file for each process into this directory",
             ),
         ],
     )
@@ -128,8 +128,8 @@ fn verify<'a>(given: Given<'_>) -> Result<Command<'a>, AllocError> {
             argument("LIST", "The list of digests, as sha256sum writes it").required(),
             valued(
                 "root",
-                "FOLDER",
-                "The folder in which the paths of the list begin",
+                "DIR",
+                "The directory in which the paths of the list begin",
             )
             .otherwise("/"),
         ],
