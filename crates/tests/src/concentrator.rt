@@ -9,7 +9,7 @@ use arrayvec::ArrayVec;
 use rohc_concentrator::{
     Answer, CidRange, Concentrator, LinkRecords, LinkSetting, NoLink, SetupFault,
 };
-use rohc_context::{AtOnce, Mode, Outcome, Profile, Refusal, Settings};
+use rohc_context::{Mode, Outcome, Profile, Refusal, Settings};
 use std::alloc::{AllocError, Global};
 use std::fmt::InlineText;
 use std::process::Abort;
@@ -106,27 +106,31 @@ fn an_answer_overwrites_the_one_that_is_lent(rt: HostRuntime) {
 }
 
 #[test]
-fn a_packet_is_taken_at_once_or_later(rt: HostRuntime) {
+fn a_packet_is_taken_first_or_later(rt: HostRuntime) {
     let mut concentrator = made(&rt, rt.alloc(), link_1(0));
     let mut answer = Answer::blank();
-    assert!(rt; !concentrator.take_at_once(AtOnce::Any, 1, 0, WHOLE_IR, &mut answer));
-    concentrator.arrive_by_step(1, 0, WHOLE_IR, &mut answer);
+    assert!(rt; concentrator.take_first(1, 0, WHOLE_IR).is_none());
+    concentrator.take_later(1, 0, WHOLE_IR, &mut answer);
     assert_eq!(rt; cid_and_outcome(&answer), Some((0, DELIVERED)));
-    answer = Answer::blank();
-    assert!(rt; concentrator.take_at_once(AtOnce::Rebuilt, 1, 0, b"\x10\xac", &mut answer));
-    assert_eq!(rt; cid_and_outcome(&answer), Some((0, DELIVERED)));
+    let Some((cid, packet)) = concentrator.take_first(1, 0, b"\x10\xac") else {
+        panic!(rt; "left for later");
+    };
+    assert_eq!(rt;
+        (cid, packet.head.len(), packet.payload),
+        (0, 40, b"\xac".as_slice())
+    );
 }
 
 // RFC 3095 5.10.2: a Normal packet is delivered without its Add-CID octet.
 #[test]
-fn a_normal_packet_is_taken_at_once_if_any_is(rt: HostRuntime) {
+fn a_normal_packet_is_taken_later(rt: HostRuntime) {
     let mut concentrator = made(&rt, rt.alloc(), link_1(0));
     let mut answer = Answer::blank();
     concentrator.arrive_into(1, 0, b"\xe1\xfc\x00\x30\x45\xaa", &mut answer);
     assert_eq!(rt; cid_and_outcome(&answer), Some((1, DELIVERED)));
     let normal = b"\xe1\x45\xab";
-    assert!(rt; !concentrator.take_at_once(AtOnce::Rebuilt, 1, 0, normal, &mut answer));
-    assert!(rt; concentrator.take_at_once(AtOnce::Any, 1, 0, normal, &mut answer));
+    assert!(rt; concentrator.take_first(1, 0, normal).is_none());
+    concentrator.take_later(1, 0, normal, &mut answer);
     let Answer::Arrived { cid: 1, reply, .. } = &answer else {
         panic!(rt; "refused");
     };

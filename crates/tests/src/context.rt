@@ -2,12 +2,12 @@
 
 use crate::call::{SETTINGS, answer, first};
 use crate::examples::WHOLE_IR;
-use rohc_context::{AtOnce, ContextState, Outcome, Profile, Refusal, Reply, Settings};
+use rohc_context::{
+    Context, ContextState, NotMade, Outcome, Profile, Refusal, Reply, Settings, StateView, Try,
+    Untried,
+};
 use rohc_frame::{CidKind, plain_header};
 use std::fmt::InlineText;
-
-/// A packet whose header was rebuilt at once.
-const REBUILT: AtOnce = AtOnce::Rebuilt;
 
 const UNFIT: Outcome = Outcome::Refused(Refusal::Check);
 
@@ -63,22 +63,17 @@ fn packets_without_an_extension_3(rt: HostRuntime) {
     }
 }
 
-// Examples first UO-0, UOR-2-TS jump and offset bits: packets without an extension are taken at once. The packet of the
-// last one that has an extension 1 isn't, and the step delivers it. A UO-0 with another check isn't either, and the step
-// refuses it.
+// Examples first UO-0, UOR-2-TS jump and offset bits: a UO-0 is taken first. A UOR-2 and a UO-1 aren't, and the step
+// delivers them. A UO-0 with another check isn't either, and the step refuses it.
 #[test]
-fn packets_without_an_extension_are_taken_at_once(rt: HostRuntime) {
-    let packets: [(&[u8], bool, Outcome); 4] = [
-        (&[0xd4, 0xc3, 0x3e, 0xad], true, Outcome::Delivered),
-        (&[0x84, 0x1f, 0xad], true, Outcome::Delivered),
-        (
-            &[0xc0, 0x0c, 0xfa, 0x63, 0x64, 0xad],
-            false,
-            Outcome::Delivered,
-        ),
-        (&[0x11, 0xac], false, UNFIT),
+fn a_uo_0_is_taken_first(rt: HostRuntime) {
+    let packets: [(&[u8], Outcome); 4] = [
+        (&[0xd4, 0xc3, 0x3e, 0xad], Outcome::Delivered),
+        (&[0x84, 0x1f, 0xad], Outcome::Delivered),
+        (&[0xc0, 0x0c, 0xfa, 0x63, 0x64, 0xad], Outcome::Delivered),
+        (&[0x11, 0xac], UNFIT),
     ];
-    for (packet, taken, outcome) in packets {
+    for (packet, outcome) in packets {
         let Some(mut context) = first(0, WHOLE_IR) else {
             panic!(rt; "refused");
         };
@@ -89,15 +84,9 @@ fn packets_without_an_extension_are_taken_at_once(rt: HostRuntime) {
         ) else {
             panic!(rt; "no header");
         };
-        assert!(rt; context.take_at_once(REBUILT, 0, 0, &uo_0, &mut reply));
-        assert_eq!(rt; reply.outcome, Outcome::Delivered);
-        assert_eq!(rt;
-            context.take_at_once(REBUILT, 0, 0, &forward, &mut reply),
-            taken
-        );
-        if !taken {
-            context.step(&SETTINGS, 0, &forward, &mut reply);
-        }
+        assert!(rt; context.take_first(0, 0, &uo_0).is_some());
+        assert!(rt; context.take_first(0, 0, &forward).is_none());
+        context.step(&SETTINGS, 0, &forward, true, &mut reply);
         assert_eq!(rt; reply.outcome, outcome);
     }
 }
@@ -127,6 +116,87 @@ fn a_plain_context_lends_nothing(rt: HostRuntime) {
     assert!(rt; context.saved().is_none());
     assert_eq!(rt; context.profile(), Profile::Uncompressed);
     assert_eq!(rt; (context.state(), context.accepted()), (FULL, 0));
+}
+
+// Example whole IR: the view has the time, the sequence number of the reference, and no outcome yet.
+#[test]
+fn a_context_is_viewed(rt: HostRuntime) {
+    let Some(context) = first(7, WHOLE_IR) else {
+        panic!(rt; "refused");
+    };
+    let view = context.view();
+    assert_eq!(rt; view.accepted, 7);
+    let StateView::Full {
+        reference,
+        previous,
+        window,
+        ..
+    } = view.state
+    else {
+        panic!(rt; "not in Full Context");
+    };
+    assert_eq!(rt; (reference.moving.sn, reference.moving.ts), (1, 160));
+    assert!(rt; previous.is_none());
+    assert_eq!(rt; (window.word, window.length), (0, 0));
+}
+
+/// The sequence number that a packet means by a try, and whether it fits; or why the try isn't made.
+type Tried = Result<(u16, bool), NotMade>;
+
+fn tried(one: &Try) -> Tried {
+    match &one.result {
+        Ok(meant) => Ok((meant.moving.sn, one.fits())),
+        Err(reason) => Err(*reason),
+    }
+}
+
+/// The three tries of a packet at this time, or why none is made.
+fn tries(context: &Context, moment: u64, packet: &[u8]) -> Result<[Tried; 3], Untried> {
+    let Some(forward) = plain_header(CidKind::Small, 15, packet) else {
+        return Err(Untried::Whole);
+    };
+    let shown = context.tries(&SETTINGS, moment, &forward)?;
+    let [first, second, third] = &shown.tries;
+    Ok([tried(first), tried(second), tried(third)])
+}
+
+// Examples first UO-0 and wrapped SN repaired: a packet fits by the first try, and one by the second, once enough time
+// has passed.
+#[test]
+fn a_packet_fits_by_the_first_or_the_second_try(rt: HostRuntime) {
+    let settled = Err(NotMade::Settled);
+    let soon = Err(NotMade::TooSoon {
+        needed: 320,
+        passed: 100,
+    });
+    let none = Err(NotMade::NoPrevious);
+    let Some(context) = first(1000, WHOLE_IR) else {
+        panic!(rt; "refused");
+    };
+    let fits_first = tries(&context, 1000, &[0x10, 0xac]);
+    assert!(rt; fits_first == Ok([Ok((2, true)), settled, settled]));
+    let too_soon = tries(&context, 1100, &[0x1f, 0xac]);
+    assert!(rt; too_soon == Ok([Ok((3, false)), soon, none]));
+    let fits_second = tries(&context, 1360, &[0x1f, 0xac]);
+    assert!(rt; fits_second == Ok([Ok((3, false)), Ok((19, true)), settled]));
+    let untaken = tries(&context, 1000, WHOLE_IR);
+    assert!(rt; untaken == Err(Untried::Whole));
+}
+
+// Example second reference: a packet fits by the third try, after a damaged one that was accepted.
+#[test]
+fn a_packet_fits_by_the_third_try(rt: HostRuntime) {
+    let soon = Err(NotMade::TooSoon {
+        needed: 320,
+        passed: 0,
+    });
+    let Some(mut context) = first(0, WHOLE_IR) else {
+        panic!(rt; "refused");
+    };
+    assert!(rt; answer(&mut context, &[0x10, 0xac]).is_some());
+    assert!(rt; answer(&mut context, &[0x6c, 0xad]).is_some());
+    let fits_third = tries(&context, 0, &[0x20, 0xae]);
+    assert!(rt; fits_third == Ok([Ok((20, false)), soon, Ok((4, true))]));
 }
 
 #[test]

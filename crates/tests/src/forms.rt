@@ -1,6 +1,6 @@
 //! The RND in force, reading without extensions, a large CID, and a long payload: what no row of test data can ask.
 
-use rohc_forms::{Form, FormKind, FormRefusal, read_at_once, read_form, read_unextended};
+use rohc_forms::{Form, FormKind, FormRefusal, IdBits, read_form};
 use rohc_frame::{CidKind, HeadKind, cut, plain_header};
 
 // The content of a packet on a link of this CID kind, for a context with this RND and a stride, whose packets carry the
@@ -26,7 +26,6 @@ fn form_in(packet: &[u8], rnd: bool, udp_sum: bool) -> Option<Form<'_>> {
 // Whether two packets say the same.
 fn say_the_same(a: &Form<'_>, b: &Form<'_>) -> bool {
     a.kind == b.kind
-        && a.rnd == b.rnd
         && a.sn == b.sn
         && a.ts == b.ts
         && a.tsc == b.tsc
@@ -41,7 +40,7 @@ fn say_the_same(a: &Form<'_>, b: &Form<'_>) -> bool {
 // Whether a packet is read under this RND, and the RND in force is the expected one.
 fn has_rnd(packet: &[u8], rnd: bool, expected: bool) -> bool {
     match form_in(packet, rnd, false) {
-        Some(form) => form.rnd == expected,
+        Some(form) => matches!(form.id, IdBits::Whole(_)) == expected,
         None => false,
     }
 }
@@ -61,25 +60,12 @@ fn rnd_in_force(rt: HostRuntime) {
     assert!(rt; has_rnd(&[0x25, 0x56, 0x78, 0xaf], false, false));
 }
 
-// The content of a packet that is read without extensions.
-fn unextended_in(packet: &[u8], rnd: bool, udp_sum: bool) -> Option<Form<'_>> {
-    let forward = plain_header(CidKind::Small, 15, packet)?;
-    read_unextended(&forward, rnd, udp_sum)
-}
-
-// Whether a packet is read without extensions as it is with them, but not without the last octet of its header, which
-// has this many octets.
-fn is_read_alike(packet: &[u8], header: usize, rnd: bool, udp_sum: bool) -> bool {
-    let (Some(form), Some(said)) = (
-        unextended_in(packet, rnd, udp_sum),
-        form_in(packet, rnd, udp_sum),
-    ) else {
-        return false;
-    };
+// Whether a packet is read, but not without the last octet of its header, which has this many octets.
+fn ends_its_header_at(packet: &[u8], header: usize, rnd: bool, udp_sum: bool) -> bool {
     1 <= header
         && header <= packet.len()
-        && say_the_same(&form, &said)
-        && unextended_in(&packet[..header - 1], rnd, udp_sum).is_none()
+        && form_in(packet, rnd, udp_sum).is_some()
+        && form_in(&packet[..header - 1], rnd, udp_sum).is_none()
 }
 
 // Packets of each format without an extension, each with the octets of its header, its RND, and whether it carries the
@@ -97,28 +83,8 @@ const UNEXTENDED: [(&[u8], usize, bool, bool); 7] = [
 #[test]
 fn packets_without_an_extension(rt: HostRuntime) {
     for (packet, header, rnd, udp_sum) in UNEXTENDED {
-        assert!(rt; is_read_alike(packet, header, rnd, udp_sum));
+        assert!(rt; ends_its_header_at(packet, header, rnd, udp_sum));
     }
-    let extended: [u8; 6] = [0x80, 0x95, 0xc2, 0x84, 0xb8, 0xac];
-    assert!(rt; unextended_in(&extended, false, false).is_none());
-}
-
-// The content of a packet that is read at once.
-fn at_once_in(packet: &[u8], rnd: bool) -> Option<Form<'_>> {
-    let forward = plain_header(CidKind::Small, 15, packet)?;
-    read_at_once(&forward, rnd, false)
-}
-
-// Whether a packet is read at once as any packet is, but not without the last octet of its header, which has this many
-// octets.
-fn is_read_at_once(packet: &[u8], header: usize, rnd: bool) -> bool {
-    let (Some(form), Some(said)) = (at_once_in(packet, rnd), form_in(packet, rnd, false)) else {
-        return false;
-    };
-    1 <= header
-        && header <= packet.len()
-        && say_the_same(&form, &said)
-        && at_once_in(&packet[..header - 1], rnd).is_none()
 }
 
 // UOR-2 with an extension 0, 1 and 2, each with the octets of its header and its RND.
@@ -133,12 +99,10 @@ const EXTENDED: [(&[u8], usize, bool); 3] = [
 ];
 
 #[test]
-fn packets_without_an_extension_3(rt: HostRuntime) {
+fn packets_with_an_extension(rt: HostRuntime) {
     for (packet, header, rnd) in EXTENDED {
-        assert!(rt; is_read_at_once(packet, header, rnd));
+        assert!(rt; ends_its_header_at(packet, header, rnd, false));
     }
-    assert!(rt; at_once_in(&[0xd4, 0xc3, 0x3e, 0xad], false).is_some());
-    assert!(rt; at_once_in(&[0x80, 0x95, 0xc2, 0x84, 0xb8, 0xac], false).is_none());
 }
 
 // UOR-2-TS jump under a large CID, which follows the first octet.
@@ -165,12 +129,16 @@ fn a_payload_of_any_length_is_read(rt: HostRuntime) {
     assert_eq!(rt; form.payload.len(), 65_496);
 }
 
-// Whether each packet from a first octet to another has this format, where the second octet is given.
+// Whether each packet from a first octet to another has this format, also if it ends behind the second octet, which is
+// given.
 fn have_format(rnd: bool, second: u8, low: u8, high: u8, expected: FormKind) -> bool {
     for first in low..=high {
         match form_in(&[first, second, 0, 0, 0], rnd, false) {
             Some(form) if form.kind == expected => {}
             _ => return false,
+        }
+        if FormKind::of(first, second, rnd) != expected {
+            return false;
         }
     }
     true

@@ -1,7 +1,7 @@
 //! The other ways to a header's octets and to its checks.
 
 use arrayvec::ArrayVec;
-use rohc_header::{Dynamic, Header, Prepared, Static, check3_after, check7_after, put_header};
+use rohc_header::{Dynamic, Header, Prepared, Static, check3_after, check7_after, head_of};
 
 /// The static fields of the examples' calls.
 const FIXED: Static = Static {
@@ -42,12 +42,10 @@ const CHECK3: u8 = 5;
 const CHECK7: u8 = 0x7c;
 
 #[test]
-fn a_header_is_put_in_another_place(rt: HostRuntime) {
-    let mut octets = ArrayVec::new();
-    octets.push(0xff);
+fn a_header_as_a_head(rt: HostRuntime) {
     let prepared = Prepared::of(&FIXED, &MOVING);
-    put_header(&mut octets, &FIXED, &prepared, &MOVING, 1);
-    assert_eq!(rt; octets.as_slice(), OCTETS.as_slice());
+    let head = head_of(&FIXED, &prepared, &MOVING, 1);
+    assert_eq!(rt; head.as_slice(), OCTETS.as_slice());
     let header = Header::with_prepared(&FIXED, &prepared, &MOVING, 1).expect(
         &rt,
         "a short payload",

@@ -54,7 +54,7 @@ fn header_behind(forward: &Forward<'_>, fixed: &Static, last: &Dynamic) -> Optio
         sn,
         ts,
         payload_type,
-        rnd: form.rnd,
+        rnd: matches!(form.id, IdBits::Whole(_)),
         marker: form.marker,
         udp_sum: match form.udp_sum {
             Some(sum) => sum,
