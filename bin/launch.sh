@@ -39,11 +39,11 @@ build_unproved() {
     if [ "$status" -ne "$at_empty" ] || ! grep -q -- "$says" "$room/log" ||
         [[ $("$room/$name" "${greets[@]}" 2>&1) != $greeting ]]; then
         cat "$room/log" >&2
-        refuse 'the program without proofs is not built; what the toolchain says stands above'
+        refuse 'the build without proofs failed; the lines above, from the toolchain, say why'
     fi
-    [ "${1##*-}" = "$("$here/sources" digest)" ] || refuse "a source changed meanwhile: call bin/$name again"
+    [ "${1##*-}" = "$("$here/sources" digest)" ] || refuse "a source changed during the build; run bin/$name again"
     chmod 755 "$room/$name"
-    cp "$room/$name" "$1.$$" && mv "$1.$$" "$1" || refuse "can't write $1"
+    cp "$room/$name" "$1.$$" && mv "$1.$$" "$1" || refuse "cannot write $1; expected a checkout that this user may write"
     trap - EXIT
     rm -rf "$room"
 }
@@ -53,15 +53,15 @@ keep_unproved() {
     local folder=$root/out/unproved
     kept=$folder/$name-$("$here/sources" digest)
     [ ! -x "$kept" ] || return 0
-    command -v rt >/dev/null || refuse 'no proved program stands, and rt, the toolchain, is not on the path'
-    { mkdir -p "$folder" && touch "$folder/lock"; } 2>/dev/null || refuse "can't write into $folder"
+    command -v rt >/dev/null || refuse 'there is no proved program, and rt, the toolchain, is not on the PATH; install the toolchain or a package'
+    { mkdir -p "$folder" && touch "$folder/lock"; } 2>/dev/null || refuse "cannot write into $folder; expected a checkout that this user may write"
     exec 9>"$folder/lock"
     if ! flock --nonblock 9; then
-        echo "bin/$name: waits for another call, which builds the program without proofs" >&2
+        echo "bin/$name: waiting for another call that is building the program" >&2
         flock 9
     fi
     if [ ! -x "$kept" ]; then
-        echo "bin/$name: builds the program without proofs, once, which takes $takes" >&2
+        echo "bin/$name: building the program once, without proofs; this takes $takes" >&2
         build_unproved "$kept" 9>&-
         find "$folder" -name "$name-*" ! -name "$(basename "$kept")" -delete
     fi

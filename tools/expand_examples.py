@@ -5,9 +5,9 @@ usage: tools/expand_examples.py [FOLDER]
 
 It reads worked_examples.txt beside it, and writes examples/worked/NAME.script and NAME.answers. All examples, with their
 questions, go to crates/worked, which the gate runs: to data/examples.txt, with the links files and the hostile lines
-beside it, and their answers to stdout. Scripts with lines of 100,000 octets and more aren't kept in the repository:
-with FOLDER only these are written, to that folder. It knows only the rows, and nothing of how a decompressor comes by
-an answer.
+beside it, and their answers to stdout. Those of worked_calls.txt go to crates/calls in the same way. Scripts with lines
+of 100,000 octets and more aren't kept in the repository: with FOLDER only these are written, to that folder. It knows
+only the rows, and nothing of how a decompressor comes by an answer.
 """
 
 import pathlib
@@ -19,21 +19,25 @@ from dataclasses import dataclass, replace
 HERE = pathlib.Path(__file__).resolve().parent
 SCRIPTS = HERE.parent / "examples" / "worked"
 PROGRAM = HERE.parent / "crates" / "worked"
+CALLS = HERE.parent / "crates" / "calls"
 
 STATIC_CHAIN = "40110a0000010a0000021388138a00000001"
 DYNAMIC_CHAIN = "004000012000000090000001000000a0000980a0"
 
 SCRIPT_LINE = ">"
 QUESTION = "?"
+# The answers that have octets.
+WITH_OCTETS = ("ip", "feedback", "relay")
 
 
 @dataclass(frozen=True)
 class Turn:
-    """A line of a script, or a question, with its answers, and how often it stands there."""
+    """A line of a script, or a question, with its answers, how often it stands there, and the number of the first."""
 
     mark: str
     line: str
     times: int
+    first: int
     answers: tuple[str, ...] = ()
 
 
@@ -49,7 +53,7 @@ def header(fields):
 def written_out(line):
     """The line with its octets in full, as one word: the fourth word of an arrival, or of an answer with octets."""
     words = line.split(" ", 3)
-    if len(words) < 4:
+    if len(words) < 4 or not (words[0] == "arrive" or words[2] in WITH_OCTETS):
         return line
     octets = re.sub(r"P\((.*?)\)", lambda found: header(found.group(1)), words[3])
     octets = octets.replace("S", STATIC_CHAIN).replace("Y", DYNAMIC_CHAIN)
@@ -58,15 +62,15 @@ def written_out(line):
 
 def turn_of(mark, line):
     """A turn, which has no answers yet."""
-    times = re.search(r" \*(\d+)$", line)
+    times = re.search(r" \*(?:(\d+)\.\.)?(\d+)$", line)
     line = line[: times.start()] if times else line
-    return Turn(mark, written_out(line) if mark == SCRIPT_LINE else line, int(times[1]) if times else 1)
+    first, last = (int(times[1] or 1), int(times[2])) if times else (1, 1)
+    return Turn(mark, written_out(line) if mark == SCRIPT_LINE else line, last - first + 1, first)
 
 
 def answered(turn, line):
     """The turn with one more line of answers."""
-    is_whole = turn.mark == QUESTION or " refused " in line
-    return replace(turn, answers=(*turn.answers, line if is_whole else written_out(line)))
+    return replace(turn, answers=(*turn.answers, line if turn.mark == QUESTION else written_out(line)))
 
 
 def read_examples(text):
@@ -154,6 +158,22 @@ def write_program(examples):
     (PROGRAM / "stdout").write_text("".join(wanted(*example) for example in examples.items()))
 
 
+def numbered(turn, text):
+    """A text once for each time that a turn stands there, with the number of that time for each %."""
+    return "".join(text.replace("%", str(turn.first + place)) for place in range(turn.times))
+
+
+def write_calls(examples):
+    """Writes what crates/calls reads, and what it must write."""
+    (CALLS / "data").mkdir(parents=True, exist_ok=True)
+    files = {"data/calls.txt": lambda turn: f"{turn.line}\n", "stdout": lambda turn: texts(turn.answers)}
+    for file, text_of in files.items():
+        text = ""
+        for name, turns in examples.items():
+            text += f"= {name}\n" + "".join(numbered(turn, text_of(turn)) for turn in turns)
+        (CALLS / file).write_text(text)
+
+
 def main():
     if sys.argv[1:] == ["--help"]:
         print(__doc__.strip())
@@ -167,6 +187,7 @@ def main():
         return
     write_scripts(SCRIPTS, examples, False)
     write_program(examples)
+    write_calls(read_examples((HERE / "worked_calls.txt").read_text()))
 
 
 if __name__ == "__main__":

@@ -252,20 +252,27 @@ static void names(void) {
     for (size_t i = 0; i < sizeof name; i++) CHECK(name[i] == 0x55);
 }
 
-/* Each request for memory of polorowan_new is refused in turn, and then each of a first IR. Everything stays as it was. */
+/* Each request for memory of polorowan_new is refused in turn, and then that of a first IR. Everything stays as it was. If only a
+ * hint finds no memory, the gateway is made without it. */
 static void want_of_memory(void) {
     struct polorowan_link links[2] = {link_of(1), link_of(2)};
     struct polorowan_gateway g = gateway_of(links, 2);
     size_t place = 7;
-    unsigned long request = 1;
+    unsigned long request = 1, poor = 0;
     CHECK(arrive(&g, 1, PLAIN_IR, 5).status == POLOROWAN_ARRIVED);
     for (;; request++) {
         refused = request;
         uint8_t made = polorowan_new(&g, links, 2, &place);
         if (refused != 0) break;
-        CHECK(made == POLOROWAN_NO_MEMORY && place == 0 && polorowan_has_context(&g, 1, 0));
+        if (made == POLOROWAN_MADE) {
+            CHECK(!polorowan_has_context(&g, 1, 0) && arrive(&g, 1, PLAIN_IR, 5).status == POLOROWAN_ARRIVED);
+        } else {
+            CHECK(made == POLOROWAN_NO_MEMORY && place == 0);
+            poor++;
+        }
+        CHECK(polorowan_has_context(&g, 1, 0));
     }
-    CHECK(request > 3 && !polorowan_has_context(&g, 1, 0));
+    CHECK(poor > 1 && request > poor + 1 && !polorowan_has_context(&g, 1, 0));
     refused = 1;
     struct answer a = arrive(&g, 1, PLAIN_IR, 5);
     CHECK(refused == 0 && a.status == POLOROWAN_ARRIVED && a.arrival.kind == POLOROWAN_CONTEXT && a.arrival.outcome == 30);
@@ -323,6 +330,12 @@ static void saved_and_restored(void) {
         refused = request;
         uint8_t made = polorowan_restore(&other, links, 2, octets, count, &told, &place);
         if (refused != 0) break;
+        if (made == POLOROWAN_MADE) {
+            CHECK(polorowan_has_context(&other, 1, 0) && told.links == 2);
+            polorowan_free(&other);
+            told.links = 0x77;
+            continue;
+        }
         CHECK(made == POLOROWAN_NO_MEMORY && place == 0 && !polorowan_has_context(&other, 1, 0) && told.links == 0x77);
     }
     refused = 1;

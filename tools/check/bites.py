@@ -1,12 +1,14 @@
 """Has the prover try wrong bodies, wrong definitions and twins.
 
 It must refuse each wrong body and each wrong definition for its meaning: not because it can't be compiled, nor only
-because a proof file names something that it removes or cites a goal that it removes. A refusal that only a limit of the
-prover explains counts if the twin is proved: its shape is the same, and within the limits. The prover must prove each
-twin. At most 60 are tried: half from the crates that changed since the newest commit that is
-four hours older than HEAD, the rest from at most five other crates, drawn by the commit's hash. Each twin is tried with
-its edit. Right after the gate, the libraries below these crates are taken as the gate left them. Names of crates behind
-`bites` try all edits of these.
+because a proof file names something that it removes or cites a goal that it removes. A message must show a goal that isn't met. If
+all say that the prover ended at a limit, the refusal counts only if the same shape is proved within the limits: the twin,
+or, at a limit of `search`, the unchanged crate, for an edit that only changes a value or a condition in place. The prover
+must prove each twin.
+
+At most 60 are tried: half from the crates that changed since the newest commit that is four hours older than HEAD, the
+rest from at most five other crates, drawn by the commit's hash. Each twin is tried with its edit. Right after the gate,
+the libraries below these crates are taken as the gate left them. Names of crates behind `bites` try all edits of these.
 """
 
 import subprocess
@@ -60,6 +62,21 @@ def answer_to(room: Room, edit: Edit) -> Answer:
     return answer if is_whole else room.check(edit.texts())
 
 
+def judged(edit: Edit, answer: Answer, of_twin: Answer | None) -> Answer:
+    """What the prover made of an edit: at a limit it refuses one only if the same shape is proved within the limits.
+
+    The twin has that shape. If there is none, and the edit adds no shape, the unchanged crate has it, which was proved
+    first; that counts for `search` alone, which ends at a limit on most false goals.
+    """
+    if of_twin:
+        is_within = answer.outcome in (Outcome.BY_SEARCH, Outcome.BY_LIMITS) and of_twin.outcome is Outcome.PROVED
+        same = "its twin"
+    else:
+        is_within = answer.outcome is Outcome.BY_SEARCH and not edit.needs_twin
+        same = "the unchanged definition" if edit.is_statement else "the unchanged body"
+    return Answer(Outcome.REFUSED, f"{same} is proved within the limits; {answer.text}") if is_within else answer
+
+
 def try_one(room: Room, edit: Edit) -> Iterator[Verdict]:
     """Has the prover try an edit in a room of its crate, and then its twin."""
     try:
@@ -67,10 +84,7 @@ def try_one(room: Room, edit: Edit) -> Iterator[Verdict]:
     except ValueError as fault:
         yield Verdict(edit, False, f"NOT applied: {fault}")
         return
-    is_by_shape = of_twin is None or of_twin.outcome is not Outcome.PROVED
-    if answer.outcome is Outcome.BY_LIMITS and not is_by_shape:
-        answer = Answer(Outcome.REFUSED, f"within the limits its twin is proved; {answer.text}")
-    yield verdict_on(edit, answer)
+    yield verdict_on(edit, judged(edit, answer, of_twin))
     if of_twin:
         yield verdict_on(edit.twin, of_twin)
 

@@ -25,9 +25,8 @@ from trial import Trial
 
 # The modules of definitions that the crates above may use: some of their names, or all.
 OPEN: dict[str, tuple[str, ...] | None] = {
-    "specs.Step": ("LoneStep",),
+    "specs.Step": ("LoneStep", "HasMissed"),
     "specs.Record": ("Record", "record_of"),
-    "specs.AtOnce": ("NeedsStep",),
     "specs.SavedText": ("saved_text",),
     "specs.SavedReading": ("saved_at",),
     **{f"specs.{name}": None for name in "Response Settings Standing Good Laws Honest Refusal Framing".split()},
@@ -37,7 +36,7 @@ OPEN: dict[str, tuple[str, ...] | None] = {
 # The words that must be closed, with their modules.
 MUST_BE_CLOSED = {
     "LoneStep": "Step",
-    "NeedsStep": "AtOnce",
+    "HasMissed": "Step",
     "record_of": "Record",
     "saved_text": "SavedText",
     "saved_at": "SavedReading",

@@ -45,7 +45,7 @@ REFUSED = (
     (SPECS, "step = Rattle.rohc_context.specs.Step.Steps"),
     (SPECS, "use Rattle.rohc_context.specs.PlainIr.{plain_ir}"),
     (SPECS, "use Rattle.rohc_context.specs.Record.{Reference}"),
-    (SPECS, "use Rattle.rohc_context.specs.AtOnce.{MissesAtOnce}"),
+    (SPECS, "use Rattle.rohc_context.specs.Update.{MissesIn}"),
     (SPECS, "use Rattle.rohc_context.specs.declared.record.Context"),
     (SPECS, "use Rattle.rohc_context.specs.declared.record.Context as context"),
     (SPECS, "use Rattle.rohc_context.specs.declared.record.Context.{accepted}"),
@@ -118,14 +118,14 @@ CHANGES = (
     (LAWS, ".specs.Laws.{HasAnswer, ", ".specs.Laws.{HasSteps as HasAnswer, "),
     ("rohc_context/specs/Step.antt", "unfoldable pub LoneStep :", "abbrev pub LoneStep :"),
     ("rohc_context/specs/Record.antt", "unfoldable pub record_of :", "abbrev pub record_of :"),
-    ("rohc_context/specs/AtOnce.antt", "unfoldable pub NeedsStep :", "abbrev pub NeedsStep :"),
+    ("rohc_context/specs/Step.antt", "unfoldable pub HasMissed :", "abbrev pub HasMissed :"),
 )
 
 ACCEPTED = (
     # Allowed uses.
     (
         SPECS,
-        "use Rattle.rohc_context.specs.Step.{LoneStep}\nuse Rattle.rohc_context.specs.Record.{Record, record_of}\nuse Rattle.rohc_context.specs.AtOnce.{NeedsStep}\nuse Rattle.rohc_context.specs.Good.{AreGoodValues, IsGoodRecord}\nuse Rattle.rohc_context.specs.declared.record.Context.{Context}\nuse Rattle.rohc_context.specs.declared.reply.Outcome.TheVariants as outcomes\n-- LoneStep, which no crate above unfolds",
+        "use Rattle.rohc_context.specs.Step.{LoneStep, HasMissed}\nuse Rattle.rohc_context.specs.Record.{Record, record_of}\nuse Rattle.rohc_context.specs.Good.{AreGoodValues, IsGoodRecord}\nuse Rattle.rohc_context.specs.declared.record.Context.{Context}\nuse Rattle.rohc_context.specs.declared.reply.Outcome.TheVariants as outcomes\n-- LoneStep, which no crate above unfolds",
     ),
     (PROOFS, "use Rattle.rohc_context.proofs.StepLaws.{has_answer, keeps_good}"),
     (PROOFS, "use Rattle.rohc_context.proofs.SavedLemmas.{comes_back, is_spelled}"),

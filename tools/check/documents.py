@@ -12,8 +12,8 @@
 - Each link, each anchor, and each file or folder of the repository that a document names is there.
 - Each function and each clause of docs/PROOFS.md stands in the sources. So does each name of code there and in six other
   documents.
-- The examples of docs/EXAMPLES.md are those of tools/worked_examples.txt, each of which says what it shows, and
-  examples/worked and crates/worked have what tools/expand_examples.py writes of them.
+- The examples of docs/EXAMPLES.md are those of tools/worked_examples.txt and tools/worked_calls.txt, each of which says
+  what it shows; examples/worked, crates/worked and crates/calls have what tools/expand_examples.py writes of them.
 - The manual pages have each key, each fault of the links file, each status's text and each refusal with its number.
 - The causes of refusals stand in the order of the refusals' numbers.
 - What documents say of the number of scripts, of test data and of refusals is true.
@@ -45,6 +45,9 @@ README_WORDS = 900
 # Documents in which each name between back quotes must stand in the sources, except paths and octets.
 NAMING = [f"docs/{name}.md" for name in "PROOFS PROMISES THREATS DEFINITIONS ARCHITECTURE DECISIONS".split()]
 EDITS = ("must-fail*/*.edit", "statements/*.edit")
+# The examples in short form, and what tools/expand_examples.py writes of them.
+SHORT_EXAMPLES = ("worked_examples.txt", "worked_calls.txt")
+WRITTEN = ("*/worked/**/*", "crates/calls/**/*")
 FOLDERS = "docs|bin|tools|examples|crates|man|bench|completion|python|include|library"
 PLACE = re.compile(rf"(?<![\w/.-])(?:{FOLDERS})/[\w./*-]*\w")
 
@@ -226,12 +229,13 @@ def plain_words(text: str) -> list[str]:
 
 
 def check_examples(top: Path) -> Iterator[str]:
-    """Compares docs/EXAMPLES.md, tools/worked_examples.txt, examples/worked and crates/worked. Each example has a comment
-    below its name. What the document shows of an example, its text and its block, is the same."""
-    short, text = (top / "tools/worked_examples.txt").read_text(), documents(top)["docs/EXAMPLES.md"]
-    kept = sections(short, r"= (\S+)$")
+    """Compares docs/EXAMPLES.md, the examples in short form, examples/worked, crates/worked and crates/calls. Each example has
+    a comment below its name. What the document shows of an example, its text and its block, is the same."""
+    text = documents(top)["docs/EXAMPLES.md"]
+    scripts, calls = (sections((top / "tools" / name).read_text(), r"= (\S+)$") for name in SHORT_EXAMPLES)
+    kept = scripts | calls
     told = {name: plain_words(" ".join(line[1:] for line in lines if line.startswith("#"))) for name, lines in kept.items()}
-    yield from (f"tools/worked_examples.txt: says nothing of {name}" for name, words in told.items() if not words)
+    yield from (f"tools/{' or '.join(SHORT_EXAMPLES)}: says nothing of {name}" for name, words in told.items() if not words)
     shown = sections(text, r"### (\S+)$")
     if not shown:
         yield "docs/EXAMPLES.md shows no example"
@@ -239,23 +243,24 @@ def check_examples(top: Path) -> Iterator[str]:
         start = next((i for i, line in enumerate(lines) if FENCE.match(line)), len(lines))
         block = (block_at(lines, start)[0] or "").splitlines()
         if block != [line for line in kept.get(name, ["#"]) if line and line[0] != "#"]:
-            yield f"docs/EXAMPLES.md: {name} isn't the example of tools/worked_examples.txt"
+            yield f"docs/EXAMPLES.md: {name} isn't the example in short form"
         if plain_words(" ".join(lines[:start])) != told.get(name):
-            yield f"docs/EXAMPLES.md: {name} isn't told as in tools/worked_examples.txt"
+            yield f"docs/EXAMPLES.md: {name} isn't told as in short form"
     count = re.search(r"has all (\d+)", text)
-    if not count or int(count[1]) != len(kept):
-        yield f"docs/EXAMPLES.md doesn't count {len(kept)} examples"
+    if not count or int(count[1]) != len(scripts):
+        yield f"docs/EXAMPLES.md doesn't count {len(scripts)} examples"
     with tempfile.TemporaryDirectory() as room:
         folder = Path(room)
         (folder / "tools").mkdir()
         (folder / "examples/worked").mkdir(parents=True)
-        given = [top / "tools" / name for name in ("expand_examples.py", "worked_examples.txt")]
+        given = [top / "tools" / name for name in ("expand_examples.py", *SHORT_EXAMPLES)]
         for file in [*given, *top.glob("examples/worked/links-*.toml")]:
             shutil.copy(file, folder / file.relative_to(top))
         ended = run(Call((folder / "tools/expand_examples.py",)))
         if ended.status != 0:
             yield f"tools/expand_examples.py: {ended.end()}"
-        for file in sorted(file.relative_to(folder) for file in folder.glob("*/worked/**/*") if file.is_file()):
+        written = (file for pattern in WRITTEN for file in folder.glob(pattern) if file.is_file())
+        for file in sorted(file.relative_to(folder) for file in written):
             there = top / file
             if not there.exists() or there.read_text() != (folder / file).read_text():
                 yield f"{file} isn't what tools/expand_examples.py writes"
@@ -304,10 +309,10 @@ def check_counts(top: Path) -> Iterator[str]:
 
 def check_causes(top: Path) -> Iterator[str]:
     """Finds whether the causes of the refusals stand in the order of their numbers."""
-    text = (top / "crates/rohc_tries/src/cause.rt").read_text()
+    text = (top / "crates/rohc_explain/src/cause.rt").read_text()
     causes = re.findall(r"^        refusal: Refusal::(\w+),$", text, re.MULTILINE)
     if causes != list(refusal_names(top).values()):
-        yield "crates/rohc_tries/src/cause.rt: the causes aren't in the order of the refusals' numbers"
+        yield "crates/rohc_explain/src/cause.rt: the causes aren't in the order of the refusals' numbers"
 
 
 def check_pictures(top: Path) -> Iterator[str]:

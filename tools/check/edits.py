@@ -5,7 +5,8 @@ it is named FUNCTION.what.edit by the function that it changes. A wrong definiti
 crates/CRATE/statements, and is named WORD.what.edit by the word that it changes. The prover must refuse both.
 
 An edit that adds a statement, a branch or a function could be refused for its shape alone. So it has a twin: an edit of
-the same name in crates/CRATE/twins, with the same shape and the right meaning. The prover must prove the twin.
+the same name in crates/CRATE/twins, with the same shape and the right meaning. The prover must prove the twin. Where an
+answer by hand binds to a shape, both may change that answer alike.
 """
 
 import re
@@ -21,7 +22,6 @@ FOLDERS = (*REFUSED, TWINS)
 NAME = re.compile(r"(\w+)\.[a-z0-9_]+\.edit")
 # What a new statement, branch or function needs. The semicolon of an array, `[0; SIZE]`, isn't one of a statement.
 SHAPE = re.compile(r";(?! \w+\])|\?|=>|\b(?:fn|if|match|for|while|loop|return)\b")
-
 
 @dataclass(frozen=True)
 class Pair:
@@ -84,14 +84,12 @@ class Edit:
 
     @property
     def modules(self) -> list[str]:
-        """The modules in which it shows: those that it changes, or those that name its word. None of it stands for all."""
+        """The modules in which it shows: those that it changes, or those that name its word. No module stands for all."""
+        files = [self.crate / path for path in self.paths if path.startswith("src/")]
         if self.is_statement:
             word = self.file.name.partition(".")[0]
             files = [file for file in self.crate.glob("src/**/*.rt") if re.search(rf"\b{word}\b", file.read_text())]
-            paths = [str(file.relative_to(self.crate)) for file in files]
-        else:
-            paths = self.paths
-        found = sorted({module_of(path) for path in paths})
+        found = sorted({module_of(str(file.relative_to(self.crate))) for file in files})
         return [] if "" in found else found
 
     @property
@@ -105,9 +103,14 @@ class Edit:
         return Counter({word: count for word, count in added.items() if count})
 
     @property
+    def of_proofs(self) -> list[Pair]:
+        """What it changes in proofs, so that an answer by hand fits its shape."""
+        return [pair for pair in self.pairs if pair.path.startswith("proofs/")]
+
+    @property
     def needs_twin(self) -> bool:
-        """Whether it adds a statement, a branch or a function."""
-        return any(count > 0 for count in self.added.values())
+        """Whether it adds a statement, a branch or a function, or changes a proof."""
+        return bool(self.of_proofs) or any(count > 0 for count in self.added.values())
 
     @property
     def twin(self) -> "Edit":
@@ -152,8 +155,10 @@ class Edit:
     def misfits_of_twin(self) -> Iterator[str]:
         """What is wrong with its twin."""
         if self.needs_twin and not self.has_twin:
-            words = ", ".join(sorted(word for word, count in self.added.items() if count > 0))
+            words = ", ".join(sorted(word for word, count in self.added.items() if count > 0)) or "nothing to the code"
             yield f"NOT with a twin: it adds {words}; crates/{self.crate.name}/twins lacks {self.file.name}"
+        elif self.has_twin and self.twin.of_proofs != self.of_proofs:
+            yield "NOT alike: its twin changes proofs otherwise than it does"
         elif self.has_twin and self.twin.added != self.added:
             yield f"NOT alike: it adds {dict(self.added)}, and its twin {dict(self.twin.added)}"
 

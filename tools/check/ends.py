@@ -37,6 +37,8 @@ WRONG_LINES = (
     'range = [{ first = 4, last = 7, mode = "U", cid = 5 }]',
 )
 LONGEST_LINKS = 1_048_576
+# Wrong words that are tried at least.
+FEWEST = 50
 
 
 def ends(trial: Trial, call: Call, status: int, text: str) -> Ended:
@@ -127,10 +129,37 @@ def check_words(trial: Trial) -> None:
         *((*serve, *port, "--count", word) for word in ("0", "1000001", "-1", "x")),
         ("replay",),
         (b"\xff",),
+        ("",),
+        ("-h",),
+        ("help",),
+        ("--version",),
+        ("-V",),
+        ("version",),
+        ("Replay", "--links", links),
+        ("replay ", "--links", links),
+        ("replay", "--help"),
+        ("replay", "--links"),
+        ("replay", "--links", links, "--links", links),
+        ("replay", "--link", links),
+        ("replay", "--Links", links),
+        ("replay", "-l", links),
+        ("replay", links),
+        ("replay", ""),
+        ("replay", "--links", links, ""),
+        ("replay", "--links", links, "--", "more"),
+        ("replay", "--links", links, "--json"),
+        ("replay", "--links", links, *count),
+        ("--links", links, "replay"),
+        (*serve, "--port", "--count", "1"),
+        (*serve, *port, *port, *count),
+        (*serve, *port, *count, "more"),
+        *((*serve, "--port", word, *count) for word in ("", " 7000", "7000.5", "0x1b58")),
+        *((*serve, *port, "--count", word) for word in ("", "1e3", "1 000")),
         ("replay", "--links", links, "more"),
         # A word that isn't UTF-8.
         ("replay", "--links", b"\xff"),
     ]
+    trial.demand(len(cases) >= FEWEST, f"{len(cases)} wrong calls; wanted at least {FEWEST}")
     for words in cases:
         ends(trial, trial.program.call(*words), 2, "rohcd: command line")
 
@@ -139,8 +168,9 @@ def check_faults(trial: Trial, files: LinksFiles) -> None:
     """Each fault of a links file."""
     links, entry = files.read("links.toml"), files.read("links.toml").partition("\n")[2]
     absent = trial.scratch / "absent.toml"
-    for words in ("replay", "--links", absent), ("serve", "--count", "1", "--port", "7000", "--links", absent):
-        ends(trial, trial.program.call(*words), 3, "rohcd: links file: Unreadable")
+    for path in (absent, trial.scratch, trial.top / "VERSION/links.toml", "", "a" * 300):
+        for words in ("replay", "--links", path), ("serve", "--count", "1", "--port", "7000", "--links", path):
+            ends(trial, trial.program.call(*words), 3, "rohcd: links file: Unreadable")
     files.fault("Unreadable", b"\xff")
     files.fault("NotToml", "x")
     files.fault("BadVersion", "version = 3")

@@ -54,6 +54,13 @@ REQUESTS = (
     (b"GET /contexts?link=999 HTTP/1.1\r\n\r\n", 404),
     (b"GET /ready HTTP/1.1\r\nA: " + b"a" * 9_000 + b"\r\n\r\n", 413),
 )
+# What the answer of each status says.
+TEXTS = {
+    400: "not a request that a gateway knows; expected HTTP/1.1 without a body, with the query of its path",
+    404: "nothing is at this path; man rohctl names each request",
+    405: "the path has another method; expected GET to show something, POST to change something",
+    413: "the head of the request is too long; expected at most 8192 octets",
+}
 
 
 def check_words(trial: Trial) -> None:
@@ -275,6 +282,8 @@ def check_hostile(trial: Trial) -> None:
         for octets, status in REQUESTS:
             told = gateway.sent(octets)
             trial.demand(told.status == status, f"hostile: {octets[:60]!r}: {told}, wanted {status}")
+            text = gateway_wrong.NO_LINK if b"link=999" in octets and status == 404 else TEXTS.get(status)
+            trial.demand(not text or told.json["text"] == text, f"hostile: {octets[:60]!r}: {told}, wanted {text}")
         slow = list(slow_ones(gateway))
         start = time.monotonic()
         trial.demand(gateway.takes(receivers, arrivals[half:], wanted[half:]), "hostile: other answers among slow ones")

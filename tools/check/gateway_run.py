@@ -158,6 +158,7 @@ class Gateway:
     metrics_port: int = field(default_factory=lambda: free_port(socket.SOCK_STREAM))
     save_seconds: int = 86_400
     limits: dict[int, int] = field(default_factory=dict)
+    environment: dict[str, str] = field(default_factory=dict)
     process: subprocess.Popen[bytes] | None = None
     count: int = 0
 
@@ -202,7 +203,8 @@ class Gateway:
         self.count = 0
         with (self.folder / "log").open("ab") as log:
             call = [self.trial.top / PROGRAM, "run", self.file, *words]
-            self.process = subprocess.Popen(call, stderr=log, preexec_fn=self.set_limits)
+            environment = os.environ | self.environment
+            self.process = subprocess.Popen(call, stderr=log, preexec_fn=self.set_limits, env=environment)
         end = time.monotonic() + WAIT_SECONDS
         while time.monotonic() < end:
             with contextlib.suppress(OSError):

@@ -5,11 +5,14 @@ status 1, and by `run` with status 3 on standard error.
 """
 
 import os
+import re
 import socket
 import subprocess
 import threading
 import time
+from collections import Counter
 from collections.abc import Callable, Iterator, Sequence
+from concurrent.futures import Future, ThreadPoolExecutor
 from contextlib import contextmanager
 from pathlib import Path
 
@@ -38,16 +41,21 @@ deliver_port = 6001
 feedback_port = 6002
 relay_port = 6003
 """
+NEWER = LINKS.replace("version = 1", "version = 2") + "idle_ms = 0\n"
 GOOD = 'links = "links.toml"\nport = 4000\n'
 PORT = "expected a number from 1 to 65535"
 READABLE = "expected a links file that this user can read (rohctl links --new writes one)"
-NO_LINKS_FILE = f"no such file or folder; {READABLE}"
+MISSING = "no such file or directory"
+NO_DIRECTORY = "a part of the path is not a directory"
+NO_LINKS_FILE = f"{MISSING}; {READABLE}"
 A_GATEWAY_FILE = "expected a gateway file that this user can read (man rohc-gateway)"
 KEYS = "links, port, timed_port, state, save_seconds, control, metrics_port"
 OWN = "expected a path of its own"
-WRITABLE = "expected a path in a folder that this user may write"
-WHOLE = "expected a state file of this version, whole (run --fresh starts without it)"
+WRITABLE = "expected a path in a directory that this user may write"
+WHOLE = "expected a complete state file of this version (run --fresh starts without it)"
 LONG = "/" + "a" * 103
+TOO_MANY = "Too many open files (os error 24); expected free file descriptors (ulimit -n)"
+A_DOCUMENT = "expected a TOML document (toml.io)"
 
 # A gateway file, and what is wrong with it.
 GATEWAY_FILES: tuple[tuple[bytes | str, tuple[str, ...]], ...] = (
@@ -61,9 +69,27 @@ GATEWAY_FILES: tuple[tuple[bytes | str, tuple[str, ...]], ...] = (
     (GOOD + "colour = 1\n", (f'FILE:3: unknown key "colour"; expected one of {KEYS}',)),
     (GOOD + "timed_port = 4000\n", ("FILE:3: timed_port is the same as port; expected another port",)),
     (GOOD + "metrics_port = 4000\n", ("FILE:3: metrics_port is the same as port; expected another port",)),
+    ('links = "links.toml"\ntimed_port = 4000\nmetrics_port = 4000\n', ("FILE:3: metrics_port is the same as timed_port; expected another port",)),
+    ('links = "links.toml"\nport = -1\n', (f"FILE:2: port is -1; {PORT}",)),
+    ('links = "links.toml"\nport = [4000]\n', (f"FILE:2: port is an array; {PORT}",)),
+    ('links = "links.toml"\nport = []\n', (f"FILE:2: port is an empty array; {PORT}",)),
+    ('links = "links.toml"\nport = 2026-11-29\n', (f"FILE:2: port is a date; {PORT}",)),
+    ('links = "links.toml"\n[port]\n', (f"FILE: port is a table; {PORT}",)),
+    (GOOD + 'state = "calls"\nsave_seconds = 86401\n', ("FILE:4: save_seconds is 86401; expected a number from 1 to 86400",)),
+    (GOOD + "control = 5\n", ("FILE:3: control is 5; expected a path in quotes",)),
+    ("= 4000\n", ("FILE:1: not TOML: invalid key; expected letters, numbers, `-`, `_` or a quoted key",)),
+    ("[links\n", ("FILE:1: not TOML: unclosed table; expected `]`",)),
+    ("[[links]\n", ("FILE:1: not TOML: unclosed array table; expected `]]`",)),
+    ("port = [1 2]\n", ('FILE:1: port is "[1 2]"; expected a number, or a text in quotes',)),
+    ("port = { a = 1 b = 2 }\n", ("FILE:1: not TOML: missing comma between key-value pairs; expected `,` or `}`",)),
+    ('links = "\\q"\n', (f"FILE:1: not TOML: invalid escape sequence; {A_DOCUMENT}",)),
+    ("port = 4__0\n", (f"FILE:1: not TOML: `_` may only go between digits; {A_DOCUMENT}",)),
+    ("port = 2026-13-29\n", (f"FILE:1: not TOML: invalid date-time; {A_DOCUMENT}",)),
+    ("port = 4000\nport.x = 1\n", (f"FILE:2: not TOML: cannot extend a value with a dotted key; {A_DOCUMENT}",)),
+    ("port = " + 200 * "[" + "\n", (f"FILE:1: not TOML: cannot recurse further; max recursion depth met; {A_DOCUMENT}",)),
     (GOOD + "save_seconds = 5\n", ('FILE:3: save_seconds needs state; expected state = "FILE" for the saved calls',)),
     (GOOD + 'state = "calls"\nsave_seconds = 0\n', ("FILE:4: save_seconds is 0; expected a number from 1 to 86400",)),
-    (GOOD + 'state = "calls"\nsave_seconds = 1.5\n', ("FILE:4: save_seconds is a number with a point; expected a number from 1 to 86400",)),
+    (GOOD + 'state = "calls"\nsave_seconds = 1.5\n', ("FILE:4: save_seconds is a floating-point number; expected a number from 1 to 86400",)),
     ("links =\n", ("FILE:1: links has no value; expected a number, or a text in quotes",)),
     ("links = links.toml\nport = 4000\n", ('FILE:1: links.toml needs quotes; write "links.toml"',)),
     ("links = /etc/links.toml\n", ('FILE:1: /etc/links.toml needs quotes; write "/etc/links.toml"',)),
@@ -74,7 +100,7 @@ GATEWAY_FILES: tuple[tuple[bytes | str, tuple[str, ...]], ...] = (
     ("port = 4000 timed_port = 4001\n", ("FILE:1: more text follows the value; expected the end of the line",)),
     ("port = 4000;\n", ("FILE:1: more text follows the value; expected the end of the line",)),
     ("port = 08\n", ('FILE:1: port is "08"; expected a number, or a text in quotes',)),
-    ("port = 99999999999999999999\n", ("FILE:1: not TOML: number out of range",)),
+    ("port = 99999999999999999999\n", (f"FILE:1: not TOML: number out of range; {A_DOCUMENT}",)),
     ('links = 5\nport = "x"\nmetrics_port = 70000\n', (
         "FILE:1: links is 5; expected a path in quotes",
         f'FILE:2: port is "x"; {PORT}',
@@ -84,10 +110,10 @@ GATEWAY_FILES: tuple[tuple[bytes | str, tuple[str, ...]], ...] = (
     (GOOD + "state = true\n", ("FILE:3: state is true; expected a path in quotes",)),
     (GOOD + f'control = "{LONG}"\n', (f"FILE:3: control is a path of {len(LONG)} octets; expected at most 103",)),
     ('links = "none.toml"\nport = 4000\n', (f"DIR/none.toml: {NO_LINKS_FILE}",)),
-    ('links = "folder"\nport = 4000\n', (f"DIR/folder: it is a folder; {READABLE}",)),
-    ('links = "links.toml/x"\nport = 4000\n', (f"DIR/links.toml/x: a part of the path is not a folder; {READABLE}",)),
-    ('links = "latin.toml"\nport = 4000\n', (f"DIR/latin.toml: not UTF-8; {READABLE}",)),
-    ('links = "long.toml"\nport = 4000\n', (f"DIR/long.toml: longer than {LONGEST} octets; {READABLE}",)),
+    ('links = "folder"\nport = 4000\n', (f"DIR/folder: it is a directory; {READABLE}",)),
+    ('links = "links.toml/x"\nport = 4000\n', (f"DIR/links.toml/x: {NO_DIRECTORY}; {READABLE}",)),
+    ('links = "latin.toml"\nport = 4000\n', (f"DIR/latin.toml: it is not UTF-8; {READABLE}",)),
+    ('links = "long.toml"\nport = 4000\n', (f"DIR/long.toml: it is longer than {LONGEST} octets; {READABLE}",)),
     (GOOD + 'state = "links.toml"\n', (f"FILE:3: state would overwrite the links file DIR/links.toml; {OWN}",)),
     (GOOD + 'state = "./links.toml"\n', (f"FILE:3: state would overwrite the links file DIR/links.toml; {OWN}",)),
     (GOOD + 'state = "to_links"\n', (f"FILE:3: state would overwrite the links file DIR/links.toml; {OWN}",)),
@@ -96,15 +122,17 @@ GATEWAY_FILES: tuple[tuple[bytes | str, tuple[str, ...]], ...] = (
     (GOOD + 'control = "links.toml"\n', (f"FILE:3: control would overwrite the links file DIR/links.toml; {OWN}",)),
     (GOOD + 'state = "calls"\ncontrol = "calls"\n', (f"FILE:4: control would overwrite the state file DIR/calls; {OWN}",)),
     (GOOD + 'state = "calls"\ncontrol = "calls.new"\n', (f"FILE:4: control would overwrite the new state file DIR/calls.new; {OWN}",)),
-    (GOOD + 'control = "notes"\n', ("FILE:3: control would overwrite DIR/notes, which is no socket; expected the path of a new socket",)),
-    (GOOD + 'state = "folder"\n', ("DIR/folder: it is a folder; expected a state file that this user can read, or none",)),
-    (GOOD + 'state = "notes"\n', (f"DIR/notes: no saved concentrator; {WHOLE}",)),
-    (b"links = \xff", (f"FILE: not UTF-8; {A_GATEWAY_FILE}",)),
-    ("#" * (LONGEST + 1), (f"FILE: longer than {LONGEST} octets; {A_GATEWAY_FILE}",)),
+    (GOOD + 'control = "notes"\n', ("FILE:3: control would overwrite DIR/notes, which is not a socket; expected the path of a new socket",)),
+    (GOOD + 'state = "folder"\n', ("DIR/folder: it is a directory; expected a state file that this user can read, or none",)),
+    (GOOD + 'state = "notes"\n', (f"DIR/notes: it is not a state file; {WHOLE}",)),
+    (b"links = \xff", (f"FILE: it is not UTF-8; {A_GATEWAY_FILE}",)),
+    ("#" * (LONGEST + 1), (f"FILE: it is longer than {LONGEST} octets; {A_GATEWAY_FILE}",)),
 )  # fmt: skip
 
 # A links file, and what is wrong with it.
 IN = "DIR/links.toml"
+TABLES = "expected 1 to 256 tables [[link]]"
+RANGES = "expected at most 8 tables of first, last and mode, in rising order, up to max_cid"
 LINKS_FILES: tuple[tuple[str, tuple[str, ...]], ...] = (
     (LINKS.replace("k1 =", "k_1 ="), (
         f'{IN}:7: link 1: unknown key "k_1"; did you mean k1?',
@@ -142,6 +170,33 @@ LINKS_FILES: tuple[tuple[str, tuple[str, ...]], ...] = (
         f"{IN}: link is missing; expected 1 to 256 tables [[link]]",
     )),
     (LINKS.replace("k1 = 2", "k1 2"), (f"{IN}:7: k1 has no value; expected = and a value after it",)),
+    (LINKS.replace("n1 = 3", "n1 = 65"), (f"{IN}:8: link 1: n1 is 65; expected a number from 1 to 64",)),
+    (LINKS.replace("k2 = 2", "k2 = 0"), (f"{IN}:9: link 1: k2 is 0; expected a number from 1 to n2",)),
+    (LINKS.replace("packet_ms = 20", "packet_ms = 60001"), (f"{IN}:11: link 1: packet_ms is 60001; expected a number from 1 to 60000",)),
+    (LINKS.replace("packet_ms = 20", "packet_ms = 2.5"), (f"{IN}:11: link 1: packet_ms is a floating-point number; expected a number from 1 to 60000",)),
+    (LINKS.replace("static_nack_ms = 1000", "static_nack_ms = 3600001"), (
+        f"{IN}:12: link 1: static_nack_ms is 3600001; expected a number from 0 to 3600000",
+    )),
+    (LINKS.replace("feedback_port = 6002", 'feedback_port = "6002"'), (f'{IN}:14: link 1: feedback_port is "6002"; {PORT}',)),
+    (LINKS.replace("relay_port = 6003", "relay_port = 65536"), (f"{IN}:15: link 1: relay_port is 65536; {PORT}",)),
+    (LINKS.replace("version = 1", "version = 2") + "idle_ms = 86400001\n", (
+        f"{IN}:16: link 1: idle_ms is 86400001; expected a number from 0 to 86400000",
+    )),
+    (LINKS + "range = 5\n", (f"{IN}:16: link 1: version 1 has no key range; expected version = 2",)),
+    (NEWER + "range = 5\n", (f"{IN}:17: link 1: range is 5; {RANGES}",)),
+    (NEWER + '[[link.range]]\nfirst = 9\nlast = 2\nmode = "U"\n', (f"{IN}:17: link 1: range is an array; {RANGES}",)),
+    (LINKS.replace("number = 1\n", "number = 65536\n"), (f"{IN}:3: entry 1: number is 65536; expected a number from 0 to 65535",)),
+    (2 * LINKS.replace("version = 1\n", "").replace("number = 1\n", "number = 65535\n"), (
+        f"{IN}: version is missing; expected 1 or 2",
+        f"{IN}:1: link 65535: idle_ms is missing; expected a number from 0 to 86400000",
+        f"{IN}:15: link 65535: idle_ms is missing; expected a number from 0 to 86400000",
+        f"{IN}:16: entry 2: link number 65535 is already used by entry 1; expected a number of its own",
+    )),
+    ("version = 1\nlink = 1\n", (f"{IN}:2: link is 1; {TABLES}",)),
+    ("version = 1\nlink = [1]\n", (f"{IN}:2: link is an array; {TABLES}",)),
+    ("version = 1\nlink = []\n", (f"{IN}:2: link has 0 tables; {TABLES}",)),
+    (LINKS + 'mod = "x"\n', (f'{IN}:16: link 1: unknown key "mod"; did you mean mode?',)),
+    ("version = 1\ncolour = 1\n" + LINKS.removeprefix("version = 1\n"), (f'{IN}:2: unknown key "colour"; expected version or link',)),
 )  # fmt: skip
 
 # Words that are no command, and what the answer has.
@@ -159,12 +214,39 @@ WORDS: tuple[tuple[tuple[Word, ...], tuple[str, ...]], ...] = (
     (("run", "--save-seconds", "0", "f"), ("0 is not in 1..=86400", "--save-seconds <SECONDS>")),
     (("run", "--metrics-port"), ("a value is required for '--metrics-port <PORT>'",)),
     (("check", "--fresh", "f"), ("unexpected argument '--fresh'", "Usage:")),
-    (("run", b"\xff"), ("error: a word of the command line is not UTF-8; expected UTF-8",)),
+    (("--frob",), ("unexpected argument '--frob'", "Usage:")),
+    (("-x",), ("unexpected argument '-x'", "Usage:")),
+    (("help", "frob"), ("unrecognized subcommand 'frob'", "Usage:")),
+    (("start", "f"), ("unrecognized subcommand 'start'", "Usage:")),
+    (("runn", "f"), ("unrecognized subcommand 'runn'", "a similar subcommand exists: 'run'")),
+    (("status",), ("unrecognized subcommand 'status'", "Usage:")),
+    (("--", "check", "f"), ("unexpected argument 'check'", "to use it, remove the '--' before it")),
+    (("check", "--"), ("required arguments were not provided", "<FILE>")),
+    (("check", "--port"), ("a value is required for '--port <PORT>'",)),
+    (("check", "--links"), ("a value is required for '--links <PATH>'",)),
+    (("check", "--color", "never", "f"), ("unexpected argument '--color'", "a similar argument exists: '--control'")),
+    (("run", "--fresh"), ("required arguments were not provided", "<FILE>")),
+    (("run", "--fresh=yes", "f"), ("unexpected value 'yes' for '--fresh'", "Usage:")),
+    (("run", "--links", "a", "--links", "b", "f"), ("the argument '--links <PATH>' cannot be used multiple times",)),
+    (("run", "--save-seconds", "86401", "f"), ("86401 is not in 1..=86400", "--save-seconds <SECONDS>")),
+    (("run", "--save-seconds", "x", "f"), ("invalid value 'x' for '--save-seconds <SECONDS>'",)),
+    (("run", "--metrics-port", "70000", "f"), ("70000 is not in 1..=65535", "--metrics-port <PORT>")),
+    (("run", "--port", "-1", "f"), ("unexpected argument '-1'", "Usage:")),
+    (("run", "--port=", "f"), ("invalid value '' for '--port <PORT>'",)),
+    (("run", "--timed-port", "4000.5", "f"), ("invalid value '4000.5' for '--timed-port <PORT>'",)),
+    (("run", b"\xff"), ("error: a word of the command line is not UTF-8; expected UTF-8, also in file names",)),
 )
 
 # Options that win over a good gateway file and are wrong, and what is wrong.
 OPTIONS: tuple[tuple[tuple[str, ...], str], ...] = (
     (("--links", ""), "command line: links is empty; expected a path"),
+    (("--state", ""), "command line: state is empty; expected a path"),
+    (("--control", ""), "command line: control is empty; expected a path"),
+    (("--control", "DIR"), "command line: control would overwrite DIR, which is not a socket; expected the path of a new socket"),
+    (("--control", LONG), f"command line: control is a path of {len(LONG)} octets; expected at most 103"),
+    (("--metrics-port", "4000"), "command line: metrics_port is the same as port; expected another port"),
+    (("--state", "DIR/folder"), "DIR/folder: it is a directory; expected a state file that this user can read, or none"),
+    (("--links", "DIR/folder"), f"DIR/folder: it is a directory; {READABLE}"),
     (("--timed-port", "4000"), "command line: timed_port is the same as port; expected another port"),
     (("--save-seconds", "5"), 'command line: save_seconds needs state; expected state = "FILE" for the saved calls'),
     (("--state", "DIR/links.toml"), f"command line: state would overwrite the links file DIR/links.toml; {OWN}"),
@@ -181,24 +263,46 @@ FORBIDDEN: tuple[tuple[tuple[str, ...], int, str], ...] = (
     (("run", "--control", "DIR/shut/control", "FILE"), 4, f"{LEVEL}control: DIR/shut/control: permission denied; {WRITABLE}"),
 )  # fmt: skip
 
-RUNS = "expected the control socket of a gateway that runs (systemctl status rohc-gateway@NAME)"
+# A port that most systems keep for root, and the file that says which is the first that isn't.
+LOW_PORT = 80
+FIRST_PORT = Path("/proc/sys/net/ipv4/ip_unprivileged_port_start")
+A_SOCKET = "expected the control socket of a running gateway"
+RUNS = f"{A_SOCKET} (systemctl status rohc-gateway@NAME)"
+INCOMPLETE = "no complete answer; expected the control socket of a running rohc-gateway"
 # What stands at a control socket's path, and what rohctl says of it.
 CONTROLS: tuple[tuple[str, str], ...] = (
-    ("nothing", f"no such file or folder; {RUNS}"),
-    ("notes/control", "a part of the path is not a folder; expected the control socket of a gateway that runs"),
-    ("folder", "it is a folder; expected the control socket in it"),
-    ("notes", "it is no socket; expected what the gateway file has as control"),
+    ("nothing", f"{MISSING}; {RUNS}"),
+    ("notes/control", f"{NO_DIRECTORY}; {A_SOCKET}"),
+    ("folder", "it is a directory; expected the control socket in it"),
+    ("notes", "it is not a socket; expected the path that the gateway file sets as control"),
     ("stale", "nothing listens there; the gateway that made this socket has ended (systemctl start rohc-gateway@NAME)"),
     ("a" * 108, "the path is too long for a socket; expected at most 107 octets (give a shorter or a relative path)"),
-    ("other", "no whole answer of a rohc-gateway; expected the control socket of one that runs"),
-    ("silent", "no whole answer of a rohc-gateway; expected the control socket of one that runs"),
+    ("other", INCOMPLETE),
+    ("silent", INCOMPLETE),
 )
+NO_LINK = "link 999 is not in the links file"
+NO_MEMORY = "out of memory; new links may be missing until a reload succeeds"
+# More than a reload and its answer ask for.
+MOST_REQUESTS = 200
+NO_STATE = "there is no state file; expected the key state in the gateway file"
 # Requests that a gateway refuses, and the text of its answer.
 REFUSED: tuple[tuple[tuple[str, ...], str], ...] = (
-    (("reset", "--link", "999"), "link 999 is not in the links file"),
-    (("calls", "--link", "999"), "link 999 is not in the links file"),
-    (("contexts", "--link", "999"), "link 999 is not in the links file"),
-    (("watch", "999/0"), "link 999 is not in the links file"),
+    (("reset", "--link", "999"), NO_LINK),
+    (("calls", "--link", "999"), NO_LINK),
+    (("contexts", "--link", "999"), NO_LINK),
+    (("watch", "999/0"), NO_LINK),
+)
+# Changes of a good state file without a context, which has 61 octets, and what is said then. Behind its name stands a
+# version, at octet 23 the kind of CIDs, and its last 32 octets are a digest.
+STATES: tuple[tuple[Callable[[bytes], bytes], str], ...] = (
+    (lambda good: b"", "it is not a state file"),
+    (lambda good: b"x" + good[1:], "it is not a state file"),
+    (lambda good: good[:9] + b"\1" + good[10:], "it has an unknown version, at octet 9"),
+    (lambda good: good[:20], "it is cut off, at octet 20"),
+    (lambda good: good[:-1], "it is cut off, at octet 60"),
+    (lambda good: good[:23] + b"\2" + good[24:], "it has a bad value, at octet 23"),
+    (lambda good: good[:-1] + bytes([good[-1] ^ 1]), "it is damaged: its digest does not match"),
+    (lambda good: good + b"x", "octets follow its end, at octet 61"),
 )
 UNSAVED = "the gateway continues, and the file of the last save stays"
 CONTINUES = "the gateway continues with the old links; its next start will refuse this file"
@@ -256,10 +360,19 @@ def check_files(trial: Trial) -> None:
         trial.write("wrong/links.toml", links)
         refuses(trial, folder, (), wanted)
     program = trial.top / PROGRAM
-    for file, why in ((folder / "absent.toml", "no such file or folder"), (folder, "it is a folder")):
+    long = f"{folder}/{'a' * 300}"
+    for file, shown, why in (
+        (folder / "absent.toml", folder / "absent.toml", MISSING),
+        (folder, folder, "it is a directory"),
+        (folder / "notes/x", folder / "notes/x", NO_DIRECTORY),
+        (long, long, "the name is too long"),
+        ("", "''", MISSING),
+    ):
+        line = f"{shown}: {why}; {A_GATEWAY_FILE}"
         told = trial.ran(program, "run", file)
-        line = f"{LEVEL}{file}: {why}; {A_GATEWAY_FILE}"
-        trial.demand((told.status, told.said) == (3, line), f"{told.end()}; wanted {line}", told.call)
+        trial.demand((told.status, told.said) == (3, LEVEL + line), f"{told.end()}; wanted {line}", told.call)
+        told = trial.ran(program, "check", file)
+        trial.demand((told.status, told.text) == (1, f"{line}\n"), f"{told.end()}; wanted {line}", told.call)
 
 
 def check_forbidden(trial: Trial) -> None:
@@ -277,6 +390,12 @@ def check_forbidden(trial: Trial) -> None:
         told = trial.ran(*words_before, *(placed(word, folder) for word in words), seconds=20)
         wanted = placed(line, folder)
         trial.demand((told.status, told.all.rstrip("\n")) == (status, wanted), f"{told.end()}; wanted {status}, {wanted}", told.call)
+    if int(FIRST_PORT.read_text()) > LOW_PORT:
+        told = trial.ran(*words_before, "run", "--port", str(LOW_PORT), folder / "gateway.toml", seconds=20)
+        wanted = f"{LEVEL}port: UDP {LOOPBACK}:{LOW_PORT}: permission denied; expected a port above 1023"
+        trial.demand((told.status, told.said) == (4, wanted), f"{told.end()}; wanted 4, {wanted}", told.call)
+    else:
+        trial.leave_out(f"port {LOW_PORT}, since any user may bind it here")
     check_unsaved(trial, folder, words_before)
     trial.demand(not list((folder / "shut").iterdir()), "a file in a folder of mode 555")
 
@@ -337,8 +456,25 @@ def check_sockets(trial: Trial) -> None:
         free.close()
         file.write_text(f'links = "links.toml"\nport = {plain}\n')
         ends(("--metrics-port", str(port)), f"metrics_port: TCP {LOOPBACK}:{port}: {busy}")
-        for path, why in ("none/control", "no such file or folder"), ("notes/control", "a part of the path is not a folder"):
+        for path, why in ("none/control", MISSING), ("notes/control", NO_DIRECTORY):
             ends(("--control", str(folder / path)), f"control: DIR/{path}: {why}; {WRITABLE}")
+    check_descriptors(trial, folder)
+
+
+def check_descriptors(trial: Trial, folder: Path) -> None:
+    """Too few file descriptors: each socket needs one more."""
+    file = folder / "gateway.toml"
+    with bound() as free, bound(socket.SOCK_STREAM) as other:
+        port, metrics_port = int(free.getsockname()[1]), int(other.getsockname()[1])
+    file.write_text(f'links = "links.toml"\nport = {port}\nmetrics_port = {metrics_port}\ncontrol = "control"\n')
+    for count, place in (
+        (4, f"port: UDP {LOOPBACK}:{port}"),
+        (5, f"metrics_port: TCP {LOOPBACK}:{metrics_port}"),
+        (6, f"control: {folder}/control"),
+    ):
+        told = trial.ran("bash", "-c", f'ulimit -n {count} && exec "$0" run "$1"', trial.top / PROGRAM, file, seconds=20)
+        wanted = f"{LEVEL}{place}: {TOO_MANY}"
+        trial.demand((told.status, told.said) == (4, wanted), f"{count} descriptors: {told.end()}; wanted 4, {wanted}", told.call)
 
 
 def check_full(trial: Trial) -> None:
@@ -394,6 +530,24 @@ def check_controls(trial: Trial) -> None:
         end()
 
 
+@contextmanager
+def hung(trial: Trial) -> Iterator[Future[Ended]]:
+    """How rohctl ends at a control socket whose gateway never answers. That takes it a minute."""
+    folder = prepare(trial, "h")
+    place = os.open(folder, os.O_RDONLY)
+    with socket.socket(socket.AF_UNIX) as one, ThreadPoolExecutor(1) as pool:
+        one.bind(f"/proc/self/fd/{place}/hung")
+        os.close(place)
+        one.listen()
+        yield pool.submit(asked, trial, folder, "status", "--control", "hung")
+
+
+def check_hung(trial: Trial, told: Ended) -> None:
+    """A control socket whose gateway never answers."""
+    wanted = (4, "", "rohctl: hung: timed out; the gateway is too busy or was stopped (try again)")
+    trial.demand((told.status, told.text, told.said) == wanted, f"hung: {told.all}; wanted {wanted}", told.call)
+
+
 def check_reloads(trial: Trial) -> None:
     """A links file that a running gateway refuses: its faults in the answer and in the log, and what follows."""
     with Receivers() as receivers, Gateway(trial, trial.scratch / "r", receivers.links([1])) as gateway:
@@ -418,20 +572,86 @@ def check_reloads(trial: Trial) -> None:
         told = gateway.ask("POST", "/reload")
         shown = told.json["text"]
         trial.demand(isinstance(shown, list) and len(shown) == 20 and told.json["more"] == 40, f"reload: {told}")
+        trial.demand(f"<4>rohc-gateway: rohctl links {folder}/links.toml shows more\n" in gateway.said, f"reload: {gateway.said[-400:]}")
         (folder / "links.toml").unlink()
         told = gateway.ask("POST", "/reload")
         line = f"{folder}/links.toml: {NO_LINKS_FILE}"
         trial.demand((told.status, told.json["fault"], told.json["text"]) == (409, "Unreadable", [line]), f"reload: {told}")
 
 
+def check_poor_reload(trial: Trial) -> None:
+    """A reload for which there is no memory: each of its requests is refused in turn. The gateway continues."""
+    number = trial.scratch / "number"
+    environment = {"LD_PRELOAD": str(trial.compiled("tools/refuse_request.c")), "REFUSED_FROM": str(number)}
+    answers: Counter[str] = Counter()
+    with Receivers() as receivers:
+        gateway = Gateway(trial, trial.scratch / "m", receivers.links([1]), environment=environment)
+        with gateway:
+            for request in range(1, MOST_REQUESTS):
+                gateway.write_links(receivers.links([1, 2 + request % 2]))
+                number.write_text(f"{request}\n")
+                told = gateway.ask("POST", "/reload")
+                text = told.json.get("text", "") if told.status == 500 else ""
+                answers["no memory" if text == NO_MEMORY else str(told.status)] += 1
+                if number.exists():
+                    trial.demand(False, "REFUSED_FROM isn't read")
+                    return
+            trial.demand(gateway.ask("POST", "/reload").status == 200, f"a reload after them all: {gateway.said[-400:]}")
+            trial.demand(f"reload refused: {NO_MEMORY}\n" in gateway.said, f"the log: {gateway.said[-400:]}")
+    good = answers["no memory"] > 0 and answers["200"] > 0 and set(answers) <= {"no memory", "200", "0", "500"}
+    trial.demand(good, f"reloads without memory: {dict(answers)}")
+
+
+def check_waiting(trial: Trial) -> None:
+    """A system that lets no one wait: the gateway ends, and says why."""
+    folder = prepare(trial, "waiting")
+    with bound() as free:
+        port = int(free.getsockname()[1])
+    (folder / "gateway.toml").write_text(f'links = "links.toml"\nport = {port}\n')
+    environment = {"LD_PRELOAD": str(trial.compiled("tools/failing_calls.c")), "FAILED_WAIT": "1"}
+    told = trial.ran(trial.top / PROGRAM, "run", folder / "gateway.toml", environment=environment, seconds=20)
+    wanted = f"{LEVEL}waiting for datagrams failed: Input/output error (os error 5)"
+    trial.demand(told.status == 4 and told.said.endswith(wanted), f"{told.end()}; wanted 4, {wanted}", told.call)
+
+
+def check_states(trial: Trial) -> None:
+    """State files that are damaged."""
+    with Receivers() as receivers, Gateway(trial, trial.scratch / "d", receivers.links([1])) as gateway:
+        trial.demand(gateway.ask("POST", "/save").status == 200, "no state file")
+        file = gateway.folder / "calls"
+        good = file.read_bytes()
+        for damage, why in STATES:
+            file.write_bytes(damage(good))
+            told = trial.ran(trial.top / PROGRAM, "check", gateway.file)
+            wanted = f"{file}: {why}; {WHOLE}\n"
+            trial.demand((told.status, told.text) == (1, wanted), f"{damage(good)!r}: {told.end()}, {told.text}; wanted {wanted}", told.call)
+
+
+def check_stateless(trial: Trial) -> None:
+    """A gateway without a state file can't save."""
+    with Receivers() as receivers:
+        gateway = Gateway(trial, trial.scratch / "s", receivers.links([1]))
+        gateway.file.write_text(re.sub(r"^(state|save_seconds) = .*\n", "", gateway.file.read_text(), flags=re.MULTILINE))
+        with gateway:
+            told = asked(trial, gateway.folder, "save", "--control", "control")
+            wanted = f'{{"fault":"NoState","text":"{NO_STATE}"}}\n'
+            trial.demand((told.status, told.text) == (1, wanted), f"save: {told.all}; wanted {wanted}", told.call)
+
+
 def check(trial: Trial) -> None:
     """All of it."""
-    check_words(trial)
-    check_files(trial)
-    check_forbidden(trial)
-    check_sockets(trial)
-    check_full(trial)
-    check_controls(trial)
-    check_reloads(trial)
+    with hung(trial) as told:
+        check_words(trial)
+        check_files(trial)
+        check_forbidden(trial)
+        check_sockets(trial)
+        check_full(trial)
+        check_controls(trial)
+        check_reloads(trial)
+        check_poor_reload(trial)
+        check_waiting(trial)
+        check_states(trial)
+        check_stateless(trial)
+        check_hung(trial, told.result())
     calls = sum(map(len, (GATEWAY_FILES, LINKS_FILES, WORDS, OPTIONS, FORBIDDEN, CONTROLS, REFUSED)))
     trial.say(f"wrong: {calls} wrong calls, each answered by what is wrong and what to do")

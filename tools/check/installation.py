@@ -11,7 +11,7 @@ from trial import Trial
 USAGE = "usage: bin/install PREFIX"
 ROHCTL = "crates/rohctl/out/rohctl"
 GATEWAY = "crates/rohc_gateway/out/rohc_gateway"
-NOT_PROVED = "bin/install: no program stands that was proved"
+NOT_PROVED = "bin/install: expected a program that is proved from exactly these sources"
 # Prints the completion of its words; the last is being typed.
 COMPLETE = (
     '. "$0" && COMP_WORDS=("$@") COMP_CWORD=$(($# - 1)) && _rohcd && '
@@ -98,8 +98,8 @@ def check_refusals(tree: Tree) -> None:
     tree.refuses(1, NOT_PROVED, prefix)
     shutil.copy(tree.trial.file, tree.program)
     file = tree.trial.write("file", "")
-    tree.refuses(1, f"bin/install: {file} is no folder", file)
-    tree.refuses(1, "bin/install: can't make the folder /dev/null/put/bin", "/dev/null/put")
+    tree.refuses(1, f"bin/install: {file} is not a directory", file)
+    tree.refuses(1, "bin/install: cannot make the directory /dev/null/put/bin", "/dev/null/put")
 
 
 def check_installed(tree: Tree) -> None:

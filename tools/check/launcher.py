@@ -17,10 +17,13 @@ from hashlib import sha256
 from pathlib import Path
 
 from ends import is_live
-from launcher_tools import NOT_BUILT, WITHOUT_TOOLCHAIN, check_tools, may_run
+from launcher_tools import BUILD_FAILED, NOT_BUILT, WITHOUT_TOOLCHAIN, check_tools, may_run
 from program import Call, Ended, Word, run
 from trial import Trial
 
+BUILDS = "bin/rohcd: building the program once, without proofs; this takes some 40 seconds\n"
+PROVING = "bin/rohcd: proving and building the program; this takes some 10 minutes on four processors\n"
+WAITS = "bin/rohcd: waiting for another call that is building the program\n"
 NO_PROOFS = "bin/rohcd: this build has no proofs, and is slow (bin/rohcd --build makes the proved program)"
 WAIT = 30
 SECONDS = 1200
@@ -100,10 +103,10 @@ class Launcher:
         return ended
 
     def refuses(self, text: str, *words: Word) -> None:
-        """It must refuse, and the last line must start with this text."""
+        """It must refuse, and the last line must have this text."""
         ended = run(self.call(*words), SECONDS)
         last = ended.said.split("\n")[-1]
-        holds = ended.status == 1 and last.startswith(f"bin/rohcd: {text}")
+        holds = ended.status == 1 and last == f"bin/rohcd: {text}"
         shown = " ".join(map(str, words))
         self.trial.demand(holds, f"bin/rohcd {shown}: {ended.end()}; wanted 1, {text}", ended.call)
 
@@ -159,7 +162,7 @@ class Launcher:
         self.ends(3, "rohcd: links file: BadVersion", "replay", "--links", "/dev/null")
         self.ends(4, "rohcd: read", "replay", "--links", self.links, given=self.calls)
         self.serves()
-        self.refuses("nothing may follow --build", "--build", "replay")
+        self.refuses("unexpected word after --build; run bin/rohcd --build without another word", "--build", "replay")
 
     def change(self) -> None:
         """Changes a source."""
@@ -199,7 +202,7 @@ def check_proved(trial: Trial) -> None:
     launcher.answers()
     launcher.main.write_text("another source\n")
     launcher.refuses_replay(NOT_BUILT)
-    launcher.refuses("rt, the toolchain, is not on the path", "--build")
+    launcher.refuses("rt, the toolchain, is not on the PATH; install the toolchain", "--build")
     launcher.main.write_text("a source\n")
     shutil.copy("/bin/true", program)
     launcher.refuses_replay(NOT_BUILT)
@@ -214,8 +217,8 @@ def build_at_once(launcher: Launcher) -> None:
     for number, one in enumerate(ended, 1):
         launcher.trial.same(f"call {number} of two at once: {one.end()}", wanted, one.output, call)
     said = "".join(one.said for one in ended)
-    builds = said.count("builds the program without proofs, once")
-    launcher.trial.demand(builds == 1, f"two calls at once: {builds} builds, not one")
+    for text in BUILDS, WAITS:
+        launcher.trial.demand(said.count(text) == 1, f"two calls at once: {said}; wanted one line {text}")
 
 
 def make_toolchain(launcher: Launcher) -> Path:
@@ -235,9 +238,9 @@ def check_build(launcher: Launcher) -> None:
     # The kept build serves without the toolchain, and not for other sources.
     launcher.answers()
     launcher.change()
-    launcher.refuses_replay("the program without proofs is not built")
+    launcher.refuses_replay(BUILD_FAILED)
     launcher.change_back()
-    launcher.refuses("the program is not proved", "--build")
+    launcher.refuses("the proof failed; the lines above, from the toolchain, say why", "--build")
     launcher.answers()
     trial.write("proves", "")
     may_end.unlink()
@@ -250,7 +253,7 @@ def check_build(launcher: Launcher) -> None:
 
     meanwhile = threading.Thread(target=change_meanwhile)
     meanwhile.start()
-    launcher.refuses("a source changed meanwhile", "--build")
+    launcher.refuses("a source changed during the proof; run bin/rohcd --build again", "--build")
     meanwhile.join()
     launcher.change_back()
     launcher.answers()
@@ -269,7 +272,9 @@ def check_building(launcher: Launcher, may_end: Path) -> None:
     launcher.answers_live()
     may_end.touch()
     _, said = building.communicate(timeout=SECONDS)
+    wanted = f"{PROVING}bin/rohcd: the proved program is {launcher.tree}/crates/rohcd/out/rohcd\n"
     launcher.trial.demand(building.returncode == 0, f"--build: {said.decode(errors='replace')}", call)
+    launcher.trial.same("--build", wanted.encode(), said, call)
     launcher.note = ""
     launcher.answers()
     launcher.answers_live()

@@ -12,11 +12,14 @@ from program import Call, Ended, Word, run
 from trial import Trial
 
 WITHOUT_TOOLCHAIN = "/usr/bin:/bin"
-NOT_BUILT = "no proved program stands, and rt"
-# A toolchain that builds a program, unless it is told to fail, and runs it with the words behind its own.
+NOT_BUILT = "there is no proved program, and rt, the toolchain, is not on the PATH; install the toolchain or a package"
+BUILD_FAILED = "the build without proofs failed; the lines above, from the toolchain, say why"
+# A toolchain that builds a program, unless it is told to fail, and runs it with the words behind its own. It may be told
+# to change a source too.
 TOOLCHAIN = """\
 #!/bin/bash
 [ "$1" = try ] && [ ! -e "{0}/fails" ] || {{ echo 'not built'; exit 1; }}
+[ ! -e "{0}/changes" ] || echo >>src/main.rt
 mkdir "$TMPDIR/rt-try" && cp "{1}" "$TMPDIR/rt-try/program"
 until [ "$1" = -- ]; do shift; done
 "$TMPDIR/rt-try/program" "${{@:2}}"
@@ -72,7 +75,7 @@ class Tool:
     @property
     def builds(self) -> str:
         """What the launcher says before it builds."""
-        return f"bin/{self.name}: builds the program without proofs, once, which takes up to two minutes on four processors\n"
+        return f"bin/{self.name}: building the program once, without proofs; this takes up to two minutes on four processors\n"
 
     @property
     def note(self) -> str:
@@ -96,9 +99,9 @@ class Tool:
             said = notes[-1] if notes else ""
 
     def refuses(self, text: str) -> None:
-        """It must refuse, and the last line must start with this text."""
+        """It must refuse, and the last line must have this text."""
         ended = self.run(*self.words[0])
-        holds = ended.status == 1 and ended.said.split("\n")[-1].startswith(f"bin/{self.name}: {text}")
+        holds = ended.status == 1 and ended.said.split("\n")[-1] == f"bin/{self.name}: {text}"
         self.trial.demand(holds, f"bin/{self.name}: {ended.end()}; wanted 1, {text}", ended.call)
 
     def helps(self, is_there: bool) -> None:
@@ -127,8 +130,14 @@ class Tool:
         fails = self.trial.write("fails", "")
         tool = may_run(self.trial.write(f"{self.name}-toolchain/rt", TOOLCHAIN.format(self.trial.scratch, self.program)))
         self.path = f"{tool.parent}:{WITHOUT_TOOLCHAIN}"
-        self.refuses("the program without proofs is not built")
+        unwritten = self.trial.write(f"{self.name}/out", "")
+        self.refuses(f"cannot write into {self.tree}/out/unproved; expected a checkout that this user may write")
+        unwritten.unlink()
+        self.refuses(BUILD_FAILED)
         fails.unlink()
+        changes = self.trial.write("changes", "")
+        self.refuses(f"a source changed during the build; run bin/{self.name} again")
+        changes.unlink()
         self.behaves(self.builds, self.note)
         self.helps(True)
         first = self.kept

@@ -65,7 +65,10 @@ def check_unpacked(trial: Trial, folder: Path) -> None:
     page.write_bytes(page.read_bytes() + b"x")
     (root / "usr/share/man/man1/rohctl.1").unlink()
     ended = run(Call((root / "usr/bin/rohctl", "verify", root / "usr/share/polorowan/polorowan.digests", "--root", root)))
-    wanted = "usr/share/man/man1/rohcd.1 differs\nusr/share/man/man1/rohctl.1 cannot be read\n"
+    wanted = (
+        "usr/share/man/man1/rohcd.1: it differs from the package; install it again\n"
+        "usr/share/man/man1/rohctl.1: cannot read it: no such file or directory\n"
+    )
     trial.demand((ended.status, ended.text) == (1, wanted), f"changed files: {ended.status} {ended.all}", ended.call)
     with tarfile.open(next(folder.glob("*.tar.gz"))) as archive:
         archive.extractall(trial.scratch / "tarball", filter="data")

@@ -24,6 +24,13 @@ UNREAD = re.compile(r"is not in scope|has no field|is no name|operand is missing
 NAMES = re.compile(r"has no field|is not in scope|has no `|was not admitted")
 # A proof file cites a goal that there is no more, since the edit changed the branches before it.
 LOST_GOAL = re.compile(r"`goal\.[\w+-]+`: module")
+# It names values at which the goal is false.
+UNMET = re.compile(r"allow values at which this goal is false|and the goal fails, at")
+SEARCH_LIMIT = re.compile(r"`search` gave up at one of its limits")
+# A module of plain values has no function that could be checked alone.
+NO_FUNCTION = re.compile(r"^rattle: error: `\w+` has no function `", re.MULTILINE)
+# A `search` in a proof by hand: it met no bound if its message goes on so.
+SEARCH_BY_HAND, ALL_TRIED = "`search`: no proof of ", "Every way was tried"
 LIMIT = re.compile(r"stopped at (?:its own limit|the step limit|a resource limit)|\bbroke off\b|`grind` gave up at one of its limits")
 
 
@@ -34,6 +41,7 @@ class Outcome(Enum):
     REFUSED = "refused for its meaning"
     BY_NAMES = "refused only because a proof file names what it removes"
     BY_GOALS = "refused only because a proof file cites goals that it removes"
+    BY_SEARCH = "refused only because `search` gave up at one of its limits"
     BY_LIMITS = "refused only by a limit of the prover"
     NOT_READ = "not compiled"
 
@@ -55,13 +63,33 @@ def is_unread(line: str, changed: Mapping[str, str]) -> bool:
 
 
 def kind_of(message: str) -> Outcome:
-    """What a message of the prover shows of an edit."""
-    if LOST_GOAL.search(message):
+    """What a message of the prover shows of an edit, with the lines in which it goes on."""
+    first = message.partition("\n")[0]
+    if LOST_GOAL.search(first):
         return Outcome.BY_GOALS
-    found = MESSAGE.match(message)
-    if found and found[1].startswith("proofs/") and NAMES.search(message):
+    found = MESSAGE.match(first)
+    if found and found[1].startswith("proofs/") and NAMES.search(first):
         return Outcome.BY_NAMES
-    return Outcome.BY_LIMITS if LIMIT.search(message) and "the goal fails at" not in message else Outcome.REFUSED
+    if UNMET.search(message):
+        return Outcome.REFUSED
+    if SEARCH_BY_HAND in first:
+        return Outcome.REFUSED if ALL_TRIED in message else Outcome.BY_SEARCH
+    if LIMIT.search(first):
+        return Outcome.BY_LIMITS
+    return Outcome.BY_SEARCH if SEARCH_LIMIT.search(first) else Outcome.REFUSED
+
+
+def messages_in(lines: Iterable[str]) -> list[str]:
+    """The messages that show why a crate isn't proved, each with the lines set in behind it, in which it goes on."""
+    messages: list[str] = []
+    goes_on = False
+    for line in lines:
+        if goes_on and line.startswith("  "):
+            messages[-1] += f"\n{line}"
+            continue
+        goes_on = bool(TOLD.match(line))
+        messages += [line] if goes_on else []
+    return messages
 
 
 def read_answer(status: int, said: str, changed: Mapping[str, str]) -> Answer:
@@ -72,12 +100,12 @@ def read_answer(status: int, said: str, changed: Mapping[str, str]) -> Answer:
         return Answer(Outcome.NOT_READ, (unread or " ".join(lines[-3:]))[:300])
     if status == 0:
         return Answer(Outcome.PROVED)
-    messages = [line for line in lines if TOLD.match(line)] or [lines[0]]
+    messages = messages_in(lines) or [lines[0]]
     kinds = [kind_of(message) for message in messages]
     # It is refused for its meaning if one message shows that, whatever the others say.
-    order = (Outcome.REFUSED, Outcome.BY_LIMITS, Outcome.BY_GOALS, Outcome.BY_NAMES)
+    order = (Outcome.REFUSED, Outcome.BY_SEARCH, Outcome.BY_LIMITS, Outcome.BY_GOALS, Outcome.BY_NAMES)
     worst = min(kinds, key=order.index)
-    return Answer(worst, messages[kinds.index(worst)][:300])
+    return Answer(worst, messages[kinds.index(worst)].partition("\n")[0][:300])
 
 
 def said_by(folder: Path, *words: str) -> tuple[int, str]:
@@ -175,9 +203,14 @@ class Room:
         before = {path: (self.folder / path).read_text() for path in texts}
         for path, text in texts.items():
             (self.folder / path).write_text(text)
-        words = [str(kit() / "bin/rattle"), *self.crates.words(self.name), "--incremental", "kept"]
-        words += [word for module in modules for word in ("--only", module)]
-        status, said = said_by(self.folder, *words)
+        status, said = self.run(tuple(modules))
         for path, text in before.items():
             (self.folder / path).write_text(text)
         return read_answer(status, said, texts)
+
+    def run(self, modules: tuple[str, ...]) -> tuple[int, str]:
+        """The status of a check of some modules and what it said; of the whole crate if one of them has no function."""
+        words = [str(kit() / "bin/rattle"), *self.crates.words(self.name), "--incremental", "kept"]
+        words += [word for module in modules for word in ("--only", module)]
+        status, said = said_by(self.folder, *words)
+        return self.run(()) if modules and NO_FUNCTION.search(said) else (status, said)

@@ -6,10 +6,14 @@ from enum import Enum
 from pathlib import Path
 
 import bites
+import bites_test
 import bodies
+import calls
+import calls_alike
 import closed
 import closed_test
 import cluster
+import completion
 import documents
 import documents_test
 import ends
@@ -25,6 +29,7 @@ import lint
 import model
 import packages
 import poverty
+import proving
 import random_scripts
 import rohctl
 import spreading
@@ -32,6 +37,8 @@ from trial import Trial
 
 TOP = Path(__file__).resolve().parent.parent.parent
 PROGRAM = "crates/rohcd/out/rohcd"
+# If proving fails, the gate and what runs after it aren't run.
+PROVING, GATE = "proving", "gate"
 
 
 class Needs(Enum):
@@ -82,6 +89,9 @@ CHECKS = (
     # The step of one context is a closed box: no crate above rohc_context may open it.
     Check("closed", NOTHING, closed.check, "no crate above rohc_context looks inside the step of a context"),
     Check("closed_test", NOTHING, closed_test.check, "closed refuses each known way round it"),
+    Check("bites_test", NOTHING, bites_test.check, "bites tells a refusal of a wrong body from a fault, as the prover tells both"),
+    # The laws over calls speak only of functions that say which call they are.
+    Check("calls", NOTHING, calls.check, "each public function that changes a concentrator says which call it is"),
     # The wrong bodies that the gate does not try must fit their files, so that they can be tried at any time.
     Check(
         "bodies",
@@ -106,6 +116,7 @@ CHECKS = (
         "mandoc",
         "the manual pages were not linted",
     ),
+    Check("completion", NOTHING, completion.check, "bash, zsh and fish each load their completion, and offer the same words"),
     Check("python", NOTHING, lint.check_python, "the scripts in Python compile without a warning"),
     Check(
         "words",
@@ -121,7 +132,15 @@ CHECKS = (
         knows=model.is_part,
     ),
     Check(
-        "gate",
+        PROVING,
+        TOOLCHAIN,
+        proving.check,
+        "crates are proved by rt check, over what earlier checks kept; part of gate",
+        knows=proving.is_crate,
+        is_in_all=False,
+    ),
+    Check(
+        GATE,
         TOOLCHAIN,
         gate,
         "all proofs, the tests in the crates, the worked examples, the wrong bodies of must-fail; it leaves the program",
@@ -171,6 +190,13 @@ CHECKS = (
         random_scripts.check,
         "random scripts, in pieces of any size, each call by itself, and against tools/model",
         knows=random_scripts.is_number,
+    ),
+    Check(
+        "calls_alike",
+        ON_PROGRAM,
+        calls_alike.check,
+        "each call that changes a concentrator, by crates/calls, tools/model and the library for C; worked scripts among calls",
+        knows=calls_alike.is_count,
     ),
     Check(
         "limits",
@@ -239,10 +265,10 @@ class Tested:
 
 # The kinds up to Refusal are whole lists of docs/PROMISES.md and the manual pages.
 TESTED = (
-    Tested("Promise", "1. Isolation", "closed gate lines random limits evidence"),
+    Tested("Promise", "1. Isolation", "closed calls gate lines random calls_alike limits evidence"),
     Tested("Promise", "2. Safe and total", "gate library examples lines random limits poverty evidence"),
-    Tested("Promise", "3. Each part is right", "gate library examples evidence"),
-    Tested("Promise", "4. One event is one step of one context", "closed gate examples lines"),
+    Tested("Promise", "3. Each part is right", "gate proving library examples evidence"),
+    Tested("Promise", "4. One event is one step of one context", "closed gate examples lines calls_alike"),
     Tested("Promise", "5. What is delivered was sent", "gate limits evidence"),
     Tested("Promise", "6. A cluster answers as one replay", "gate library cluster"),
     Tested("Key", "number, cid, max_cid", "gate program examples lines"),
@@ -281,12 +307,13 @@ TESTED = (
     Tested("Command", "bin/rohcd, bin/rohctl, bin/rohc-gateway", "launcher"),
     Tested("Command", "bin/lib", "library callers"),
     Tested("Command", "cluster/up, cluster/down", "cluster"),
-    Tested("Command", "bin/install, completion", "library install"),
+    Tested("Command", "bin/install, completion", "library install completion"),
     Tested("Command", "bin/package, rohctl verify", "packages"),
     Tested("Text", "documents", "words documents documents_test"),
     Tested("Text", "manual pages", "manual words"),
     Tested("Text", "scripts", "shell python words"),
-    Tested("Text", "wrong bodies", "gate bodies bites"),
+    Tested("Text", "worked examples of calls", "gate words calls_alike"),
+    Tested("Text", "wrong bodies", "gate bodies bites bites_test"),
     Tested("Text", "vectors, worked examples", "gate model words"),
     Tested("Text", "answers of whole scripts", "examples model"),
     Tested("Text", "the closed step", "closed closed_test"),

@@ -17,7 +17,7 @@ import rohctl_plan
 import rohctl_report
 import rohctl_spread
 import rohctl_wrong
-from installation import COMPLETE
+from completion import COMMANDS
 from program import Call, Ended, run
 from trial import Trial
 
@@ -59,31 +59,6 @@ MIXED_ROWS = (
 )
 MIXED_LINES = "lines 12 relayed 1 bad 0 long 1 no answer 2"
 HOSTILE = b"\x1b[31m\n1 0 ip \x00\n\xff\xfe refused Check\n1 0 refused \"}\n" + b"1 0 ip " + b"0" * 131_200
-
-# What bash completes, and behind which words.
-COMPLETIONS = (
-    (
-        "calls contexts decompress diff drain explain links plan reload report reset save script spread status stop totals trace verify"
-        " watch",
-        ("",),
-    ),
-    ("totals", ("to",)),
-    ("--color --json --new", ("links", "--")),
-    ("--calls --color --damage --json --links --packet-ms --split --window", ("plan", "--")),
-    ("--color --follow --json --prometheus", ("totals", "--")),
-    ("--back --color --from --lines --link --other --pcapng --port --vlan", ("script", "--")),
-    ("--color --feedback --link --links --padded --pcapng --port --stats --vlan", ("decompress", "--")),
-    ("--color --link --links --output --port --vlan", ("report", "--")),
-    ("always auto never", ("status", "--color", "")),
-    ("always auto never", ("--color", "")),
-    ("--color", ("--",)),
-    ("totals", ("--color", "never", "to")),
-    ("--color --json --new", ("--color", "never", "links", "--")),
-    ("--links", ("trace", "--l")),
-    ("--line --link --links", ("explain", "--li")),
-    ("links.toml", ("trace", "--links", "li")),
-    ("answers links.toml", ("totals", "")),
-)
 
 # A script of one packet, a line with an escape, and a last line without a newline.
 SCRIPT = b"arrive 1 0 fc00b745aa\n\x1b[2J\nreset 9"
@@ -253,7 +228,7 @@ def check_colour(trial: Trial) -> None:
     for own, colours in ((), 1), (("--color", "never"), 0):
         ended = call(trial, "--color", "always", "totals", *own, f"{PLAIN}.answers")
         trial.demand(ended.output.count(b"\x1b[31m") == colours, f"--color always before totals {own}: not {colours} colours", ended.call)
-    for name in COMPLETIONS[0][0].split():
+    for name in COMMANDS.split():
         ended = call(trial, "--color", "never", name, "--help")
         trial.demand(ended.status == 0 and "--color" in ended.text, f"--color before {name}: {ended.end()}", ended.call)
 
@@ -310,18 +285,6 @@ def check_progress(trial: Trial) -> None:
     trial.demand(not ended.said, f"progress in a pipe: {ended.said}", ended.call)
 
 
-def check_completion(trial: Trial) -> None:
-    """What bash completes."""
-    for name in ("links.toml", "answers"):
-        trial.write(f"typing/{name}", "")
-    script = trial.top / "completion/rohctl.bash"
-    for wanted, words in COMPLETIONS:
-        complete = COMPLETE.replace("_rohcd", "_rohctl")
-        ended = run(Call(("bash", "-c", complete, script, "rohctl", *words), folder=trial.scratch / "typing"))
-        found = ended.text.removesuffix("\n").rstrip(" ")
-        trial.demand(found == wanted, f"completion of '{' '.join(words)}': '{found}'; wanted '{wanted}'", ended.call)
-
-
 def check_site(trial: Trial) -> None:
     """The page of docs/site is the one that tools/make_site.py makes."""
     folder = trial.scratch / "site"
@@ -342,13 +305,13 @@ def check_ends(trial: Trial) -> None:
                   ("reset", "--control", "x"), ("reset", "--control", "x", "--link", "70000"), ("spread", LINKS)):
         ended = call(trial, *words)
         trial.demand(ended.status == 2 and ended.said != "" or words == (), f"rohctl {words}: {ended.end()}; wanted 2", ended.call)
-    told = "rohctl: nothing: no such file or folder; expected the control socket of a gateway that runs"
+    told = "rohctl: nothing: no such file or directory; expected the control socket of a running gateway"
     ends(trial, call(trial, "status", "--control", "nothing"), 4, f"{told} (systemctl status rohc-gateway@NAME)")
 
 
 def check(trial: Trial) -> None:
     """All of it, on the program that the gate left."""
-    for part in (check_totals, check_json, check_metrics, check_hostile, check_trace, check_whole, check_colour, check_follow, check_progress, check_completion, check_site, check_ends,
+    for part in (check_totals, check_json, check_metrics, check_hostile, check_trace, check_whole, check_colour, check_follow, check_progress, check_site, check_ends,
                  rohctl_explain.check, rohctl_links.check, rohctl_diff.check, rohctl_plan.check, rohctl_spread.check,
                  rohctl_capture.check, rohctl_report.check, rohctl_wrong.check):
         part(trial)

@@ -17,6 +17,8 @@ LINKS = "examples/links.toml"
 SECOND = 1_700_000_000
 STEP = 20_000_000
 ETHERNET, PPP, RAW, COOKED, SECOND_COOKED = 1, 9, 101, 113, 276
+# How many interfaces of a section are known.
+MOST_INTERFACES = 65_536
 # The longest packet of a datagram behind two headers and the number of a link.
 LONGEST = 65_535 - 30
 SECTION, INTERFACE, OBSOLETE, SIMPLE, ENHANCED = 0x0A0D0D0A, 1, 2, 3, 6
@@ -172,7 +174,9 @@ LOST = (
 
 
 # What is said of a capture that can't be read on, and of one that has nothing to show.
-CAPTURE_FAULT = "rohctl: standard input: cannot read the capture on: "
+CAPTURE_FAULT = "rohctl: standard input: "
+BEFORE = "; the frames before it were read"
+NO_CAPTURE = f"{CAPTURE_FAULT}not a capture; expected pcap or pcapng"
 NOTHING = "rohctl: standard input: nothing to show: "
 NO_FRAME = f"{NOTHING}no frame matches; the first has link type "
 
@@ -203,8 +207,8 @@ def check_cuts(trial: Trial) -> None:
         done = [end for end in ends if end <= place]
         wanted = list(zip(moments(3), REBUILT, strict=True))[: max(len(done) - 1, 0)]
         trial.same(f"pcap cut at {place}", repr(wanted), repr(list(records(ended.output))), ended.call)
-        fault = f"octet {done[-1]}: CutOff" if done else "octet 0: NotACapture"
-        said = f"{CAPTURE_FAULT}{fault}" if place not in ends else f"{NOTHING}the capture has no frame" if place == ends[0] else ""
+        fault = f"{CAPTURE_FAULT}the capture is cut off in the record at octet {done[-1]}{BEFORE}" if done else NO_CAPTURE
+        said = fault if place not in ends else f"{NOTHING}the capture has no frame" if place == ends[0] else ""
         status = 0 if not said else 6 if place in ends else 4
         trial.demand((ended.status, ended.said) == (status, said), f"pcap cut at {place}: {ended.end()} {ended.said}", ended.call)
     blocks = pcapng(frames)
@@ -242,20 +246,23 @@ def check_blocks(trial: Trial) -> None:
     good(trial, decompress(trial, one + other + simple, "--link", "1"), wanted, "three sections")
     begin = section(">", ETHERNET)
     packet = block(">", ENHANCED, struct.pack(">IIIII", 1, 0, 0, 0, 0))
+    interface = block(">", INTERFACE, struct.pack(">HHI", ETHERNET, 0, 0))
     faults = (
-        ("NoInterface", begin + packet, len(begin)),
-        ("BlockLength", begin + packet[:4] + struct.pack(">I", 13) + packet[8:], len(begin)),
-        ("BlockLength", begin + packet[:-1] + b"\0", len(begin)),
-        ("BlockLength", begin + block(">", ENHANCED, struct.pack(">IIIII", 0, 0, 0, 1, 1)), len(begin)),
-        ("TooLong", begin + packet[:4] + struct.pack(">I", 2_000_000) + packet[8:], len(begin)),
-        ("ByteOrder", begin + begin[:8] + bytes(4) + begin[12:], len(begin)),
-        ("NotACapture", b"GIF89a" + bytes(40), 0),
-        ("TooLong", pcap([]) + struct.pack(">IIII", 0, 0, 2_000_000, 0), 24),
+        (begin + packet, f"the packet at octet {len(begin)} is of an interface that its section does not describe"),
+        (begin + packet[:4] + struct.pack(">I", 13) + packet[8:], f"the block at octet {len(begin)} has a wrong length"),
+        (begin + packet[:-1] + b"\0", f"the block at octet {len(begin)} has a wrong length"),
+        (begin + block(">", ENHANCED, struct.pack(">IIIII", 0, 0, 0, 1, 1)), f"the block at octet {len(begin)} has a wrong length"),
+        (begin + packet[:4] + struct.pack(">I", 2_000_000) + packet[8:], f"the record at octet {len(begin)} is longer than 1 MiB"),
+        (begin + begin[:8] + bytes(4) + begin[12:], f"the section at octet {len(begin)} has no known byte order"),
+        (pcap([]) + struct.pack(">IIII", 0, 0, 2_000_000, 0), "the record at octet 24 is longer than 1 MiB"),
+        (begin + (MOST_INTERFACES - 1) * interface + interface, f"the section at octet {len(begin) + (MOST_INTERFACES - 1) * len(interface)} describes more than 65536 interfaces"),
     )
-    for name, text, place in faults:
+    for text, fault in faults:
         ended = decompress(trial, text, "--link", "1")
-        said = f"{CAPTURE_FAULT}octet {place}: {name}"
-        trial.demand((ended.status, ended.said) == (4, said), f"{name}: {ended.end()} {ended.said}; wanted {said}", ended.call)
+        said = f"{CAPTURE_FAULT}{fault}{BEFORE}"
+        trial.demand((ended.status, ended.said) == (4, said), f"{ended.end()}; wanted {said}", ended.call)
+    ended = decompress(trial, b"GIF89a" + bytes(40), "--link", "1")
+    trial.demand((ended.status, ended.said) == (4, NO_CAPTURE), f"{ended.end()}; wanted {NO_CAPTURE}", ended.call)
 
 
 def check_outputs(trial: Trial) -> None:
@@ -393,7 +400,7 @@ def check_back(trial: Trial) -> None:
         trial.same(f"{script.name}: the datagrams", repr(frames), repr(kept), ended.call)
         everything = len(list(records(ended.output)))
         left = len(lines) - everything
-        said = f"skipped {left} lines (not arrivals, or too long for a capture)" if left else ""
+        said = f"skipped {left} line{'s' * (left != 1)} (not arrivals, or too long for a capture)" if left else ""
         trial.demand(ended.said == said, f"{script.name}: {ended.said}; wanted {said}", ended.call)
         again = scripted(trial, ended.output, "--port", "7000")
         wanted = [f"arrive {link} {moment} {octets.hex()}" for link, moment, octets in found]

@@ -43,6 +43,8 @@ FALLING = (
     ("1070 11ac", "1070 ms after the last accepted packet, only an IR; a STATIC-NACK may be sent now"),
     ("2000 11ac", "2000 ms after the last accepted packet, only an IR; no STATIC-NACK for 70 ms"),
 )
+# The feedback that the packets of this call make due, the IR's first.
+FEEDBACK = ("5 octets, ACK, SN 1", "5 octets, NACK, SN 1", "6 octets, STATIC-NACK", "6 octets, STATIC-NACK")
 # A context of profile 0x0000 that has expired as its second packet comes, by the link's idle_ms of 5,000.
 EXPIRED = b"arrive 4 0 fc00b745aa\narrive 4 5000 45aa\n"
 HOSTILE = b"\x1b[2J\narrive 1 0 \x1b[31m\narrive 1 0 fc00b745aa\x07\narrive 1 0 fc00b745aa\n\xff\n"
@@ -172,6 +174,7 @@ def check_expected(trial: Trial) -> None:
     ended = explain(trial, "--links", links, given=script.encode())
     found = re.findall(r"^expected: (.*)$", ended.text, re.MULTILINE)
     trial.same("what is expected", "\n".join(wanted for _, wanted in FALLING), "\n".join(found), ended.call)
+    trial.same("what the feedback says", "\n".join(FEEDBACK), "\n".join(re.findall(r"^feedback: (.*)$", ended.text, re.MULTILINE)), ended.call)
 
 
 def check_forms(trial: Trial) -> None:

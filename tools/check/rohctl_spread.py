@@ -38,19 +38,41 @@ table ip polorowan {
 """
 ADDRESSES = "        udp dport 7000 ip daddr set @th,64,16 map {{ 1 : 127.0.0.1, 2 : {address} }}\n"
 
+PORT = "expected a number from 1 to 65535"
+SHARE = 'expected a number from 0 to 65535, or a range such as "4-9"'
+SHARES = 'expected an array of link numbers and ranges, as [1, "4-9"]'
+A_NAME = "expected 1 to 32 letters, digits, - and _, in quotes"
+ADDRESS = 'expected an IPv4 address in quotes, as "10.0.0.1"'
+PROCESSES = "expected at least one table [[process]]"
 # A text of HOSTS, what stands in its place, and the line that is told.
 FAULTS = (
-    ("links = [1]", "links = [3]", "hosts.toml: link 1 is not assigned to any process"),
-    ('"2-9"', '"1-9"', "hosts.toml:6: process 2: link 1 is already assigned to an earlier process"),
-    ("port = 7002", "port = 0", "hosts.toml:6: process 2: port is missing or wrong; expected 1 to 65535"),
-    ("port = 7001\n", "", "hosts.toml:2: process 1: port is missing or wrong; expected 1 to 65535"),
-    ('"2-9"', '"9-2"', "hosts.toml:6: process 2: links is missing or wrong; expected an array of numbers and texts such as \"4-9\""),
-    ('"2-9"', "70000", "hosts.toml:6: process 2: links is missing or wrong; expected an array of numbers and texts such as \"4-9\""),
-    ('name = "b"', 'name = "../b"', "hosts.toml:6: process 2: name is missing or wrong; expected 1 to 32 letters, digits, - and _, in quotes"),
-    ('name = "b"', 'name = "a"', "hosts.toml:6: process 2: an earlier process has this name; expected another"),
-    ('name = "b"', 'name = "b"\naddress = "10.0.0.256"', "hosts.toml:6: process 2: address is missing or wrong; expected an IPv4 address in quotes, as \"10.0.0.1\""),
-    ('name = "b"', 'name = "b"\nhost = "x"', "hosts.toml:6: process 2: unknown key; expected name, address, port and links"),
-    ("port = 7000", "prot = 7000", "hosts.toml: unknown key; expected port and [[process]]"),
+    ("links = [1]", "links = [3]", "hosts.toml: link 1 is not assigned to any process; add it to the links of one"),
+    ('"2-9"', '"1-9"', "hosts.toml:6: process 2: link 1 is already assigned to an earlier process; remove it from one of the two"),
+    ("port = 7002", "port = 0", f"hosts.toml:6: process 2: port is 0; {PORT}"),
+    ("port = 7001\n", "", f"hosts.toml:2: process 1: port is missing; {PORT}"),
+    ("port = 7001", 'port = "7001"', f'hosts.toml:2: process 1: port is "7001"; {PORT}'),
+    ("port = 7000", "port = 65536", f"hosts.toml: port is 65536; {PORT}"),
+    ('"2-9"', '"9-2"', f'hosts.toml:6: process 2: links has "9-2"; {SHARE}'),
+    ('"2-9"', '"9"', f'hosts.toml:6: process 2: links has "9"; {SHARE}'),
+    ('"2-9"', "70000", f"hosts.toml:6: process 2: links has 70000; {SHARE}"),
+    ('"2-9"', "true", f"hosts.toml:6: process 2: links has true; {SHARE}"),
+    ("links = [1]", "links = 1", f"hosts.toml:2: process 1: links is 1; {SHARES}"),
+    ("links = [1]\n", "", f"hosts.toml:2: process 1: links is missing; {SHARES}"),
+    ('name = "b"', 'name = "../b"', f'hosts.toml:6: process 2: name is "../b"; {A_NAME}'),
+    ('name = "b"\n', "", f"hosts.toml:6: process 2: name is missing; {A_NAME}"),
+    ('name = "b"', 'name = "a"', 'hosts.toml:6: process 2: name "a" is already used by an earlier process; expected another'),
+    ('name = "b"', 'name = "b"\naddress = "10.0.0.256"', f'hosts.toml:6: process 2: address is "10.0.0.256"; {ADDRESS}'),
+    ('name = "b"', 'name = "b"\naddress = 10', f"hosts.toml:6: process 2: address is 10; {ADDRESS}"),
+    ('name = "b"', 'name = "b"\nhost = "x"', 'hosts.toml:6: process 2: unknown key "host"; did you mean port?'),
+    ('name = "b"', 'name = "b"\ncolour = "x"', 'hosts.toml:6: process 2: unknown key "colour"; expected name, address, port and links'),
+    ("port = 7000", "prot = 7000", 'hosts.toml: unknown key "prot"; did you mean port?'),
+    ("port = 7000", "version = 7000", 'hosts.toml: unknown key "version"; expected port and [[process]]'),
+    (HOSTS, "", f"hosts.toml: process is missing; {PROCESSES}"),
+    (HOSTS, "process = 1\n", f"hosts.toml: process is 1; {PROCESSES}"),
+    (HOSTS, "process = [1]\n", f"hosts.toml: process is an array; {PROCESSES}"),
+    (HOSTS, "process = []\n", f"hosts.toml: process is an empty array; {PROCESSES}"),
+    (HOSTS, "[process]\n", f"hosts.toml: process is a table; {PROCESSES}"),
+    (HOSTS, "port\n", "hosts.toml:1: port has no value; expected = and a value after it"),
     ("[[process]]", "[process]", "hosts.toml:6: process is one table and given again; write [[process]] before each one"),
 )
 

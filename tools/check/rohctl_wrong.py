@@ -2,6 +2,7 @@
 
 import os
 import pty
+import re
 import socket
 import struct
 import subprocess
@@ -9,6 +10,7 @@ from pathlib import Path
 
 from nobody import as_nobody
 from program import Call, run
+from rohctl_capture import pcapng
 from trial import Trial
 
 PROGRAM = "crates/rohctl/out/rohctl"
@@ -25,7 +27,7 @@ DATAGRAM = bytes.fromhex("020000000001" "020000000002" "0800" "45000020000040004
 
 RULES = "rohctl: --link, --vlan or --port is missing; expected the link of the capture's frames, as --link 1, --vlan 5=1 or --port 5000=1"
 PACKET = "expected two hexadecimal digits for each octet, as fc00b745aa or fc 00 b7 45 aa"
-CALL_WORD = "expected LINK/CID, as 1/0"
+CALL_WORD = "expected LINK/CID, as 1/0: each from 0 to 65535"
 VLAN_WORD = "expected VLAN=LINK, as 5=1: a VLAN from 0 to 4095, a link from 0 to 65535"
 PORT_WORD = "expected PORT or PORT=LINK, as 5000=1: each from 0 to 65535"
 WINDOW_WORD = "expected K/N, with K from 1 to N and N from 1 to 16"
@@ -35,12 +37,25 @@ NO_FRAME = "nothing to show: no frame matches; the first has link type 1"
 EXPLAIN = ("explain", "--links", "links.toml")
 DECOMPRESS = ("decompress", "--links", "links.toml")
 LINK_1 = ("--link", "1")
-OVER_LINKS = "refusing to overwrite the input links.toml; name another file"
-OVER_CAPTURE = "refusing to overwrite the input rohc.pcap; name another file"
-OVER_SCRIPT = "refusing to overwrite the input call.script; name another file"
+OVER_LINKS = "refusing to overwrite the input links.toml; choose another output"
+OVER_CAPTURE = "refusing to overwrite the input rohc.pcap; choose another output"
+OVER_SCRIPT = "refusing to overwrite the input call.script; choose another output"
+TWICE = "two outputs would be written to it; choose another for one of them"
+EVENTS = "expected a script, with lines such as 'arrive 1 0 fc00b745aa'"
+NO_ARRIVAL = "nothing to show: it has resets but no arrival; expected lines such as 'arrive 1 0 fc00b745aa'"
+BEYOND = "a packet is too long for a capture, or its time too late (try --pcapng)"
+A_CAPTURE = "it is a capture; expected a script ('rohctl script' converts a capture into one)"
+NO_CAPTURE = "not a capture; expected pcap or pcapng"
+NO_LINK = "; 'rohctl links' lists those it has"
+NO_DIGEST = "not a digest and a path; expected a line as sha256sum writes it"
+BOTH_INPUTS = "expected a file, since the links file is standard input"
+ABSENT = "error: the following required arguments were not provided:\n  "
 
 # The words, the status, and what stands on standard error or, for the parser's own faults, begins it.
-WRONG: tuple[tuple[tuple[str, ...], int, str], ...] = (
+WRONG: tuple[tuple[tuple[str | bytes, ...], int, str], ...] = (
+    ((), 2, "Diagnose ROHC links"),
+    ((b"\xff",), 2, "rohctl: a word of the command line is not UTF-8; expected UTF-8, also in file names"),
+    (("help", "frob"), 2, "error: unrecognized subcommand 'frob'"),
     (("frob",), 2, "error: unrecognized subcommand 'frob'"),
     (("totals", "--frob"), 2, "error: unexpected argument '--frob' found"),
     (("totals", "--json", "--prometheus"), 2, "error: the argument '--json' cannot be used with '--prometheus'"),
@@ -51,7 +66,15 @@ WRONG: tuple[tuple[tuple[str, ...], int, str], ...] = (
     (("stop",), 2, "error: the following required arguments were not provided:\n  --control <SOCKET>"),
     (("totals", "--color", "red"), 2, "rohctl: --color red: expected auto, always or never"),
     (("--color", "red", "totals"), 2, "rohctl: --color red: expected auto, always or never"),
+    (("totals", "--color", ""), 2, "rohctl: --color '': expected auto, always or never"),
+    (("--color",), 2, "error: a value is required for '--color <WHEN>' but none was supplied"),
+    (("totals", "--json=yes"), 2, "error: unexpected value 'yes' for '--json' found"),
     (("totals", "nothing"), 4, f"rohctl: nothing: cannot read it: {MISSING}"),
+    (("totals", ""), 4, f"rohctl: '': cannot read it: {MISSING}"),
+    (("totals", "a" * 300), 4, f"rohctl: {'a' * 300}: cannot read it: the name is too long"),
+    (("links", "--new", "links.toml"), 2, "error: the argument '--new' cannot be used with '[FILE]'"),
+    (("links", ""), 3, f"rohctl: links file '': cannot read it: {MISSING}"),
+    (("links", "nothing"), 3, f"rohctl: links file nothing: cannot read it: {MISSING}"),
     (("totals", "."), 4, "rohctl: .: cannot read it: it is a directory"),
     (("totals", "links.toml/x"), 4, "rohctl: links.toml/x: cannot read it: a part of the path is not a directory"),
     (("trace", "--links", "nothing", "call.script"), 3, f"rohctl: links file nothing: cannot read it: {MISSING}"),
@@ -63,22 +86,65 @@ WRONG: tuple[tuple[tuple[str, ...], int, str], ...] = (
     (("trace", "--links", "bare.toml", "call.script"), 3, "rohctl: bare.toml:6: O needs quotes; write \"O\""),
     (("trace", "--links", "near.toml", "call.script"), 3,
      "rohctl: near.toml:7: link 1: unknown key \"k_1\"; did you mean k1?\nrohctl: near.toml:2: link 1: k1 is missing; expected a number from 1 to n1"),
+    (("trace", "--links", "empty", "call.script"), 3,
+     "rohctl: empty: version is missing; expected 1 or 2\nrohctl: empty: link is missing; expected 1 to 256 tables [[link]]"),
+    (("trace", "--links", "faults.toml", "call.script"), 3,
+     "rohctl: faults.toml:7: link 1: k1 is 0; expected a number from 1 to n1\n"
+     "rohctl: faults.toml:8: link 1: n1 is 0; expected a number from 1 to 64\n"
+     "rohctl: faults.toml:9: link 1: k2 is 0; expected a number from 1 to n2\n"
+     "rohctl: faults.toml: 1 more; 'rohctl links' shows all"),
     (("trace", "--links", "links.toml", "nothing"), 4, f"rohctl: nothing: cannot read it: {MISSING}"),
+    (("trace", "--links", "links.toml", "rohc.pcap"), 1, f"rohctl: rohc.pcap: {A_CAPTURE}"),
+    (("trace", "--links", "-"), 2, f"rohctl: SCRIPT -: {BOTH_INPUTS}"),
+    (("diff", "nothing", "call.script"), 4, f"rohctl: nothing: cannot read it: {MISSING}"),
+    (("diff", "call.script", "."), 4, "rohctl: .: cannot read it: it is a directory"),
+    (("spread", "links.toml"), 2, f"{ABSENT}--hosts <FILE>"),
+    (("spread", "-", "--hosts", "-"), 2, f"rohctl: --hosts -: {BOTH_INPUTS}"),
+    (("spread", "links.toml", "--hosts", "latin.toml"), 4, "rohctl: latin.toml: cannot read it: it is not UTF-8"),
+    (("spread", "links.toml", "--hosts", "long.toml"), 4, "rohctl: long.toml: cannot read it: it is longer than 1048576 octets"),
+    (("spread", "two-links.toml", "--hosts", "two-hosts.toml", "--out", "."), 2,
+     "rohctl: .: refusing to overwrite the input two-hosts.toml; choose another output"),
+    (("spread", "two-links.toml", "--hosts", "two-hosts.toml", "--out", "nothing"), 4, f"rohctl: nothing: cannot write to it: {MISSING}"),
     (("spread", "links.toml", "--hosts", "nothing"), 4, f"rohctl: nothing: cannot read it: {MISSING}"),
     (("plan", "--damage", "200"), 2, "rohctl: --damage 200: expected a percentage from 0 to 100, as 2"),
+    (("plan", "--damage", "nan"), 2, "rohctl: --damage nan: expected a percentage from 0 to 100, as 2"),
+    (("plan", "--damage", "-1"), 2, "error: unexpected argument '-1' found"),
+    (("plan", "--packet-ms", "60001"), 2, "rohctl: --packet-ms 60001: expected milliseconds, 0 to 60000"),
+    (("plan", "--split", "2"), 2, f"{ABSENT}--links <FILE>"),
+    (("plan", "--links", "links.toml"), 2, f"{ABSENT}--split <COUNT>"),
+    (("plan", "--links", "nothing", "--split", "2"), 3, f"rohctl: links file nothing: cannot read it: {MISSING}"),
+    (("plan", "--links", "links.toml", "--split", "257"), 2, "rohctl: --split 257: expected a number of processes, 1 to 256"),
     (("plan", "--packet-ms", "x"), 2, "rohctl: --packet-ms x: expected milliseconds, 0 to 60000"),
     (("plan", "--window", "4/3"), 2, f"rohctl: --window 4/3: {WINDOW_WORD}"),
     (("plan", "--window", "4"), 2, f"rohctl: --window 4: {WINDOW_WORD}"),
+    (("plan", "--window", "0/0"), 2, f"rohctl: --window 0/0: {WINDOW_WORD}"),
+    (("plan", "--window", "1/17"), 2, f"rohctl: --window 1/17: {WINDOW_WORD}"),
     (("plan", "--calls", "many"), 2, "rohctl: --calls many: expected a number of calls, as 10000"),
     (("plan", "--links", "links.toml", "--split", "0"), 2, "rohctl: --split 0: expected a number of processes, 1 to 256"),
     (("watch", "--control", "nothing", "2"), 2, f"rohctl: CALL 2: {CALL_WORD}"),
     (("reset", "--control", "nothing", "--link", "70000"), 2, "rohctl: --link 70000: expected a number from 0 to 65535"),
     (("reset", "--control", "nothing", "--link", "1", "--cid", "x"), 2, "rohctl: --cid x: expected a number from 0 to 65535"),
+    (("reset", "--control", "nothing"), 2, f"{ABSENT}--link <NUMBER>"),
+    (("contexts", "--control", "nothing", "--link", "x"), 2, "rohctl: --link x: expected a number from 0 to 65535"),
+    (("calls", "--control", "nothing", "--link", ""), 2, "rohctl: --link '': expected a number from 0 to 65535"),
+    (("watch", "--control", "nothing"), 2, f"{ABSENT}<CALL>"),
+    (("watch", "--control", "nothing", "1/70000"), 2, f"rohctl: CALL 1/70000: {CALL_WORD}"),
+    (("status", "--control", ""), 4, "rohctl: '': invalid argument; expected the control socket of a running gateway"),
+    (("verify",), 2, f"{ABSENT}<LIST>"),
     (("verify", "nothing"), 4, f"rohctl: nothing: cannot read it: {MISSING}"),
+    (("verify", "."), 4, "rohctl: .: cannot read it: it is a directory"),
+    (("verify", "latin.toml"), 4, "rohctl: latin.toml: cannot read it: it is not UTF-8"),
+    (("verify", "long.toml"), 4, "rohctl: long.toml: cannot read it: it is longer than 1048576 octets"),
+    (("verify", "empty"), 6, "rohctl: empty: nothing to show: it has no digest; expected a list as sha256sum writes it"),
     (("diff", "-", "-"), 2, "rohctl: B -: expected a file, since A is standard input"),
     ((*EXPLAIN, "--line", "x", "call.script"), 2, "rohctl: --line x: expected the number of a line, from 1"),
     ((*EXPLAIN, "--line", "0", "call.script"), 2, "rohctl: --line 0: expected the number of a line, from 1"),
+    ((*EXPLAIN, "--line", "1", "--call", "1/0", "call.script"), 2, "error: the argument '--line <N>' cannot be used with '--call <L/C>'"),
+    ((*EXPLAIN, "--brief", "--json", "call.script"), 2, "error: the argument '--brief' cannot be used with '--json'"),
+    ((*EXPLAIN, "nothing"), 4, f"rohctl: nothing: cannot read it: {MISSING}"),
+    (("explain", "--links", "-"), 2, f"rohctl: SCRIPT -: {BOTH_INPUTS}"),
     ((*EXPLAIN, "--call", "7", "call.script"), 2, f"rohctl: --call 7: {CALL_WORD}"),
+    ((*EXPLAIN, "--call", "70000/0", "call.script"), 2, f"rohctl: --call 70000/0: {CALL_WORD}"),
     ((*EXPLAIN, "--link", "x", "45"), 2, "rohctl: --link x: expected a number from 0 to 65535"),
     ((*EXPLAIN, *LINK_1), 2, "rohctl: packet is missing; expected with --link hexadecimal digits, as fc00b745aa"),
     ((*EXPLAIN, *LINK_1, "fc0"), 2, f"rohctl: the packet has 3 digits; {PACKET}"),
@@ -87,19 +153,28 @@ WRONG: tuple[tuple[tuple[str, ...], int, str], ...] = (
     ((*EXPLAIN, *LINK_1, "fc", "00", "call.script"), 2, f"rohctl: the packet has 'l'; {PACKET}"),
     ((*EXPLAIN, "fc", "00"), 2, "rohctl: SCRIPT 00: expected one script; packets in hexadecimal digits need --link"),
     ((*EXPLAIN, *LINK_1, ""), 2, f"rohctl: the packet has no digits; {PACKET}"),
-    ((*EXPLAIN, "--link", "7", "45ab"), 6, "rohctl: links.toml: nothing to show: it has no link 7"),
-    ((*EXPLAIN, "--call", "7/99", "call.script"), 6, "rohctl: links.toml: nothing to show: it has no link 7"),
-    ((*EXPLAIN, "--call", "1/9", "call.script"), 6, "rohctl: call.script: nothing to show: no packet of link 1, CID 9"),
+    ((*EXPLAIN, "--link", "7", "45ab"), 6, f"rohctl: links.toml: nothing to show: it has no link 7{NO_LINK}"),
+    ((*EXPLAIN, "--call", "7/99", "call.script"), 6, f"rohctl: links.toml: nothing to show: it has no link 7{NO_LINK}"),
+    ((*EXPLAIN, "--call", "1/9", "call.script"), 6,
+     "rohctl: call.script: nothing to show: no packet of link 1, CID 9; without --call all packets are shown"),
     ((*EXPLAIN, "--line", "999999", "call.script"), 6, "rohctl: call.script: nothing to show: there is no line 999999; the last line is 7"),
-    ((*EXPLAIN, "--line", "5", "call.script"), 6, "rohctl: call.script: nothing to show: line 5 is not an arrival"),
-    ((*EXPLAIN, "links.toml"), 6,
-     "rohctl: links.toml: nothing to show: none of 15 lines is an event; expected a script, with lines such as 'arrive 1 0 fc00b745aa'"),
-    ((*EXPLAIN, "rohc.pcap"), 6, "rohctl: rohc.pcap: nothing to show: it is a capture; expected a script ('rohctl script' makes one of it)"),
-    ((*EXPLAIN, "empty"), 6, "rohctl: empty: nothing to show: it is empty"),
+    ((*EXPLAIN, "--line", "5", "call.script"), 6,
+     "rohctl: call.script: nothing to show: line 5 is not an arrival; expected the number of a line such as 'arrive 1 0 fc00b745aa'"),
+    ((*EXPLAIN, "links.toml"), 6, f"rohctl: links.toml: nothing to show: none of 15 lines is an event; {EVENTS}"),
+    ((*EXPLAIN, "rohc.pcap"), 6, f"rohctl: rohc.pcap: nothing to show: {A_CAPTURE}"),
+    ((*EXPLAIN, "empty"), 6, f"rohctl: empty: nothing to show: it is empty; {EVENTS}"),
+    (EXPLAIN, 6, f"rohctl: standard input: nothing to show: it is empty; {EVENTS}"),
+    ((*EXPLAIN, "resets.script"), 6, f"rohctl: resets.script: {NO_ARRIVAL}"),
     ((*EXPLAIN, "carriage.script"), 6, f"rohctl: carriage.script: nothing to show: {CARRIAGE}"),
     (("trace", "--links", "links.toml", "carriage.script"), 1, "rohctl: carriage.script: lines end with a carriage return; remove it: tr -d '\\r'"),
     (("report", "--links", "links.toml", "-o", "new", "carriage.script"), 6, f"rohctl: carriage.script: nothing to show: {CARRIAGE}"),
     (("report", "--links", "links.toml", "rohc.pcap"), 2, RULES),
+    (("report", "--links", "links.toml", "empty"), 6, f"rohctl: empty: nothing to show: it is empty; {EVENTS}"),
+    (("report", "--links", "links.toml", "links.toml"), 6, f"rohctl: links.toml: nothing to show: none of 15 lines is an event; {EVENTS}"),
+    (("report", "--links", "links.toml", "nothing"), 4, f"rohctl: nothing: cannot read it: {MISSING}"),
+    (("report", "--links", "-"), 2, f"rohctl: INPUT -: {BOTH_INPUTS}"),
+    (("report", "--links", "links.toml", "--link", "9", "rohc.pcap"), 6, f"rohctl: links.toml: nothing to show: it has no link 9{NO_LINK}"),
+    (("report", "--links", "links.toml", *LINK_1, "cut.pcap", "-o", "new"), 4, "rohctl: cut.pcap: the capture is cut off in the record at octet 24; the frames before it were read"),
     (("report", "--links", "links.toml", "-o", "links.toml", "call.script"), 2, f"rohctl: links.toml: {OVER_LINKS}"),
     (("report", "--links", "links.toml", "-o", "hard", "call.script"), 2, f"rohctl: hard: {OVER_SCRIPT}"),
     (("report", "--links", "links.toml", "-o", "nothing/page", "call.script"), 4, f"rohctl: nothing/page: cannot write to it: {MISSING}"),
@@ -110,22 +185,71 @@ WRONG: tuple[tuple[tuple[str, ...], int, str], ...] = (
     (("script", *LINK_1, "--from", "me", "rohc.pcap", "new"), 2,
      "rohctl: --from me: expected an Ethernet address, as 02:00:00:00:00:01, or an IPv4 address, as 10.0.0.1"),
     (("script", *LINK_1, "--lines", "rohc.pcap", "rohc.pcap", "new"), 2, f"rohctl: rohc.pcap: {OVER_CAPTURE}"),
-    (("script", *LINK_1, "call.script", "new"), 4, "rohctl: call.script: cannot read the capture on: octet 0: NotACapture"),
+    (("script", *LINK_1, "call.script", "new"), 4, f"rohctl: call.script: {NO_CAPTURE}"),
+    (("script", *LINK_1, "empty", "new"), 4, f"rohctl: empty: {NO_CAPTURE}"),
+    (("script", *LINK_1), 4, f"rohctl: standard input: {NO_CAPTURE}"),
+    (("script", *LINK_1, "--other", "new", "rohc.pcap"), 2, f"{ABSENT}--from <ADDRESS>"),
+    (("script", *LINK_1, "--from", "10.0.0.1", "--other", "new", "rohc.pcap", "new"), 2, f"rohctl: new: {TWICE}"),
+    (("script", *LINK_1, "--lines", "-", "rohc.pcap"), 2, f"rohctl: standard output: {TWICE}"),
+    (("script", *LINK_1, "--lines", "nothing/new", "rohc.pcap", "new"), 4, f"rohctl: nothing/new: cannot write to it: {MISSING}"),
+    (("script", *LINK_1, "rohc.pcap", "."), 4, "rohctl: .: cannot write to it: it is a directory"),
+    (("script", "--back", "--port", "1=1", "call.script", "new"), 2, "rohctl: --port 1=1: expected with --back the port of the datagrams, 0 to 65535"),
+    (("script", "--back", "--port", "1", "empty", "new"), 6, f"rohctl: empty: nothing to show: it is empty; {EVENTS}"),
+    (("script", "--back", "--port", "1", "rohc.pcap", "new"), 6, f"rohctl: rohc.pcap: nothing to show: {A_CAPTURE}"),
+    (("script", "--back", "--port", "1", "links.toml", "new"), 6, f"rohctl: links.toml: nothing to show: none of 15 lines is an event; {EVENTS}"),
+    (("script", "--back", "--port", "1", "carriage.script", "new"), 6, f"rohctl: carriage.script: nothing to show: {CARRIAGE}"),
+    (("script", "--back", "--port", "1", "resets.script", "new"), 6, f"rohctl: resets.script: {NO_ARRIVAL}"),
+    (("script", "--back", "--port", "1", "late.script", "new"), 6,
+     f"rohctl: late.script: nothing to show: {BEYOND}"),
+    (("script", "--back", "--port", "1", "call.script", "new"), 0, "skipped 2 lines (not arrivals, or too long for a capture)"),
+    (("script", "--back", "--port", "1", "bad.script", "new"), 0, "skipped 1 line (not arrivals, or too long for a capture)"),
     (DECOMPRESS, 2, RULES),
     ((*DECOMPRESS, "--port", "70000"), 2, f"rohctl: --port 70000: {PORT_WORD}"),
     ((*DECOMPRESS, "--vlan", "5"), 2, f"rohctl: --vlan 5: {VLAN_WORD}"),
     ((*DECOMPRESS, *LINK_1, "rohc.pcap", "rohc.pcap"), 2, f"rohctl: rohc.pcap: {OVER_CAPTURE}"),
     ((*DECOMPRESS, *LINK_1, "rohc.pcap", "links.toml"), 2, f"rohctl: links.toml: {OVER_LINKS}"),
     ((*DECOMPRESS, *LINK_1, "--feedback", "./rohc.pcap", "rohc.pcap", "new"), 2, f"rohctl: ./rohc.pcap: {OVER_CAPTURE}"),
-    ((*DECOMPRESS, *LINK_1, "--feedback", "new", "rohc.pcap", "new"), 2, "rohctl: new: two outputs have this name; name another file"),
-    ((*DECOMPRESS, "--link", "9", "rohc.pcap", "new"), 6, "rohctl: links.toml: nothing to show: it has no link 9"),
+    ((*DECOMPRESS, "--link", "65536"), 2, "rohctl: --link 65536: expected the number of a link, 0 to 65535"),
+    ((*DECOMPRESS, "--vlan", "4096=1"), 2, f"rohctl: --vlan 4096=1: {VLAN_WORD}"),
+    (("decompress", "--links", "-", *LINK_1), 2, f"rohctl: IN -: {BOTH_INPUTS}"),
+    ((*DECOMPRESS, *LINK_1, "nothing", "new"), 4, f"rohctl: nothing: cannot read it: {MISSING}"),
+    ((*DECOMPRESS, *LINK_1, ".", "new"), 4, "rohctl: .: cannot read it: it is a directory"),
+    ((*DECOMPRESS, *LINK_1, "empty", "new"), 4, f"rohctl: empty: {NO_CAPTURE}"),
+    ((*DECOMPRESS, *LINK_1, "call.script", "new"), 4, f"rohctl: call.script: {NO_CAPTURE}"),
+    ((*DECOMPRESS, *LINK_1, "rohc.pcap", "nothing/new"), 4, f"rohctl: nothing/new: cannot write to it: {MISSING}"),
+    ((*DECOMPRESS, *LINK_1, "rohc.pcap", "call.script/new"), 4, "rohctl: call.script/new: cannot write to it: a part of the path is not a directory"),
+    ((*DECOMPRESS, *LINK_1, "--feedback", "nothing/new", "rohc.pcap", "new"), 4, f"rohctl: nothing/new: cannot write to it: {MISSING}"),
+    ((*DECOMPRESS, *LINK_1, "--feedback", "new", "rohc.pcap", "new"), 2, f"rohctl: new: {TWICE}"),
+    ((*DECOMPRESS, *LINK_1, "--feedback", "-", "rohc.pcap"), 2, f"rohctl: standard output: {TWICE}"),
+    ((*DECOMPRESS, "--link", "9", "rohc.pcap", "new"), 6, f"rohctl: links.toml: nothing to show: it has no link 9{NO_LINK}"),
+    ((*DECOMPRESS, "--port", "5000=9", "udp.pcap", "new"), 6, f"rohctl: links.toml: nothing to show: it has no link 9{NO_LINK}"),
+    ((*DECOMPRESS, *LINK_1, "late.pcapng", "new"), 4, f"rohctl: new: cannot write to it: {BEYOND}"),
+    ((*DECOMPRESS, *LINK_1, "none.pcap", "new"), 6, "rohctl: none.pcap: nothing to show: the capture has no frame"),
+    ((*DECOMPRESS, "--vlan", "6=1", "vlan.pcap", "new"), 6,
+     f"rohctl: vlan.pcap: {NO_FRAME}, EtherType 0x22f1, VLAN 5, ROHC; pass --vlan 5=LINK, or --link LINK"),
+    ((*DECOMPRESS, *LINK_1, "tcp.pcap", "new"), 6,
+     f"rohctl: tcp.pcap: {NO_FRAME}, EtherType 0x0800, IPv4 without a whole UDP datagram; expected EtherType 0x22f1, or UDP over IPv4 with --port"),
     ((*DECOMPRESS, "--vlan", "5=1", "rohc.pcap", "new"), 6, f"rohctl: rohc.pcap: {NO_FRAME}, EtherType 0x22f1, ROHC; pass --link LINK"),
     ((*DECOMPRESS, *LINK_1, "arp.pcap", "new"), 6,
      f"rohctl: arp.pcap: {NO_FRAME}, EtherType 0x0806, neither ROHC nor IPv4; expected EtherType 0x22f1, or UDP over IPv4 with --port"),
     ((*DECOMPRESS, *LINK_1, "udp.pcap", "new"), 6,
      f"rohctl: udp.pcap: {NO_FRAME}, EtherType 0x0800, UDP to port 5000; pass --port 5000=LINK if it carries ROHC"),
 )
-FEWEST = 50
+FEWEST = 150
+# How many octets of standard input `report` keeps.
+LONGEST_INPUT = 67_108_864
+
+# The digest of no octets (FIPS 180-4).
+DIGEST = "e3b0c44298fc1c149afbf4c8996fb92427ae41e4649b934ca495991b7852b855"
+# Lists of digests, and what is told of them on standard output.
+LISTS: tuple[tuple[str, int, str], ...] = (
+    (f"# a comment\n\n{DIGEST}  empty\n", 0, "1 file is as packaged\n"),
+    (2 * f"{DIGEST}  empty\n", 0, "2 files are as packaged\n"),
+    (f"{DIGEST}  call.script\n{DIGEST}  empty\n", 1, "call.script: it differs from the package; install it again\n"),
+    (f"{DIGEST}  nothing\n", 1, f"nothing: cannot read it: {MISSING}\n"),
+    (f"{DIGEST}  .\n", 1, ".: cannot read it: it is a directory\n"),
+    (f"{DIGEST} empty\n{DIGEST}  \n{DIGEST[1:]}  empty\noops\n", 1, "".join(f"list:{line}: {NO_DIGEST}\n" for line in range(1, 5))),
+)
 
 # What another user may not read or write, and what is said then. The files shut.* have the mode 000, the folder shut 555.
 DENIED = "permission denied"
@@ -175,11 +299,22 @@ def prepared(trial: Trial) -> Path:
         ("long.toml", "#" * 1_048_577),
         ("latin.toml", b"# \xe9\n"),
         ("empty", b""),
+        ("faults.toml", re.sub(r"^([kn]\d) = .*", r"\1 = 0", links, flags=re.MULTILINE)),
+        ("two-links.toml", (trial.top / TWO_LINKS).read_text()),
+        ("two-hosts.toml", (trial.top / TWO_HOSTS).read_text().replace('name = "a"', 'name = "two-hosts"')),
         ("call.script", script),
+        ("resets.script", b"reset 1\n"),
+        ("late.script", b"arrive 1 4294967296000 fc00b745aa\n"),
+        ("bad.script", b"oops\narrive 1 0 fc00b745aa\n"),
         ("carriage.script", script.replace(b"\n", b"\r\n")),
         ("rohc.pcap", capture(ROHC_FRAME)),
         ("arp.pcap", capture(ARP_FRAME)),
         ("udp.pcap", capture(DATAGRAM)),
+        ("tcp.pcap", capture(DATAGRAM[:23] + b"\x06" + DATAGRAM[24:])),
+        ("vlan.pcap", capture(ROHC_FRAME[:12] + bytes.fromhex("81000005") + ROHC_FRAME[12:])),
+        ("none.pcap", HEAD),
+        ("cut.pcap", capture(ROHC_FRAME)[:-1]),
+        ("late.pcapng", pcapng([(2**32 * 10**9, ROHC_FRAME)])),
     ):
         trial.write(f"wrong/{name}", text)
     for name, link in (("hard", os.link), ("soft", os.symlink)):
@@ -190,7 +325,11 @@ def prepared(trial: Trial) -> Path:
 
 def texts(folder: Path) -> dict[str, bytes]:
     """The files that the calls may not change."""
-    return {file.name: file.read_bytes() for file in sorted(folder.iterdir()) if file.name != "new"}
+    return {file.name: file.read_bytes() for file in sorted(folder.iterdir()) if file.name != "new" and file.is_file()}
+
+
+# How what the parser of the command line says begins. It goes on with how the command is called.
+OF_PARSER = ("error: ", "Diagnose ")
 
 
 def check_table(trial: Trial, folder: Path) -> None:
@@ -199,11 +338,51 @@ def check_table(trial: Trial, folder: Path) -> None:
     before = texts(folder)
     for words, status, said in WRONG:
         ended = run(Call((trial.top / PROGRAM, *words), b"", {}, folder))
-        fits = ended.said.startswith(said) if said.startswith("error: ") else ended.said == said
-        trial.demand(ended.status == status and fits, f"rohctl {' '.join(words)}: {ended.end()}; wanted {status}, {said}", ended.call)
+        fits = ended.said == said or (ended.said.startswith(said) and said.startswith(OF_PARSER))
+        trial.demand(ended.status == status and fits, f"rohctl {words}: {ended.end()}; wanted {status}, {said}", ended.call)
     after = texts(folder)
     changed = {name for name in before if after.get(name) != before[name]}
     trial.demand(not changed, f"inputs that changed: {changed}")
+
+
+def check_systems(trial: Trial, folder: Path) -> None:
+    """Standard input that is too long to be kept, and a file system that can't be written."""
+    call = Call((trial.top / PROGRAM, "report", "--links", "links.toml"), Path("/dev/zero"), {}, folder)
+    ended = run(call)
+    said = f"rohctl: standard input: cannot read it: it is longer than {LONGEST_INPUT} octets"
+    trial.demand((ended.status, ended.said) == (4, said), f"a long input: {ended.end()}; wanted 4, {said}", call)
+    (folder / "sealed").mkdir(exist_ok=True)
+    there = ("unshare", "--mount", "sh", "-c", 'mount -t tmpfs -o ro none sealed && exec "$@"', "sh")
+    if run(Call((*there, "true"), b"", {}, folder)).status != 0:
+        trial.leave_out("a read-only file system, since none can be mounted here")
+        return
+    call = Call((*there, trial.top / PROGRAM, *DECOMPRESS, *LINK_1, "rohc.pcap", "sealed/new"), b"", {}, folder)
+    ended = run(call)
+    said = "rohctl: sealed/new: cannot write to it: the file system is read-only"
+    trial.demand((ended.status, ended.said) == (4, said), f"a sealed folder: {ended.end()}; wanted 4, {said}", call)
+
+
+def check_changed(trial: Trial, folder: Path) -> None:
+    """A capture that loses its last octet while `report` reads it: the page would tell of two captures."""
+    whole = (folder / "rohc.pcap").read_bytes()
+    failing = str(trial.compiled("tools/failing_calls.c"))
+    ends = set()
+    for place in range(2, 6):
+        (folder / "changing.pcap").write_bytes(whole)
+        environment = {"LD_PRELOAD": failing, "CHANGED_FILE": "changing.pcap", "CHANGED_OPEN": str(place)}
+        words = ("report", "--links", "links.toml", *LINK_1, "changing.pcap", "-o", "changed.html")
+        ended = run(Call((trial.top / PROGRAM, *words), b"", environment, folder))
+        ends.add((ended.status, ended.said))
+    wanted = (4, "rohctl: changing.pcap: cannot read it: it changed while it was read")
+    trial.demand(wanted in ends, f"a capture that changes: {ends}; wanted {wanted}")
+
+
+def check_lists(trial: Trial, folder: Path) -> None:
+    """Lists of digests that are wrong, or of files that are."""
+    for text, status, told in LISTS:
+        trial.write("wrong/list", text)
+        ended = run(Call((trial.top / PROGRAM, "verify", "list", "--root", "."), b"", {}, folder))
+        trial.demand((ended.status, ended.text, ended.said) == (status, told, ""), f"verify {text!r}: {ended.end()}, {ended.text}; wanted {told}", ended.call)
 
 
 def check_terminals(trial: Trial, folder: Path) -> None:
@@ -279,6 +458,9 @@ def check(trial: Trial) -> None:
     """All of it."""
     folder = prepared(trial)
     check_table(trial, folder)
+    check_lists(trial, folder)
+    check_systems(trial, folder)
+    check_changed(trial, folder)
     check_terminals(trial, folder)
     check_reader(trial, folder)
     check_forbidden(trial)

@@ -10,7 +10,7 @@ from concurrent.futures import ProcessPoolExecutor
 from dataclasses import dataclass, field, replace
 from pathlib import Path
 
-from registry import PROGRAM, TOP, Check, Needs
+from registry import GATE, PROGRAM, PROVING, TOP, Check, Needs
 from trial import LEFT_OUT, Trial
 
 NO_PROGRAM = f"needs the program, and no {PROGRAM} stands that was proved from these sources: `bin/check gate` makes it"
@@ -114,6 +114,16 @@ def run_on_program(checks: list[Check], order: Order) -> Iterator[Result]:
             yield tell(Result(check.name, "NOT run", 0, [f"bin/check: {check.name} {NO_PROGRAM}"]))
 
 
+def are_unproved(results: Iterable[Result]) -> bool:
+    """Whether the crates that changed aren't proved."""
+    return any(result.failed and result.name == PROVING for result in results)
+
+
+def not_run(check: Check) -> Result:
+    """Tells that a check isn't run, since the crates that changed aren't proved."""
+    return tell(Result(check.name, "NOT run", 0, [f"bin/check: {check.name} needs the crates that {PROVING} proves"]))
+
+
 def tell_table(results: Iterable[Result]) -> None:
     """A row for each check, and then what was left out."""
     results = list(results)
@@ -131,9 +141,15 @@ def run_checks(checks: list[Check], order: Order) -> int:
     early = [result.name for result in results if result.failed]
     if early and len(checks) > len(results):
         say(f"bin/check: NOT passed so far: {', '.join(early)}. The rest runs all the same.")
-    gates = [tell(run_one(gate, order)) for gate in by_needs[Needs.TOOLCHAIN]]
-    over_gate = any(not gate.failed for gate in gates)
-    results += [*gates, *run_on_program(by_needs[Needs.PROGRAM], replace(order, over_gate=over_gate))]
+    gates: list[Result] = []
+    for check in by_needs[Needs.TOOLCHAIN]:
+        gates.append(not_run(check) if are_unproved(gates) else tell(run_one(check, order)))
+    results += gates
+    if are_unproved(gates):
+        results += [not_run(check) for check in by_needs[Needs.PROGRAM]]
+    else:
+        over_gate = any(result.name == GATE and not result.failed for result in gates)
+        results += run_on_program(by_needs[Needs.PROGRAM], replace(order, over_gate=over_gate))
     tell_table(results)
     for gate in gates:
         if gate.last:

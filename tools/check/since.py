@@ -1,8 +1,9 @@
 """Chooses the fast checks, or those that can notice what changed since a commit.
 
-All checks that need nothing are chosen. If the sources of a crate changed, so are the gate, which proves every crate from
-nothing, and the checks of the programs that stand on that crate. Of each crate that changed, all wrong bodies, wrong
-definitions and twins are tried. A check is also chosen if a file changed that it reads.
+All checks that need nothing are chosen. If the sources of a crate changed, it is proved over what earlier checks kept, and
+then the gate runs, which proves every crate from nothing, and the checks of the programs that stand on that crate. Of each
+crate that changed, all wrong bodies, wrong definitions and twins are tried. A check is also chosen if a file changed that
+it reads.
 """
 
 import re
@@ -13,9 +14,9 @@ from functools import cached_property
 from pathlib import Path
 
 from edits import FOLDERS, crates_with_edits
-from registry import CHECKS, Check, Needs
+from registry import CHECKS, GATE, PROVING, Check, Needs
 
-GATE, BITES = "gate", "bites"
+BITES = "bites"
 # What `bin/check fast` runs beside the checks that need nothing.
 FAST = ("callers", "program", "examples", "documents")
 
@@ -28,20 +29,34 @@ class Notices:
     programs: str = ""
 
 
+LIBRARY_TOOLS = (
+    "tools/library_calls.c tools/library_cpp.cpp tools/library_memory.c tools/library_running.c tools/library_symbols.txt "
+    "tools/link_lines.py tools/random_library.py tools/random_script.py tools/stress tools/stress.c tools/udp_gateway_test.py "
+    "tools/check/restarts.py tools/check/shipping.py"
+)
+
+CALLS_TOOLS = (
+    "tools/worked_calls.txt tools/random_calls.py tools/random_script.py tools/model tools/link_lines.py examples/worked "
+    "tools/check/between.py"
+)
+
 NOTICES = {
-    "library": Notices("include library bindings python examples bin/lib bin/wheel tools", "rohc_c"),
+    "library": Notices(f"include library bindings python examples bin/lib bin/wheel {LIBRARY_TOOLS}", "rohc_c"),
     "program": Notices("tools/serve_script.py tools/refuse_request.c", "rohcd"),
     "examples": Notices("examples tools/worked_examples.txt", "rohcd"),
     "lines": Notices("examples tools/short_reads.c", "rohcd"),
     "random": Notices("tools/random_script.py tools/model", "rohcd"),
+    "calls_alike": Notices(f"include library tools/calls.c {CALLS_TOOLS}", "calls rohc_c"),
     "limits": Notices("tools/limit_scripts.py", "rohcd"),
-    "rohctl": Notices("examples man completion", "rohctl"),
+    "rohctl": Notices("examples man completion tools/refuse_request.c tools/failing_calls.c", "rohctl"),
     "evidence": Notices("bench tests tools/compressor tools/dissect tools/fuzz tools/model", "rohcd rohctl rohc_c"),
-    "gateway": Notices("deploy tools/gateway_soak.py tools/udp_gateway_test.py", "rohc_gateway rohctl"),
+    "gateway": Notices(
+        "deploy tools/gateway_soak.py tools/udp_gateway_test.py tools/refuse_request.c tools/failing_calls.c", "rohc_gateway rohctl"
+    ),
     "spread": Notices("deploy examples", "rohc_gateway rohctl"),
     "cluster": Notices("cluster", "rohc_c"),
     "packages": Notices("bin/package bin/install bin/wheel library man python completion", "rohctl"),
-    "poverty": Notices("tools/refuse_request.c", "rohcd"),
+    "poverty": Notices("tools/refuse_request.c", "rohcd rohctl rohc_gateway"),
     "launcher": Notices("bin tools/check/launcher_tools.py"),
     "install": Notices("bin/install bin/sources completion man tools/link_lines.py"),
     "documents": Notices("docs README.md CONTRIBUTING.md man examples", "rohcd rohctl"),
@@ -76,6 +91,12 @@ class Change:
         found = [re.match(r"crates/(\w+)/([^/]+)", name) for name in self.files]
         names = {match[1] for match in found if match and (of_edits or match[2] not in FOLDERS)}
         return set(self.below) if "crates.txt" in self.files else names & set(self.below)
+
+    @property
+    def lowest_first(self) -> tuple[str, ...]:
+        """The crates of which a source changed, each behind those that it stands on; none if the list of crates changed."""
+        names = set() if "crates.txt" in self.files else self.crates(of_edits=False)
+        return tuple(sorted(names, key=lambda name: (len(self.all_below(name)), name)))
 
     @cached_property
     def proved(self) -> set[str]:
@@ -115,7 +136,7 @@ class Choice:
 def choose(change: Change, checks: Iterable[Check] = CHECKS) -> Choice:
     """Chooses the checks that can notice a change."""
     tried = sorted(change.crates(of_edits=True) & set(crates_with_edits(change.top)))
-    words: dict[str, tuple[str, ...]] = {}
+    words: dict[str, tuple[str, ...]] = {PROVING: change.lowest_first} if change.lowest_first else {}
     whole = [check for check in checks if check.is_in_all]
     for check in whole:
         if check.name == GATE:

@@ -2,11 +2,13 @@
 
 usage: python3 tools/model vectors < QUESTIONS
        python3 tools/model replay --links FILE < SCRIPT
+       python3 tools/model calls < CALLS
        python3 tools/model random|made SEED COUNT --program FILE
 
-`vectors` answers each question of crates/vectors/stdin. `replay` answers a script as `rohcd replay` does. `random` and
-`made` compare the answers of a program with the model's, on a random script of so many lines: `random` on one of
-tools/random_script.py, and `made` on one of packets of random octets, most of which carry the right check.
+`vectors` answers each question of crates/vectors/stdin. `replay` answers a script as `rohcd replay` does,
+and `calls` the lines of crates/calls. `random` and `made` compare the answers of a program with the model's,
+on a random script of so many lines: `random` on one of tools/random_script.py, and `made` on one of packets
+of random octets, most of which carry the right check.
 """
 
 import sys
@@ -17,6 +19,7 @@ sys.dont_write_bytecode = True
 from pathlib import Path  # noqa: E402
 
 import against  # noqa: E402
+import calls  # noqa: E402
 import links  # noqa: E402
 import vectors  # noqa: E402
 from replay import replay  # noqa: E402
@@ -51,6 +54,9 @@ def main(words: list[str]) -> int:
             print(HELP)
         case ["vectors"]:
             for line in vectors.answers(sys.stdin.read().splitlines()):
+                print(line)
+        case ["calls"]:
+            for line in calls.answers(sys.stdin.buffer.read()):
                 print(line)
         case ["replay", "--links", file]:
             return show_replay(Path(file), sys.stdin.buffer.read())

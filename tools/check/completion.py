@@ -1,0 +1,113 @@
+"""What bash, zsh and fish complete: each shell loads its file of completion/, and must offer the same words of rohctl.
+
+A shell that isn't installed is left out.
+"""
+
+import re
+import shutil
+from collections.abc import Callable
+from concurrent.futures import ThreadPoolExecutor
+from pathlib import Path
+
+from program import Call, Ended, Word, run
+from trial import Trial
+
+Row = tuple[str, tuple[str, ...]]
+ZSH = Path(__file__).with_suffix(".zsh")
+MARKED = re.compile(r"<mark>\r?\n(.*?)<mark>", re.DOTALL)
+# Prints the completion of its words in bash; the last is being typed.
+BASH = '. "$0" && COMP_WORDS=("$@") COMP_CWORD=$(($# - 1)) && "_${1/-/_}" && printf "%s\\n" "${COMPREPLY[@]}"'
+FISH = "source $argv[1]; complete -C $argv[2]"
+COMMANDS = (
+    "calls contexts decompress diff drain explain links plan reload report reset save script spread status stop totals trace verify"
+    " watch"
+)
+
+# What each shell completes of rohctl, and behind which words. The folder has the files links.toml and answers.
+ROHCTL: tuple[Row, ...] = (
+    (COMMANDS, ("",)),
+    ("totals", ("to",)),
+    ("--color --json --new", ("links", "--")),
+    ("--calls --color --damage --json --links --packet-ms --split --window", ("plan", "--")),
+    ("--color --follow --json --prometheus", ("totals", "--")),
+    ("--back --color --from --lines --link --other --pcapng --port --vlan", ("script", "--")),
+    ("--color --feedback --link --links --padded --pcapng --port --stats --vlan", ("decompress", "--")),
+    ("--color --link --links --output --port --vlan", ("report", "--")),
+    ("--brief --call --color --json --line --link --links", ("explain", "--")),
+    ("--color --json", ("diff", "--")),
+    ("--color --links", ("trace", "--")),
+    ("--color --hosts --nginx --out", ("spread", "--")),
+    ("--color --root", ("verify", "--")),
+    ("--color --control", ("drain", "--")),
+    ("--color --control", ("watch", "--")),
+    ("--cid --color --control --link", ("reset", "--")),
+    ("--color --control --link", ("calls", "--")),
+    ("always auto never", ("status", "--color", "")),
+    ("always auto never", ("--color", "")),
+    ("--color", ("--",)),
+    ("totals", ("--color", "never", "to")),
+    ("--color --json --new", ("--color", "never", "links", "--")),
+    ("--links", ("trace", "--l")),
+    ("--line --link --links", ("explain", "--li")),
+    ("links.toml", ("trace", "--links", "li")),
+    ("answers links.toml", ("totals", "")),
+)
+# What bash completes of rohc-gateway.
+GATEWAY: tuple[Row, ...] = (
+    ("check run", ("",)),
+    ("run", ("r",)),
+    ("--control --help --links --metrics-port --port --save-seconds --state --timed-port", ("check", "--")),
+    ("--control --fresh --help --links --metrics-port --port --save-seconds --state --timed-port", ("run", "--")),
+    ("--save-seconds --state", ("run", "--s")),
+    ("links.toml", ("check", "--links", "li")),
+    ("", ("run", "--port", "")),
+)
+
+
+def in_bash(folder: Path, words: tuple[str, ...]) -> tuple[Word, ...]:
+    """The call of bash that prints a match per line."""
+    return ("bash", "-c", BASH, folder / f"{words[0]}.bash", *words)
+
+
+def in_zsh(folder: Path, words: tuple[str, ...]) -> tuple[Word, ...]:
+    """The call of zsh that prints a match per line between two marks."""
+    return ("zsh", "-f", ZSH, folder, " ".join(words))
+
+
+def in_fish(folder: Path, words: tuple[str, ...]) -> tuple[Word, ...]:
+    """The call of fish that prints a match per line, with what is said of it behind a tab."""
+    return ("fish", "--no-config", "-c", FISH, folder / "rohctl.fish", " ".join(words))
+
+
+Asks = Callable[[Path, tuple[str, ...]], tuple[Word, ...]]
+SHELLS: tuple[tuple[str, Asks, str, tuple[Row, ...]], ...] = (
+    ("bash", in_bash, "rohctl", ROHCTL),
+    ("bash", in_bash, "rohc-gateway", GATEWAY),
+    ("zsh", in_zsh, "rohctl", ROHCTL),
+    ("fish", in_fish, "rohctl", ROHCTL),
+)
+
+
+def matches(ended: Ended) -> str:
+    """The matches that a shell printed, in the order of their letters."""
+    marked = MARKED.search(ended.text)
+    lines = (marked[1] if marked else ended.text).splitlines()
+    return " ".join(sorted(line.split("\t")[0] for line in lines)).strip()
+
+
+def check(trial: Trial) -> None:
+    """What each shell completes."""
+    typing = trial.write("typing/links.toml", "").parent
+    trial.write("typing/answers", "")
+    home = {"HOME": str(trial.scratch), "TERM": "xterm"}
+    for shell, asks, program, rows in SHELLS:
+        if not shutil.which(shell):
+            trial.leave_out(f"{shell} is not installed, its completion was not tried")
+            continue
+        calls = [Call(asks(trial.top / "completion", (program, *words)), b"", home, typing) for _, words in rows]
+        with ThreadPoolExecutor(4) as pool:
+            all_found = list(map(matches, pool.map(run, calls)))
+        for (wanted, words), call, found in zip(rows, calls, all_found, strict=True):
+            trial.demand(found == wanted, f"{shell} completes '{program} {' '.join(words)}': '{found}'; wanted '{wanted}'", call)
+    if not trial.wrongs:
+        trial.say("completion: as expected")
