@@ -126,6 +126,7 @@ def check_installed(tree: Tree) -> None:
         (trial.top / "man/rohc-gateway.1", share / "man/man1/rohc-gateway.1"),
         (trial.top / "deploy/link.js", share / "doc/rohc-gateway/link.js"),
         (trial.top / "deploy/loopback.nft", share / "doc/rohc-gateway/loopback.nft"),
+        (trial.top / "deploy/rohc-tun@.service", tree.prefix / "lib/systemd/system/rohc-tun@.service"),
         (trial.file, tree.prefix / "bin/rohcd"),
         (trial.top / "man/rohcd.1", share / "man/man1/rohcd.1"),
         (trial.top / "man/rohc-links.5", share / "man/man5/rohc-links.5"),

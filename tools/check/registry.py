@@ -8,6 +8,7 @@ from pathlib import Path
 import bites
 import bites_test
 import bodies
+import call
 import calls
 import calls_alike
 import closed
@@ -233,6 +234,7 @@ CHECKS = (
         "front, workers and outlet over Redis and two hosts: killed, stopped, from a base; broken promises found out",
         knows=cluster.is_part,
     ),
+    Check("call", ON_PROGRAM, call.check, "sipp's calls over ROHC between two namespaces, with a reload, a restart and a kill"),
     Check(
         "packages",
         ON_PROGRAM,
@@ -303,7 +305,7 @@ TESTED = (
     Tested("Command", "rohctl explain", "gate rohctl evidence"),
     Tested("Command", "rohctl spread", "gate rohctl spread"),
     Tested("Command", "rohctl status, stop, save, reload, drain, reset, contexts, calls, watch", "gate gateway"),
-    Tested("Command", "rohc-gateway run, check", "gate gateway"),
+    Tested("Command", "rohc-gateway run, check", "gate gateway call"),
     Tested("Command", "bin/rohcd, bin/rohctl, bin/rohc-gateway", "launcher"),
     Tested("Command", "bin/lib", "library callers"),
     Tested("Command", "cluster/up, cluster/down", "cluster"),

@@ -21,4 +21,5 @@ pub mod reference;
 pub mod results;
 pub mod script;
 pub mod sender;
+pub mod wire;
 pub mod words;

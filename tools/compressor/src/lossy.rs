@@ -60,19 +60,24 @@ impl Bursts {
 }
 
 /// One direction.
-struct Way {
+pub struct Way {
     bursts: Bursts,
     errors: f64,
     random: Random,
 }
 
 impl Way {
-    fn new(path: &Path, seed: u64) -> Way {
+    pub fn new(path: &Path, seed: u64) -> Way {
         Way { bursts: Bursts::new(path.loss, Random::new(seed)), errors: path.errors, random: Random::new(seed + 1) }
     }
 
+    /// Whether the next packet is lost.
+    pub fn loses(&mut self) -> bool {
+        self.bursts.loses()
+    }
+
     /// Damages bits. Whether one of so many first octets is among them.
-    fn damage(&mut self, octets: &mut [u8], first: usize) -> bool {
+    pub fn damage(&mut self, octets: &mut [u8], first: usize) -> bool {
         let mut damaged = false;
         if self.errors > 0.0 {
             for (at, octet) in octets.iter_mut().enumerate() {
@@ -151,7 +156,7 @@ impl Run<'_> {
         };
         for one in sent {
             self.counts.octets += one.header as u64;
-            if !self.forth.bursts.loses() {
+            if !self.forth.loses() {
                 let late = self.random.chance(self.path.late);
                 let by = if late { PACKET_MS * (1 + self.random.below(3)) + PACKET_MS / 2 } else { 0 };
                 self.pass(moment + by, packet, cid, &one);
@@ -175,7 +180,7 @@ impl Run<'_> {
         while let Some(first) = self.events.first_entry().filter(|first| first.key().0 <= until) {
             let ((moment, _), event) = first.remove_entry();
             match event {
-                Event::Heard(data) => self.hear(&data),
+                Event::Heard(data) => hear(&mut self.table, &data, self.large),
                 Event::Arrives { packet, cid, octets, damaged } => {
                     for answer in self.live.arrive(moment, &octets)? {
                         match answer {
@@ -202,23 +207,9 @@ impl Run<'_> {
     }
 
     fn say(&mut self, moment: u64, mut data: Vec<u8>) {
-        if !self.back.bursts.loses() {
+        if !self.back.loses() {
             self.back.damage(&mut data, 0);
             self.cause(moment + self.delays.back, Event::Heard(data));
-        }
-    }
-
-    /// Acts on feedback, unless its check is wrong.
-    fn hear(&mut self, data: &[u8]) {
-        let Ok((cid, said)) = element(data, self.large) else {
-            return;
-        };
-        match (said, self.table.sender(cid)) {
-            (Said::First, _) => self.table.sure(cid),
-            (Said::Ack(sn), Some(sender)) => sender.heard(sn),
-            (Said::Nack, Some(sender)) => sender.asked(false),
-            (Said::StaticNack, Some(sender)) => sender.asked(true),
-            _ => {}
         }
     }
 
@@ -233,6 +224,20 @@ impl Run<'_> {
             } += 1;
         }
         self.counts
+    }
+}
+
+/// Acts on feedback, unless its check is wrong.
+pub fn hear(table: &mut Table, data: &[u8], large: bool) {
+    let Ok((cid, said)) = element(data, large) else {
+        return;
+    };
+    match (said, table.sender(cid)) {
+        (Said::First, _) => table.sure(cid),
+        (Said::Ack(sn), Some(sender)) => sender.heard(sn),
+        (Said::Nack, Some(sender)) => sender.asked(false),
+        (Said::StaticNack, Some(sender)) => sender.asked(true),
+        _ => {}
     }
 }
 

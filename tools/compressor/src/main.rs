@@ -11,6 +11,7 @@ use compressor::load;
 use compressor::pcap::{written, Capture};
 use compressor::results::table;
 use compressor::script::{run, Plan};
+use compressor::wire::{line, serve};
 use compressor::words::{order, Load, Lossy, Making, Order, Script, HELP};
 
 fn script(words: Script) -> Result<u8, Fault> {
@@ -71,6 +72,8 @@ fn obey(order: Order) -> Result<u8, Fault> {
         Order::Check { expected, answers } => check(&expected, &answers),
         Order::Lossy(words) => lossy(&words),
         Order::Load(words) => make_load(&words),
+        Order::Serve(words) => serve(&words).map(|()| 0),
+        Order::Line(words) => line(&words).map(|()| 0),
         Order::Generate { kind, file, making } => generate(&kind, &file, &making),
     }
 }

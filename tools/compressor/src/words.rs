@@ -1,13 +1,17 @@
 //! The command line.
 
+use std::net::SocketAddr;
+use std::time::Duration;
+
 use crate::fault::Fault;
 use crate::flow::Link;
 use crate::formats::names;
 use crate::generate::KINDS;
 use crate::load;
-use crate::lossy::{Delays, Plan};
+use crate::lossy::{Delays, Path, Plan};
 use crate::pcap::Framing;
 use crate::sender::Settings;
+use crate::wire::{Line, Serve};
 
 pub const HELP: &str = "\
 usage: compressor script [OPTION..] CAPTURE..
@@ -21,6 +25,13 @@ usage: compressor script [OPTION..] CAPTURE..
        compressor load ORDER [--links N] [--streams N] [--packets N] [--seed N] --files SCRIPT,EXPECT,LINKS
            writes an honest load for benchmarks, in the order rounds, scattered or coming: a script, the packets that
            must come out, and a links file
+       compressor serve --listen ADDRESS --send ADDRESS --hear ADDRESS [OPTION..]
+           compresses IP packets that come as datagrams, sends them with the number of the link first, and acts on the
+           feedback that comes as datagrams, until it is ended
+       compressor line --listen ADDRESS --send ADDRESS [--lose PERCENT] [--late PERCENT] [--twice PERCENT]
+                  [--errors N] [--delay MS] [--seed N]
+           passes datagrams on as a bad line does, until it is ended: it loses them in bursts, delays all by --delay and
+           some by 50 milliseconds more, sends some twice, and damages N of a million bits
        compressor --help | --version
 
 options of script:
@@ -49,6 +60,8 @@ options of script:
   --burst N            how many in a row at most, below --w and --optimistic (the greatest)
   --seed N             of what is lost and picked (1)
 
+serve has the options of script from --link to --stride and from --static-first to --announce.
+
 lossy sends 10000 packets of g729 in U mode and in O mode for each row, with the sender as script has it, and an IR in
 O mode until one is acknowledged. The delays are 40 and 60 milliseconds. The same seed gives the same table.
 
@@ -65,6 +78,8 @@ pub enum Order {
     Generate { kind: String, file: String, making: Making },
     Lossy(Box<Lossy>),
     Load(Box<Load>),
+    Serve(Box<Serve>),
+    Line(Box<Line>),
 }
 
 /// The words of `load`.
@@ -158,6 +173,17 @@ impl Options {
             Some(number) if (least..=most).contains(&number) => Ok(number),
             _ => words(format!("{name} {text} is no number from {least} to {most}")),
         }
+    }
+
+    /// An address with a port, which must be given.
+    fn address(&self, name: &str) -> Result<SocketAddr, Fault> {
+        let text = self.text(name).unwrap_or_default();
+        text.parse().or_else(|_| words(format!("{name} {text} is no address with a port, as 127.0.0.1:5000")))
+    }
+
+    /// A share that is given in percent.
+    fn share(&self, name: &str) -> Result<f64, Fault> {
+        Ok(self.number(name, 0, 70, 0)? as f64 / 100.0)
     }
 
     /// The place of the value among those that may be; 0 if the option isn't there.
@@ -322,6 +348,44 @@ fn load(said: &[String]) -> Result<Order, Fault> {
     Ok(Order::Load(Box::new(Load { load, files })))
 }
 
+fn serve(said: &[String]) -> Result<Order, Fault> {
+    let valued = [&VALUED[..], &["--listen", "--send", "--hear"]].concat();
+    let options = Options::of(said, &valued, &["--static-first", "--passing"])?;
+    let link = link(&options)?;
+    let settings = Settings { until_heard: link.o_mode, ..settings(&options, link.o_mode)? };
+    if let Some(word) = options.rest.first() {
+        return words(format!("serve takes no {word}"));
+    }
+    Ok(Order::Serve(Box::new(Serve {
+        listen: options.address("--listen")?,
+        send: options.address("--send")?,
+        hear: options.address("--hear")?,
+        link,
+        settings,
+    })))
+}
+
+fn line(said: &[String]) -> Result<Order, Fault> {
+    let valued = ["--listen", "--send", "--lose", "--late", "--twice", "--errors", "--delay", "--seed"];
+    let options = Options::of(said, &valued, &[])?;
+    if let Some(word) = options.rest.first() {
+        return words(format!("line takes no {word}"));
+    }
+    let path = Path {
+        loss: options.share("--lose")?,
+        errors: options.number("--errors", 0, 100_000, 0)? as f64 / 1_000_000.0,
+        late: options.share("--late")?,
+        twice: options.share("--twice")?,
+    };
+    Ok(Order::Line(Box::new(Line {
+        listen: options.address("--listen")?,
+        send: options.address("--send")?,
+        path,
+        delay: Duration::from_millis(options.number("--delay", 0, 10_000, 0)?),
+        seed: options.number("--seed", 0, u64::MAX, 1)?,
+    })))
+}
+
 /// What the words after the program's name order.
 pub fn order(said: &[String]) -> Result<Order, Fault> {
     let Some((first, rest)) = said.split_first() else {
@@ -334,6 +398,8 @@ pub fn order(said: &[String]) -> Result<Order, Fault> {
         ("generate", _) => generate(rest),
         ("lossy", _) => lossy(rest),
         ("load", _) => load(rest),
+        ("serve", _) => serve(rest),
+        ("line", _) => line(rest),
         ("check", [expected, answers]) => Ok(Order::Check { expected: expected.clone(), answers: answers.clone() }),
         ("check", _) => words("check wants two files".to_string()),
         _ => words(format!("unknown command {first}; see --help")),
@@ -351,9 +417,17 @@ mod tests {
 
     #[test]
     fn good_words() {
-        for text in
-            ["--help", "--version", "script a b --w 8 --cid large", "check a b", "lossy a", "load coming --files a,b,c"]
-        {
+        let all = [
+            "--help",
+            "--version",
+            "script a b --w 8 --cid large",
+            "check a b",
+            "lossy a",
+            "load coming --files a,b,c",
+            "serve --listen 127.0.0.1:1 --send 10.0.0.1:2 --hear 127.0.0.1:3 --link 4",
+            "line --listen 127.0.0.1:1 --send 127.0.0.1:2 --lose 5 --errors 10",
+        ];
+        for text in all {
             assert_eq!(fault(text), "none", "{text}");
         }
     }
@@ -378,6 +452,8 @@ mod tests {
             ("load", "load wants one of rounds, scattered, coming"),
             ("load rounds --files a,b", "--files wants three files"),
             ("lossy a --delay 10001", "--delay 10001 is no number from 0 to 10000"),
+            ("serve --listen 127.0.0.1", "--listen 127.0.0.1 is no address with a port, as 127.0.0.1:5000"),
+            ("line --lose 71", "--lose 71 is no number from 0 to 70"),
         ];
         for (text, said) in all {
             assert_eq!(fault(text), format!("command line: {said}"));
