@@ -6,7 +6,7 @@ all say that the prover ended at a limit, the refusal counts only if the same sh
 or, at a limit of `search`, the unchanged crate, for an edit that only changes a value or a condition in place. The prover
 must prove each twin.
 
-At most 60 are tried: half from the crates that changed since the newest commit that is four hours older than HEAD, the
+At most 40 are tried: half from the crates that changed since the newest commit that is four hours older than HEAD, the
 rest from at most five other crates, drawn by the commit's hash. Each twin is tried with its edit. Right after the gate,
 the libraries below these crates are taken as the gate left them. Names of crates behind `bites` try all edits of these.
 """
@@ -27,7 +27,7 @@ from trial import Trial
 
 TOP = Path(__file__).resolve().parent.parent.parent
 # How many are tried, how many of these from crates that changed, and from how many other crates the rest are drawn.
-MOST, MOST_CHANGED, MOST_OTHERS = 60, 30, 5
+MOST, MOST_CHANGED, MOST_OTHERS = 40, 20, 5
 HOURS = 4
 
 
