@@ -38,7 +38,9 @@ REQUESTS = (
     (b"\0" * 100, 400),
     (b"\xff\xfe\r\n\r\n", 400),
     (b"GET /ready HTTP/1.1", 0),
-    (b"GET / HTTP/1.1\r\n\r\n", 404),
+    (b"GET /page HTTP/1.1\r\n\r\n", 404),
+    (b"POST / HTTP/1.1\r\n\r\n", 405),
+    (b"GET /?link=1 HTTP/1.1\r\n\r\n", 400),
     (b"GET /../ready HTTP/1.1\r\n\r\n", 404),
     (b"DELETE /ready HTTP/1.1\r\n\r\n", 405),
     (b"GET /stop HTTP/1.1\r\n\r\n", 405),
@@ -125,6 +127,54 @@ def check_counts(trial: Trial, gateway: Gateway, wanted: Counter[tuple[str, str]
         trial.leave_out("promtool is not installed, the text of the metrics was not checked by it")
 
 
+def check_octets(trial: Trial, gateway: Gateway, lines: list[list[str]], arrivals: list[Arrival]) -> None:
+    """The octets of each link are those of the arrivals, and of the packets that one replay delivers."""
+    wanted: Counter[tuple[str, str]] = Counter()
+    for arrival, answers in zip(arrivals, lines, strict=True):
+        if arrival.octets is None:
+            continue
+        link = str(arrival.link)
+        wanted["received", link] += len(arrival.octets)
+        for packet in (line.split(" ")[3] for line in answers if line.split(" ")[2] == "ip"):
+            wanted["compressed", link] += len(arrival.octets)
+            wanted["delivered", link] += len(packet) // 2
+    found = Counter(
+        {
+            (name.split("_")[1], labels["link"]): count
+            for name, labels, count in samples(gateway.metrics())
+            if name.endswith("_bytes_total")
+        }
+    )
+    trial.demand(+found == +wanted, f"octets: {(found - wanted) + (wanted - found)} differ")
+
+
+def check_page(trial: Trial, gateway: Gateway, wanted: Counter[tuple[str, str]]) -> None:
+    """The page has a row for each link and for each refusal, with the counts, and nothing from elsewhere."""
+    told = gateway.ask("GET", "/")
+    page = told.body.decode()
+    rows = {row[0]: row[1:] for row in re.findall(r'<tr><th scope="row">(\d+)</th>((?:<td>[^<]*</td>)+)</tr>', page)}
+    for link in map(str, LINKS):
+        cells = re.findall(r"<td>([^<]*)</td>", rows.get(link, ("",))[0])
+        refused = sum(count for (of, name), count in wanted.items() if of == link and name not in ("delivered", "stored", "front"))
+        counts = [int(cell.replace(",", "")) for cell in cells[3:5]]
+        trial.demand(counts == [wanted[link, "delivered"], refused], f"page: link {link}: {cells}")
+    shown = {
+        (link, name): int(count.replace(",", ""))
+        for link, name, count in re.findall(
+            r'<th scope="row">(\d+)</th><td class="text">(\w+)</td><td class="text">[^<]+</td><td>([\d,]+)</td>', page
+        )
+    }
+    refusals = {key: count for key, count in wanted.items() if key[1] not in ("delivered", "stored", "front")}
+    trial.demand(shown == refusals, f"page: the refusals {shown}; wanted {refusals}")
+    bad = re.findall(r"<script|(?:src|href)=\"(?!#)|url\(|@import", page)
+    trial.demand(told.status == 200 and not bad, f"page: {told.status}, parts from elsewhere: {bad}")
+    if shutil.which("tidy"):
+        ended = trial.ran("tidy", "-q", "-e", given=trial.write("page.html", page))
+        trial.demand(ended.status == 0, f"page: tidy: {ended.all}", ended.call)
+    else:
+        trial.leave_out("tidy is not installed, the page of the gateway was not checked by it")
+
+
 def check_calls(trial: Trial) -> None:
     """Whole calls at the timed port, their counts, and a stop after which all contexts are there again."""
     arrivals = made_arrivals(20_000, 11)
@@ -133,6 +183,8 @@ def check_calls(trial: Trial) -> None:
         trial.demand(gateway.takes(receivers, arrivals, wanted), "calls: what is sent isn't what a replay answers")
         gateway.wait_taken()
         check_counts(trial, gateway, counted(wanted, arrivals))
+        check_octets(trial, gateway, wanted, arrivals)
+        check_page(trial, gateway, counted(wanted, arrivals))
         contexts = [gateway.ask("GET", f"/contexts?link={link}").body for link in LINKS]
         trial.demand(any(contexts), "calls: no context is shown")
         trial.demand(gateway.stop() == 0, f"calls: the stop: {gateway.said}")
@@ -391,9 +443,10 @@ def check_files(trial: Trial) -> None:
     if shutil.which("systemd-analyze"):
         unit = trial.write("rohc-gateway@.service", (deploy / "rohc-gateway@.service").read_text())
         unit.write_text(re.sub(r"/usr/local/bin/rohc\S+", "/bin/true", unit.read_text()))
-        trial.must_run("systemd-analyze", "verify", "--man=no", unit)
+        tun = trial.write("rohc-tun@.service", (deploy / "rohc-tun@.service").read_text().replace("/usr/bin/socat", "/bin/true"))
+        trial.must_run("systemd-analyze", "verify", "--man=no", unit, tun)
     else:
-        trial.leave_out("systemd-analyze is not installed, deploy/rohc-gateway@.service was not verified")
+        trial.leave_out("systemd-analyze is not installed, the units of deploy/ were not verified")
 
 
 def is_part(top: Path, word: str) -> bool:

@@ -22,6 +22,8 @@ pub(crate) enum Kind {
     Lines,
     /// The text format of Prometheus.
     Metrics,
+    /// A page for people.
+    Page,
 }
 
 impl Kind {
@@ -31,6 +33,7 @@ impl Kind {
             Kind::Object => "application/json",
             Kind::Lines => "application/x-ndjson",
             Kind::Metrics => "text/plain; version=0.0.4; charset=utf-8",
+            Kind::Page => "text/html; charset=utf-8",
         }
     }
 }

@@ -13,8 +13,8 @@ use mio::net::UdpSocket;
 use rohc_concentrator::NoLink;
 use rohc_gateway_file::{Config, VERSION};
 use rohc_station::{
-    Asked, GatewayFigures, ReloadFault, ReloadReport, Request, RequestFault, Station, write_calls,
-    write_contexts, write_metrics,
+    Asked, GatewayFigures, ReloadFault, ReloadReport, Request, RequestFault, Station, Times,
+    write_calls, write_contexts, write_metrics, write_page,
 };
 use std::io;
 use std::io::{ErrorKind, Write};
@@ -353,6 +353,22 @@ impl Gateway<'_> {
         })
     }
 
+    /// The page for people.
+    fn page<R: Clock + AllocGlobal>(&mut self, rt: &R) -> io::Result<Reply> {
+        let alloc = rt.alloc();
+        let times = Times {
+            started: self.started,
+            now: self.moments.now(rt),
+        };
+        let mut body = Vec::new(alloc);
+        write_page(alloc, &mut body, &self.station, &self.figures, times, VERSION)?;
+        Ok(Reply {
+            status: 200,
+            kind: Kind::Page,
+            body,
+        })
+    }
+
     /// Does what is asked, and answers.
     fn answer<R>(&mut self, rt: &R, request: Request) -> io::Result<Reply>
     where
@@ -368,6 +384,7 @@ impl Gateway<'_> {
             Request::Ready => Reply::object(200, format!(in rt.alloc(); "{{\"ready\":true}}\n")),
             Request::Status => self.status(rt),
             Request::Metrics => self.metrics(rt),
+            Request::Page => self.page(rt),
             Request::Contexts { link } => self.contexts(rt, link, false),
             Request::Calls { link } => self.contexts(rt, link, true),
         }
@@ -382,6 +399,7 @@ impl Gateway<'_> {
         let alloc = rt.alloc();
         let reply = match asked {
             Asked::Whole(Request::Metrics) => self.metrics(rt)?,
+            Asked::Whole(Request::Page) => self.page(rt)?,
             Asked::Whole(request) if is_control => self.answer(rt, request)?,
             Asked::Whole(_) => Reply::refused(alloc, RequestFault::NotFound)?,
             Asked::Faulty(fault) => Reply::refused(alloc, fault)?,

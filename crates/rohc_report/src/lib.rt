@@ -24,5 +24,7 @@ pub use call::CallTotals;
 pub use calls::{Calls, key_of};
 pub use drawn::Drawn;
 pub use escape::{escaped, write_escaped};
-pub use page::{Report, write_page};
+pub use page::{Report, write_page, write_tile};
+pub use style::{POLICY, STYLE};
+pub use table::write_number;
 pub use worst::{CallRow, worst_first};

@@ -71,8 +71,8 @@ fn write_header<W: Write>(alloc: Global, out: &mut W, report: &Report<'_>) -> io
     )
 }
 
-/// Writes a number under its name.
-fn write_tile<W: Write>(out: &mut W, name: &str, number: u64, is_bad: bool) -> io::Result<()> {
+/// Writes a number below its name, marked if it is bad and not 0.
+pub fn write_tile<W: Write>(out: &mut W, name: &str, number: u64, is_bad: bool) -> io::Result<()> {
     let class = if is_bad && number > 0 {
         " class=\"bad\""
     } else {

@@ -1,11 +1,11 @@
-//! The style of the page, and the policy that allows nothing else.
+//! The style of a page, and the policy that allows nothing else.
 
 /// What the page may load: nothing. Only this style is allowed, by its digest.
-pub(crate) const POLICY: &str =
+pub const POLICY: &str =
     "default-src 'none'; style-src 'sha256-ayeyBMs7k03JwRApAgdSDix+8br35S+zpLu6EwfvkuI='; base-uri 'none'; form-action 'none'";
 
 /// The style.
-pub(crate) const STYLE: &str = "
+pub const STYLE: &str = "
 :root { color-scheme: light dark; --page: #ffffff; --text: #1b2027; --quiet: #57606a; --line: #d5dbe1; --box: #f5f7f9;
   --own: #0b5cad; --full: #2a9d8f; --static: #c98500; --none: #b3402e; --delivered: #6a8fc4; --repaired: #7a3fc4;
   --late: #c2611a; --frame: #5d6673; --header: #96641c; --context: #c2255c; --check: #d1242f; --sent: #3f7d20; }

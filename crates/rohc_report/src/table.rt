@@ -40,7 +40,7 @@ fn unit_of(number: u64) -> u64
 }
 
 /// Writes a number with a comma before each three digits.
-pub(crate) fn write_number<W: Write>(out: &mut W, number: u64) -> io::Result<()> {
+pub fn write_number<W: Write>(out: &mut W, number: u64) -> io::Result<()> {
     let mut unit = unit_of(number);
     write!(out, "{}", number / unit)?;
     for _ in 0..6 {

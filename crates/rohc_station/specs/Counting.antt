@@ -1,10 +1,13 @@
--- What is counted. Words: one_if; with_datagram; IsUncounted; CountsAnswer; with_failed_sends; KeepsCounts.
-use Rattle.std.specs.Prelude.{◌≡◌, ℕ, Bool, if◌then◌else◌, Option, Some, None, slice_index}
-use Rattle.rohc_concentrator.specs.Report.{Report}
+-- What is counted. Words: one_if; with_datagram; IsUncounted; rebuilt_octets, with_packet; CountsAnswer;
+-- with_failed_sends; KeepsCounts.
+use Rattle.std.specs.Prelude.{◌≡◌, ℕ, ◌+◌, length, Bool, if◌then◌else◌, Option, Some, None, option_map, slice_index}
+use Rattle.rohc_context.specs.Response.{Packet}
+use Rattle.rohc_concentrator.specs.Report.{Report, Arrived, OnlyFront, Refused}
 use Rattle.rohc_concentrator.specs.declared.setting.LinkSetting.{LinkSetting}
 use Rattle.rohc_links.specs.Limits.{counted}
 use Rattle.rohc_counts.specs.Counted.{IsCounted}
 use Rattle.rohc_station.specs.declared.counters.LinkCounters.{LinkCounters}
+use Rattle.rohc_station.specs.declared.counters.Octets.{Octets}
 use Rattle.rohc_station.specs.declared.counters.StationCounters.{StationCounters}
 
 abbrev pub one_if : Bool → ℕ
@@ -23,14 +26,32 @@ pub record IsUncounted (c : LinkCounters) : Type 0 where
   pub words : (k : ℕ) → slice_index c.answers.words k ≡ 0
   pub no_fronts : c.answers.fronts ≡ 0
   pub none_relayed : c.answers.relayed ≡ 0
+  pub no_octets : c.octets ≡ record { received = 0; compressed = 0; rebuilt = 0 }
   pub none_failed : c.failed_sends ≡ 0
 
--- one more answer, in the counts of a link that has some
-abbrev pub CountsAnswer : Report → Option LinkCounters → Option LinkCounters → Type 0
-CountsAnswer report None after = after ≡ None
-CountsAnswer report (Some before) None = ⊥
-CountsAnswer report (Some before) (Some after) =
-    IsCounted report before.answers after.answers × (after.failed_sends ≡ before.failed_sends)
+-- how many octets the rebuilt packet of an answer has, if it has one
+abbrev pub rebuilt_octets : Report → Option ℕ
+rebuilt_octets (Arrived cid response relayed) =
+    option_map (λ (p : Packet). length p.head + length p.payload) response.packet
+rebuilt_octets (OnlyFront relayed) = None
+rebuilt_octets (Refused refusal) = None
+
+-- The octets of a packet that arrived, and those of the packet that it was rebuilt to, if it was.
+abbrev pub with_packet : (arrived : ℕ) → (rebuilt : Option ℕ) → Octets → Octets
+with_packet arrived None o = record o { received = counted o.received arrived }
+with_packet arrived (Some rebuilt) o = record {
+  received = counted o.received arrived;
+  compressed = counted o.compressed arrived;
+  rebuilt = counted o.rebuilt rebuilt;
+}
+
+-- one more answer, to a packet of so many octets, in the counts of a link that has some
+abbrev pub CountsAnswer : (arrived : ℕ) → Report → Option LinkCounters → Option LinkCounters → Type 0
+CountsAnswer arrived report None after = after ≡ None
+CountsAnswer arrived report (Some before) None = ⊥
+CountsAnswer arrived report (Some before) (Some after) = IsCounted report before.answers after.answers
+    × (after.octets ≡ with_packet arrived (rebuilt_octets report) before.octets)
+    × (after.failed_sends ≡ before.failed_sends)
 
 -- so many more failed sends
 abbrev pub with_failed_sends : ℕ → LinkCounters → LinkCounters

@@ -2,7 +2,7 @@
 use Rattle.std.specs.Prelude.{◌≡◌, ℕ, ◌+◌, ◌*◌, ◌-◌, List, [], ◌∷◌, Bool, true, false, nat_lt, nat_le, ◌&&◌, if◌then◌else◌, codes, Option, Some, None, Result, Ok, Err, ⊤}
 use Rattle.std.specs.Option.{option_and_then}
 use Rattle.rohc_station.specs.declared.request.Request.{Request}
-use Rattle.rohc_station.specs.declared.request.Request.TheVariants.{Stop, Save, Reload, Reset, Drain, Watch, Ready, Status, Metrics, Contexts, Calls}
+use Rattle.rohc_station.specs.declared.request.Request.TheVariants.{Stop, Save, Reload, Reset, Drain, Watch, Ready, Status, Metrics, Page, Contexts, Calls}
 use Rattle.rohc_station.specs.declared.request.RequestFault.{RequestFault}
 use Rattle.rohc_station.specs.declared.request.RequestFault.TheVariants.{BadRequest, NotFound, MethodNotAllowed, TooLarge}
 
@@ -38,6 +38,7 @@ changes (Watch link cid) = false
 changes Ready = false
 changes Status = false
 changes Metrics = false
+changes Page = false
 changes (Contexts link) = false
 changes (Calls link) = false
 

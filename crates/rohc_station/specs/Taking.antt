@@ -1,7 +1,7 @@
 -- What a station does with a datagram. Words: counters_at a link; arrival, TakesPacket; IsRefusedUnread;
 -- dated; Takes; begins_call; call_in, timed_call_in; TakesUnless, TakesKnown; CountsFailedSends,
 -- FailsSends.
-use Rattle.std.specs.Prelude.{◌≡◌, ◌≢◌, ℕ, List, [], ◌∷◌, Option, Some, None, nat_eq, not, is_some, Bool, true, false}
+use Rattle.std.specs.Prelude.{◌≡◌, ◌≢◌, ℕ, List, [], ◌∷◌, length, Option, Some, None, nat_eq, not, is_some, Bool, true, false}
 use Rattle.std.specs.Option.{option_map}
 use Rattle.indexmap.specs.IndexMap.{get}
 use Rattle.rohc_context.specs.Record.{Record}
@@ -35,7 +35,7 @@ pub record TakesPacket (old new : Station) (link moment : ℕ) (packet : List �
   pub these : calls ≡ arrival link moment packet report ∷ []
   pub call : RunsCall old.concentrator link (Arrive moment packet) (Reported report) new.concentrator
   pub tells : told ≡ told_for (ports_of link old.links) report
-  pub counts : CountsAnswer report (counters_at old link) (counters_at new link)
+  pub counts : CountsAnswer (length packet) report (counters_at old link) (counters_at new link)
   pub others : (l : ℕ) → l ≢ link → counters_at new l ≡ counters_at old l
   pub totals : new.totals ≡ with_datagram old.totals (not (is_some (ports_of link old.links)))
   pub links : new.links ≡ old.links

@@ -4,17 +4,46 @@ ghost use Rattle.std.specs.Prelude.{◌≡◌, ◌≢◌, ℕ, nat_eq, option_ma
 ghost use Rattle.indexmap.specs.IndexMap.{get};
 ghost use Rattle.rohc_concentrator.specs.Report.{report_of};
 ghost use Rattle.rohc_links.specs.Limits.{counted};
-ghost use Rattle.rohc_station.specs.Counting.{CountsAnswer, one_if, with_failed_sends};
+ghost use Rattle.rohc_station.specs.Counting.{CountsAnswer, one_if, rebuilt_octets, with_failed_sends};
 
 use indexmap::IndexMap;
 use rohc_concentrator::Answer;
 use rohc_counts::Counts;
+
+/// The octets of a link.
+#[derive(Clone, Copy)]
+pub struct Octets {
+    /// Of all packets that arrived.
+    pub received: u64,
+    /// Of the packets that were rebuilt, as they arrived.
+    pub compressed: u64,
+    /// Of the packets that they were rebuilt to.
+    pub rebuilt: u64,
+}
+
+impl Octets {
+    ghost use Rattle.std.specs.Prelude.{◌≡◌};
+    ghost use Rattle.rohc_station.specs.Counting.{with_packet};
+
+    /// Counts a packet that arrived with so many octets, and the octets of what it was rebuilt to, if it was.
+    fn add(&mut self, arrived: u64, rebuilt: Option<u64>)
+        ensures { self.new ≡ with_packet arrived rebuilt self.old }
+    {
+        self.received = self.received.saturating_add(arrived);
+        if let Some(rebuilt) = rebuilt {
+            self.compressed = self.compressed.saturating_add(arrived);
+            self.rebuilt = self.rebuilt.saturating_add(rebuilt);
+        }
+    }
+}
 
 /// The counts of a link.
 #[derive(Clone, Copy)]
 pub struct LinkCounters {
     /// The answers to its packets.
     pub answers: Counts,
+    /// The octets of its packets.
+    pub octets: Octets,
     /// Sends that failed.
     pub failed_sends: u64,
 }
@@ -28,6 +57,11 @@ impl LinkCounters {
     {
         LinkCounters {
             answers: Counts::new(),
+            octets: Octets {
+                received: 0,
+                compressed: 0,
+                rebuilt: 0,
+            },
             failed_sends: 0,
         }
     }
@@ -85,16 +119,31 @@ fn counted_if(count: u64, holds: bool) -> u64
     count.saturating_add(u64::from(holds))
 }
 
-/// Counts an answer to a packet of a link, if the link has counts.
+/// How many octets the rebuilt packet of an answer has, if it has one.
+fn rebuilt_octets(answer: &Answer<'_>) -> Option<u64>
+    ensures { result ≡ rebuilt_octets (report_of answer.now) }
+{
+    match answer {
+        Answer::Arrived { reply, .. } => match &reply.packet {
+            Some(packet) => Some(packet.head.len() as u64 + packet.payload.len() as u64),
+            None => None,
+        },
+        Answer::OnlyFront { .. } | Answer::Refused(_) => None,
+    }
+}
+
+/// Counts an answer to a packet of a link that arrived with so many octets, if the link has counts.
 pub(crate) fn count_answer(
     counters: &mut IndexMap<u16, LinkCounters>,
     link: u16,
+    arrived: u64,
     answer: &Answer<'_>,
 )
-    ensures own { CountsAnswer (report_of answer.now) (get nat_eq counters.old link) (get nat_eq counters.new link) }
+    ensures own { CountsAnswer arrived (report_of answer.now) (get nat_eq counters.old link) (get nat_eq counters.new link) }
     ensures others { (l : ℕ) → l ≢ link → get nat_eq counters.new l ≡ get nat_eq counters.old l }
 {
     if let Some(of_link) = counters.get_mut(&link) {
         of_link.answers.count(answer);
+        of_link.octets.add(arrived, rebuilt_octets(answer));
     }
 }

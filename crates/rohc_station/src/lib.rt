@@ -6,15 +6,17 @@ pub mod counters;
 pub mod laws;
 pub mod lists;
 pub mod metrics;
+pub mod page;
 pub mod reload;
 pub mod request;
 pub mod sending;
 pub mod station;
 pub mod timed;
 
-pub use counters::{LinkCounters, StationCounters};
+pub use counters::{LinkCounters, Octets, StationCounters};
 pub use lists::{write_calls, write_contexts};
 pub use metrics::{GatewayFigures, write_metrics};
+pub use page::{Times, write_page};
 pub use reload::{ReloadFault, ReloadReport};
 pub use request::{Asked, Request, RequestFault, read_request, request_of};
 pub use sending::Taken;

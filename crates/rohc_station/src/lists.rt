@@ -7,8 +7,8 @@ use std::alloc::{AllocError, Global};
 use std::io;
 use std::io::Write;
 
-/// The number of a profile, as JSON shows it.
-fn profile_name(profile: Profile) -> &'static str {
+/// The number of a profile, as JSON and the page show it.
+pub(crate) fn profile_name(profile: Profile) -> &'static str {
     match profile {
         Profile::Uncompressed => "0x0000",
         Profile::Rtp => "0x0001",

@@ -1,5 +1,6 @@
 //! The metrics of a gateway in the text format of Prometheus.
 
+use crate::counters::Octets;
 use crate::lists::state_name;
 use crate::station::Station;
 use rohc_concentrator::LinkRecords;
@@ -33,14 +34,14 @@ pub struct GatewayFigures {
 
 /// How many contexts of a link are in each state.
 #[derive(Clone, Copy, Default)]
-struct States {
-    no: u64,
-    fixed: u64,
-    full: u64,
+pub(crate) struct States {
+    pub no: u64,
+    pub fixed: u64,
+    pub full: u64,
 }
 
 /// Counts the contexts of a link by state.
-fn states_of(records: &LinkRecords) -> States {
+pub(crate) fn states_of(records: &LinkRecords) -> States {
     let mut states = States::default();
     for (_, context) in &records.contexts {
         match context.state() {
@@ -71,12 +72,17 @@ fn write_one<W: Write>(
 }
 
 /// The number of refusals in the counts of a link.
-fn refused(counts: &Counts) -> u64 {
+pub(crate) fn refused(counts: &Counts) -> u64 {
     let mut refused = 0u64;
     for refusal in Refusal::all() {
         refused = refused.saturating_add(outcome_count(counts, refusal.number()));
     }
     refused
+}
+
+/// The number of delivered packets in the counts of a link.
+pub(crate) fn delivered(counts: &Counts) -> u64 {
+    outcome_count(counts, DELIVERED)
 }
 
 /// The count of the outcome of this number.
@@ -94,7 +100,7 @@ fn write_packets<W: Write>(out: &mut W, station: &Station) -> io::Result<()> {
     for (link, of_link) in station.counters() {
         let counts = &of_link.answers;
         for (outcome, count) in [
-            ("delivered", outcome_count(counts, DELIVERED)),
+            ("delivered", delivered(counts)),
             ("stored", outcome_count(counts, STORED)),
             ("front", counts.fronts),
             ("refused", refused(counts)),
@@ -149,6 +155,53 @@ fn write_feedback<W: Write>(out: &mut W, station: &Station) -> io::Result<()> {
             ("plain", plain),
         ] {
             writeln!(out, "{name}{{link=\"{link}\",kind=\"{kind}\"}} {count}")?;
+        }
+    }
+    Ok(())
+}
+
+/// Which octets of a link are shown.
+#[derive(Clone, Copy)]
+enum Shown {
+    Received,
+    Compressed,
+    Rebuilt,
+}
+
+impl Shown {
+    /// Their count.
+    fn of(self, octets: Octets) -> u64 {
+        match self {
+            Shown::Received => octets.received,
+            Shown::Compressed => octets.compressed,
+            Shown::Rebuilt => octets.rebuilt,
+        }
+    }
+}
+
+/// Writes the octets of each link.
+fn write_octets<W: Write>(out: &mut W, station: &Station) -> io::Result<()> {
+    for (name, help, shown) in [
+        (
+            "polorowan_received_bytes_total",
+            "Octets of received packets, feedback included.",
+            Shown::Received,
+        ),
+        (
+            "polorowan_compressed_bytes_total",
+            "Octets of delivered packets, as they were received.",
+            Shown::Compressed,
+        ),
+        (
+            "polorowan_delivered_bytes_total",
+            "Octets of delivered packets, as IP packets.",
+            Shown::Rebuilt,
+        ),
+    ] {
+        write_head(out, name, "counter", help)?;
+        for (link, of_link) in station.counters() {
+            let count = shown.of(of_link.octets);
+            writeln!(out, "{name}{{link=\"{link}\"}} {count}")?;
         }
     }
     Ok(())
@@ -246,6 +299,7 @@ pub fn write_metrics<W: Write>(
     write_packets(out, station)?;
     write_refusals(out, station)?;
     write_feedback(out, station)?;
+    write_octets(out, station)?;
     write_sends(out, station)?;
     write_contexts(out, station)?;
     write_totals(out, station, figures)?;

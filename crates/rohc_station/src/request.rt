@@ -40,6 +40,8 @@ pub enum Request {
     Status,
     /// `GET /metrics`
     Metrics,
+    /// `GET /`: the page for people.
+    Page,
     /// `GET /contexts?link=L`
     Contexts {
         /// The link.
@@ -67,6 +69,7 @@ impl Request {
             | Request::Ready
             | Request::Status
             | Request::Metrics
+            | Request::Page
             | Request::Contexts { .. }
             | Request::Calls { .. } => false,
         }
@@ -284,6 +287,8 @@ fn got(path: &[u8], query: Option<&[u8]>) -> Option<Result<Request, RequestFault
         Some(alone(Request::Status, query))
     } else if path == b"/metrics".as_slice() {
         Some(alone(Request::Metrics, query))
+    } else if path == b"/".as_slice() {
+        Some(alone(Request::Page, query))
     } else if path == b"/contexts".as_slice() {
         Some(link_in(query).map(|link| Request::Contexts { link }))
     } else if path == b"/calls".as_slice() {

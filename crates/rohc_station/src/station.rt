@@ -196,7 +196,7 @@ impl Station {
         ensures { (calls : List Turn) × TakesPacket self.old self.new link moment packet.entry.now (told_of result) calls }
     {
         let answer = self.concentrator.arrive(link, moment, packet);
-        count_answer(&mut self.counters, link, &answer);
+        count_answer(&mut self.counters, link, packet.len() as u64, &answer);
         let ports = ports_of(&self.links, link);
         self.totals.add(ports.is_none());
         answered(ports, answer)

@@ -6,8 +6,8 @@ use rohc_context::Refusal;
 use rohc_links::{Links, read_links};
 use rohc_saved::restore;
 use rohc_station::{
-    Asked, GatewayFigures, ReloadReport, Request, RequestFault, Station, read_request,
-    timed_datagram, write_calls, write_contexts, write_metrics,
+    Asked, GatewayFigures, ReloadReport, Request, RequestFault, Station, Times, read_request,
+    timed_datagram, write_calls, write_contexts, write_metrics, write_page,
 };
 use std::alloc::Global;
 use std::process::Abort;
@@ -84,6 +84,7 @@ fn reads_requests(rt: HostRuntime) {
         asked("GET /stop HTTP/1.1\r\n\r\n") == Asked::Faulty(RequestFault::MethodNotAllowed)
     );
     assert!(rt; asked("GET /nothing HTTP/1.1\r\n\r\n") == Asked::Faulty(RequestFault::NotFound));
+    assert!(rt; asked("GET / HTTP/1.1\r\n\r\n") == Asked::Whole(Request::Page));
     assert!(rt;
         asked("POST /save HTTP/1.1\r\nContent-Length: 3\r\n\r\nabc")
             == Asked::Faulty(RequestFault::BadRequest)
@@ -166,4 +167,44 @@ fn saves_and_writes(rt: HostRuntime) {
             .as_str()
             .contains("polorowan_contexts{link=\"4\",state=\"full\"} 1\n")
     );
+    // The IR has 42 octets. Its packet has 40 octets of headers and one of payload.
+    for line in [
+        "polorowan_received_bytes_total{link=\"4\"} 42\n",
+        "polorowan_compressed_bytes_total{link=\"4\"} 42\n",
+        "polorowan_delivered_bytes_total{link=\"4\"} 41\n",
+        "polorowan_received_bytes_total{link=\"5\"} 0\n",
+    ] {
+        assert!(rt; metrics.as_str().contains(line));
+    }
+}
+
+#[test]
+fn shows_a_page(rt: HostRuntime) {
+    let mut station = station(&rt, 4, 5);
+    let _ = station.take(1000, DATAGRAM);
+    let _ = station.take(2000, &[0, 5, 0x00]);
+    let times = Times {
+        started: 0,
+        now: 191_000,
+    };
+    let mut page = Vec::new(rt.alloc());
+    write_page(
+        rt.alloc(),
+        &mut page,
+        &station,
+        &GatewayFigures::default(),
+        times,
+        "1.0.0",
+    ).expect(&rt, "it works");
+    let page = String::from_utf8(page).expect(&rt, "it works");
+    for part in [
+        "<p class=\"quiet\">Version 1.0.0, running for 3 min 11 s.</p>",
+        "<tr><th scope=\"row\">4</th><td>1</td><td>0</td><td>0</td><td>1</td><td>0</td><td>0</td><td>42</td><td>41</td><td>none</td><td>0</td></tr>",
+        "<tr><th scope=\"row\">5</th><td class=\"text\">NoContext</td>",
+        "<tr><th scope=\"row\">4/0</th><td class=\"text\">0x0001</td><td class=\"text\">Full Context</td><td>3 min 10 s</td></tr>",
+        "<p>Not saved since the start.</p>",
+    ] {
+        assert!(rt; page.as_str().contains(part));
+    }
+    assert!(rt; !page.as_str().contains("<script"));
 }
