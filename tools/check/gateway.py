@@ -15,6 +15,7 @@ import time
 from collections import Counter
 from collections.abc import Iterator
 from concurrent.futures import ThreadPoolExecutor
+from dataclasses import dataclass, field
 from pathlib import Path
 
 from cluster import Arrival, made_arrivals
@@ -148,6 +149,66 @@ def check_octets(trial: Trial, gateway: Gateway, lines: list[list[str]], arrival
     trial.demand(+found == +wanted, f"octets: {(found - wanted) + (wanted - found)} differ")
 
 
+@dataclass
+class Counted:
+    """What is counted of a call, as RFC 3550 A.1 reads its sequence numbers."""
+
+    since: int
+    delivered: int = 0
+    lost: int = 0
+    late: int = 0
+    newest: int | None = None
+    refused: Counter[str] = field(default_factory=Counter)
+
+    def see(self, packet: bytes) -> None:
+        """A delivered packet. One of profile 0x0001 has an SN behind the headers of IPv4 and UDP."""
+        self.delivered += 1
+        if len(packet) < 40:
+            return
+        sn = int.from_bytes(packet[30:32], "big")
+        ahead = 0x8000 if self.newest is None else (sn - self.newest) % 0x10000
+        if 1 <= ahead < 3000:
+            self.lost += ahead - 1
+        if ahead > 0x10000 - 100:
+            self.late += 1
+            self.lost -= self.lost > 0
+        elif ahead:
+            self.newest = sn
+
+    def row(self) -> dict[str, object]:
+        """As GET /calls shows it."""
+        counts = {"since": self.since, "delivered": self.delivered, "lost": self.lost, "late": self.late}
+        return {**counts, "refused": dict(self.refused)}
+
+
+def by_call(lines: list[list[str]], arrivals: list[Arrival]) -> dict[tuple[int, int], Counted]:
+    """The counts of each call whose context stands at the end, by one replay: a reset removes those of its link."""
+    found: dict[tuple[int, int], Counted] = {}
+    for arrival, answers in zip(arrivals, lines, strict=True):
+        if arrival.octets is None:
+            found = {key: counts for key, counts in found.items() if key[0] != arrival.link}
+            continue
+        for words in (line.split(" ") for line in answers):
+            key = (arrival.link, int(words[1]) if words[1].isdigit() else -1)
+            if words[2] in ("ip", "stored"):
+                found.setdefault(key, Counted(arrival.moment))
+            if words[2] == "ip":
+                found[key].see(bytes.fromhex(words[3]))
+            if words[2] == "refused" and key in found:
+                found[key].refused[words[3]] += 1
+    return found
+
+
+def check_by_call(trial: Trial, gateway: Gateway, wanted: dict[tuple[int, int], Counted]) -> None:
+    """GET /calls shows the counts of each call."""
+    rows = [row for link in LINKS for row in gateway.ask("GET", f"/calls?link={link}").rows]
+    found = {(row["link"], row["cid"]): {key: row.get(key) for key in wanted[1, 0].row()} for row in rows}
+    differ = {key: (found.get(key), counts.row()) for key, counts in wanted.items() if found.get(key) != counts.row()}
+    trial.demand(not differ and len(found) == len(wanted), f"calls: counts differ: {list(differ.items())[:3]}")
+    lost, late = (sum(getattr(counts, name) for counts in wanted.values()) for name in ("lost", "late"))
+    trial.say(f"calls: the counts of {len(wanted)} calls, of which {lost} packets are lost and {late} late, as by one replay")
+
+
 def check_page(trial: Trial, gateway: Gateway, wanted: Counter[tuple[str, str]]) -> None:
     """The page has a row for each link and for each refusal, with the counts, and nothing from elsewhere."""
     told = gateway.ask("GET", "/")
@@ -185,6 +246,7 @@ def check_calls(trial: Trial) -> None:
         check_counts(trial, gateway, counted(wanted, arrivals))
         check_octets(trial, gateway, wanted, arrivals)
         check_page(trial, gateway, counted(wanted, arrivals))
+        check_by_call(trial, gateway, by_call(wanted, arrivals))
         contexts = [gateway.ask("GET", f"/contexts?link={link}").body for link in LINKS]
         trial.demand(any(contexts), "calls: no context is shown")
         trial.demand(gateway.stop() == 0, f"calls: the stop: {gateway.said}")
@@ -262,9 +324,10 @@ def check_asked(trial: Trial) -> None:
         gateway.send(Arrival(1, 5, first))
         trial.demand(receivers.wait({"deliver": 1, "feedback": 1}), "asked: the first packet isn't delivered")
         row = {"link": 1, "cid": 0, "profile": "0x0000", "state": "full", "accepted": 5}
-        for word in ("contexts", "calls"):
+        counts = {"since": 5, "delivered": 1, "lost": 0, "late": 0, "refused": {}}
+        for word, wanted_row in (("contexts", row), ("calls", row | counts)):
             told = asked(trial, gateway, word, "--link", "1")
-            trial.demand(told.is_good and json.loads(told.text) == row, f"rohctl {word}: {told.all}", told.call)
+            trial.demand(told.is_good and json.loads(told.text) == wanted_row, f"rohctl {word}: {told.all}", told.call)
         for words, status, wanted in (
             (("reload",), 0, {"added": 0, "changed": 0, "removed": 0, "contexts_gone": 0}),
             (("drain",), 0, {"draining": True}),

@@ -1,6 +1,7 @@
 pub mod Timed
 pub mod Told
 pub mod Counting
+pub mod ByCall
 pub mod Taking
 pub mod Same
 pub mod Reload

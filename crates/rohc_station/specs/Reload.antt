@@ -18,7 +18,8 @@ use Rattle.rohc_station.specs.declared.reload.ReloadFault.TheVariants.{Settings,
 use Rattle.rohc_station.specs.declared.station.Station.{Station}
 use Rattle.rohc_station.specs.Same.{is_same_setting}
 use Rattle.rohc_station.specs.Counting.{KeepsCounts}
-use Rattle.rohc_station.specs.Taking.{counters_at}
+use Rattle.rohc_station.specs.ByCall.{KeepsStanding}
+use Rattle.rohc_station.specs.Taking.{counters_at, by_call_at}
 
 -- the number is in the list
 abbrev pub is_among : ℕ → List ℕ → Bool
@@ -84,9 +85,11 @@ pub record Tells (old : Concentrator) (numbers : List ℕ) (file : List LinkSett
   pub so_many_gone : report.contexts_gone ≡ counted 0
       (sum_by (contexts_on old) (removed file numbers) + sum_by (gone_on old new) (changed old file))
 
--- beside the concentrator: the ports are those of the file, and a link that stays keeps its counts
+-- Beside the concentrator: the ports are those of the file, and a link that stays keeps its counts, and so do
+-- the calls whose contexts stand.
 pub record TakesFile (old : Station) (file : Lists) (new : Station) : Type 0 where
   pub counts : (l : ℕ) → KeepsCounts (counters_at old l) (entry_of l file.settings) (counters_at new l)
+  pub by_call : KeepsStanding new.concentrator (by_call_at old) (by_call_at new)
   pub totals : new.totals ≡ old.totals
   pub links : new.links ≡ file
 

@@ -3,6 +3,8 @@ use Rattle.std.specs.Prelude.{◌≡◌, ℕ, Option, Some, None}
 use Rattle.rohc_concentrator.specs.Calls.{Call, Reset, Forget, CallAnswer}
 use Rattle.rohc_concentrator.specs.RunsCall.{RunsCall, Turn}
 use Rattle.rohc_station.specs.declared.station.Station.{Station}
+use Rattle.rohc_station.specs.ByCall.{KeepsStanding}
+use Rattle.rohc_station.specs.Taking.{by_call_at}
 
 -- all records of a link, or that of one CID
 abbrev pub reset_call : Option ℕ → Call
@@ -12,9 +14,10 @@ reset_call (Some cid) = Forget cid
 abbrev pub reset_turn : ℕ → Option ℕ → CallAnswer → Turn
 reset_turn link cid answer = record { link = link; call = reset_call cid; answer = answer }
 
--- the concentrator is called so, and nothing else changes
+-- the concentrator is called so, the calls whose contexts stand keep their counts, and nothing else changes
 pub record Forgets (old new : Station) (link : ℕ) (cid : Option ℕ) (answer : CallAnswer) : Type 0 where
   pub call : RunsCall old.concentrator link (reset_call cid) answer new.concentrator
   pub counters : new.counters ≡ old.counters
+  pub by_call : KeepsStanding new.concentrator (by_call_at old) (by_call_at new)
   pub totals : new.totals ≡ old.totals
   pub links : new.links ≡ old.links

@@ -1,6 +1,6 @@
--- What a station does with a datagram. Words: counters_at a link; arrival, TakesPacket; IsRefusedUnread;
--- dated; Takes; begins_call; call_in, timed_call_in; TakesUnless, TakesKnown; CountsFailedSends,
--- FailsSends.
+-- What a station does with a datagram. Words: counters_at a link; by_call_at; arrival, TakesPacket;
+-- IsRefusedUnread; dated; Takes; begins_call; call_in, timed_call_in; TakesUnless, TakesKnown;
+-- CountsFailedSends, FailsSends.
 use Rattle.std.specs.Prelude.{◌≡◌, ◌≢◌, ℕ, List, [], ◌∷◌, length, Option, Some, None, nat_eq, not, is_some, Bool, true, false}
 use Rattle.std.specs.Option.{option_map}
 use Rattle.indexmap.specs.IndexMap.{get}
@@ -14,13 +14,19 @@ use Rattle.rohc_concentrator.specs.RunsCall.{RunsCall, Turn}
 use Rattle.rohc_serve.specs.Datagram.{named_link, datagram_packet, ports_of}
 use Rattle.rohc_station.specs.declared.counters.LinkCounters.{LinkCounters}
 use Rattle.rohc_station.specs.declared.station.Station.{Station}
+use Rattle.rohc_station.specs.declared.calls.CallCounts.{CallCounts}
 use Rattle.rohc_station.specs.Counting.{CountsAnswer, with_datagram, with_failed_sends}
+use Rattle.rohc_station.specs.ByCall.{CountsForCall, stands}
 use Rattle.rohc_station.specs.Timed.{TimedPacket}
 use Rattle.rohc_station.specs.Told.{Told, told_unread, told_for}
 
 -- the counts of a link, if it has some
 abbrev pub counters_at : Station → ℕ → Option LinkCounters
 counters_at s link = get nat_eq s.counters link
+
+-- the counts of the call of this key, if it has some
+abbrev pub by_call_at : Station → ℕ → Option CallCounts
+by_call_at s key = get nat_eq s.by_call key
 
 -- the call of a packet that arrives, with the report on it
 abbrev pub arrival : (link moment : ℕ) → List ℕ → Report → Turn
@@ -37,6 +43,8 @@ pub record TakesPacket (old new : Station) (link moment : ℕ) (packet : List �
   pub tells : told ≡ told_for (ports_of link old.links) report
   pub counts : CountsAnswer (length packet) report (counters_at old link) (counters_at new link)
   pub others : (l : ℕ) → l ≢ link → counters_at new l ≡ counters_at old l
+  pub counts_call :
+      CountsForCall (stands new.concentrator) link moment report (by_call_at old) (by_call_at new)
   pub totals : new.totals ≡ with_datagram old.totals (not (is_some (ports_of link old.links)))
   pub links : new.links ≡ old.links
 
@@ -46,6 +54,7 @@ pub record IsRefusedUnread (old new : Station) (told : Told) (calls : List Turn)
   pub concentrator : new.concentrator ≡ old.concentrator
   pub tells : told ≡ told_unread
   pub counters : new.counters ≡ old.counters
+  pub by_call : new.by_call ≡ old.by_call
   pub totals : new.totals ≡ with_datagram old.totals true
   pub links : new.links ≡ old.links
 
@@ -93,6 +102,7 @@ TakesKnown old new (Some t) told calls =
 pub record CountsFailedSends (old new : Station) (link failed : ℕ) : Type 0 where
   pub own : counters_at new link ≡ option_map (with_failed_sends failed) (counters_at old link)
   pub others : (l : ℕ) → l ≢ link → counters_at new l ≡ counters_at old l
+  pub by_call : new.by_call ≡ old.by_call
   pub concentrator : new.concentrator ≡ old.concentrator
   pub totals : new.totals ≡ old.totals
   pub links : new.links ≡ old.links

@@ -2,6 +2,7 @@
 //! anew, and answers requests.
 #![tactic(auto)]
 
+pub mod calls;
 pub mod counters;
 pub mod laws;
 pub mod lists;
@@ -13,6 +14,7 @@ pub mod sending;
 pub mod station;
 pub mod timed;
 
+pub use calls::{CallCounts, FIRST_REFUSAL, Order, Sequence, key_of};
 pub use counters::{LinkCounters, Octets, StationCounters};
 pub use lists::{write_calls, write_contexts};
 pub use metrics::{GatewayFigures, write_metrics};

@@ -1,8 +1,9 @@
 //! The contexts of a link as JSON lines.
 
+use crate::calls::CallCounts;
 use crate::station::Station;
 use rohc_concentrator::LinkRecords;
-use rohc_context::{Context, ContextState, Profile};
+use rohc_context::{Context, ContextState, Profile, Refusal};
 use std::alloc::{AllocError, Global};
 use std::io;
 use std::io::Write;
@@ -24,15 +25,33 @@ pub(crate) fn state_name(state: ContextState) -> &'static str {
     }
 }
 
-/// Writes one context as an object.
+/// Writes the members of an object that has a context.
 fn write_context<W: Write>(out: &mut W, link: u16, cid: u16, context: &Context) -> io::Result<()> {
-    writeln!(
+    write!(
         out,
-        "{{\"link\":{link},\"cid\":{cid},\"profile\":\"{}\",\"state\":\"{}\",\"accepted\":{}}}",
+        "{{\"link\":{link},\"cid\":{cid},\"profile\":\"{}\",\"state\":\"{}\",\"accepted\":{}",
         profile_name(context.profile()),
         state_name(context.state()),
         context.accepted()
     )
+}
+
+/// Writes the members that have the counts of a call.
+fn write_counts<W: Write>(out: &mut W, counts: &CallCounts) -> io::Result<()> {
+    write!(
+        out,
+        ",\"since\":{},\"delivered\":{},\"lost\":{},\"late\":{},\"refused\":{{",
+        counts.since, counts.delivered, counts.sequence.lost, counts.sequence.late
+    )?;
+    let mut comma = "";
+    for refusal in Refusal::all() {
+        let count = counts.refused(refusal);
+        if count > 0 {
+            write!(out, "{comma}\"{refusal}\":{count}")?;
+            comma = ",";
+        }
+    }
+    write!(out, "}}")
 }
 
 /// Writes the contexts of a link, one object per line, in the order of their first IRs. Nothing is written for
@@ -41,6 +60,7 @@ pub fn write_contexts<W: Write>(out: &mut W, station: &Station, link: u16) -> io
     if let Some(records) = station.concentrator().tables().get(&link) {
         for (cid, context) in &records.contexts {
             write_context(out, link, *cid, context)?;
+            writeln!(out, "}}")?;
         }
     }
     Ok(())
@@ -57,7 +77,7 @@ fn oldest_first(alloc: Global, records: &LinkRecords) -> Result<Vec<(u64, usize)
 }
 
 /// Writes the contexts of a link as `write_contexts` does, those that were longest without an accepted
-/// arrival first.
+/// arrival first, and with them what is counted of the calls that had packets in this run.
 pub fn write_calls<W: Write>(
     alloc: Global,
     out: &mut W,
@@ -70,6 +90,10 @@ pub fn write_calls<W: Write>(
         for (_, place) in &places {
             if let Some((cid, context)) = concentrator.context_at(link, *place) {
                 write_context(out, link, cid, context)?;
+                if let Some(counts) = station.counts_of(link, cid) {
+                    write_counts(out, counts)?;
+                }
+                writeln!(out, "}}")?;
             }
         }
     }

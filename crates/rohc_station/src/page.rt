@@ -1,5 +1,6 @@
 //! The page of a gateway, for people: its links, its refusals with their likely causes, and its calls.
 
+use crate::calls::CallCounts;
 use crate::counters::Octets;
 use crate::lists::profile_name;
 use crate::metrics::{GatewayFigures, delivered, refused, states_of};
@@ -11,8 +12,11 @@ use std::alloc::{AllocError, Global};
 use std::io;
 use std::io::Write;
 
-/// How many calls the page lists.
-const MOST_CALLS: usize = 100;
+/// How many of the calls with the most refusals the page lists.
+const MOST_WORST: usize = 20;
+
+/// How many of the calls that are silent longest the page lists.
+const MOST_SILENT: usize = 100;
 
 /// How often a browser loads the page again, in seconds.
 const REFRESH: u64 = 5;
@@ -56,7 +60,7 @@ fn write_start<W: Write>(
     };
     write!(
         out,
-        ".{draining}</p>\n<nav aria-label=\"Sections\"><a href=\"#links\">Links</a><a href=\"#refusals\">Refusals</a><a href=\"#calls\">Calls</a></nav>\n</header>\n<main>\n"
+        ".{draining}</p>\n<nav aria-label=\"Sections\"><a href=\"#links\">Links</a><a href=\"#refusals\">Refusals</a><a href=\"#worst\">Refused calls</a><a href=\"#silent\">Silent calls</a></nav>\n</header>\n<main>\n"
     )
 }
 
@@ -258,15 +262,47 @@ fn write_refusals<W: Write>(alloc: Global, out: &mut W, station: &Station) -> io
     write_end(out)
 }
 
-/// The calls of all links: when each was last accepted, its link, and its place there; the longest silent first.
-fn oldest_first(
+/// Which calls come first in a table.
+#[derive(Clone, Copy)]
+enum First {
+    /// Those that were silent for the longest time.
+    Silent,
+    /// Those with the most refusals.
+    Refused,
+}
+
+impl First {
+    /// What a call is sorted by: the least come first.
+    fn key(self, station: &Station, link: u16, cid: u16, context: &Context) -> u64 {
+        match self {
+            First::Silent => context.accepted(),
+            First::Refused => match station.counts_of(link, cid) {
+                Some(counts) => u64::MAX - refusals_of(counts),
+                None => u64::MAX,
+            },
+        }
+    }
+}
+
+/// How many packets of a call were refused.
+fn refusals_of(counts: &CallCounts) -> u64 {
+    let mut sum = 0u64;
+    for refusal in Refusal::all() {
+        sum = sum.saturating_add(u64::from(counts.refused(refusal)));
+    }
+    sum
+}
+
+/// The calls of all links in this order: what each is sorted by, its link, and its place there.
+fn sorted(
     alloc: Global,
     station: &Station,
+    first: First,
 ) -> Result<Vec<(u64, u16, usize)>, AllocError> {
     let mut places = Vec::new(alloc);
     for (link, records) in station.concentrator().tables() {
-        for (place, (_, context)) in records.contexts.iter().enumerate() {
-            places.push((context.accepted(), *link, place))?;
+        for (place, (cid, context)) in records.contexts.iter().enumerate() {
+            places.push((first.key(station, *link, *cid, context), *link, place))?;
         }
     }
     places.sort()?;
@@ -282,9 +318,24 @@ fn state_text(state: ContextState) -> &'static str {
     }
 }
 
+/// Writes the refusals of a call, by name.
+fn write_reasons<W: Write>(out: &mut W, counts: &CallCounts) -> io::Result<()> {
+    write!(out, "<td class=\"text\">")?;
+    let mut comma = "";
+    for refusal in Refusal::all() {
+        let count = counts.refused(refusal);
+        if count > 0 {
+            write!(out, "{comma}{count} {refusal}")?;
+            comma = ", ";
+        }
+    }
+    write!(out, "</td>")
+}
+
 /// Writes the row of a call.
 fn write_call<W: Write>(
     out: &mut W,
+    station: &Station,
     link: u16,
     cid: u16,
     context: &Context,
@@ -297,30 +348,66 @@ fn write_call<W: Write>(
         "<tr><th scope=\"row\">{link}/{cid}</th><td class=\"text\">{profile}</td><td class=\"text\">{state}</td><td>"
     )?;
     write_duration(out, now.saturating_sub(context.accepted()))?;
-    writeln!(out, "</td></tr>")
+    write!(out, "</td>")?;
+    match station.counts_of(link, cid) {
+        Some(counts) => {
+            write_cell(out, counts.delivered)?;
+            write_cell(out, counts.sequence.lost)?;
+            write_cell(out, counts.sequence.late)?;
+            write_reasons(out, counts)?;
+        }
+        None => write!(out, "<td>0</td><td>0</td><td>0</td><td class=\"text\"></td>")?,
+    }
+    writeln!(out, "</tr>")
 }
 
-/// Writes the table of calls, the longest silent first.
-fn write_silent<W: Write>(
+/// Writes a table of at most so many calls in this order.
+fn write_calls<W: Write>(
+    alloc: Global,
+    out: &mut W,
+    station: &Station,
+    first: First,
+    most: usize,
+    now: u64,
+) -> io::Result<()> {
+    let places = sorted(alloc, station, first)?;
+    for (_, link, place) in places.iter().take(most) {
+        if let Some((cid, context)) = station.concentrator().context_at(*link, *place) {
+            write_call(out, station, *link, cid, context, now)?;
+        }
+    }
+    write_end(out)?;
+    let left_out = places.len().saturating_sub(most);
+    if left_out > 0 {
+        writeln!(out, "<p>{left_out} more calls are not shown.</p>")?;
+    }
+    Ok(())
+}
+
+/// The columns of a table of calls.
+const CALL_COLUMNS: [&str; 8] = [
+    "Link/CID",
+    "Profile",
+    "State",
+    "Silent for",
+    "Delivered",
+    "Lost",
+    "Late",
+    "Refused",
+];
+
+/// Writes the tables of calls.
+fn write_both<W: Write>(
     alloc: Global,
     out: &mut W,
     station: &Station,
     now: u64,
 ) -> io::Result<()> {
-    let columns = ["Link/CID", "Profile", "State", "Silent for"];
-    write_columns(out, "Calls, the longest silent first", "calls", 3, &columns)?;
-    let places = oldest_first(alloc, station)?;
-    for (_, link, place) in places.iter().take(MOST_CALLS) {
-        if let Some((cid, context)) = station.concentrator().context_at(*link, *place) {
-            write_call(out, *link, cid, context, now)?;
-        }
-    }
-    write_end(out)?;
-    let left_out = places.len().saturating_sub(MOST_CALLS);
-    if left_out > 0 {
-        writeln!(out, "<p>{left_out} more calls were accepted later.</p>")?;
-    }
-    Ok(())
+    let (worst, silent) = ("Calls with the most refusals", "Calls that are silent longest");
+    write_columns(out, worst, "worst", 3, &CALL_COLUMNS)?;
+    write_calls(alloc, out, station, First::Refused, MOST_WORST, now)?;
+    write_columns(out, silent, "silent", 3, &CALL_COLUMNS)?;
+    write_calls(alloc, out, station, First::Silent, MOST_SILENT, now)
 }
 
 /// Writes the page of a gateway of this version. Nothing in it comes from elsewhere, and no script runs in it.
@@ -336,7 +423,7 @@ pub fn write_page<W: Write>(
     write_totals(out, station, figures, times.now)?;
     write_links(out, station)?;
     write_refusals(alloc, out, station)?;
-    write_silent(alloc, out, station, times.now)?;
+    write_both(alloc, out, station, times.now)?;
     writeln!(
         out,
         "</main>\n<footer><p class=\"quiet\">This page reloads every {REFRESH} seconds. Counts begin with the start of the gateway.</p></footer>\n</body>\n</html>"

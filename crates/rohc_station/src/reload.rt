@@ -2,6 +2,7 @@
 
 ghost use Rattle.std.specs.Prelude.{◌≡◌, ◌↔◌, IsTrue};
 
+use crate::calls::keep_standing;
 use crate::counters::LinkCounters;
 use crate::station::Station;
 use indexmap::IndexMap;
@@ -382,6 +383,7 @@ impl Station {
         );
         self.links = links;
         self.counters = counters;
+        keep_standing(&mut self.by_call, &self.concentrator);
         Ok(told?)
     }
 }

@@ -41,7 +41,7 @@ pub struct Taken<'a> {
 ghost use Rattle.rohc_station.specs.Told.{refusal_of, refusal_in, told_of, told_unread, told_for};
 
 /// The refusal of an outcome, if it is one.
-fn refusal_of(outcome: Outcome) -> Option<Refusal>
+pub(crate) fn refusal_of(outcome: Outcome) -> Option<Refusal>
     ensures { result ≡ refusal_of outcome }
 {
     match outcome {

@@ -3,6 +3,7 @@
 ghost use Rattle.std.specs.Prelude.{◌≡◌, Some, None, IfSome, IfNone};
 ghost use Rattle.rohc_serve.specs.Datagram.{named_link, datagram_packet};
 
+use crate::calls::{CallCounts, count_call, keep_standing, key_of};
 use crate::counters::{LinkCounters, StationCounters, count_answer, count_failed_sends};
 use crate::reload::{counters_for, setting_of};
 use crate::sending::{Taken, answered, ports_of, unread};
@@ -24,6 +25,8 @@ pub struct Station {
     pub(crate) links: Links,
     /// The counts of each link that is there.
     pub(crate) counters: IndexMap<u16, LinkCounters>,
+    /// The counts of each call, as long as its context stands, by its key.
+    pub(crate) by_call: IndexMap<u32, CallCounts>,
     /// The counts over all links.
     pub(crate) totals: StationCounters,
 }
@@ -81,10 +84,23 @@ fn context_count(concentrator: &Concentrator, link: u16) -> usize
     }
 }
 
-ghost use Rattle.std.specs.Prelude.{length};
+ghost use Rattle.std.specs.Prelude.{length, IfOk};
+ghost use Rattle.rohc_concentrator.specs.Calls.{Reset, plain_answer};
+ghost use Rattle.rohc_concentrator.specs.RunsCall.{RunsCall};
+ghost use Rattle.rohc_concentrator.specs.Leaving.{HaveGone};
 ghost use Rattle.rohc_concentrator.specs.Tables.{setting_at, identifiers_at};
 ghost use Rattle.rohc_concentrator.specs.Bears.{borne, cid_in, header_on};
 ghost use Rattle.rohc_station.specs.Taking.{begins_call, call_in};
+
+/// Forgets all records of a link. Returns the number of records removed. The error is `NoLink`.
+fn reset_link(concentrator: &mut Concentrator, link: u16) -> Result<usize, NoLink>
+    ensures call { RunsCall concentrator.old link Reset (plain_answer result) concentrator.new }
+    ensures gone { IfOk result (λ count. HaveGone count concentrator.old concentrator.new link) }
+{
+    let count = context_count(concentrator, link);
+    concentrator.reset(link)?;
+    Ok(count)
+}
 
 /// The call of a packet: its link, and the CID that it bears there.
 fn call_on(concentrator: &Concentrator, link: u16, packet: &[u8]) -> Option<(u16, u16)>
@@ -97,7 +113,7 @@ fn call_on(concentrator: &Concentrator, link: u16, packet: &[u8]) -> Option<(u16
 }
 
 impl Station {
-    ghost use Rattle.std.specs.Prelude.{◌≡◌, ℕ, List, None, IfOk, IfErr};
+    ghost use Rattle.std.specs.Prelude.{◌≡◌, ℕ, List, None, IfOk, IfErr, option_map};
     ghost use Rattle.rohc_concentrator.specs.Calls.{plain_answer};
     ghost use Rattle.rohc_concentrator.specs.RunsCall.{Turn};
     ghost use Rattle.rohc_concentrator.specs.Leaving.{HaveGone};
@@ -109,8 +125,9 @@ impl Station {
     ghost use Rattle.rohc_station.specs.Timed.{timed_in};
     ghost use Rattle.rohc_station.specs.Told.{told_of};
     ghost use Rattle.rohc_station.specs.Counting.{KeepsCounts};
+    ghost use Rattle.rohc_station.specs.ByCall.{key_of};
     ghost use Rattle.rohc_station.specs.Reset.{Forgets};
-    ghost use Rattle.rohc_station.specs.Taking.{counters_at, dated, begins_call, call_in, timed_call_in, TakesPacket, TakesUnless, Takes, TakesKnown, IsRefusedUnread, FailsSends};
+    ghost use Rattle.rohc_station.specs.Taking.{counters_at, by_call_at, dated, begins_call, call_in, timed_call_in, TakesPacket, TakesUnless, Takes, TakesKnown, IsRefusedUnread, FailsSends};
 
     /// A station of this concentrator and these links, with nothing counted. The error is lack of memory.
     pub fn new(
@@ -121,6 +138,7 @@ impl Station {
         ensures concentrator { IfOk result (λ station. station.concentrator ≡ concentrator) }
         ensures links { IfOk result (λ station. station.links ≡ links) }
         ensures counters { IfOk result (λ station. (l : ℕ) → KeepsCounts None (entry_of l links.settings) (counters_at station l)) }
+        ensures by_call { IfOk result (λ station. (key : ℕ) → by_call_at station key ≡ None) }
         ensures datagrams { IfOk result (λ station. station.totals.datagrams ≡ 0) }
         ensures bad { IfOk result (λ station. station.totals.bad_datagrams ≡ 0) }
     {
@@ -129,6 +147,7 @@ impl Station {
             concentrator,
             links,
             counters,
+            by_call: IndexMap::new(alloc),
             totals: StationCounters::new(),
         })
     }
@@ -145,6 +164,13 @@ impl Station {
         ensures { result.now ≡ self.now.counters }
     {
         &self.counters
+    }
+
+    /// The counts of the call of a CID, if it has some.
+    pub fn counts_of(&self, link: u16, cid: u16) -> Option<&CallCounts>
+        ensures { option_map (λ c. c.now) result ≡ by_call_at self.now (key_of link cid) }
+    {
+        self.by_call.get(&key_of(link, cid))
     }
 
     /// The counts over all links.
@@ -171,14 +197,12 @@ impl Station {
         ensures forgets { Forgets self.old self.new link cid (plain_answer result) }
         ensures gone { IfOk result (λ count. HaveGone count self.old.concentrator self.new.concentrator link) }
     {
-        match cid {
+        let gone = match cid {
             Some(cid) => self.concentrator.forget(link, cid),
-            None => {
-                let count = context_count(&self.concentrator, link);
-                self.concentrator.reset(link)?;
-                Ok(count)
-            }
-        }
+            None => reset_link(&mut self.concentrator, link),
+        };
+        keep_standing(&mut self.by_call, &self.concentrator);
+        gone
     }
 
     /// Counts sends that failed, for the link whose number begins a datagram of either form. The count stays at
@@ -197,6 +221,7 @@ impl Station {
     {
         let answer = self.concentrator.arrive(link, moment, packet);
         count_answer(&mut self.counters, link, packet.len() as u64, &answer);
+        count_call(&mut self.by_call, &self.concentrator, link, moment, &answer);
         let ports = ports_of(&self.links, link);
         self.totals.add(ports.is_none());
         answered(ports, answer)

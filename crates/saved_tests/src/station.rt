@@ -153,6 +153,8 @@ fn saves_and_writes(rt: HostRuntime) {
     assert!(rt; text.as_slice() == line.as_bytes());
     let mut calls = Vec::new(rt.alloc());
     write_calls(rt.alloc(), &mut calls, &station, 4).expect(&rt, "it works");
+    let line =
+        "{\"link\":4,\"cid\":0,\"profile\":\"0x0001\",\"state\":\"full\",\"accepted\":1000,\"since\":1000,\"delivered\":1,\"lost\":0,\"late\":0,\"refused\":{}}\n";
     assert!(rt; calls.as_slice() == line.as_bytes());
     let mut metrics = Vec::new(rt.alloc());
     write_metrics(&mut metrics, &station, &GatewayFigures::default(), "1.0.0").expect(
@@ -201,7 +203,7 @@ fn shows_a_page(rt: HostRuntime) {
         "<p class=\"quiet\">Version 1.0.0, running for 3 min 11 s.</p>",
         "<tr><th scope=\"row\">4</th><td>1</td><td>0</td><td>0</td><td>1</td><td>0</td><td>0</td><td>42</td><td>41</td><td>none</td><td>0</td></tr>",
         "<tr><th scope=\"row\">5</th><td class=\"text\">NoContext</td>",
-        "<tr><th scope=\"row\">4/0</th><td class=\"text\">0x0001</td><td class=\"text\">Full Context</td><td>3 min 10 s</td></tr>",
+        "<tr><th scope=\"row\">4/0</th><td class=\"text\">0x0001</td><td class=\"text\">Full Context</td><td>3 min 10 s</td><td>1</td><td>0</td><td>0</td><td class=\"text\"></td></tr>",
         "<p>Not saved since the start.</p>",
     ] {
         assert!(rt; page.as_str().contains(part));

@@ -14,6 +14,7 @@ returns c =
         tells = search rules;
         counts = search rules;
         others = search rules;
+        counts_call = search rules;
         totals = search rules;
         links = search rules;
       },
