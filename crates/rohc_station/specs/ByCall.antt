@@ -1,4 +1,4 @@
--- What is counted for each call, as long as its context stands. Words: key_of; sn_in; order_of, ordered,
+-- What is counted for each call, as long as its context stands. Words: sn_in; order_of, ordered,
 -- with_sn; HasAnswer; IsBegun; CountsCall, CountsForCall; stands, KeepsStanding.
 use Rattle.std.specs.Prelude.{◌≡◌, ◌≢◌, ◌⊎◌, ℕ, ◌+◌, ◌-◌, ◌*◌, ◌/◌, ◌%◌, ◌^◌, ◌<◌, ◌==◌, length, get_or, min, Bool, true, false, nat_eq, nat_lt, if◌then◌else◌, Option, Some, None, is_some, slice_index}
 use Rattle.indexmap.specs.IndexMap.{get}
@@ -12,16 +12,13 @@ use Rattle.rohc_concentrator.specs.Tables.{record_at}
 use Rattle.rohc_concentrator.specs.Report.{Report, Arrived, OnlyFront}
 use Rattle.rohc_concentrator.specs.Report as reports
 use Rattle.rohc_links.specs.Limits.{counted}
+use Rattle.rohc_report.specs.Taken.{key_of}
 use Rattle.rohc_station.specs.Counting.{one_if}
 use Rattle.rohc_station.specs.Told.{refusal_of}
 use Rattle.rohc_station.specs.declared.calls.CallCounts.{CallCounts}
 use Rattle.rohc_station.specs.declared.calls.Sequence.{Sequence}
 use Rattle.rohc_station.specs.declared.calls.Order.{Order}
 use Rattle.rohc_station.specs.declared.calls.Order.TheVariants.{Follows, Again, Late, Restarts}
-
--- the key of a call in the table: its link, and then its CID
-abbrev pub key_of : ℕ → ℕ → ℕ
-key_of link cid = link * 65536 + cid
 
 -- The SN of a packet behind a rebuilt header of 40 octets: the third and fourth octet of its RTP header,
 -- which follows 20 octets of IPv4 and 8 of UDP (RFC 3550 5.1).

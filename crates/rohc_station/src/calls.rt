@@ -5,12 +5,13 @@ ghost use Rattle.indexmap.specs.IndexMap.{get};
 ghost use Rattle.rohc_context.specs.Response.{packet_in, response_of};
 ghost use Rattle.rohc_concentrator.specs.Report.{report_of};
 ghost use Rattle.rohc_station.specs.Counting.{one_if};
-ghost use Rattle.rohc_station.specs.ByCall.{refused_in, key_of, sn_in, order_of, is_delivered, more_for, HasAnswer, IsBegun, CountsForCall, stands, KeepsStanding};
+ghost use Rattle.rohc_station.specs.ByCall.{refused_in, sn_in, order_of, is_delivered, more_for, HasAnswer, IsBegun, CountsForCall, stands, KeepsStanding};
 
 use crate::sending::refusal_of;
 use indexmap::IndexMap;
 use rohc_concentrator::{Answer, Concentrator};
 use rohc_context::{Delivered, Outcome, Refusal, Reply};
+use rohc_report::key_of;
 
 /// The number of the first refusal that may be one of a call: `NoContext`.
 pub const FIRST_REFUSAL: u8 = 10;
@@ -50,13 +51,6 @@ pub enum Order {
     Late,
     /// It is the first, or the sender started again.
     Restarts,
-}
-
-/// The key of a call in a table.
-pub fn key_of(link: u16, cid: u16) -> u32
-    ensures { result ≡ key_of link cid }
-{
-    u32::from(link) * 65_536 + u32::from(cid)
 }
 
 /// The SN of a packet behind a rebuilt header; `None` if it has another head.

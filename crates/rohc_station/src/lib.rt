@@ -14,7 +14,7 @@ pub mod sending;
 pub mod station;
 pub mod timed;
 
-pub use calls::{CallCounts, FIRST_REFUSAL, Order, Sequence, key_of};
+pub use calls::{CallCounts, FIRST_REFUSAL, Order, Sequence};
 pub use counters::{LinkCounters, Octets, StationCounters};
 pub use lists::{write_calls, write_contexts};
 pub use metrics::{GatewayFigures, write_metrics};

@@ -3,7 +3,7 @@
 ghost use Rattle.std.specs.Prelude.{◌≡◌, Some, None, IfSome, IfNone};
 ghost use Rattle.rohc_serve.specs.Datagram.{named_link, datagram_packet};
 
-use crate::calls::{CallCounts, count_call, keep_standing, key_of};
+use crate::calls::{CallCounts, count_call, keep_standing};
 use crate::counters::{LinkCounters, StationCounters, count_answer, count_failed_sends};
 use crate::reload::{counters_for, setting_of};
 use crate::sending::{Taken, answered, ports_of, unread};
@@ -12,6 +12,7 @@ use indexmap::IndexMap;
 use rohc_concentrator::{Concentrator, LinkSetting, NoLink};
 use rohc_frame::cut;
 use rohc_links::Links;
+use rohc_report::key_of;
 use rohc_saved::{SaveFault, save};
 use std::alloc::{AllocError, Global};
 use std::io::Write;
@@ -125,7 +126,7 @@ impl Station {
     ghost use Rattle.rohc_station.specs.Timed.{timed_in};
     ghost use Rattle.rohc_station.specs.Told.{told_of};
     ghost use Rattle.rohc_station.specs.Counting.{KeepsCounts};
-    ghost use Rattle.rohc_station.specs.ByCall.{key_of};
+    ghost use Rattle.rohc_report.specs.Taken.{key_of};
     ghost use Rattle.rohc_station.specs.Reset.{Forgets};
     ghost use Rattle.rohc_station.specs.Taking.{counters_at, by_call_at, dated, begins_call, call_in, timed_call_in, TakesPacket, TakesUnless, Takes, TakesKnown, IsRefusedUnread, FailsSends};
 
