@@ -17,7 +17,7 @@ _rohctl() {
     totals) options+=' --json --prometheus --follow' ;;
     links) options+=' --json --new' ;;
     trace) options+=' --links' ;;
-    explain) options+=' --links --line --call --link --brief --json' ;;
+    explain) options+=' --links --line --call --link --large --brief --json' ;;
     diff) options+=' --json' ;;
     decompress) options+=' --links --link --vlan --port --padded --pcapng --stats --feedback' ;;
     plan) options+=' --damage --packet-ms --window --calls --split --links --json' ;;

@@ -20,6 +20,7 @@ complete -c rohctl -l root -r -F -n "__fish_seen_subcommand_from verify" -d 'The
 complete -c rohctl -l control -r -F -n "__fish_seen_subcommand_from $asking" -d 'The control socket of the gateway'
 complete -c rohctl -l link -x -n "__fish_seen_subcommand_from explain decompress script report reset contexts calls" -d 'The number of a link'
 complete -c rohctl -l cid -x -n "__fish_seen_subcommand_from reset" -d 'The CID of a context'
+complete -c rohctl -l large -n "__fish_seen_subcommand_from explain" -d 'Without --links: large CIDs'
 complete -c rohctl -l brief -n "__fish_seen_subcommand_from explain" -d 'Write one line per packet'
 complete -c rohctl -l line -x -n "__fish_seen_subcommand_from explain" -d 'Show only the packet in this line'
 complete -c rohctl -l call -x -n "__fish_seen_subcommand_from explain" -d 'Show only the packets of a call, LINK/CID'

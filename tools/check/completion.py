@@ -33,7 +33,7 @@ ROHCTL: tuple[Row, ...] = (
     ("--back --color --from --lines --link --other --pcapng --port --vlan", ("script", "--")),
     ("--color --feedback --link --links --padded --pcapng --port --stats --vlan", ("decompress", "--")),
     ("--color --link --links --output --port --vlan", ("report", "--")),
-    ("--brief --call --color --json --line --link --links", ("explain", "--")),
+    ("--brief --call --color --json --large --line --link --links", ("explain", "--")),
     ("--color --json", ("diff", "--")),
     ("--color --links", ("trace", "--")),
     ("--color --hosts --nginx --out", ("spread", "--")),

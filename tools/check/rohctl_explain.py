@@ -32,6 +32,19 @@ MOST_REQUESTS = 1000
 TELLING = re.compile(r"^answer: refused (\w+): (.*)\nusual cause: .* \((?:RFC \d+ [\d.]+|docs/\w+\.md[^()]*|man [\w.-]+)\)$", re.MULTILINE)
 # One packet in the forms in which people have it.
 FORMS = (("FC00B745AA",), ("fc00b745aa",), ("fc 00 b7 45 aa",), ("fc", "00", "b7", "45", "aa"), ("0xfc00b745aa",), ("0XFC", "0x00", "b745aa"), ("FC:00:B7:45:AA",))
+# What is assumed of a link without a links file: docs/OPERATING.md, Values to start with, and all CIDs of the kind.
+ASSUMED = {"mode": "O", "k1": 2, "n1": 3, "k2": 2, "n2": 3, "packet_ms": 20, "static_nack_ms": 1000, "idle_ms": 600_000}
+SMALL = {"cid": "small", "max_cid": 15} | ASSUMED
+LARGE = {"cid": "large", "max_cid": 16_383} | ASSUMED
+SAYS_SMALL = "assumed: small CIDs, max_cid 15, mode O, k1/n1 2/3, k2/n2 2/3, packet_ms 20 (if the link has large CIDs, give --large)\n\n"
+SAYS_LARGE = "assumed: large CIDs, max_cid 16383, mode O, k1/n1 2/3, k2/n2 2/3, packet_ms 20 (if the link has small CIDs, leave out --large)\n\n"
+# The IR and the UO-0 of docs/EXAMPLES.md's whole-ir and first-uo-0, and of CID 300 on a link of large CIDs, as in
+# links-come-and-go.
+CHAINS = "40110a0000010a0000021388138a00000001" "004000012000000090000001000000a0000980a0"
+FIRST, SECOND = f"fd012b{CHAINS}ab", "10ac"
+LARGE_FIRST, LARGE_SECOND = f"fd812c01cb{CHAINS}ab", "10812cac"
+TRY_LARGE = "note: with large CIDs this packet is read; give --large\n"
+TRY_SMALL = "note: with small CIDs this packet is read; leave out --large\n"
 # A call of a worked example that falls twice: k1 = 2 of n1 = 3 failures, then k2 = 2 of n2 = 3, and behind that a
 # STATIC-NACK at 70 and one at 1070, static_nack_ms being 1000. The IR has SN 1 and arrives at 0.
 FALLING = (
@@ -187,6 +200,32 @@ def check_forms(trial: Trial) -> None:
         trial.same(f"the packets {words}", "1 1 0 IR delivered\n2 1 0 Normal delivered\n", given.text, given.call)
 
 
+def check_unlinked(trial: Trial) -> None:
+    """Packets without a links file: the settings that are assumed, the forms of a packet, and when the other CID kind is proposed."""
+    for words in FORMS:
+        given = explain(trial, "--brief", *words)
+        trial.same(f"the packet {words}", "1 1 0 IR delivered\n", given.text, given.call)
+    for words, says, settings, cid in (
+        ((f"{FIRST},{SECOND}",), SAYS_SMALL, SMALL, 0),
+        (("--large", f"{LARGE_FIRST},", *re.findall("..", LARGE_SECOND)), SAYS_LARGE, LARGE, 300),
+    ):
+        told = explain(trial, *words)
+        trial.demand(told.status == 0 and told.text.startswith(says), f"what is assumed: {told.end()}, {told.text[:200]}", told.call)
+        trial.demand("packet 2: link 1 at 20, " in told.text and "note:" not in told.text, "the second packet isn't told of", told.call)
+        rows = [json.loads(line) for line in explain(trial, "--json", *words).text.splitlines()]
+        trial.same("the settings that are assumed", json.dumps(settings), json.dumps(rows[0]["assumed"]))
+        found = [(row["line"], row["cid"], row["format"], row["answer"]) for row in rows[1:]]
+        trial.same("the packets", str([(1, cid, "IR", "delivered"), (2, cid, "UO-0", "delivered")]), str(found))
+    for words, note in (((LARGE_FIRST,), TRY_LARGE), (("--large", FIRST), TRY_SMALL), (("e0fe",), "")):
+        told = explain(trial, *words)
+        trial.demand(told.status == 1 and told.text.endswith(f"accepted next: only an IR\n{note}\n"), f"the other CID kind: {told.end()}, {told.text[-200:]}", told.call)
+    told = explain(trial, "--brief", f"{LARGE_FIRST},{LARGE_SECOND}")
+    trial.same("packets with large CIDs read as small", "1 1 0 IR refused Profile\n2 1 0 unknown refused NoContext\n", told.text, told.call)
+    file = trial.write("fc00b745aa", "")
+    told = run(Call((trial.top / PROGRAM, "explain", "--brief", file.name), b"", {}, file.parent))
+    trial.same("digits that are a file's name too", "1 1 0 IR delivered\n", told.text, told.call)
+
+
 def check(trial: Trial) -> None:
     """All scripts, a brief telling, one line, one call, given packets, and hostile lines."""
     check_scripts(trial)
@@ -205,6 +244,7 @@ def check(trial: Trial) -> None:
     call = explain(trial, "--brief", "--links", LINKS, "--call", "1/0", PLAIN)
     trial.demand(call.text.count("\n") == 4, "not the four packets of the call", call.call)
     check_forms(trial)
+    check_unlinked(trial)
     for form in ((), ("--json",), ("--brief",)):
         hostile = explain(trial, *form, "--links", LINKS, given=HOSTILE)
         trial.demand(hostile.output.isascii() and b"\x1b" not in hostile.output and b"\x07" not in hostile.output, "an octet of the script is shown", hostile.call)

@@ -47,6 +47,9 @@ BEYOND = "a packet is too long for a capture, or its time too late (try --pcapng
 A_CAPTURE = "it is a capture; expected a script ('rohctl script' converts a capture into one)"
 NO_CAPTURE = "not a capture; expected pcap or pcapng"
 NO_LINK = "; 'rohctl links' lists those it has"
+NEEDS_LINKS = "a script needs --links; without it packets in hexadecimal digits are expected, as fc00b745aa"
+SCRIPT_LINKS = "the links file of a script"
+SINCE_LINKS = "expected the links file, since --link, --line or --call is given"
 NO_DIGEST = "not a digest and a path; expected a line as sha256sum writes it"
 BOTH_INPUTS = "expected a file, since the links file is standard input"
 ABSENT = "error: the following required arguments were not provided:\n  "
@@ -152,6 +155,19 @@ WRONG: tuple[tuple[tuple[str | bytes, ...], int, str], ...] = (
     ((*EXPLAIN, *LINK_1, "fc", "00", "b"), 2, f"rohctl: the packet has 5 digits; {PACKET}"),
     ((*EXPLAIN, *LINK_1, "fc", "00", "call.script"), 2, f"rohctl: the packet has 'l'; {PACKET}"),
     ((*EXPLAIN, "fc", "00"), 2, "rohctl: SCRIPT 00: expected one script; packets in hexadecimal digits need --link"),
+    (("explain",), 2, f"rohctl: --links is missing; expected {SCRIPT_LINKS}, or a packet in hexadecimal digits, as fc00b745aa"),
+    (("explain", "-"), 2, f"rohctl: standard input: {NEEDS_LINKS}"),
+    (("explain", "call.script"), 2, f"rohctl: call.script: {NEEDS_LINKS}"),
+    (("explain", "fc", "call.script"), 2, f"rohctl: call.script: {NEEDS_LINKS}"),
+    (("explain", "rohc.pcap"), 2, f"rohctl: rohc.pcap: {NEEDS_LINKS}"),
+    (("explain", "nothing"), 2, f"rohctl: the packet has 'n'; {PACKET}"),
+    (("explain", "\x1b[2J"), 2, f"rohctl: the packet has '\\u{{1b}}'; {PACKET}"),
+    (("explain", "fc0"), 2, f"rohctl: the packet has 3 digits; {PACKET}"),
+    (("explain", "--large", ""), 2, f"rohctl: the packet has no digits; {PACKET}"),
+    (("explain", "--line", "1", "45"), 2, f"rohctl: --links is missing; {SINCE_LINKS}"),
+    (("explain", "--call", "1/0", "45"), 2, f"rohctl: --links is missing; {SINCE_LINKS}"),
+    (("explain", *LINK_1, "45"), 2, f"rohctl: --links is missing; {SINCE_LINKS}"),
+    ((*EXPLAIN, "--large", "45"), 2, "error: the argument '--links <FILE>' cannot be used with '--large'"),
     ((*EXPLAIN, *LINK_1, ""), 2, f"rohctl: the packet has no digits; {PACKET}"),
     ((*EXPLAIN, "--link", "7", "45ab"), 6, f"rohctl: links.toml: nothing to show: it has no link 7{NO_LINK}"),
     ((*EXPLAIN, "--call", "7/99", "call.script"), 6, f"rohctl: links.toml: nothing to show: it has no link 7{NO_LINK}"),

@@ -14,10 +14,22 @@ pub enum Telling {
 /// Where the packets stand.
 #[derive(Drop)]
 pub enum Source<'a> {
-    /// In the script of this file; `-` is standard input.
-    Script(&'a str),
-    /// In this text, with commas between them; all are packets of the link.
-    Text { link: u16, packets: String },
+    /// In a script, with the links of another file; `-` is standard input.
+    Script {
+        links: &'a str,
+        path: &'a str,
+    },
+    /// In this text, with commas between them; all are packets of a link of this file.
+    Text {
+        links: &'a str,
+        link: u16,
+        packets: String,
+    },
+    /// In these words, with commas between packets; all are packets of a link with usual settings.
+    Words {
+        words: Vec<&'a str>,
+        large: bool,
+    },
 }
 
 /// Which packets of a script are told.
@@ -34,8 +46,6 @@ pub enum Which {
 /// What is asked of `explain`.
 #[derive(Drop)]
 pub struct Asked<'a> {
-    /// The links file.
-    pub links: &'a str,
     pub source: Source<'a>,
     pub which: Which,
     pub telling: Telling,

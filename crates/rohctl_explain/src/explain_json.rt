@@ -1,5 +1,6 @@
 //! A packet, explained as a JSON object. Every text in it is a name of ours.
 
+use crate::assumed::advice;
 use crate::expected::{Ahead, Expected, expected_of, failures};
 use crate::explain_text::{
     answer_name, format_name, profile_name, state_word, write_flow, write_number,
@@ -197,5 +198,8 @@ pub(crate) fn write_object<W: Write>(
     write_expected(out, explained)?;
     write_answer(out, explained)?;
     write_view(out, "after", explained, explained.after.as_ref())?;
+    if let Some(size) = explained.better {
+        write!(out, ",\"note\":\"{}\"", advice(size))?;
+    }
     writeln!(out, "}}")
 }

@@ -1,5 +1,6 @@
 //! A packet, explained for a reader.
 
+use crate::assumed::advice;
 use crate::expected::{Ahead, Expected, expected_of, failures};
 use crate::held::{profile_in, sn_in, state_in};
 use crate::packet::{Explained, Got, counts_after};
@@ -351,6 +352,8 @@ pub enum Place {
     Line(u64),
     /// In this frame of a capture.
     Frame(u64),
+    /// At this place among the packets of the command line, from 1 on.
+    Packet(u64),
 }
 
 /// Writes where a packet stands.
@@ -358,6 +361,7 @@ fn write_place<W: Write>(out: &mut W, at: Place) -> io::Result<()> {
     match at {
         Place::Line(number) => write!(out, "line {number}"),
         Place::Frame(number) => write!(out, "frame {number}"),
+        Place::Packet(number) => write!(out, "packet {number}"),
     }
 }
 
@@ -436,7 +440,11 @@ fn write_after<W: Write>(out: &mut W, explained: &Explained) -> io::Result<()> {
     write_answer(out, explained)?;
     write_view(out, "after", explained, explained.after.as_ref())?;
     write_call(out, explained)?;
-    writeln!(out, "accepted next: {}", taken_next(explained))
+    writeln!(out, "accepted next: {}", taken_next(explained))?;
+    match explained.better {
+        Some(size) => writeln!(out, "note: {}", advice(size)),
+        None => Ok(()),
+    }
 }
 
 /// Writes all that is known of a packet.

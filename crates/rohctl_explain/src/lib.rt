@@ -2,6 +2,7 @@
 #![tactic(auto)]
 
 mod asked;
+mod assumed;
 mod expected;
 mod explain;
 mod explain_json;

@@ -6,7 +6,7 @@ use rohc_context::{Delivered, Outcome, ReferenceView, Refusal, Reply, Settings, 
 use rohc_explain::{PacketFields, PacketKind, Terms, packet_fields};
 use rohc_feedback::Element;
 use rohc_forms::{FormKind, read_form};
-use rohc_frame::{Elements, Forward, HeadKind, cut};
+use rohc_frame::{CidKind, Elements, Forward, HeadKind, cut};
 use rohc_header::Static;
 use rohctl_ground::Stop;
 use std::alloc::Global;
@@ -44,6 +44,8 @@ pub struct Explained {
     /// How many feedback elements the packet has for this side's compressor.
     pub relayed: u64,
     pub after: Option<View>,
+    /// The CID kind with which the packet comes farther, if its link is only assumed and has the other kind.
+    pub better: Option<CidKind>,
 }
 
 impl Explained {
@@ -232,6 +234,7 @@ pub fn explain_packet(
         feedback: None,
         relayed: 0,
         after: None,
+        better: None,
     };
     explained.take_packet(alloc, concentrator, octets)?;
     explained.take_answer(concentrator.arrive(link, moment, octets));

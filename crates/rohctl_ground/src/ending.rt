@@ -29,6 +29,8 @@ pub enum Misuse<'a> {
     },
     /// A packet that was given isn't one.
     Packet(HexFault),
+    /// This file was given where only packets are read.
+    Script(&'a str),
     /// A word can't be read as text.
     NotUtf8,
     /// This output would overwrite an input.
@@ -213,6 +215,11 @@ impl fmt::Display for Misuse<'_> {
                 "{word} is missing; expected {expected}"
             ),
             Misuse::Packet(fault) => write_packet(f, *fault),
+            Misuse::Script(path) => write!(
+                f,
+                "{}: a script needs --links; without it packets in hexadecimal digits are expected, as fc00b745aa",
+                input_name(path)
+            ),
             Misuse::NotUtf8 => f.write_str(
                 "a word of the command line is not UTF-8; expected UTF-8, also in file names",
             ),

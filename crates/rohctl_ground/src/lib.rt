@@ -8,6 +8,7 @@ mod hex_word;
 mod lines;
 mod links;
 mod streams;
+mod usual;
 
 pub use apart::{keep_apart, overwritten};
 pub use ending::{
@@ -20,3 +21,4 @@ pub use streams::{
     Screen, Source, Target, Told, Written, is_capture_front, make_target, open_file, open_source,
     target_of,
 };
+pub use usual::usual_settings;

@@ -116,19 +116,28 @@ pub(crate) fn explain_words<'a>(given: Given<'_>) -> Result<Command<'a>, AllocEr
         "explain",
         "Decode each packet: its fields, context, attempts, result and likely cause",
         &[
-            valued("links", "FILE", "The links file").required(),
+            valued(
+                "links",
+                "FILE",
+                "The links file; without it the words are packets on a link with usual settings",
+            ),
             arguments(
                 "SCRIPT",
-                "The script; - or none is standard input; with --link packets in hexadecimal digits",
+                "The script; - or none is standard input; with --link, or without --links, packets in hexadecimal digits, as fc00b745aa or fc 00 b7 45 aa, with commas between them",
             ),
             valued("line", "N", "Show only the packet in this line").without("call"),
             valued("call", "L/C", "Show only the packets of this link and CID"),
             valued(
                 "link",
                 "L",
-                "The link of packets given in hexadecimal digits, as fc 00 b7 45 aa",
+                "The link of packets given in hexadecimal digits",
             )
             .without("line"),
+            flag(
+                "large",
+                "Without --links: the link has large CIDs, and not small ones",
+            )
+            .without("links"),
             flag("brief", "Write one line per packet"),
             flag("json", "Write JSON, one object per line").without("brief"),
         ],
