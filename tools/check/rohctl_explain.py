@@ -56,8 +56,26 @@ FALLING = (
     ("1070 11ac", "1070 ms after the last accepted packet, only an IR; a STATIC-NACK may be sent now"),
     ("2000 11ac", "2000 ms after the last accepted packet, only an IR; no STATIC-NACK for 70 ms"),
 )
-# The feedback that the packets of this call make due, the IR's first.
-FEEDBACK = ("5 octets, ACK, SN 1", "5 octets, NACK, SN 1", "6 octets, STATIC-NACK", "6 octets, STATIC-NACK")
+# The feedback that the packets of this call make due, the IR's first: docs/EXAMPLES.md, whole-ir, fall-to-static and
+# fall-to-no-context.
+ACK_1 = "5 octets, ACK, SN 1, CID 0, mode O, options CRC (right): f420011139"
+STATIC_NACK = "6 octets, STATIC-NACK, CID 0, mode O, options SN-NOT-VALID and CRC (right): f5a00030110c"
+FEEDBACK = (ACK_1, "5 octets, NACK, SN 1, CID 0, mode O, options CRC (right): f46001110d", STATIC_NACK, STATIC_NACK)
+# Elements in packets, in front of an IR of profile 0x0000 whose own FEEDBACK-1 is f100. Those of large CIDs are of
+# links-come-and-go (ACK) and of examples/two-links.answers (FEEDBACK-1). Mode U (RFC 3095 5.7.6.1), a CRC that isn't the one of
+# fall-to-static, an element in the form with a Size octet, and FEEDBACK-1 of another octet are not what is written.
+UNKNOWN = "unknown: neither FEEDBACK-1 with 00 nor FEEDBACK-2 of O mode with the CRC option"
+ELEMENTS = (
+    ("f420011139", "", ACK_1),
+    ("f46001110e", "", "5 octets, NACK, SN 1, CID 0, mode O, options CRC (wrong; expected 0d): f46001110e"),
+    ("f5a00030110c", "", STATIC_NACK),
+    ("f2e100", "", "3 octets, FEEDBACK-1, CID 1: f2e100"),
+    ("f105", "", f"2 octets, {UNKNOWN}: f105"),
+    ("f410011139", "", f"5 octets, {UNKNOWN}: f410011139"),
+    ("f00420011139", "", f"6 octets, {UNKNOWN}: f00420011139"),
+    ("f6812c2001117f", "--large", "7 octets, ACK, SN 1, CID 300, mode O, options CRC (right): f6812c2001117f"),
+    ("f3812c00", "--large", "4 octets, FEEDBACK-1, CID 300: f3812c00"),
+)
 # A context of profile 0x0000 that has expired as its second packet comes, by the link's idle_ms of 5,000.
 EXPIRED = b"arrive 4 0 fc00b745aa\narrive 4 5000 45aa\n"
 HOSTILE = b"\x1b[2J\narrive 1 0 \x1b[31m\narrive 1 0 fc00b745aa\x07\narrive 1 0 fc00b745aa\n\xff\n"
@@ -226,6 +244,40 @@ def check_unlinked(trial: Trial) -> None:
     trial.same("digits that are a file's name too", "1 1 0 IR delivered\n", told.text, told.call)
 
 
+def as_object(text: str) -> dict:
+    """The object for an element of which this is told."""
+    told = re.fullmatch(
+        r"\d+ octets, (?P<kind>[A-Z0-9-]+)(?:, SN (?P<sn>\d+))?, CID (?P<cid>\d+)(?P<more>, mode O, options (?P<options>.*) \((?P<crc>\w+)(?:; expected (?P<wanted>\w\w))?\))?: (?P<octets>\w+)",
+        text,
+    )
+    if told is None:
+        return {"octets": text.split(": ")[-1], "kind": None}
+    found: dict = {"octets": told["octets"], "kind": told["kind"], "cid": int(told["cid"])}
+    if told["sn"]:
+        found["sn"] = int(told["sn"])
+    if told["more"]:
+        found |= {"mode": "O", "options": told["options"].split(" and "), "crc": told["crc"]}
+    if told["wanted"]:
+        found["expected_crc"] = int(told["wanted"], 16)
+    return found
+
+
+def check_elements(trial: Trial) -> None:
+    """Feedback in packets, by itself, before a header, twice, and behind padding; and the feedback that is sent."""
+    for octets, option, wanted in ELEMENTS:
+        for packet, count in ((octets, 1), (f"{octets}fc00b745aa", 1), (f"e0{octets}e0{octets}", 2)):
+            words = (*option.split(), packet)
+            told = explain(trial, *words)
+            trial.same(f"the elements of {packet}", "\n".join([wanted] * count), "\n".join(re.findall(r"^feedback in the packet: (.*)$", told.text, re.MULTILINE)), told.call)
+            row = json.loads(explain(trial, "--json", *words).text.splitlines()[-1])
+            trial.same(f"the objects of {packet}", json.dumps([as_object(wanted)] * count), json.dumps(row["elements"]))
+    rows = [json.loads(line) for line in explain(trial, "--json", "fc00b745aa,fc00b745aa,45ab").text.splitlines()]
+    sent = {"octets": "f100", "kind": "FEEDBACK-1", "cid": 0}
+    trial.same("the feedback that is sent", json.dumps([sent, sent, None]), json.dumps([row.get("sent") for row in rows[1:]]))
+    cut = explain(trial, "f42001")
+    trial.same("an element that is cut off", f"3 octets, {UNKNOWN}: f42001", "\n".join(re.findall(r"^feedback in the packet: (.*)$", cut.text, re.MULTILINE)), cut.call)
+
+
 def check(trial: Trial) -> None:
     """All scripts, a brief telling, one line, one call, given packets, and hostile lines."""
     check_scripts(trial)
@@ -245,6 +297,7 @@ def check(trial: Trial) -> None:
     trial.demand(call.text.count("\n") == 4, "not the four packets of the call", call.call)
     check_forms(trial)
     check_unlinked(trial)
+    check_elements(trial)
     for form in ((), ("--json",), ("--brief",)):
         hostile = explain(trial, *form, "--links", LINKS, given=HOSTILE)
         trial.demand(hostile.output.isascii() and b"\x1b" not in hostile.output and b"\x07" not in hostile.output, "an octet of the script is shown", hostile.call)

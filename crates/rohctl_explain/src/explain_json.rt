@@ -1,6 +1,8 @@
 //! A packet, explained as a JSON object. Every text in it is a name of ours.
 
 use crate::assumed::advice;
+use crate::element::{ToldElement, meaning_of};
+use crate::element_text::write_element_json;
 use crate::expected::{Ahead, Expected, expected_of, failures};
 use crate::explain_text::{
     answer_name, format_name, profile_name, state_word, write_flow, write_number,
@@ -158,11 +160,25 @@ fn write_answer<W: Write>(out: &mut W, explained: &Explained) -> io::Result<()> 
         write_tries(out, tries.as_slice())?;
     }
     write_got(out, explained.got)?;
-    let feedback = match &explained.feedback {
-        Some(element) => element.len(),
-        None => 0,
+    let (Some(element), Some(settings)) = (&explained.feedback, &explained.settings) else {
+        return write!(out, ",\"feedback\":0");
     };
-    write!(out, ",\"feedback\":{feedback}")
+    write!(out, ",\"feedback\":{},\"sent\":", element.len())?;
+    let meaning = meaning_of(settings.size, element.as_slice());
+    write_element_json(out, element.as_slice(), &meaning)
+}
+
+/// Writes the feedback elements of a packet.
+fn write_elements<W: Write>(out: &mut W, elements: &[ToldElement]) -> io::Result<()> {
+    if elements.is_empty() {
+        return Ok(());
+    }
+    write!(out, ",\"elements\":[")?;
+    for (place, element) in elements.iter().enumerate() {
+        write_comma(out, place)?;
+        write_element_json(out, element.octets.as_slice(), &element.meaning)?;
+    }
+    write!(out, "]")
 }
 
 /// Writes where a packet stands, and its format.
@@ -194,6 +210,7 @@ pub(crate) fn write_object<W: Write>(
     if let Some(told) = &explained.told {
         write_fields(out, told)?;
     }
+    write_elements(out, explained.elements.as_slice())?;
     write_view(out, "before", explained, explained.before.as_ref())?;
     write_expected(out, explained)?;
     write_answer(out, explained)?;

@@ -1,6 +1,7 @@
 //! A packet, explained for a reader.
 
 use crate::assumed::advice;
+use crate::element_text::{write_elements, write_sent};
 use crate::expected::{Ahead, Expected, expected_of, failures};
 use crate::held::{profile_in, sn_in, state_in};
 use crate::packet::{Explained, Got, counts_after};
@@ -8,7 +9,6 @@ use rohc_context::{
     Against, ContextState, NotMade, Profile, Settings, StateView, Try, View, Window,
 };
 use rohc_explain::{Field, FieldName, PacketFields, PacketKind, cause_of};
-use rohc_feedback::{Word, read};
 use rohc_forms::FormKind;
 use rohc_header::Static;
 use std::io;
@@ -320,29 +320,12 @@ fn write_answer<W: Write>(out: &mut W, explained: &Explained) -> io::Result<()> 
     write_feedback(out, explained)
 }
 
-/// The name of a kind of feedback.
-fn word_name(word: Word) -> &'static str {
-    match word {
-        Word::Ack => "ACK",
-        Word::Nack => "NACK",
-        Word::StaticNack => "STATIC-NACK",
-        Word::Plain => "FEEDBACK-1",
-    }
-}
-
-/// Writes the feedback that a packet made due: how long it is, its kind, and the low 12 bits of the SN in it.
+/// Writes the feedback that a packet made due.
 fn write_feedback<W: Write>(out: &mut W, explained: &Explained) -> io::Result<()> {
-    let (Some(element), Some(settings)) = (&explained.feedback, &explained.settings) else {
-        return Ok(());
-    };
-    write!(out, "feedback: {} octets", element.len())?;
-    if let Some(reading) = read(settings.size, element.as_slice()) {
-        write!(out, ", {}", word_name(reading.word))?;
-        if let Some(sn) = reading.sn {
-            write!(out, ", SN {sn}")?;
-        }
+    match (&explained.feedback, &explained.settings) {
+        (Some(element), Some(settings)) => write_sent(out, settings.size, element),
+        _ => Ok(()),
     }
-    writeln!(out, "")
 }
 
 /// Where a packet stands.
@@ -404,6 +387,7 @@ fn write_before<W: Write>(out: &mut W, explained: &Explained) -> io::Result<()> 
     if let Some(told) = &explained.told {
         write_fields(out, told)?;
     }
+    write_elements(out, explained.elements.as_slice())?;
     write_view(out, "before", explained, explained.before.as_ref())?;
     write_expected(out, explained)
 }

@@ -3,6 +3,8 @@
 
 mod asked;
 mod assumed;
+mod element;
+mod element_text;
 mod expected;
 mod explain;
 mod explain_json;
@@ -11,6 +13,7 @@ mod held;
 mod packet;
 
 pub use asked::{Asked, Source, Telling, Which};
+pub use element::{Meaning, ToldElement};
 pub use explain::run_explain;
 pub use explain_text::{Place, write_whole};
 pub use held::state_in;

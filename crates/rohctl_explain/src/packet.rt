@@ -1,5 +1,6 @@
 //! One packet, explained: its fields, what its context held and makes of it, and the answer of the step.
 
+use crate::element::{ToldElement, elements_in};
 use crate::held::{fixed_in, reference_in, sn_in};
 use rohc_concentrator::{Answer, Concentrator, LinkRecords};
 use rohc_context::{Delivered, Outcome, ReferenceView, Refusal, Reply, Settings, Try, View};
@@ -41,6 +42,8 @@ pub struct Explained {
     pub sn: Option<u16>,
     /// The feedback that the compressor gets.
     pub feedback: Option<Element>,
+    /// The feedback elements in the packet.
+    pub elements: Vec<ToldElement>,
     /// How many feedback elements the packet has for this side's compressor.
     pub relayed: u64,
     pub after: Option<View>,
@@ -198,6 +201,7 @@ impl Explained {
             terms = self.take_header(records, forward);
         }
         let told = packet_fields(alloc, size, octets, terms).map_err(|_| Stop::Memory)?;
+        self.elements = elements_in(alloc, size, octets, &told).map_err(|_| Stop::Memory)?;
         self.told = Some(told);
         Ok(())
     }
@@ -232,6 +236,7 @@ pub fn explain_packet(
         got: Got::OnlyFront,
         sn: None,
         feedback: None,
+        elements: Vec::new(alloc),
         relayed: 0,
         after: None,
         better: None,
