@@ -45,6 +45,35 @@ FIRST, SECOND = f"fd012b{CHAINS}ab", "10ac"
 LARGE_FIRST, LARGE_SECOND = f"fd812c01cb{CHAINS}ab", "10812cac"
 TRY_LARGE = "note: with large CIDs this packet is read; give --large\n"
 TRY_SMALL = "note: with small CIDs this packet is read; leave out --large\n"
+# The fields of an IPv4 header without options (RFC 791 3.1), of UDP (RFC 768) and of RTP without contributing sources
+# (RFC 3550 5.1), with how many bits each has.
+HEADER = (
+    ("Version", 4), ("IHL", 4), ("TOS", 8), ("total length", 16), ("IP-ID", 16), ("reserved", 1), ("DF", 1), ("MF", 1),
+    ("fragment offset", 13), ("TTL", 8), ("Protocol", 8), ("header checksum", 16), ("source address", 32),
+    ("destination address", 32), ("source port", 16), ("destination port", 16), ("UDP length", 16), ("UDP checksum", 16),
+    ("Version", 2), ("P", 1), ("X", 1), ("CC", 4), ("M", 1), ("PT", 7), ("SN", 16), ("TS", 32), ("SSRC", 32),
+)
+# Those that belong to one packet, or follow from the others.
+NOT_KEPT = ("total length", "header checksum", "UDP length", "UDP checksum", "M")
+# docs/EXAMPLES.md, second-reference: the headers of SN 1, 2, 13 and 4, each after the one before it. The last is delivered
+# by the third attempt. What it has against the reference of SN 13 is marked.
+REPAIRED = (FIRST, SECOND, "6cad", "20ae")
+REBUILT = (
+    ("packet: 45000029000100004011" "66c10a0000010a0000021388138a0015000080000001000000a000000001 ab", ()),
+    ("packet: 45000029000200004011" "66c00a0000010a0000021388138a00150000800000020000014000000001 ac",
+     ("IP-ID 2 was 1", "SN 2 was 1", "TS 320 was 160")),
+    ("packet: 45000029000d00004011" "66b50a0000010a0000021388138a001500008000000d0000082000000001 ad",
+     ("IP-ID 13 was 2", "SN 13 was 2", "TS 2080 was 320")),
+    ("packet: 45000029000400004011" "66be0a0000010a0000021388138a00150000800000040000028000000001 ae",
+     ("IP-ID 4 was 13", "SN 4 was 13", "TS 640 was 2080")),
+)
+# Of the first header the rows of the fields, without their places.
+FIRST_ROWS = (
+    "Version 4", "IHL 5", "TOS 0", "total length 41", "IP-ID 1", "reserved 0", "DF 0", "MF 0", "fragment offset 0", "TTL 64",
+    "Protocol 17", "header checksum 0x66c1", "source address 10.0.0.1", "destination address 10.0.0.2", "source port 5000",
+    "destination port 5002", "UDP length 21", "UDP checksum 0x0000", "Version 2", "P 0", "X 0", "CC 0", "M 0", "PT 0", "SN 1",
+    "TS 160", "SSRC 0x00000001",
+)
 # A call of a worked example that falls twice: k1 = 2 of n1 = 3 failures, then k2 = 2 of n2 = 3, and behind that a
 # STATIC-NACK at 70 and one at 1070, static_nack_ms being 1000. The IR has SN 1 and arrives at 0.
 FALLING = (
@@ -141,6 +170,78 @@ def check_scripts(trial: Trial) -> None:
             octets = b"" if digits == "-" else bytes.fromhex(digits)
             trial.demand(numbers_stand(row, octets), f"{script.name}: line {row['line']}: a field in another place", ended.call)
             trial.demand(as_expected(row), f"{script.name}: line {row['line']}: not as was expected", ended.call)
+
+
+def header_of(head: bytes) -> list[tuple[str, int]]:
+    """The fields of a header with their numbers."""
+    bits, found = "".join(f"{octet:08b}" for octet in head), []
+    for name, count in HEADER:
+        found.append((name, int(bits[:count], 2)))
+        bits = bits[count:]
+    return found
+
+
+def changed_since(head: bytes, before: bytes | None) -> list[int | None]:
+    """What the fields that a context keeps were, where they have changed."""
+    if before is None:
+        return [None] * len(HEADER)
+    pairs = zip(header_of(head), header_of(before))
+    return [old if old != new and name not in NOT_KEPT else None for (name, new), (_, old) in pairs]
+
+
+def check_rebuilt(trial: Trial) -> None:
+    """The packets that are delivered in all scripts: their octets, the fields of their headers, and what changed."""
+    changes = 0
+    for script, links in scripts(trial):
+        rows = [json.loads(line) for line in explain(trial, "--json", "--links", links, script).text.splitlines()]
+        delivered = [row for row in rows if row["answer"] == "delivered"]
+        words = [line.split() for line in script.with_suffix(".answers").read_text(encoding="ascii").splitlines()]
+        wanted = ["" if digits == "-" else digits for _, _, kind, *more in words if kind == "ip" for digits in more]
+        trial.demand(len(wanted) == len(delivered), f"{script.name}: {len(delivered)} packets; wanted {len(wanted)}")
+        last: dict[tuple[int, int], bytes] = {}
+        for row, digits in zip(delivered, wanted):
+            packet, head = row["packet"], bytes.fromhex(row["packet"]["head"])
+            octets = bytes.fromhex(digits)
+            whole = (head + bytes.fromhex(packet["payload"]), packet["more"])
+            trial.demand(whole == (octets[: len(head) + 16], max(len(octets) - len(head) - 16, 0)), f"{script.name}: line {row['line']}: other octets")
+            if row["after"]["profile"] == "0x0000":
+                trial.demand(not packet["fields"] and len(head) < 2, f"{script.name}: line {row['line']}: fields of a packet of profile 0x0000")
+                continue
+            fields = packet["fields"]
+            trial.demand(numbers_stand({"fields": fields, "header_bits": 320}, head), f"{script.name}: line {row['line']}: a field in another place")
+            named = [(field["name"], field["bits"]) for field in fields]
+            trial.demand(named == list(HEADER), f"{script.name}: line {row['line']}: other fields: {named}")
+            call, before = (row["link"], row["cid"]), row["before"]
+            known = last.get(call)
+            if before is None or before["state"] == "no" or (known and before.get("sn") == int.from_bytes(known[30:32])):
+                was = [field.get("was") for field in fields]
+                counts = row["expected"] and row["expected"]["counts"]
+                held = changed_since(head, known if counts and before["state"] != "no" else None)
+                trial.demand(was == held, f"{script.name}: line {row['line']}: what changed: {was}; wanted {held}")
+                changes += sum(number is not None for number in was)
+            # What the extension 3 of a UO-1-ID gives is for one packet, and no part of the reference.
+            if row["format"] == "UO-1-ID":
+                last.pop(call, None)
+            else:
+                last[call] = head
+    trial.demand(changes > 500, f"{changes} changes; wanted more than 500")
+
+
+def check_changes(trial: Trial) -> None:
+    """The packets of a call and their headers, as a reader sees them."""
+    told = explain(trial, ",".join(REPAIRED))
+    blocks = [re.sub(" +", " ", block) for block in told.text.split("\n\n")[1:-1]]
+    trial.demand(len(blocks) == len(REBUILT), f"{len(blocks)} packets", told.call)
+    for block, (packet, changes) in zip(blocks, REBUILT):
+        rows = [line for line in block.splitlines() if packet in line]
+        trial.same("a rebuilt packet", packet, rows[0] if rows else "none", told.call)
+        found = re.findall(r"^ bit \d+ \d+ bits (.* was .*)$", block, re.MULTILINE)
+        trial.same("what changed", "\n".join(changes), "\n".join(found), told.call)
+    behind = blocks[0].split("\npacket: ")[1]
+    trial.same("the rows of a header", "\n".join(FIRST_ROWS), "\n".join(re.findall(r"^ bit \d+ \d+ bits (.*)$", behind, re.MULTILINE)), told.call)
+    for payload, wanted in (("45" * 16, "45" * 16), ("45" * 17, f"{'45' * 16} and 1 more octet"), ("45" * 40, f"{'45' * 16} and 24 more octets")):
+        told = explain(trial, f"fc00b7{payload}")
+        trial.demand(f"\npacket: {wanted}\n" in told.text, f"a packet of profile 0x0000: {told.text}", told.call)
 
 
 def sentences(top: Path) -> dict[str, str]:
@@ -298,6 +399,8 @@ def check(trial: Trial) -> None:
     check_forms(trial)
     check_unlinked(trial)
     check_elements(trial)
+    check_rebuilt(trial)
+    check_changes(trial)
     for form in ((), ("--json",), ("--brief",)):
         hostile = explain(trial, *form, "--links", LINKS, given=HOSTILE)
         trial.demand(hostile.output.isascii() and b"\x1b" not in hostile.output and b"\x07" not in hostile.output, "an octet of the script is shown", hostile.call)

@@ -1,7 +1,7 @@
 -- The names of fields, as the RFCs' pictures have them. Words: name_of.
 use Rattle.std.specs.Prelude.{ℕ, List, codes}
 use Rattle.rohc_explain.specs.declared.field.FieldName.{FieldName}
-use Rattle.rohc_explain.specs.declared.field.FieldName.TheVariants.{Padding, FeedbackType, Code, Size, FeedbackData, AddCid, Cid, Length, Format, TypeOctet, D, Profile, Crc, Sn, Ts, IpId, M, X, S, RTs, Tsc, I, Ip, Rtp, TosFlag, TtlFlag, Df, Pr, Ipx, Nbo, Rnd, Ip2, Tos, Ttl, Protocol, Mode, RPt, RX, Csrc, Tss, Tis, P, Pt, TsStride, TimeStride, UdpSum, Version, Reserved, Source, Destination, SourcePort, DestinationPort, Ssrc, ExtensionHeaders, Cc, CsrcList}
+use Rattle.rohc_explain.specs.declared.field.FieldName.TheVariants.{Padding, FeedbackType, Code, Size, FeedbackData, AddCid, Cid, Length, Format, TypeOctet, D, Profile, Crc, Sn, Ts, IpId, M, X, S, RTs, Tsc, I, Ip, Rtp, TosFlag, TtlFlag, Df, Pr, Ipx, Nbo, Rnd, Ip2, Tos, Ttl, Protocol, Mode, RPt, RX, Csrc, Tss, Tis, P, Pt, TsStride, TimeStride, UdpSum, Version, Reserved, Source, Destination, SourcePort, DestinationPort, Ssrc, ExtensionHeaders, Cc, CsrcList, HeaderLength, TotalLength, Mf, FragmentOffset, HeaderSum, UdpLength}
 
 abbrev pub name_of : FieldName → List ℕ
 name_of Padding = codes "padding"
@@ -60,3 +60,9 @@ name_of Ssrc = codes "SSRC"
 name_of ExtensionHeaders = codes "extension headers"
 name_of Cc = codes "CC"
 name_of CsrcList = codes "CSRC list"
+name_of HeaderLength = codes "IHL"
+name_of TotalLength = codes "total length"
+name_of Mf = codes "MF"
+name_of FragmentOffset = codes "fragment offset"
+name_of HeaderSum = codes "header checksum"
+name_of UdpLength = codes "UDP length"

@@ -87,6 +87,18 @@ pub enum FieldName {
     Cc,
     /// The list of contributing sources.
     CsrcList,
+    /// The length of the IPv4 header, in words of 32 bits.
+    HeaderLength,
+    /// The length of the IPv4 packet.
+    TotalLength,
+    /// IPv4's flag More Fragments.
+    Mf,
+    /// IPv4's Fragment Offset.
+    FragmentOffset,
+    /// IPv4's header checksum.
+    HeaderSum,
+    /// The length of the UDP datagram.
+    UdpLength,
 }
 
 impl FieldName {
@@ -151,6 +163,12 @@ impl FieldName {
             FieldName::ExtensionHeaders => "extension headers",
             FieldName::Cc => "CC",
             FieldName::CsrcList => "CSRC list",
+            FieldName::HeaderLength => "IHL",
+            FieldName::TotalLength => "total length",
+            FieldName::Mf => "MF",
+            FieldName::FragmentOffset => "fragment offset",
+            FieldName::HeaderSum => "header checksum",
+            FieldName::UdpLength => "UDP length",
         }
     }
 }

@@ -9,9 +9,11 @@ mod chains;
 mod extension;
 mod field;
 mod front;
+mod header;
 mod packet;
 mod telling;
 
 pub use cause::{Cause, cause_of};
 pub use field::{Field, FieldName};
+pub use header::{HeaderFields, header_fields};
 pub use packet::{PacketFields, PacketKind, Terms, packet_fields};

@@ -4,11 +4,11 @@ use crate::assumed::advice;
 use crate::element::{ToldElement, meaning_of};
 use crate::element_text::write_element_json;
 use crate::expected::{Ahead, Expected, expected_of, failures};
-use crate::explain_text::{
-    answer_name, format_name, profile_name, state_word, write_flow, write_number,
-};
+use crate::explain_text::{answer_name, format_name, profile_name, state_word, write_flow};
+use crate::field_text::write_number;
 use crate::held::{profile_in, sn_in, state_in};
 use crate::packet::{Explained, Got};
+use crate::rebuilt_text::write_rebuilt_json;
 use rohc_context::{Settings, StateView, Try, View};
 use rohc_explain::{Field, PacketFields, cause_of};
 use std::io;
@@ -160,6 +160,9 @@ fn write_answer<W: Write>(out: &mut W, explained: &Explained) -> io::Result<()> 
         write_tries(out, tries.as_slice())?;
     }
     write_got(out, explained.got)?;
+    if let Some(packet) = &explained.packet {
+        write_rebuilt_json(out, packet)?;
+    }
     let (Some(element), Some(settings)) = (&explained.feedback, &explained.settings) else {
         return write!(out, ",\"feedback\":0");
     };

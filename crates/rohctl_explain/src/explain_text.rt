@@ -3,12 +3,14 @@
 use crate::assumed::advice;
 use crate::element_text::{write_elements, write_sent};
 use crate::expected::{Ahead, Expected, expected_of, failures};
+use crate::field_text::write_field;
 use crate::held::{profile_in, sn_in, state_in};
 use crate::packet::{Explained, Got, counts_after};
+use crate::rebuilt_text::write_rebuilt;
 use rohc_context::{
     Against, ContextState, NotMade, Profile, Settings, StateView, Try, View, Window,
 };
-use rohc_explain::{Field, FieldName, PacketFields, PacketKind, cause_of};
+use rohc_explain::{PacketFields, PacketKind, cause_of};
 use rohc_forms::FormKind;
 use rohc_header::Static;
 use std::io;
@@ -67,78 +69,6 @@ pub(crate) fn profile_name(profile: Profile) -> &'static str {
         Profile::Uncompressed => "0x0000",
         Profile::Rtp => "0x0001",
     }
-}
-
-/// Writes the bits of a field.
-fn write_bits<W: Write>(out: &mut W, field: &Field) -> io::Result<()> {
-    for place in 0..field.count {
-        let behind = field.count.saturating_sub(place).saturating_sub(1) % 32;
-        write!(out, "{}", (field.value >> behind) % 2)?;
-    }
-    Ok(())
-}
-
-/// Writes the number of a field as people write it: an address with dots, and an SSRC, a profile or a checksum in
-/// hexadecimal digits.
-pub(crate) fn write_number<W: Write>(out: &mut W, field: &Field) -> io::Result<()> {
-    let value = field.value;
-    match (field.name, field.count) {
-        (FieldName::Source | FieldName::Destination, 32) => {
-            let [first, second, third, fourth] = value.to_be_bytes();
-            write!(out, "{first}.{second}.{third}.{fourth}")
-        }
-        (FieldName::Ssrc, 32) => write!(out, "0x{value:08x}"),
-        (FieldName::Profile, _) | (FieldName::UdpSum, 16) => write!(out, "0x{value:04x}"),
-        (FieldName::Crc | FieldName::TypeOctet | FieldName::FeedbackData, _) => {
-            write!(out, "0x{value:02x}")
-        }
-        _ => write!(out, "{value}"),
-    }
-}
-
-/// A writer that only counts the columns that a text takes.
-#[derive(Drop)]
-struct Columns {
-    count: usize,
-}
-
-impl Write for Columns {
-    fn write(&mut self, buf: &[u8]) -> io::Result<usize> {
-        self.count = self.count.saturating_add(buf.len());
-        Ok(buf.len())
-    }
-
-    fn flush(&mut self) -> io::Result<()> {
-        Ok(())
-    }
-}
-
-/// How many columns the number of a field has: as many as the longest address.
-const NUMBER: usize = 15;
-
-/// Writes the number of a field at the right end of its columns.
-fn write_column<W: Write>(out: &mut W, field: &Field) -> io::Result<()> {
-    let mut columns = Columns { count: 0 };
-    write_number(&mut columns, field)?;
-    for _ in columns.count..NUMBER {
-        write!(out, " ")?;
-    }
-    write_number(out, field)
-}
-
-/// Writes the row of a field.
-fn write_field<W: Write>(out: &mut W, field: &Field) -> io::Result<()> {
-    write!(
-        out,
-        "  bit {:>4} {:>2} bits  {:<20}",
-        field.first,
-        field.count,
-        field.name.name()
-    )?;
-    write_column(out, field)?;
-    write!(out, "  ")?;
-    write_bits(out, field)?;
-    writeln!(out, "")
 }
 
 /// Writes the failures that a context has counted, and how many lead to its next fall.
@@ -316,6 +246,9 @@ fn write_answer<W: Write>(out: &mut W, explained: &Explained) -> io::Result<()> 
             writeln!(out, "answer: refused {refusal}: {}", cause.meaning)?;
             writeln!(out, "usual cause: {} ({})", cause.usual, cause.section)?;
         }
+    }
+    if let Some(packet) = &explained.packet {
+        write_rebuilt(out, packet)?;
     }
     write_feedback(out, explained)
 }

@@ -9,8 +9,11 @@ mod expected;
 mod explain;
 mod explain_json;
 mod explain_text;
+mod field_text;
 mod held;
 mod packet;
+mod rebuilt;
+mod rebuilt_text;
 
 pub use asked::{Asked, Source, Telling, Which};
 pub use element::{Meaning, ToldElement};
@@ -18,3 +21,4 @@ pub use explain::run_explain;
 pub use explain_text::{Place, write_whole};
 pub use held::state_in;
 pub use packet::{Explained, Got, explain_packet};
+pub use rebuilt::Rebuilt;

@@ -2,6 +2,7 @@
 
 use crate::element::{ToldElement, elements_in};
 use crate::held::{fixed_in, reference_in, sn_in};
+use crate::rebuilt::Rebuilt;
 use rohc_concentrator::{Answer, Concentrator, LinkRecords};
 use rohc_context::{Delivered, Outcome, ReferenceView, Refusal, Reply, Settings, Try, View};
 use rohc_explain::{PacketFields, PacketKind, Terms, packet_fields};
@@ -38,6 +39,8 @@ pub struct Explained {
     /// The tries that its context makes of it, if it makes some.
     pub tries: Option<[Try; 3]>,
     pub got: Got,
+    /// The packet that was delivered, if one was.
+    pub packet: Option<Rebuilt>,
     /// The SN of the header that was delivered, if it is one of RTP.
     pub sn: Option<u16>,
     /// The feedback that the compressor gets.
@@ -80,14 +83,7 @@ impl Explained {
 
     /// The SN of the last header that was accepted before, if a context that counts keeps it.
     pub fn sn_before(&self) -> Option<u16> {
-        let (Some(view), Some(settings)) = (&self.before, &self.settings) else {
-            return None;
-        };
-        if counts_after(settings, self.moment.saturating_sub(view.accepted)) {
-            sn_in(view)
-        } else {
-            None
-        }
+        sn_in(self.counted()?)
     }
 }
 
@@ -126,18 +122,35 @@ fn count_of(elements: Elements<'_>) -> u64 {
 }
 
 impl Explained {
+    /// The context before the packet, if it counts.
+    fn counted(&self) -> Option<&View> {
+        let (Some(view), Some(settings)) = (&self.before, &self.settings) else {
+            return None;
+        };
+        if counts_after(settings, self.moment.saturating_sub(view.accepted)) {
+            Some(view)
+        } else {
+            None
+        }
+    }
+
+    /// Adds the packet that was delivered.
+    fn take_delivered(&mut self, alloc: Global, packet: &Delivered<'_>) {
+        self.sn = sn_of(packet);
+        self.packet = Some(Rebuilt::of(alloc, packet, self.counted()));
+    }
+
     /// Adds the answer.
-    fn take_answer(&mut self, answer: Answer<'_>) {
+    fn take_answer(&mut self, alloc: Global, answer: Answer<'_>) {
         match answer {
             Answer::Refused(refusal) => self.got = Got::Refused(refusal),
             Answer::OnlyFront { relayed } => self.relayed = count_of(relayed),
             Answer::Arrived { reply, relayed, .. } => {
                 self.relayed = count_of(relayed);
                 self.got = got_of(&reply);
-                self.sn = match &reply.packet {
-                    Some(packet) => sn_of(packet),
-                    None => None,
-                };
+                if let Some(packet) = &reply.packet {
+                    self.take_delivered(alloc, packet);
+                }
                 self.feedback = reply.feedback;
             }
         }
@@ -234,6 +247,7 @@ pub fn explain_packet(
         before: None,
         tries: None,
         got: Got::OnlyFront,
+        packet: None,
         sn: None,
         feedback: None,
         elements: Vec::new(alloc),
@@ -242,7 +256,7 @@ pub fn explain_packet(
         better: None,
     };
     explained.take_packet(alloc, concentrator, octets)?;
-    explained.take_answer(concentrator.arrive(link, moment, octets));
+    explained.take_answer(alloc, concentrator.arrive(link, moment, octets));
     explained.take_after(concentrator);
     Ok(explained)
 }
