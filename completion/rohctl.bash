@@ -23,11 +23,11 @@ _rohctl() {
     plan) options+=' --damage --packet-ms --window --calls --split --links --json' ;;
     script) options+=' --link --vlan --port --from --other --lines --back --pcapng' ;;
     report) options+=' --links --link --vlan --port --output' ;;
-    status | stop | save | reload | drain | watch) options+=' --control' ;;
+    status | stop | save | reload | drain | watch) options+=' --control --name' ;;
     spread) options+=' --hosts --nginx --out' ;;
     verify) options+=' --root' ;;
-    reset) options+=' --control --link --cid' ;;
-    contexts | calls) options+=' --control --link' ;;
+    reset) options+=' --control --name --link --cid' ;;
+    contexts | calls) options+=' --control --name --link' ;;
     esac
     if [[ $word == -* ]]; then
         mapfile -t COMPREPLY < <(compgen -W "$options" -- "$word")

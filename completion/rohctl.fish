@@ -18,6 +18,7 @@ complete -c rohctl -l nginx -n "__fish_seen_subcommand_from spread" -d 'Write an
 complete -c rohctl -l out -r -F -n "__fish_seen_subcommand_from spread" -d 'The directory for the links files'
 complete -c rohctl -l root -r -F -n "__fish_seen_subcommand_from verify" -d 'The directory in which the paths begin'
 complete -c rohctl -l control -r -F -n "__fish_seen_subcommand_from $asking" -d 'The control socket of the gateway'
+complete -c rohctl -l name -x -n "__fish_seen_subcommand_from $asking" -d 'The name of the gateway'
 complete -c rohctl -l link -x -n "__fish_seen_subcommand_from explain decompress script report reset contexts calls" -d 'The number of a link'
 complete -c rohctl -l cid -x -n "__fish_seen_subcommand_from reset" -d 'The CID of a context'
 complete -c rohctl -l large -n "__fish_seen_subcommand_from explain" -d 'Without --links: large CIDs'

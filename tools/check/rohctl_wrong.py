@@ -6,6 +6,7 @@ import re
 import socket
 import struct
 import subprocess
+import threading
 from pathlib import Path
 
 from nobody import as_nobody
@@ -52,6 +53,9 @@ SCRIPT_LINKS = "the links file of a script"
 SINCE_LINKS = "expected the links file, since --link, --line or --call is given"
 NO_DIGEST = "not a digest and a path; expected a line as sha256sum writes it"
 BOTH_INPUTS = "expected a file, since the links file is standard input"
+A_GATEWAY = "expected the control socket of the gateway, or --name NAME, or the variable ROHC_CONTROL"
+A_NAME = "expected the name of a gateway, without /"
+RUNNING = "expected the control socket of a running gateway (systemctl status rohc-gateway@NAME)"
 ABSENT = "error: the following required arguments were not provided:\n  "
 
 # The words, the status, and what stands on standard error or, for the parser's own faults, begins it.
@@ -66,7 +70,15 @@ WRONG: tuple[tuple[tuple[str | bytes, ...], int, str], ...] = (
     (("trace",), 2, "error: the following required arguments were not provided:\n  --links <FILE>"),
     (("links",), 2, "error: the following required arguments were not provided:\n  <FILE>"),
     (("diff", "a"), 2, "error: the following required arguments were not provided:\n  <B>"),
-    (("stop",), 2, "error: the following required arguments were not provided:\n  --control <SOCKET>"),
+    (("stop",), 2, f"rohctl: --control is missing; {A_GATEWAY}"),
+    (("reset",), 2, f"{ABSENT}--link <NUMBER>"),
+    (("watch", "1/0"), 2, f"rohctl: --control is missing; {A_GATEWAY}"),
+    (("calls", "--link", "1", "--name", ""), 2, f"rohctl: --name '': {A_NAME}"),
+    (("status", "--name", "a/b"), 2, f"rohctl: --name a/b: {A_NAME}"),
+    (("status", "--name", ".."), 2, f"rohctl: --name ..: {A_NAME}"),
+    (("status", "--name", "nothing"), 4, f"rohctl: /run/rohc-gateway/nothing/control: {MISSING}; {RUNNING}"),
+    (("status", "--control", "nothing", "--name", "a/b"), 4, f"rohctl: nothing: {MISSING}; {RUNNING}"),
+    (("status", "--control"), 2, "error: a value is required for '--control <SOCKET>' but none was supplied"),
     (("totals", "--color", "red"), 2, "rohctl: --color red: expected auto, always or never"),
     (("--color", "red", "totals"), 2, "rohctl: --color red: expected auto, always or never"),
     (("totals", "--color", ""), 2, "rohctl: --color '': expected auto, always or never"),
@@ -257,6 +269,17 @@ LONGEST_INPUT = 67_108_864
 
 # The digest of no octets (FIPS 180-4).
 DIGEST = "e3b0c44298fc1c149afbf4c8996fb92427ae41e4649b934ca495991b7852b855"
+# Words, what ROHC_CONTROL is, and how the call ends. At `answering` something answers as a gateway does.
+ANSWER = b"{\"live\":true}\n"
+NAMED: tuple[tuple[tuple[str, ...], bytes | str, tuple[int, str, str]], ...] = (
+    (("status",), "answering", (0, ANSWER.decode(), "")),
+    (("drain", "--control", "answering"), "nothing", (0, ANSWER.decode(), "")),
+    (("status", "--control", "nothing"), "answering", (4, "", f"rohctl: nothing: {MISSING}; {RUNNING}")),
+    (("status", "--name", "nothing"), "answering", (4, "", f"rohctl: /run/rohc-gateway/nothing/control: {MISSING}; {RUNNING}")),
+    (("status",), "nothing", (4, "", f"rohctl: nothing: {MISSING}; {RUNNING}")),
+    (("status",), "", (2, "", f"rohctl: --control is missing; {A_GATEWAY}")),
+    (("status",), b"\xff", (2, "", "rohctl: ROHC_CONTROL (not UTF-8): expected a path in UTF-8")),
+)
 # Lists of digests, and what is told of them on standard output.
 LISTS: tuple[tuple[str, int, str], ...] = (
     (f"# a comment\n\n{DIGEST}  empty\n", 0, "1 file is as packaged\n"),
@@ -359,6 +382,38 @@ def check_table(trial: Trial, folder: Path) -> None:
     after = texts(folder)
     changed = {name for name in before if after.get(name) != before[name]}
     trial.demand(not changed, f"inputs that changed: {changed}")
+
+
+def answer(listener: socket.socket) -> None:
+    """Answers each request as a gateway does, until the socket is shut."""
+    while True:
+        try:
+            asked, _ = listener.accept()
+        except OSError:
+            return
+        with asked:
+            asked.recv(4096)
+            asked.sendall(b"HTTP/1.1 200 OK\r\n\r\n" + ANSWER)
+
+
+def check_named(trial: Trial, folder: Path) -> None:
+    """Which of --control, --name and ROHC_CONTROL decides."""
+    with socket.socket(socket.AF_UNIX) as listener:
+        place = os.open(folder, os.O_RDONLY)
+        (folder / "answering").unlink(missing_ok=True)
+        listener.bind(f"/proc/self/fd/{place}/answering")
+        os.close(place)
+        listener.listen()
+        answering = threading.Thread(target=answer, args=(listener,))
+        answering.start()
+        for words, control, wanted in NAMED:
+            environment = os.environb | {b"ROHC_CONTROL": os.fsencode(control)}
+            done = subprocess.run([trial.top / PROGRAM, *words], stdin=subprocess.DEVNULL, capture_output=True, cwd=folder, env=environment, timeout=60)
+            found = (done.returncode, done.stdout.decode(), done.stderr.decode().rstrip("\n"))
+            trial.demand(found == wanted, f"rohctl {words} with ROHC_CONTROL={control!r}: {found}; wanted {wanted}")
+        listener.shutdown(socket.SHUT_RDWR)
+        answering.join()
+    (folder / "answering").unlink()
 
 
 def check_systems(trial: Trial, folder: Path) -> None:
@@ -475,6 +530,7 @@ def check(trial: Trial) -> None:
     folder = prepared(trial)
     check_table(trial, folder)
     check_lists(trial, folder)
+    check_named(trial, folder)
     check_systems(trial, folder)
     check_changed(trial, folder)
     check_terminals(trial, folder)

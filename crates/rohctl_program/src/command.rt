@@ -3,6 +3,7 @@
 use crate::capture_words::{decompress_of, script_of};
 use crate::control::Wish;
 use crate::explain_words::explain_of;
+use crate::gateway::{Gateway, gateway_of};
 use crate::report_words::report_of;
 use crate::words_in::{
     call_in, input_of, keep_streams_apart, link_number, number_of, value_of, wrong_value,
@@ -46,8 +47,8 @@ pub(crate) enum Request<'a> {
     Spread(Spread<'a>),
     /// Compare files with a list of their digests.
     Verify { list: &'a str, root: &'a str },
-    /// Ask the gateway at this control socket.
-    Control { control: &'a str, wish: Wish },
+    /// Ask a gateway.
+    Control { gateway: Gateway<'a>, wish: Wish },
     /// Trace the script of this file, with the links of another; `-` is standard input.
     Trace { links: &'a str, script: &'a str },
 }
@@ -236,7 +237,7 @@ fn verify_of<'a>(options: &ArgMatches<'a>) -> Result<Request<'a>, Ending<'a>> {
 /// The request to a gateway, by its name.
 fn control_of<'a>(name: &str, options: &ArgMatches<'a>) -> Result<Request<'a>, Ending<'a>> {
     Ok(Request::Control {
-        control: value_of(options, "control")?,
+        gateway: gateway_of(options)?,
         wish: wish_of(name, options)?,
     })
 }

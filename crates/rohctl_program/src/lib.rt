@@ -7,6 +7,7 @@ mod capture_words;
 mod command;
 mod control;
 mod explain_words;
+mod gateway;
 mod program;
 mod report_words;
 mod verify;

@@ -2,6 +2,7 @@
 
 use crate::command::{Request, read_request};
 use crate::control::run_control;
+use crate::gateway::socket_of;
 use crate::verify::run_verify;
 use rohctl_answers::{run_diff, run_totals, run_trace};
 use rohctl_captures::{run_decompress, run_script};
@@ -10,13 +11,13 @@ use rohctl_ground::{Ending, Screen};
 use rohctl_links::{run_links, run_new, run_plan, run_spread};
 use rohctl_report::run_report;
 use std::net::Net;
-use std::rt::Files;
+use std::rt::{Env, Files};
 use std::time::Clock;
 
 /// Runs the program with these words. `screen` is what the standard streams are.
 pub fn run<'a, R>(rt: &R, words: &'a [String], screen: Screen) -> Ending<'a>
 where
-    R: Files + Input + Print + Eprint + Net + Clock + AllocGlobal,
+    R: Files + Input + Print + Eprint + Env + Net + Clock + AllocGlobal,
 {
     match requested(rt, words, screen) {
         Ok(ending) => ending,
@@ -27,7 +28,7 @@ where
 /// Does what the words ask for.
 fn requested<'a, R>(rt: &R, words: &'a [String], screen: Screen) -> Result<Ending<'a>, Ending<'a>>
 where
-    R: Files + Input + Print + Eprint + Net + Clock + AllocGlobal,
+    R: Files + Input + Print + Eprint + Env + Net + Clock + AllocGlobal,
 {
     let (request, screen) = read_request(rt, words, screen)?;
     match request {
@@ -42,7 +43,9 @@ where
         Request::Report(asked) => run_report(rt, &asked, screen),
         Request::Spread(spread) => run_spread(rt, spread),
         Request::Verify { list, root } => run_verify(rt, list, root),
-        Request::Control { control, wish } => run_control(rt, control, wish),
+        Request::Control { gateway, wish } => {
+            run_control(rt, socket_of(rt, gateway)?.as_str(), wish)
+        }
         Request::Trace { links, script } => run_trace(rt, links, script, screen),
     }
 }

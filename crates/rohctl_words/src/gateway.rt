@@ -4,9 +4,22 @@ use crate::options::{Given, Word, argument, subcommand, valued, with_words};
 use clap::Command;
 use std::alloc::AllocError;
 
-/// The option that names the gateway.
+/// The option that names the gateway by its socket.
 fn control() -> Word {
-    valued("control", "SOCKET", "The control socket of the gateway").required()
+    valued(
+        "control",
+        "SOCKET",
+        "The control socket of the gateway; the default is that of --name, then ROHC_CONTROL",
+    )
+}
+
+/// The option that names the gateway by its unit.
+fn named() -> Word {
+    valued(
+        "name",
+        "NAME",
+        "The gateway with the control socket /run/rohc-gateway/NAME/control",
+    )
 }
 
 /// The option that names a link.
@@ -22,7 +35,7 @@ fn asking<'a>(
     about: &'static str,
     words: &[Word],
 ) -> Result<Command<'a>, AllocError> {
-    let asked = subcommand(given, name, about, &[control()])?;
+    let asked = subcommand(given, name, about, &[control(), named()])?;
     command.subcommand(with_words(given, asked, words)?)
 }
 
