@@ -10,14 +10,15 @@ _rohctl() {
     fi
     while [ "${COMP_WORDS[at]}" = --color ] && [ "$at" -lt "$COMP_CWORD" ]; do at=$((at + 2)); done
     if [ "$at" -eq "$COMP_CWORD" ] && [[ $word != -* ]]; then
-        mapfile -t COMPREPLY < <(compgen -W "totals links trace explain diff plan decompress script report spread verify $asking" -- "$word")
+        mapfile -t COMPREPLY < <(compgen -W "totals links run trace explain diff plan decompress script report spread verify $asking" -- "$word")
         return
     fi
     case ${COMP_WORDS[at]} in
     totals) options+=' --json --prometheus --follow' ;;
     links) options+=' --json --new' ;;
+    run) options+=' --links --state' ;;
     trace) options+=' --links' ;;
-    explain) options+=' --links --line --call --link --large --brief --json' ;;
+    explain) options+=' --links --state --line --call --link --large --brief --json' ;;
     diff) options+=' --json' ;;
     decompress) options+=' --links --link --vlan --port --padded --pcapng --stats --feedback' ;;
     plan) options+=' --damage --packet-ms --window --calls --split --links --json' ;;

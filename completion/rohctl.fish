@@ -1,13 +1,14 @@
 # Completion of rohctl's words in fish.
 set -l asking status stop save reload drain reset contexts calls watch
-set -l commands totals links trace explain diff plan decompress script report spread verify $asking
+set -l commands totals links run trace explain diff plan decompress script report spread verify $asking
 complete -c rohctl -f -n "not __fish_seen_subcommand_from $commands" -a "$commands"
-complete -c rohctl -F -n "__fish_seen_subcommand_from totals links trace explain diff decompress script report spread verify"
+complete -c rohctl -F -n "__fish_seen_subcommand_from totals links run trace explain diff decompress script report spread verify"
 complete -c rohctl -l json -n "__fish_seen_subcommand_from totals links explain diff plan" -d 'Write JSON, one object per line'
 complete -c rohctl -l prometheus -n "__fish_seen_subcommand_from totals" -d 'Write the Prometheus text format'
 complete -c rohctl -l follow -n "__fish_seen_subcommand_from totals" -d 'Redraw the table while lines arrive'
 complete -c rohctl -l new -n "__fish_seen_subcommand_from links" -d 'Write a links file to start from'
-complete -c rohctl -l links -r -F -n "__fish_seen_subcommand_from trace explain plan decompress report" -d 'The links file'
+complete -c rohctl -l links -r -F -n "__fish_seen_subcommand_from run trace explain plan decompress report" -d 'The links file'
+complete -c rohctl -l state -r -F -n "__fish_seen_subcommand_from run explain" -d 'The state file to begin with'
 complete -c rohctl -l damage -x -n "__fish_seen_subcommand_from plan" -d 'The percentage of damaged headers'
 complete -c rohctl -l packet-ms -x -n "__fish_seen_subcommand_from plan" -d 'The time between two packets of a call'
 complete -c rohctl -l window -x -n "__fish_seen_subcommand_from plan" -d 'Also show this window, K/N'

@@ -19,7 +19,7 @@ MARKED = re.compile(r"<mark>\r?\n(.*?)<mark>", re.DOTALL)
 BASH = '. "$0" && COMP_WORDS=("$@") COMP_CWORD=$(($# - 1)) && "_${1/-/_}" && printf "%s\\n" "${COMPREPLY[@]}"'
 FISH = "source $argv[1]; complete -C $argv[2]"
 COMMANDS = (
-    "calls contexts decompress diff drain explain links plan reload report reset save script spread status stop totals trace verify"
+    "calls contexts decompress diff drain explain links plan reload report reset run save script spread status stop totals trace verify"
     " watch"
 )
 
@@ -33,9 +33,10 @@ ROHCTL: tuple[Row, ...] = (
     ("--back --color --from --lines --link --other --pcapng --port --vlan", ("script", "--")),
     ("--color --feedback --link --links --padded --pcapng --port --stats --vlan", ("decompress", "--")),
     ("--color --link --links --output --port --vlan", ("report", "--")),
-    ("--brief --call --color --json --large --line --link --links", ("explain", "--")),
+    ("--brief --call --color --json --large --line --link --links --state", ("explain", "--")),
     ("--color --json", ("diff", "--")),
     ("--color --links", ("trace", "--")),
+    ("--color --links --state", ("run", "--")),
     ("--color --hosts --nginx --out", ("spread", "--")),
     ("--color --root", ("verify", "--")),
     ("--color --control --name", ("drain", "--")),

@@ -301,7 +301,7 @@ TESTED = (
     Tested("Refusal", "NoMemory", "gate library poverty"),
     Tested("Command", "replay", "gate program examples lines random limits poverty"),
     Tested("Command", "serve", "gate program launcher"),
-    Tested("Command", "rohctl totals, links, trace, diff, plan, script, decompress, report", "gate rohctl"),
+    Tested("Command", "rohctl totals, links, run, trace, diff, plan, script, decompress, report", "gate rohctl"),
     Tested("Command", "rohctl explain", "gate rohctl evidence"),
     Tested("Command", "rohctl spread", "gate rohctl spread"),
     Tested("Command", "rohctl status, stop, save, reload, drain, reset, contexts, calls, watch", "gate gateway"),

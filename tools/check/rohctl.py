@@ -15,6 +15,7 @@ import rohctl_explain
 import rohctl_links
 import rohctl_plan
 import rohctl_report
+import rohctl_run
 import rohctl_spread
 import rohctl_wrong
 from completion import COMMANDS
@@ -313,5 +314,5 @@ def check(trial: Trial) -> None:
     """All of it, on the program that the gate left."""
     for part in (check_totals, check_json, check_metrics, check_hostile, check_trace, check_whole, check_colour, check_follow, check_progress, check_site, check_ends,
                  rohctl_explain.check, rohctl_links.check, rohctl_diff.check, rohctl_plan.check, rohctl_spread.check,
-                 rohctl_capture.check, rohctl_report.check, rohctl_wrong.check):
+                 rohctl_capture.check, rohctl_report.check, rohctl_run.check, rohctl_wrong.check):
         part(trial)

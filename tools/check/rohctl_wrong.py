@@ -92,6 +92,18 @@ WRONG: tuple[tuple[tuple[str | bytes, ...], int, str], ...] = (
     (("links", "nothing"), 3, f"rohctl: links file nothing: cannot read it: {MISSING}"),
     (("totals", "."), 4, "rohctl: .: cannot read it: it is a directory"),
     (("totals", "links.toml/x"), 4, "rohctl: links.toml/x: cannot read it: a part of the path is not a directory"),
+    (("run",), 2, f"{ABSENT}--links <FILE>"),
+    (("run", "--links", "nothing", "call.script"), 3, f"rohctl: links file nothing: cannot read it: {MISSING}"),
+    (("run", "--links", "links.toml", "nothing"), 4, f"rohctl: nothing: cannot read it: {MISSING}"),
+    (("run", "--links", "links.toml", "--state", "nothing", "call.script"), 4, f"rohctl: nothing: cannot read it: {MISSING}"),
+    (("run", "--links", "links.toml", "--state", ".", "call.script"), 4, "rohctl: .: cannot read it: it is a directory"),
+    (("run", "--links", "links.toml", "--state", "-", "call.script"), 2, "rohctl: --state -: expected a file, as rohc-gateway writes it"),
+    (("run", "--links", "links.toml", "--state", "call.script", "call.script"), 4,
+     "rohctl: call.script: it is not a state file; expected a complete state file of this version"),
+    (("run", "--links", "links.toml", "rohc.pcap"), 6, f"rohctl: rohc.pcap: nothing to show: {A_CAPTURE}"),
+    (("run", "--links", "-"), 2, f"rohctl: SCRIPT -: {BOTH_INPUTS}"),
+    ((*EXPLAIN, "--state", "nothing", "call.script"), 4, f"rohctl: nothing: cannot read it: {MISSING}"),
+    (("explain", "--state", "nothing", "45"), 2, f"{ABSENT}--links <FILE>"),
     (("trace", "--links", "nothing", "call.script"), 3, f"rohctl: links file nothing: cannot read it: {MISSING}"),
     (("trace", "--links", ".", "call.script"), 3, "rohctl: links file .: cannot read it: it is a directory"),
     (("trace", "--links", "latin.toml", "call.script"), 3, "rohctl: links file latin.toml: cannot read it: it is not UTF-8"),
@@ -313,6 +325,7 @@ FORBIDDEN: tuple[tuple[tuple[str, ...], int, str], ...] = (
 WAITING = (
     (("totals",), "ANSWERS"),
     (("trace", "--links", "links.toml"), "SCRIPT"),
+    (("run", "--links", "links.toml"), "SCRIPT"),
     (("explain", "--links", "links.toml"), "SCRIPT"),
     (("report", "--links", "links.toml"), "INPUT"),
     (("script", *LINK_1), "IN"),
@@ -475,7 +488,7 @@ def check_reader(trial: Trial, folder: Path) -> None:
     """A reader that goes away ends the program silently; a full device does not."""
     lines = "".join(f"arrive 1 {20 * place} fc00b745aa\n" for place in range(2_000))
     trial.write("wrong/many.script", lines)
-    for words in (("trace", "--links", "links.toml", "many.script"), ("explain", "--links", "links.toml", "many.script"), ("report", "--links", "links.toml", "many.script"),
+    for words in (("trace", "--links", "links.toml", "many.script"), ("explain", "--links", "links.toml", "many.script"), ("run", "--links", "links.toml", "many.script"), ("report", "--links", "links.toml", "many.script"),
                   ("script", "--back", "--port", "1", "many.script"), ("--help",)):
         shut, out = os.pipe()
         os.close(shut)

@@ -46,6 +46,8 @@ pub enum Which {
 /// What is asked of `explain`.
 #[derive(Drop)]
 pub struct Asked<'a> {
+    /// The state file whose contexts are there before the first packet.
+    pub state: Option<&'a str>,
     pub source: Source<'a>,
     pub which: Which,
     pub telling: Telling,

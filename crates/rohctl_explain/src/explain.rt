@@ -7,7 +7,7 @@ use crate::explain_text::{Place, write_brief, write_whole};
 use crate::packet::{Explained, Got, explain_packet};
 use rohc_concentrator::Concentrator;
 use rohctl_ground::{
-    Ending, Line, Misuse, Nothing, Reason, STREAM, Screen, Stop, Taker, Told, concentrator_of,
+    Ending, Line, Misuse, Nothing, Reason, STREAM, Screen, Stop, Taker, Told, concentrator_from,
     is_capture_front, open_source, read_packets, read_script, unprinted,
 };
 use std::alloc::Global;
@@ -287,16 +287,13 @@ where
 }
 
 /// The concentrator on which the packets run, and what is assumed of its link if no links file is given.
-fn links_of<'a, R>(
-    rt: &R,
-    source: &Source<'a>,
-) -> Result<(Concentrator, Option<Assumed>), Ending<'a>>
+fn links_of<'a, R>(rt: &R, asked: &Asked<'a>) -> Result<(Concentrator, Option<Assumed>), Ending<'a>>
 where
     R: Files + Input + Eprint + AllocGlobal,
 {
-    match source {
+    match &asked.source {
         Source::Script { links, .. } | Source::Text { links, .. } => {
-            Ok((concentrator_of(rt, links)?, None))
+            Ok((concentrator_from(rt, links, asked.state)?, None))
         }
         Source::Words { large, .. } => {
             let (concentrator, assumed) = assumed_link(rt.alloc(), *large)?;
@@ -314,7 +311,7 @@ pub fn run_explain<'a, R>(
 where
     R: Files + Input + Print + Eprint + AllocGlobal,
 {
-    let (concentrator, assumed) = links_of(rt, &asked.source)?;
+    let (concentrator, assumed) = links_of(rt, asked)?;
     let Ok(out) = BufWriter::new(rt.alloc(), io::writer(rt)) else {
         return Err(Ending::Memory);
     };

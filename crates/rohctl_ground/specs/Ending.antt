@@ -1,7 +1,7 @@
 -- The exit statuses of the program.
 use Rattle.std.specs.Prelude.{ℕ}
 use Rattle.rohctl_ground.specs.declared.ending.Ending.{Ending}
-use Rattle.rohctl_ground.specs.declared.ending.Ending.TheVariants.{Good, Findings, Closed, CommandLine, Misuse, LinksFile, LinksUnread, Differs, Capture, NoGateway, Read, Write, Memory, Nothing, NoFrame}
+use Rattle.rohctl_ground.specs.declared.ending.Ending.TheVariants.{Good, Findings, Closed, CommandLine, Misuse, LinksFile, LinksUnread, Differs, Capture, State, NoGateway, Read, Write, Memory, Nothing, NoFrame}
 
 -- the statuses that the program ends with
 abbrev pub status_of : Ending → ℕ
@@ -14,6 +14,7 @@ status_of LinksFile = 3
 status_of (LinksUnread path reason) = 3
 status_of Differs = 4
 status_of (Capture path fault) = 4
+status_of (State path fault) = 4
 status_of NoGateway = 4
 status_of (Read path reason) = 4
 status_of (Write path reason) = 4

@@ -6,6 +6,7 @@ ghost use Rattle.std.specs.Str.{bytes_eq};
 
 use crate::hex_word::HexFault;
 use rohc_capture::{CaptureFault, FaultKind};
+use rohc_saved::SavedFault;
 use rohc_text::{Reason, shown_word};
 use std::io::ErrorKind;
 use std::{fmt, io};
@@ -91,6 +92,8 @@ pub enum Ending<'a> {
     Differs,
     /// The capture can't be read on.
     Capture(&'a str, CaptureFault),
+    /// The state file is refused.
+    State(&'a str, SavedFault),
     /// No gateway answers at the control socket. What is wrong was printed.
     NoGateway,
     /// A read failed.
@@ -154,6 +157,7 @@ impl Ending<'_> {
             Ending::LinksFile | Ending::LinksUnread(..) => 3,
             Ending::Differs
             | Ending::Capture(..)
+            | Ending::State(..)
             | Ending::NoGateway
             | Ending::Read(..)
             | Ending::Write(..) => 4,
@@ -325,6 +329,27 @@ fn write_capture<W: fmt::Write>(
     f.write_str("; the frames before it were read\n")
 }
 
+/// Writes why the octets of a state file are refused, as rohc-gateway does.
+fn write_state<W: fmt::Write>(
+    f: &mut fmt::Formatter<W>,
+    path: &str,
+    fault: &SavedFault,
+) -> fmt::Result {
+    write!(f, "rohctl: {path}: ")?;
+    match fault {
+        SavedFault::NotSaved => f.write_str("it is not a state file")?,
+        SavedFault::Version { place } => write!(f, "it has an unknown version, at octet {place}")?,
+        SavedFault::Short { place } => write!(f, "it is cut off, at octet {place}")?,
+        SavedFault::Long { place } => write!(f, "octets follow its end, at octet {place}")?,
+        SavedFault::Digest { .. } => f.write_str("it is damaged: its digest does not match")?,
+        SavedFault::BadLink { place }
+        | SavedFault::BadContext { place }
+        | SavedFault::BadOrder { place } => write!(f, "it has a bad value, at octet {place}")?,
+        SavedFault::Settings(_) | SavedFault::NoMemory => write!(f, "{fault}")?,
+    }
+    f.write_str("; expected a complete state file of this version\n")
+}
+
 /// Writes what could not be done at a place, and why.
 fn write_at<W: fmt::Write, T: fmt::Display>(
     f: &mut fmt::Formatter<W>,
@@ -355,6 +380,7 @@ impl fmt::Display for Ending<'_> {
                 "rohctl: internal error: rohctl and the decompressor disagree; please report this\n",
             ),
             Ending::Capture(path, fault) => write_capture(f, path, fault),
+            Ending::State(path, fault) => write_state(f, path, fault),
             Ending::Read(path, reason) => write_at(f, input_name(path), "cannot read it", reason),
             Ending::Write(path, reason) => {
                 write_at(f, output_name(path), "cannot write to it", reason)

@@ -4,6 +4,7 @@ use crate::capture_words::{decompress_of, script_of};
 use crate::control::Wish;
 use crate::explain_words::explain_of;
 use crate::gateway::{Gateway, gateway_of};
+use crate::replaying::{Replayed, replayed_of};
 use crate::report_words::report_of;
 use crate::words_in::{
     call_in, input_of, keep_streams_apart, link_number, number_of, value_of, wrong_value,
@@ -49,6 +50,8 @@ pub(crate) enum Request<'a> {
     Verify { list: &'a str, root: &'a str },
     /// Ask a gateway.
     Control { gateway: Gateway<'a>, wish: Wish },
+    /// Run a script as rohcd does.
+    Replay(Replayed<'a>),
     /// Trace the script of this file, with the links of another; `-` is standard input.
     Trace { links: &'a str, script: &'a str },
 }
@@ -261,6 +264,7 @@ fn named<'a>(
         }
         "report" => report_of(options, is_terminal).map(|asked| Request::Report(asked)),
         "trace" => trace_of(options, is_terminal),
+        "run" => replayed_of(options, is_terminal).map(|asked| Request::Replay(asked)),
         "spread" => spread_of(options),
         "verify" => verify_of(options),
         name => control_of(name, options),

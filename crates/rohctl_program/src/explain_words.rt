@@ -1,5 +1,6 @@
 //! What is asked of `explain`.
 
+use crate::replaying::state_in;
 use crate::words_in::{call_in, input_of, keep_streams_apart, link_number, wrong_value};
 use clap::ArgMatches;
 use rohctl_explain::{Asked, Source, Telling, Which};
@@ -126,6 +127,7 @@ pub(crate) fn explain_of<'a>(
         Telling::Whole
     };
     Ok(Asked {
+        state: state_in(options)?,
         source: source_of(alloc, options, is_terminal)?,
         which: which_of(options)?,
         telling,

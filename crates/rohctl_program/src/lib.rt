@@ -9,6 +9,7 @@ mod control;
 mod explain_words;
 mod gateway;
 mod program;
+mod replaying;
 mod report_words;
 mod verify;
 mod words_in;

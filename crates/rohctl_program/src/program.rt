@@ -3,6 +3,7 @@
 use crate::command::{Request, read_request};
 use crate::control::run_control;
 use crate::gateway::socket_of;
+use crate::replaying::run_replay;
 use crate::verify::run_verify;
 use rohctl_answers::{run_diff, run_totals, run_trace};
 use rohctl_captures::{run_decompress, run_script};
@@ -46,6 +47,7 @@ where
         Request::Control { gateway, wish } => {
             run_control(rt, socket_of(rt, gateway)?.as_str(), wish)
         }
+        Request::Replay(asked) => run_replay(rt, asked, screen),
         Request::Trace { links, script } => run_trace(rt, links, script, screen),
     }
 }

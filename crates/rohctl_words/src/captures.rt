@@ -128,6 +128,12 @@ pub(crate) fn explain_words<'a>(given: Given<'_>) -> Result<Command<'a>, AllocEr
             valued("line", "N", "Show only the packet in this line").without("call"),
             valued("call", "L/C", "Show only the packets of this link and CID"),
             valued(
+                "state",
+                "FILE",
+                "Begin with the contexts of this state file of rohc-gateway",
+            )
+            .with("links"),
+            valued(
                 "link",
                 "L",
                 "The link of packets given in hexadecimal digits",

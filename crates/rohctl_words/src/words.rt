@@ -96,6 +96,24 @@ fn trace<'a>(given: Given<'_>) -> Result<Command<'a>, AllocError> {
     )
 }
 
+/// The subcommand `run`.
+fn run_words<'a>(given: Given<'_>) -> Result<Command<'a>, AllocError> {
+    subcommand(
+        given,
+        "run",
+        "Run a script as rohcd replay does, also from the contexts of a state file",
+        &[
+            valued("links", "FILE", "The links file").required(),
+            valued(
+                "state",
+                "FILE",
+                "Begin with the contexts of this state file of rohc-gateway",
+            ),
+            argument("SCRIPT", "The script; - or none is standard input"),
+        ],
+    )
+}
+
 /// The subcommand `spread`.
 fn spread_words<'a>(given: Given<'_>) -> Result<Command<'a>, AllocError> {
     subcommand(
@@ -140,6 +158,7 @@ fn verify<'a>(given: Given<'_>) -> Result<Command<'a>, AllocError> {
 #[derive(Clone, Copy)]
 enum Name {
     Totals,
+    Run,
     Trace,
     Links,
     Diff,
@@ -153,8 +172,9 @@ enum Name {
 }
 
 /// Their order in the help text.
-const NAMES: [Name; 11] = [
+const NAMES: [Name; 12] = [
     Name::Totals,
+    Name::Run,
     Name::Trace,
     Name::Links,
     Name::Diff,
@@ -171,6 +191,7 @@ const NAMES: [Name; 11] = [
 fn words_of<'a>(given: Given<'_>, name: Name) -> Result<Command<'a>, AllocError> {
     match name {
         Name::Totals => totals(given),
+        Name::Run => run_words(given),
         Name::Trace => trace(given),
         Name::Links => links(given),
         Name::Diff => diff(given),
