@@ -6,7 +6,7 @@ complete -c rohctl -F -n "__fish_seen_subcommand_from totals links run trace exp
 complete -c rohctl -l json -n "__fish_seen_subcommand_from totals links explain diff plan" -d 'Write JSON, one object per line'
 complete -c rohctl -l prometheus -n "__fish_seen_subcommand_from totals" -d 'Write the Prometheus text format'
 complete -c rohctl -l follow -n "__fish_seen_subcommand_from totals" -d 'Redraw the table while lines arrive'
-complete -c rohctl -l new -n "__fish_seen_subcommand_from links" -d 'Write a links file to start from'
+complete -c rohctl -l new -n "__fish_seen_subcommand_from links" -d 'Write a links file to start from, of N links'
 complete -c rohctl -l links -r -F -n "__fish_seen_subcommand_from run trace explain plan decompress report" -d 'The links file'
 complete -c rohctl -l state -r -F -n "__fish_seen_subcommand_from run explain" -d 'The state file to begin with'
 complete -c rohctl -l damage -x -n "__fish_seen_subcommand_from plan" -d 'The percentage of damaged headers'

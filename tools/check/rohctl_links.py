@@ -2,6 +2,7 @@
 
 import json
 import random
+import tomllib
 from collections.abc import Iterator
 
 from program import Call, Ended, run
@@ -132,10 +133,50 @@ def check_good(trial: Trial) -> None:
         trial.demand(line in text, f"no line '{line}'", told.call)
 
 
+def check_new(trial: Trial) -> None:
+    """Files to start from: each link has the settings of the first, and its number and ports follow those of the one before it."""
+    first = {"cid": "small", "max_cid": 15, "mode": "O", "k1": 2, "n1": 3, "k2": 2, "n2": 3, "packet_ms": 20, "static_nack_ms": 1000, "idle_ms": 600_000}
+    one = links(trial, "--new")
+    trial.same("a file of one link", one.text, links(trial, "--new", "1").text, one.call)
+    for count in (1, 2, 256):
+        new = links(trial, "--new", str(count))
+        document = tomllib.loads(new.text)
+        wanted = [
+            {"number": number, **first, "deliver_port": 5_998 + 3 * number, "feedback_port": 5_999 + 3 * number, "relay_port": 6_000 + 3 * number}
+            for number in range(1, count + 1)
+        ]
+        trial.demand(document == {"version": 2, "link": wanted}, f"links --new {count}: other links", new.call)
+        shown = links(trial, str(trial.write(f"new-{count}.toml", new.text)))
+        trial.demand(shown.status == 0 and "unusual" not in shown.text, f"links --new {count}: {shown.end()}", shown.call)
+    trial.demand(new.text.startswith(one.text), "the first link of a file isn't the one of a file of one", new.call)
+
+
+def check_several(trial: Trial) -> None:
+    """Several files: each is good, or its errors are listed as if it stood by itself."""
+    bad, good = str(trial.write("three.toml", THREE)), FILES[0]
+    alone = links(trial, bad)
+    for files, wanted, status in (
+        ((good, *FILES[1:]), "".join(f"{file}: good\n" for file in FILES), 0),
+        ((good, bad), f"{good}: good\n{alone.text}", 1),
+        ((bad, good, bad), f"{alone.text}{good}: good\n{alone.text}", 1),
+    ):
+        told = links(trial, *files)
+        trial.same(f"the files {files}", wanted, told.text, told.call)
+        trial.demand(told.status == status and not told.said, f"the files {files}: {told.end()}", told.call)
+    objects = [json.loads(line) for line in links(trial, "--json", good, bad).text.splitlines()]
+    trial.demand(objects[:2] == [{"file": good, "good": True}, {"file": bad, "good": False}], f"the objects of two files: {objects[:2]}")
+    trial.demand(objects[2:] == [json.loads(line) for line in links(trial, "--json", bad).text.splitlines()], "other objects of a file among others")
+    told = links(trial, "nothing", good, "none")
+    unread = "".join(f"rohctl: links file {name}: cannot read it: no such file or directory\n" for name in ("nothing", "none"))
+    trial.demand((told.status, told.text, f"{told.said}\n") == (3, f"{good}: good\n", unread), f"files that are not there: {told.end()}, {told.text}", told.call)
+
+
 def check(trial: Trial) -> None:
     """All of it."""
     check_three(trial)
     check_good(trial)
+    check_new(trial)
+    check_several(trial)
     texts = [(trial.top / file).read_text() for file in FILES]
     for text in damaged([*texts, THREE], DAMAGED):
         agrees(trial, text)

@@ -46,6 +46,31 @@ def near(found: float, wanted: float, share: float) -> bool:
     return abs(found - wanted) <= share * wanted
 
 
+def check_recommended(trial: Trial) -> None:
+    """The recommended window stands in the table and in JSON, once: of the windows up to 8 that hold an hour, the one that notices first."""
+    hour = 3_600_000
+    for damage in ("0.1", "2"):
+        rows = [json.loads(line) for line in plan(trial, "--json", "--damage", damage).text.splitlines()]
+        best = [row for row in rows if row["recommended"]]
+        others = []
+        for n in range(1, 9):
+            for k in range(1, n + 1):
+                told = plan(trial, "--json", "--damage", damage, "--window", f"{k}/{n}")
+                others.append(json.loads(told.text.splitlines()[0]))
+        seldom = [row for row in others if row["falls_after_ms"] is None or row["falls_after_ms"] >= hour]
+        first = min(row["unnoticed_ms"] for row in seldom)
+        fits = len(best) == 1 and any((row["k"], row["n"]) == (best[0]["k"], best[0]["n"]) for row in seldom)
+        trial.demand(fits and best[0]["unnoticed_ms"] == first, f"recommended at {damage} %: {best}; wanted one that notices after {first} ms")
+        table = plan(trial, "--damage", damage)
+        marked = [" ".join(line.split()) for line in table.text.splitlines() if line.endswith("  recommended for k1/n1 and k2/n2")]
+        trial.demand(len(marked) == 1 and marked[0].startswith(f"{best[0]['k']}/{best[0]['n']} "), f"recommended at {damage} %: {marked}", table.call)
+    none = plan(trial, "--damage", "100")
+    rows = plan(trial, "--json", "--damage", "100").text
+    trial.demand("for k1/n1" not in none.text and '"recommended":true' not in rows, "a window is recommended where none fits", none.call)
+    asked = [json.loads(line) for line in plan(trial, "--json", "--damage", "2", "--window", "3/3").text.splitlines()]
+    trial.demand([row["recommended"] for row in asked] == [True, False, False, False, False], f"an asked window that is recommended: {asked}")
+
+
 def check(trial: Trial) -> None:
     """Windows against a simulation and by hand; the table, memory and shares."""
     chance = random.Random(SEED)
@@ -61,6 +86,7 @@ def check(trial: Trial) -> None:
     table = plan(trial, "--damage", "2")
     for text in ("2/3", "2/5", "3/5", "4/8", "recommended: k1 = 3, n1 = 3 (a healthy call falls to Static Context at most once per hour; a lost context is noticed after 79 ms)", "note: lost packets do not count as failures; only damaged ones do"):
         trial.demand(text in table.text, f"the table has no '{text}'", table.call)
+    check_recommended(trial)
     trial.demand("never" in plan(trial, "--damage", "0").text, "without damage a call falls")
     for words in (("--window", "4/3"), ("--window", "1/17"), ("--damage", "-1"), ("--damage", "x"), ("--split", "2")):
         ended = plan(trial, *words)

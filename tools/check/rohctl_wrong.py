@@ -31,6 +31,7 @@ PACKET = "expected two hexadecimal digits for each octet, as fc00b745aa or fc 00
 CALL_WORD = "expected LINK/CID, as 1/0: each from 0 to 65535"
 VLAN_WORD = "expected VLAN=LINK, as 5=1: a VLAN from 0 to 4095, a link from 0 to 65535"
 PORT_WORD = "expected PORT or PORT=LINK, as 5000=1: each from 0 to 65535"
+NEW_WORD = "expected a number of links, 1 to 256"
 WINDOW_WORD = "expected K/N, with K from 1 to N and N from 1 to 16"
 MISSING = "no such file or directory"
 CARRIAGE = "none of 7 lines is an event; they end with a carriage return (remove it: tr -d '\\r')"
@@ -87,7 +88,12 @@ WRONG: tuple[tuple[tuple[str | bytes, ...], int, str], ...] = (
     (("totals", "nothing"), 4, f"rohctl: nothing: cannot read it: {MISSING}"),
     (("totals", ""), 4, f"rohctl: '': cannot read it: {MISSING}"),
     (("totals", "a" * 300), 4, f"rohctl: {'a' * 300}: cannot read it: the name is too long"),
-    (("links", "--new", "links.toml"), 2, "error: the argument '--new' cannot be used with '[FILE]'"),
+    (("links", "--new", "links.toml"), 2, f"rohctl: --new links.toml: {NEW_WORD}"),
+    (("links", "--new", "0"), 2, f"rohctl: --new 0: {NEW_WORD}"),
+    (("links", "--new", "257"), 2, f"rohctl: --new 257: {NEW_WORD}"),
+    (("links", "--new", ""), 2, f"rohctl: --new '': {NEW_WORD}"),
+    (("links", "links.toml", "--new"), 2, "error: the argument '[FILE]...' cannot be used with '--new"),
+    (("links", "nothing", "links.toml"), 3, f"rohctl: links file nothing: cannot read it: {MISSING}"),
     (("links", ""), 3, f"rohctl: links file '': cannot read it: {MISSING}"),
     (("links", "nothing"), 3, f"rohctl: links file nothing: cannot read it: {MISSING}"),
     (("totals", "."), 4, "rohctl: .: cannot read it: it is a directory"),

@@ -200,16 +200,96 @@ fn write_verdict<W: Write>(
     }
 }
 
-/// Tells all faults of the links file, or what it sets.
-pub fn run_links<'a, R>(rt: &R, path: &'a str, json: bool) -> Result<Ending<'a>, Ending<'a>>
+/// Writes the object of one of several files.
+fn write_file_object<W: Write>(out: &mut W, path: &str, good: bool) -> io::Result<()> {
+    write!(out, "{{\"file\":")?;
+    write_quoted(out, path)?;
+    writeln!(out, ",\"good\":{good}}}")
+}
+
+/// Writes of one of several files all faults, or that it is good.
+fn write_brief<W: Write>(
+    out: &mut W,
+    alloc: Global,
+    path: &str,
+    text: &str,
+    json: bool,
+) -> Result<Ending<'static>, Ending<'static>> {
+    let verdict = verdict_on(alloc, text)?;
+    let good = matches!(&verdict, Verdict::Taken(_));
+    let written = match (json, good) {
+        (true, good) => write_file_object(out, path, good),
+        (false, true) => writeln!(out, "{path}: good"),
+        (false, false) => Ok(()),
+    };
+    written.map_err(|error| unprinted(&error))?;
+    match verdict {
+        Verdict::Taken(_) if is_faultless(alloc, text).map_err(|_| Ending::Memory)? => {
+            Ok(Ending::Good)
+        }
+        Verdict::Taken(_) => Err(Ending::Differs),
+        Verdict::Refused(name) => write_refused(out, alloc, path, text, name, json),
+    }
+}
+
+/// Writes of one of several files what is wrong, or that it is good. Prints why it can't be read, if it can't.
+fn write_one<'a, R, W>(
+    rt: &R,
+    out: &mut W,
+    path: &'a str,
+    json: bool,
+) -> Result<Ending<'a>, Ending<'a>>
 where
-    R: Files + Input + Print + AllocGlobal,
+    R: Files + Input + Eprint + AllocGlobal,
+    W: Write,
 {
-    let text = links_text(rt, path)?;
+    match links_text(rt, path) {
+        Ok(text) => write_brief(out, rt.alloc(), path, text.as_str(), json),
+        Err(Ending::LinksUnread(path, reason)) => {
+            let unread = Ending::LinksUnread(path, reason);
+            let _ = eprint!(rt; "{unread}");
+            Ok(Ending::LinksFile)
+        }
+        Err(ending) => Err(ending),
+    }
+}
+
+/// Writes of each file what is wrong, or that it is good. Returns the ending of the worst.
+fn write_each<'a, R, W>(
+    rt: &R,
+    out: &mut W,
+    paths: &[&'a str],
+    json: bool,
+) -> Result<Ending<'a>, Ending<'a>>
+where
+    R: Files + Input + Eprint + AllocGlobal,
+    W: Write,
+{
+    let mut worst = Ending::Good;
+    for path in paths.iter().copied() {
+        let ending = write_one(rt, out, path, json)?;
+        if ending.status() > worst.status() {
+            worst = ending;
+        }
+    }
+    Ok(worst)
+}
+
+/// Tells all faults of the links file, or what it sets; of several files all faults, or that it is good.
+pub fn run_links<'a, R>(rt: &R, paths: &[&'a str], json: bool) -> Result<Ending<'a>, Ending<'a>>
+where
+    R: Files + Input + Print + Eprint + AllocGlobal,
+{
     let Ok(mut out) = BufWriter::new(rt.alloc(), io::writer(rt)) else {
         return Err(Ending::Memory);
     };
-    let ending = write_verdict(&mut out, rt.alloc(), path, text.as_str(), json)?;
+    let ending = match paths {
+        [path] => {
+            let text = links_text(rt, path)?;
+            write_verdict(&mut out, rt.alloc(), path, text.as_str(), json)?
+        }
+        paths => write_each(rt, &mut out, paths, json)?,
+    };
     match out.flush() {
         Ok(()) => Ok(ending),
         Err(error) => Err(unprinted(&error)),

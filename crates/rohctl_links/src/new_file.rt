@@ -1,10 +1,15 @@
 //! A links file to start from.
 
-use rohctl_ground::{Ending, unprinted};
+use crate::settings::write_entry;
+use arrayvec::ArrayVec;
+use rohc_concentrator::LinkSetting;
+use rohc_frame::CidKind;
+use rohc_links::Ports;
+use rohctl_ground::{Ending, unprinted, usual_settings};
 use std::io;
-use std::io::Write;
+use std::io::{BufWriter, Write};
 
-/// A links file of one link, with the limits of each key.
+/// The front of a links file: its first link, with the limits of each key. It has the usual settings.
 const NEW_FILE: &str = "\
 # The links of rohcd. 1 to 256 tables [[link]]; each has every key but range.
 version = 2
@@ -27,10 +32,44 @@ idle_ms = 600000       # 0 to 86400000: after this pause a context expires; 0 is
 # range = [{ first = 4, last = 7, mode = \"U\" }]  # at most 8: CIDs with a mode of their own
 ";
 
-/// Writes a links file to start from.
-pub fn run_new<R: Print + AllocGlobal>(rt: &R) -> Result<Ending<'static>, Ending<'static>> {
-    let mut out = io::writer(rt);
-    match out.write_all(NEW_FILE.as_bytes()) {
+/// The first port of the first link.
+const FIRST_PORT: u16 = 6001;
+
+/// The link behind so many others, with usual settings.
+fn link_after(others: u16) -> (LinkSetting, Ports) {
+    let setting = LinkSetting {
+        link: others.saturating_add(1),
+        settings: usual_settings(CidKind::Small),
+        ranges: ArrayVec::new(),
+    };
+    let deliver = others.saturating_mul(3).saturating_add(FIRST_PORT);
+    let ports = Ports {
+        deliver,
+        feedback: deliver.saturating_add(1),
+        relay: deliver.saturating_add(2),
+    };
+    (setting, ports)
+}
+
+/// Writes a links file of so many links, whose numbers and ports follow one another.
+fn write_new<W: Write>(out: &mut W, count: u16) -> io::Result<()> {
+    out.write_all(NEW_FILE.as_bytes())?;
+    for others in 1..count {
+        let (setting, ports) = link_after(others);
+        write_entry(out, &setting, &ports)?;
+    }
+    out.flush()
+}
+
+/// Writes a links file of so many links to start from.
+pub fn run_new<R: Print + AllocGlobal>(
+    rt: &R,
+    count: u16,
+) -> Result<Ending<'static>, Ending<'static>> {
+    let Ok(mut out) = BufWriter::new(rt.alloc(), io::writer(rt)) else {
+        return Err(Ending::Memory);
+    };
+    match write_new(&mut out, count) {
         Ok(()) => Ok(Ending::Good),
         Err(error) => Err(unprinted(&error)),
     }

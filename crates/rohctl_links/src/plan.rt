@@ -67,6 +67,13 @@ struct Meaning {
     unnoticed: f64,
 }
 
+impl Meaning {
+    /// Whether both are of one window.
+    fn is(&self, other: &Meaning) -> bool {
+        self.k == other.k && self.n == other.n
+    }
+}
+
 /// What the window means where this share of headers is damaged.
 fn meaning_of(
     alloc: Global,
@@ -145,19 +152,24 @@ fn write_ms<W: Write>(out: &mut W, ms: f64) -> io::Result<()> {
     }
 }
 
-/// Writes the row of a window.
-fn write_row<W: Write>(out: &mut W, row: &Meaning, json: bool) -> io::Result<()> {
-    if json {
-        write!(out, "{{\"k\":{},\"n\":{},\"falls_after_ms\":", row.k, row.n)?;
-        write_ms(out, row.falls)?;
-        write!(out, ",\"unnoticed_ms\":")?;
-        write_ms(out, row.unnoticed)?;
-        return writeln!(out, "}}");
-    }
+/// Writes the object of a window.
+fn write_object<W: Write>(out: &mut W, row: &Meaning, is_best: bool) -> io::Result<()> {
+    write!(out, "{{\"k\":{},\"n\":{},\"falls_after_ms\":", row.k, row.n)?;
+    write_ms(out, row.falls)?;
+    write!(out, ",\"unnoticed_ms\":")?;
+    write_ms(out, row.unnoticed)?;
+    writeln!(out, ",\"recommended\":{is_best}}}")
+}
+
+/// Writes the row of a window. One that is proposed is good for both windows of a link.
+fn write_row<W: Write>(out: &mut W, row: &Meaning, is_best: bool) -> io::Result<()> {
     write!(out, "{:>3}/{:<3} ", row.k, row.n)?;
     write_time(out, row.falls)?;
     write!(out, "{:>10}", "")?;
     write_time(out, row.unnoticed)?;
+    if is_best {
+        write!(out, "  recommended for k1/n1 and k2/n2")?;
+    }
     writeln!(out, "")
 }
 
@@ -182,6 +194,12 @@ fn write_plan<'a, W: Write>(
         }
     }
     let best = proposed(alloc, plan)?;
+    if let Some(best) = best
+        && !rows.iter().any(|row| row.is(&best))
+        && rows.push(best).is_err()
+    {
+        return Err(Ending::Memory);
+    }
     match write_rows(out, rows.as_slice(), best, plan.json) {
         Ok(()) => Ok(Ending::Good),
         Err(error) => Err(unprinted(&error)),
@@ -202,7 +220,12 @@ fn write_rows<W: Write>(
         )?;
     }
     for row in rows {
-        write_row(out, row, json)?;
+        let is_best = best.is_some_and(|best| row.is(&best));
+        if json {
+            write_object(out, row, is_best)?;
+        } else {
+            write_row(out, row, is_best)?;
+        }
     }
     if json {
         return Ok(());

@@ -20,6 +20,9 @@ use rohctl_report::Asked as Report;
 use rohctl_words::command;
 use std::alloc::Global;
 
+/// The most links of a links file.
+const MOST_LINKS: u16 = 256;
+
 /// The most processes over which links are spread.
 const MOST_PROCESSES: u16 = 256;
 
@@ -28,10 +31,10 @@ const MOST_PROCESSES: u16 = 256;
 pub(crate) enum Request<'a> {
     /// Count answer lines.
     Totals(Totals<'a>),
-    /// List all faults of this links file, or show what it sets.
-    Links { links: &'a str, json: bool },
-    /// Write a links file to start from.
-    NewLinks,
+    /// List all faults of these links files, or show what one sets.
+    Links { links: Vec<&'a str>, json: bool },
+    /// Write a links file of so many links to start from.
+    NewLinks(u16),
     /// Compare two answers, or traces.
     Diff(Compared<'a>),
     /// Show what windows mean, what memory calls need, or how links are spread.
@@ -189,14 +192,21 @@ fn totals_of<'a>(options: &ArgMatches<'a>, is_terminal: bool) -> Result<Request<
 }
 
 /// The request `links`.
-fn links_of<'a>(options: &ArgMatches<'a>) -> Result<Request<'a>, Ending<'a>> {
-    if options.get_flag("new") {
-        return Ok(Request::NewLinks);
+fn links_of<'a>(alloc: Global, options: &ArgMatches<'a>) -> Result<Request<'a>, Ending<'a>> {
+    if let Some(word) = options.get_str("new") {
+        return match word.parse::<u16>() {
+            Ok(count) if 1 <= count && count <= MOST_LINKS => Ok(Request::NewLinks(count)),
+            _ => Err(wrong_value("--new", word, "a number of links, 1 to 256")),
+        };
     }
-    Ok(Request::Links {
-        links: value_of(options, "FILE")?,
-        json: options.get_flag("json"),
-    })
+    let mut links = Vec::new(alloc);
+    match links.extend_from_slice(options.get_strs("FILE").unwrap_or(&[])) {
+        Ok(()) => Ok(Request::Links {
+            links,
+            json: options.get_flag("json"),
+        }),
+        Err(_) => Err(Ending::Memory),
+    }
 }
 
 /// The request `diff`.
@@ -254,7 +264,7 @@ fn named<'a>(
 ) -> Result<Request<'a>, Ending<'a>> {
     match name {
         "totals" => totals_of(options, is_terminal),
-        "links" => links_of(options),
+        "links" => links_of(alloc, options),
         "diff" => diff_of(options),
         "explain" => Ok(Request::Explain(explain_of(alloc, options, is_terminal)?)),
         "plan" => plan_of(options),

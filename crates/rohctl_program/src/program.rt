@@ -34,8 +34,8 @@ where
     let (request, screen) = read_request(rt, words, screen)?;
     match request {
         Request::Totals(asked) => run_totals(rt, &asked, screen),
-        Request::Links { links, json } => run_links(rt, links, json),
-        Request::NewLinks => run_new(rt),
+        Request::Links { links, json } => run_links(rt, links.as_slice(), json),
+        Request::NewLinks(count) => run_new(rt, count),
         Request::Diff(asked) => run_diff(rt, &asked, screen),
         Request::Plan(plan) => run_plan(rt, &plan),
         Request::Decompress(asked) => run_decompress(rt, &asked, screen),

@@ -10,6 +10,11 @@ enum Form {
     Flag,
     /// An option with a value, which help texts call so.
     Valued(&'static str),
+    /// An option whose value may be left out, and is then this one.
+    OrAlone {
+        value: &'static str,
+        otherwise: &'static str,
+    },
     /// An argument by its place.
     Argument,
     /// One or more arguments by their place.
@@ -92,6 +97,17 @@ impl Word {
         }
     }
 
+    /// Its value may be left out, and is then this one.
+    pub(crate) fn or_alone(self, otherwise: &'static str) -> Word {
+        match self.form {
+            Form::Valued(value) => Word {
+                form: Form::OrAlone { value, otherwise },
+                ..self
+            },
+            _ => self,
+        }
+    }
+
     /// It has to be given.
     pub(crate) fn required(self) -> Word {
         Word {
@@ -138,6 +154,12 @@ impl Word {
         match self.form {
             Form::Flag => arg.long(self.name).action(ArgAction::SetTrue),
             Form::Valued(value) => arg.long(self.name).value_name(value).action(ArgAction::Set),
+            Form::OrAlone { value, otherwise } => arg
+                .long(self.name)
+                .value_name(value)
+                .num_args(0..=1)
+                .default_missing_value(otherwise)
+                .action(ArgAction::Set),
             Form::Argument => arg,
             Form::Arguments => arg.num_args(1..),
         }

@@ -2,7 +2,7 @@
 
 use crate::captures::{decompress_words, explain_words, report_words, script_words};
 use crate::gateway::with_gateway;
-use crate::options::{Given, argument, color, flag, subcommand, valued};
+use crate::options::{Given, argument, arguments, color, flag, subcommand, valued};
 use clap::Command;
 use std::alloc::{AllocError, Global};
 
@@ -31,9 +31,19 @@ fn links<'a>(given: Given<'_>) -> Result<Command<'a>, AllocError> {
         "links",
         "Check a links file: list all its errors, or show what it sets",
         &[
-            argument("FILE", "The links file; - is standard input").required_unless("new"),
+            arguments(
+                "FILE",
+                "The links file; - is standard input; of several each is called good, or its errors are listed",
+            )
+            .required_unless("new"),
             flag("json", "Write JSON, one object per line"),
-            flag("new", "Write a links file to start from").without("FILE"),
+            valued(
+                "new",
+                "N",
+                "Write a links file of N links to start from, 1 if N isn't given",
+            )
+            .or_alone("1")
+            .without("FILE"),
         ],
     )
 }
