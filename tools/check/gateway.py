@@ -26,7 +26,7 @@ from random_script import check8
 from trial import Trial
 
 ROHCTL = "crates/rohctl/out/rohctl"
-PARTS = ("words", "wrong", "calls", "killed", "reloaded", "asked", "watched", "hostile", "flood", "poor", "files")
+PARTS = ("words", "wrong", "heads", "calls", "killed", "reloaded", "asked", "watched", "hostile", "flood", "poor", "files")
 LINKS = range(1, 21)
 KILLS = 20
 SLOW = 40
@@ -61,7 +61,7 @@ REQUESTS = (
 TEXTS = {
     400: "not a request that a gateway knows; expected HTTP/1.1 without a body, with the query of its path",
     404: "nothing is at this path; man rohctl names each request",
-    405: "the path has another method; expected GET to show something, POST to change something",
+    405: "the path has another method; expected GET or HEAD to show something, POST to change something",
     413: "the head of the request is too long; expected at most 8192 octets",
 }
 
@@ -95,6 +95,40 @@ def check_words(trial: Trial) -> None:
 def check_wrong(trial: Trial) -> None:
     """Wrong calls, wrong files and taken ports."""
     gateway_wrong.check(trial)
+
+
+# What is shown at both sockets, and only at the control socket.
+SHOWN, KEPT = ("/ready", "/metrics"), ("/status", "/contexts?link=1", "/calls?link=1", "/contexts?link=999", "/nothing", "/stop")
+
+
+def check_heads(trial: Trial) -> None:
+    """`HEAD` is answered as `GET` is, without the body, and the metrics port shows only the metrics and `/ready`."""
+    with Receivers() as receivers, Gateway(trial, trial.scratch / "heads", receivers.links([1])) as gateway:
+        gateway.send(Arrival(1, 5, bytes.fromhex("fc00b745aa")))
+        gateway.wait_taken()
+        for draining in (False, True):
+            told = gateway.at_metrics("GET", "/ready")
+            trial.demand((told.status, told.body) == (200, b'{"ready":true}\n'), f"/ready at the metrics port: {told}")
+            trial.demand(told == gateway.ask("GET", "/ready"), f"draining {draining}: /ready differs at the two sockets")
+            gateway.ask("POST", "/drain")
+        for path in SHOWN + KEPT:
+            asks = (gateway.ask, gateway.at_metrics) if path in SHOWN else (gateway.ask,)
+            for ask in asks:
+                whole, head = ask("GET", path), ask("HEAD", path)
+                # The metrics count the wakes, so a length may change from one answer to the next.
+                heads = [re.sub(r"\d+", "#", one.head) if path == "/metrics" else one.head for one in (whole, head)]
+                fits = heads[0] == heads[1] and head.status == whole.status and not head.body
+                trial.demand(fits and f"Content-Length: {len(whole.body)}\r\n" in whole.head, f"HEAD {path}: {head}; GET: {whole}")
+        told = gateway.sent(b"\r\n\nHEAD /ready HTTP/1.1\r\n\r\n")
+        trial.demand((told.status, told.body) == (200, b""), f"HEAD behind empty lines: {told}")
+        told = gateway.sent(b"HEAD /ready HTTP/1.1\r\nA: " + b"a" * 9_000 + b"\r\n\r\n")
+        trial.demand((told.status, told.body) == (413, b""), f"a long HEAD: {told}")
+        for method in ("GET", "POST"):
+            for path in (*KEPT, "/save", "/reload", "/drain", "/reset?link=1", "/watch?link=1&cid=0"):
+                told = gateway.at_metrics(method, path)
+                trial.demand(told.status in (404, 405), f"{method} {path} at the metrics port: {told}")
+        told = gateway.ask("GET", "/status")
+        trial.demand((told.json["contexts"], told.json["saved"]) == (1, 0), f"asked at the metrics port: {told}")
 
 
 def counted(lines: list[list[str]], arrivals: list[Arrival]) -> Counter[tuple[str, str]]:

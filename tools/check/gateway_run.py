@@ -113,6 +113,7 @@ class Answered:
 
     status: int
     body: bytes
+    head: str = ""
 
     @property
     def json(self) -> dict[str, object]:
@@ -143,7 +144,8 @@ def read_answer(one: socket.socket) -> Answered:
             octets += part
     head, _, body = octets.partition(b"\r\n\r\n")
     words = head.split(b" ", 2)
-    return Answered(int(words[1]) if len(words) > 1 and words[1].isdigit() else 0, body)
+    status = int(words[1]) if len(words) > 1 and words[1].isdigit() else 0
+    return Answered(status, body, f"{head.decode(errors='replace')}\r\n")
 
 
 @dataclass
@@ -252,11 +254,15 @@ class Gateway:
         """A request on the control socket."""
         return self.sent(f"{method} {path} HTTP/1.1\r\nHost: gateway\r\n\r\n".encode())
 
+    def at_metrics(self, method: str, path: str) -> Answered:
+        """A request at the metrics port."""
+        with socket.create_connection((LOOPBACK, self.metrics_port), WAIT_SECONDS) as one:
+            one.sendall(f"{method} {path} HTTP/1.1\r\nHost: gateway\r\n\r\n".encode())
+            return read_answer(one)
+
     def metrics(self) -> str:
         """What the metrics port shows."""
-        with socket.create_connection((LOOPBACK, self.metrics_port), WAIT_SECONDS) as one:
-            one.sendall(b"GET /metrics HTTP/1.1\r\nHost: gateway\r\n\r\n")
-            return read_answer(one).body.decode()
+        return self.at_metrics("GET", "/metrics").body.decode()
 
     def datagrams(self) -> int:
         """How many datagrams it has taken since it started."""

@@ -128,8 +128,8 @@ impl Reply {
         Reply::object(200, text)
     }
 
-    /// The octets to be sent.
-    pub(crate) fn octets(&self, alloc: Global) -> io::Result<Vec<u8>> {
+    /// The octets to be sent; `is_head` leaves out the body.
+    pub(crate) fn octets(&self, alloc: Global, is_head: bool) -> io::Result<Vec<u8>> {
         let mut text = Vec::new(alloc);
         write!(
             &mut text,
@@ -139,7 +139,9 @@ impl Reply {
             self.kind.name(),
             self.body.len()
         )?;
-        text.extend_from_slice(self.body.as_slice())?;
+        if !is_head {
+            text.extend_from_slice(self.body.as_slice())?;
+        }
         Ok(text)
     }
 }

@@ -1,8 +1,9 @@
 //! A connection: one request, and its answer.
 
+use crate::answers::Reply;
 use mio::net::{TcpStream, UnixStream};
 use mio::{Interest, Poll, Token};
-use rohc_station::{Asked, RequestFault, read_request};
+use rohc_station::{Asked, RequestFault, is_head, read_request};
 use std::alloc::Global;
 use std::io;
 use std::io::{ErrorKind, Read, Write};
@@ -159,9 +160,14 @@ impl Connection {
         Progress::Ended
     }
 
-    /// Answers, and writes as much of that as the peer takes now.
-    pub(crate) fn answer(&mut self, answer: Vec<u8>) -> Progress {
-        self.answer = Some(answer);
-        self.write_rest()
+    /// Answers, without a body if the method is HEAD, and writes as much of that as the peer takes now.
+    pub(crate) fn answer(&mut self, alloc: Global, reply: &Reply) -> Progress {
+        match reply.octets(alloc, is_head(self.head.as_slice())) {
+            Ok(octets) => {
+                self.answer = Some(octets);
+                self.write_rest()
+            }
+            Err(_) => Progress::Ended,
+        }
     }
 }

@@ -16,6 +16,7 @@ use rohc_station::{
     Asked, GatewayFigures, ReloadFault, ReloadReport, Request, RequestFault, Station, Times,
     write_calls, write_contexts, write_metrics, write_page,
 };
+use std::alloc::Global;
 use std::io;
 use std::io::{ErrorKind, Write};
 use std::rt::Files;
@@ -390,22 +391,20 @@ impl Gateway<'_> {
         }
     }
 
-    /// The octets of the answer to what a connection asks for. The metrics port answers `GET /metrics`
-    /// alone.
-    fn reply_to<R>(&mut self, rt: &R, asked: Asked, is_control: bool) -> io::Result<Vec<u8>>
+    /// The answer to what a connection asks for. The metrics port shows the metrics and whether the gateway is ready, and
+    /// nothing else.
+    fn reply_to<R>(&mut self, rt: &R, asked: Asked, is_control: bool) -> io::Result<Reply>
     where
         R: Files + Clock + Eprint + AllocGlobal,
     {
         let alloc = rt.alloc();
-        let reply = match asked {
-            Asked::Whole(Request::Metrics) => self.metrics(rt)?,
-            Asked::Whole(Request::Page) => self.page(rt)?,
-            Asked::Whole(request) if is_control => self.answer(rt, request)?,
-            Asked::Whole(_) => Reply::refused(alloc, RequestFault::NotFound)?,
-            Asked::Faulty(fault) => Reply::refused(alloc, fault)?,
-            Asked::Unfinished => Reply::refused(alloc, RequestFault::BadRequest)?,
-        };
-        reply.octets(alloc)
+        match asked {
+            Asked::Whole(request @ (Request::Metrics | Request::Page | Request::Ready)) => self.answer(rt, request),
+            Asked::Whole(request) if is_control => self.answer(rt, request),
+            Asked::Whole(_) => Reply::refused(alloc, RequestFault::NotFound),
+            Asked::Faulty(fault) => Reply::refused(alloc, fault),
+            Asked::Unfinished => Reply::refused(alloc, RequestFault::BadRequest),
+        }
     }
 
     /// Goes on with the connection at a place, and lets it go if it has ended.
@@ -419,7 +418,7 @@ impl Gateway<'_> {
         let is_control = connection.is_control();
         let progress = match connection.go_on() {
             Progress::Asks(asked) => match self.reply_to(rt, asked, is_control) {
-                Ok(octets) => self.send_answer(place, octets),
+                Ok(reply) => self.send_answer(rt.alloc(), place, &reply),
                 Err(_) => Progress::Ended,
             },
             progress => progress,
@@ -432,9 +431,9 @@ impl Gateway<'_> {
     }
 
     /// Sends the answer of the connection at a place.
-    fn send_answer(&mut self, place: usize, octets: Vec<u8>) -> Progress {
+    fn send_answer(&mut self, alloc: Global, place: usize, reply: &Reply) -> Progress {
         match self.connections.get_mut(place) {
-            Some(Some(connection)) => connection.answer(octets),
+            Some(Some(connection)) => connection.answer(alloc, reply),
             _ => Progress::Ended,
         }
     }

@@ -1,5 +1,6 @@
--- Requests. Words: digit_of, number_in; changes a request; IsAskedByPost, ChangesNothing; status_of a fault.
-use Rattle.std.specs.Prelude.{◌≡◌, ℕ, ◌+◌, ◌*◌, ◌-◌, List, [], ◌∷◌, Bool, true, false, nat_lt, nat_le, ◌&&◌, if◌then◌else◌, codes, Option, Some, None, Result, Ok, Err, ⊤}
+-- Requests. Words: digit_of, number_in; is_head; changes a request; IsAskedByPost, ChangesNothing; status_of a fault.
+use Rattle.std.specs.Prelude.{◌≡◌, ℕ, ◌+◌, ◌*◌, ◌-◌, List, [], ◌∷◌, Bool, true, false, nat_lt, nat_le, ◌&&◌, ◌||◌, ◌==◌, nat_eq, if◌then◌else◌, codes, Option, Some, None, Result, Ok, Err, ⊤}
+use Rattle.std.specs.List.{starts_with}
 use Rattle.std.specs.Option.{option_and_then}
 use Rattle.rohc_station.specs.declared.request.Request.{Request}
 use Rattle.rohc_station.specs.declared.request.Request.TheVariants.{Stop, Save, Reload, Reset, Drain, Watch, Ready, Status, Metrics, Page, Contexts, Calls}
@@ -26,6 +27,12 @@ number_behind before (octet ∷ octets) =
 abbrev pub number_in : List ℕ → Option ℕ
 number_in [] = None
 number_in (octet ∷ octets) = number_behind 0 (octet ∷ octets)
+
+-- behind CRs and LFs a request begins with the method HEAD
+abbrev pub is_head : List ℕ → Bool
+is_head [] = false
+is_head (octet ∷ octets) =
+    if octet == 13 || octet == 10 then is_head octets else starts_with nat_eq (octet ∷ octets) (codes "HEAD ")
 
 -- the four that change how datagrams are answered from then on
 abbrev pub changes : Request → Bool

@@ -20,7 +20,7 @@ pub use lists::{write_calls, write_contexts};
 pub use metrics::{GatewayFigures, write_metrics};
 pub use page::{Times, write_page};
 pub use reload::{ReloadFault, ReloadReport};
-pub use request::{Asked, Request, RequestFault, read_request, request_of};
+pub use request::{Asked, Request, RequestFault, is_head, read_request, request_of};
 pub use sending::Taken;
 pub use station::Station;
 pub use timed::{Timed, timed_datagram};

@@ -1,7 +1,7 @@
 //! What is asked of a gateway over HTTP/1.1 (RFC 9112): a method, a path and a query.
 
 ghost use Rattle.std.specs.Prelude.{◌≡◌, Ok, IfOk, true, codes};
-ghost use Rattle.rohc_station.specs.Requests.{changes, number_in, IsAskedByPost};
+ghost use Rattle.rohc_station.specs.Requests.{changes, number_in, is_head, IsAskedByPost};
 
 use httparse::Status;
 use httparse::spans::{EMPTY_HEADER_SPAN, HeaderSpan, RequestSpans, parse_request};
@@ -34,7 +34,7 @@ pub enum Request {
         /// The CID.
         cid: u16,
     },
-    /// `GET /ready`
+    /// `GET /ready`, or `HEAD`, as for each below
     Ready,
     /// `GET /status`
     Status,
@@ -123,7 +123,7 @@ impl RequestFault {
             }
             RequestFault::NotFound => "nothing is at this path; man rohctl names each request",
             RequestFault::MethodNotAllowed => {
-                "the path has another method; expected GET to show something, POST to change something"
+                "the path has another method; expected GET or HEAD to show something, POST to change something"
             }
             RequestFault::TooLarge =>
                 "the head of the request is too long; expected at most 8192 octets",
@@ -145,6 +145,7 @@ pub enum Asked {
 /// The method of a request, as far as a gateway knows it.
 #[derive(Clone, Copy)]
 enum Method {
+    /// `GET`, or `HEAD`, whose answer has no body.
     Get,
     Post,
     Other,
@@ -154,7 +155,7 @@ enum Method {
 fn method_of(name: &[u8]) -> Method
     ensures { result ≡ Method.Post → name.now ≡ codes "POST" }
 {
-    if name == b"GET".as_slice() {
+    if name == b"GET".as_slice() || name == b"HEAD".as_slice() {
         Method::Get
     } else if name == b"POST".as_slice() {
         Method::Post
@@ -353,6 +354,19 @@ fn request_in(
         (Some(method), Some(target)) => request_of(method, target),
         _ => Err(RequestFault::BadRequest),
     }
+}
+
+/// Whether the octets of a request, or the first of them, have the method HEAD, so that the answer has no body (RFC 9110
+/// 9.3.2). Line ends before it are skipped, as `read_request` skips them.
+pub fn is_head(octets: &[u8]) -> bool
+    ensures { result ≡ is_head octets.now }
+{
+    for (place, octet) in octets.iter().enumerate() {
+        if !matches!(*octet, b'\r' | b'\n') {
+            return octets[place..].starts_with(b"HEAD ".as_slice());
+        }
+    }
+    false
 }
 
 /// What has come of a request: it isn't whole yet, or it is a request, or a fault. Whatever the octets are,
