@@ -16,17 +16,18 @@ from collections import Counter
 from collections.abc import Iterator
 from concurrent.futures import ThreadPoolExecutor
 from dataclasses import dataclass, field
+from datetime import UTC, datetime
 from pathlib import Path
 
 from cluster import Arrival, made_arrivals
 import gateway_wrong
-from gateway_run import BATCH, LOOPBACK, PROGRAM, Gateway, Receivers, replayed, samples
+from gateway_run import BATCH, LOOPBACK, PROGRAM, Gateway, Receivers, dated, replayed, samples
 from program import Ended
 from random_script import check8
 from trial import Trial
 
 ROHCTL = "crates/rohctl/out/rohctl"
-PARTS = ("words", "wrong", "heads", "calls", "killed", "reloaded", "asked", "watched", "hostile", "flood", "poor", "files")
+PARTS = ("words", "wrong", "heads", "calls", "killed", "reloaded", "asked", "watched", "logged", "hostile", "flood", "poor", "files")
 LINKS = range(1, 21)
 KILLS = 20
 SLOW = 40
@@ -410,6 +411,24 @@ def check_watched(trial: Trial) -> None:
     trial.demand(lines[-1] == "<6>rohc-gateway: watch ends", f"watched: {lines[-1:]}")
     count = sum(line.startswith(log) for line in lines)
     trial.demand(count == WATCHED, f"watched: {count} packets have a line; wanted {WATCHED}")
+
+
+def check_logged(trial: Trial) -> None:
+    """Where no journal reads the log, each line begins with the date and time in UTC."""
+    begun = datetime.now(UTC).replace(microsecond=0)
+    with Receivers() as receivers:
+        gateway = Gateway(trial, trial.scratch / "logged", receivers.links([1]), is_journal=False)
+        # Another stream is the journal's, as in a terminal that a service started.
+        gateway.environment["JOURNAL_STREAM"] = "1:1"
+        with gateway:
+            gateway.ask("POST", "/drain")
+            gateway.stop()
+            lines = gateway.said.splitlines()
+    texts = ["started: 1 links, 0 contexts restored", "draining: no new call is accepted", "stopped"]
+    trial.demand([dated(line) for line in lines] == [f"DATE rohc-gateway: {text}" for text in texts], f"logged: {lines}")
+    for line in lines:
+        moment = datetime.fromisoformat(line.split(" ")[0])
+        trial.demand(begun <= moment <= datetime.now(UTC), f"logged: {line} is not of this time")
 
 
 def slow_ones(gateway: Gateway) -> Iterator[socket.socket]:

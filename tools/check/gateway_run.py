@@ -136,6 +136,11 @@ def samples(text: str) -> Iterator[tuple[str, dict[str, str], int]]:
             yield found[1], dict(re.findall(r'(\w+)="([^"]*)"', found[2] or "")), int(float(found[3]))
 
 
+def dated(text: str) -> str:
+    """A text with the word DATE in place of the date and time with which a line begins."""
+    return re.sub(r"^\d{4}-\d\d-\d\dT\d\d:\d\d:\d\dZ ", "DATE ", text, flags=re.MULTILINE)
+
+
 def read_answer(one: socket.socket) -> Answered:
     """Reads an answer to the end of the connection. Without one the status is 0."""
     octets = b""
@@ -161,6 +166,8 @@ class Gateway:
     save_seconds: int = 86_400
     limits: dict[int, int] = field(default_factory=dict)
     environment: dict[str, str] = field(default_factory=dict)
+    # Whether the journal of systemd reads its log.
+    is_journal: bool = True
     process: subprocess.Popen[bytes] | None = None
     count: int = 0
 
@@ -206,6 +213,9 @@ class Gateway:
         with (self.folder / "log").open("ab") as log:
             call = [self.trial.top / PROGRAM, "run", self.file, *words]
             environment = os.environ | self.environment
+            if self.is_journal:
+                file = os.fstat(log.fileno())
+                environment |= {"JOURNAL_STREAM": f"{file.st_dev}:{file.st_ino}"}
             self.process = subprocess.Popen(call, stderr=log, preexec_fn=self.set_limits, env=environment)
         end = time.monotonic() + WAIT_SECONDS
         while time.monotonic() < end:

@@ -1,7 +1,7 @@
 """Wrong calls of rohc-gateway, and of what rohctl asks of one: each answer names what is wrong, and what to do.
 
-In the tables FILE is the gateway file, and DIR the folder of all files. What is wrong with a file is told by `check` with
-status 1, and by `run` with status 3 on standard error.
+In the tables FILE is the gateway file, DIR the folder of all files, and DATE the date with which a line begins. What is
+wrong with a file is told by `check` with status 1, and by `run` with status 3 on standard error.
 """
 
 import os
@@ -16,13 +16,13 @@ from concurrent.futures import Future, ThreadPoolExecutor
 from contextlib import contextmanager
 from pathlib import Path
 
-from gateway_run import LOOPBACK, PROGRAM, Gateway, Receivers, bound
+from gateway_run import LOOPBACK, PROGRAM, Gateway, Receivers, bound, dated
 from nobody import as_nobody
 from program import Call, Ended, Word, run
 from trial import Trial
 
 ROHCTL = "crates/rohctl/out/rohctl"
-LEVEL = "<3>rohc-gateway: "
+LINE = "DATE rohc-gateway: "
 LONGEST = 1_048_576
 # A good links file of 15 lines, and a good gateway file.
 LINKS = """version = 1
@@ -258,9 +258,9 @@ FORBIDDEN: tuple[tuple[tuple[str, ...], int, str], ...] = (
     (("check", "DIR/shut.toml"), 1, f"DIR/shut.toml: permission denied; {A_GATEWAY_FILE}"),
     (("check", "--links", "DIR/shut.toml", "FILE"), 1, f"DIR/shut.toml: permission denied; {READABLE}"),
     (("check", "--state", "DIR/calls", "FILE"), 1, "DIR/calls: permission denied; expected a state file that this user can read, or none"),
-    (("run", "DIR/shut.toml"), 3, f"{LEVEL}DIR/shut.toml: permission denied; {A_GATEWAY_FILE}"),
-    (("run", "--links", "DIR/shut.toml", "FILE"), 3, f"{LEVEL}DIR/shut.toml: permission denied; {READABLE}"),
-    (("run", "--control", "DIR/shut/control", "FILE"), 4, f"{LEVEL}control: DIR/shut/control: permission denied; {WRITABLE}"),
+    (("run", "DIR/shut.toml"), 3, f"{LINE}DIR/shut.toml: permission denied; {A_GATEWAY_FILE}"),
+    (("run", "--links", "DIR/shut.toml", "FILE"), 3, f"{LINE}DIR/shut.toml: permission denied; {READABLE}"),
+    (("run", "--control", "DIR/shut/control", "FILE"), 4, f"{LINE}control: DIR/shut/control: permission denied; {WRITABLE}"),
 )  # fmt: skip
 
 # A port that most systems keep for root, and the file that says which is the first that isn't.
@@ -342,7 +342,7 @@ def refuses(trial: Trial, folder: Path, words: Sequence[str], wanted: Sequence[s
     trial.same(f"check {words} of {file.read_bytes()[:60]!r}", "\n".join(lines), told.text.rstrip("\n"), told.call)
     trial.demand((told.status, told.said) == (1, ""), f"check: {told.end()}; wanted 1, nothing said", told.call)
     told = trial.ran(program, "run", *options, file, seconds=20)
-    trial.same(f"run {words} of {file.read_bytes()[:60]!r}", "\n".join(LEVEL + line for line in lines), told.said, told.call)
+    trial.same(f"run {words} of {file.read_bytes()[:60]!r}", "\n".join(LINE + line for line in lines), dated(told.said), told.call)
     trial.demand(told.status == 3, f"run: {told.end()}; wanted 3", told.call)
     trial.demand(same_files(folder) == before, f"{lines}: a file was changed")
 
@@ -370,7 +370,7 @@ def check_files(trial: Trial) -> None:
     ):
         line = f"{shown}: {why}; {A_GATEWAY_FILE}"
         told = trial.ran(program, "run", file)
-        trial.demand((told.status, told.said) == (3, LEVEL + line), f"{told.end()}; wanted {line}", told.call)
+        trial.demand((told.status, dated(told.said)) == (3, LINE + line), f"{told.end()}; wanted {line}", told.call)
         told = trial.ran(program, "check", file)
         trial.demand((told.status, told.text) == (1, f"{line}\n"), f"{told.end()}; wanted {line}", told.call)
 
@@ -389,11 +389,11 @@ def check_forbidden(trial: Trial) -> None:
     for words, status, line in FORBIDDEN:
         told = trial.ran(*words_before, *(placed(word, folder) for word in words), seconds=20)
         wanted = placed(line, folder)
-        trial.demand((told.status, told.all.rstrip("\n")) == (status, wanted), f"{told.end()}; wanted {status}, {wanted}", told.call)
+        trial.demand((told.status, dated(told.all.rstrip("\n"))) == (status, wanted), f"{told.end()}; wanted {status}, {wanted}", told.call)
     if int(FIRST_PORT.read_text()) > LOW_PORT:
         told = trial.ran(*words_before, "run", "--port", str(LOW_PORT), folder / "gateway.toml", seconds=20)
-        wanted = f"{LEVEL}port: UDP {LOOPBACK}:{LOW_PORT}: permission denied; expected a port above 1023"
-        trial.demand((told.status, told.said) == (4, wanted), f"{told.end()}; wanted 4, {wanted}", told.call)
+        wanted = f"{LINE}port: UDP {LOOPBACK}:{LOW_PORT}: permission denied; expected a port above 1023"
+        trial.demand((told.status, dated(told.said)) == (4, wanted), f"{told.end()}; wanted 4, {wanted}", told.call)
     else:
         trial.leave_out(f"port {LOW_PORT}, since any user may bind it here")
     check_unsaved(trial, folder, words_before)
@@ -444,8 +444,8 @@ def check_sockets(trial: Trial) -> None:
 
     def ends(words: Sequence[Word], line: str) -> None:
         told = trial.ran(program, "run", *words, file, seconds=20)
-        wanted = placed(LEVEL + line, folder)
-        trial.demand((told.status, told.said) == (4, wanted), f"{told.end()}; wanted 4, {wanted}", told.call)
+        wanted = placed(LINE + line, folder)
+        trial.demand((told.status, dated(told.said)) == (4, wanted), f"{told.end()}; wanted 4, {wanted}", told.call)
 
     with taken(socket.SOCK_DGRAM) as port:
         ends(("--port", str(port)), f"port: UDP {LOOPBACK}:{port}: {busy}")
@@ -473,8 +473,8 @@ def check_descriptors(trial: Trial, folder: Path) -> None:
         (6, f"control: {folder}/control"),
     ):
         told = trial.ran("bash", "-c", f'ulimit -n {count} && exec "$0" run "$1"', trial.top / PROGRAM, file, seconds=20)
-        wanted = f"{LEVEL}{place}: {TOO_MANY}"
-        trial.demand((told.status, told.said) == (4, wanted), f"{count} descriptors: {told.end()}; wanted 4, {wanted}", told.call)
+        wanted = f"{LINE}{place}: {TOO_MANY}"
+        trial.demand((told.status, dated(told.said)) == (4, wanted), f"{count} descriptors: {told.end()}; wanted 4, {wanted}", told.call)
 
 
 def check_full(trial: Trial) -> None:
@@ -482,8 +482,8 @@ def check_full(trial: Trial) -> None:
     file = trial.write("full/gateway.toml", GOOD)
     trial.write("full/links.toml", LINKS)
     told = trial.ran("bash", "-c", '"$0" check "$1" > /dev/full', trial.top / PROGRAM, file)
-    wanted = f"{LEVEL}standard output: no space left on the device"
-    trial.demand((told.status, told.said) == (4, wanted), f"{told.end()}; wanted 4, {wanted}", told.call)
+    wanted = f"{LINE}standard output: no space left on the device"
+    trial.demand((told.status, dated(told.said)) == (4, wanted), f"{told.end()}; wanted 4, {wanted}", told.call)
 
 
 def listen(path: Path, answer: bytes | None) -> Callable[[], None]:
@@ -610,8 +610,8 @@ def check_waiting(trial: Trial) -> None:
     (folder / "gateway.toml").write_text(f'links = "links.toml"\nport = {port}\n')
     environment = {"LD_PRELOAD": str(trial.compiled("tools/failing_calls.c")), "FAILED_WAIT": "1"}
     told = trial.ran(trial.top / PROGRAM, "run", folder / "gateway.toml", environment=environment, seconds=20)
-    wanted = f"{LEVEL}waiting for datagrams failed: Input/output error (os error 5)"
-    trial.demand(told.status == 4 and told.said.endswith(wanted), f"{told.end()}; wanted 4, {wanted}", told.call)
+    wanted = f"{LINE}waiting for datagrams failed: Input/output error (os error 5)"
+    trial.demand(told.status == 4 and dated(told.said).endswith(wanted), f"{told.end()}; wanted 4, {wanted}", told.call)
 
 
 def check_states(trial: Trial) -> None:

@@ -9,6 +9,7 @@ rohctl and rohc-gateway do all that they are asked for, or end with status 5 and
 from collections import Counter
 from pathlib import Path
 
+from gateway_run import dated
 from program import Ended
 from trial import Trial
 
@@ -27,7 +28,7 @@ TOOLS = (
     (
         "crates/rohc_gateway/out/rohc_gateway",
         ("check", "crates/rohc_gateway/data/gateway.toml"),
-        "<3>rohc-gateway: out of memory; rohctl plan --calls COUNT shows what calls need",
+        "DATE rohc-gateway: out of memory; rohctl plan --calls COUNT shows what calls need",
     ),
 )
 
@@ -91,7 +92,7 @@ def refuse_tool(trial: Trial, refuse: Path, program: str, words: tuple[str, ...]
         made = int(count.read_text())
         if made < request:
             break
-        is_poor = (ended.status, ended.said) == (5, said) and whole.output.startswith(ended.output)
+        is_poor = (ended.status, dated(ended.said)) == (5, said) and whole.output.startswith(ended.output)
         is_whole = (ended.status, ended.output, ended.error) == (whole.status, whole.output, whole.error)
         if not trial.demand(is_poor or is_whole, f"{program} {words}, request {request} of {made} refused: {ended.end()}", ended.call):
             return

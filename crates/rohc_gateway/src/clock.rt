@@ -1,6 +1,7 @@
 //! The clock of a gateway.
 
-use std::time::{Clock, SystemTime, UNIX_EPOCH};
+use rohc_gateway_file::milliseconds;
+use std::time::Clock;
 
 /// Moments in milliseconds of the system's clock since 1970, which never go back: where the clock does, no
 /// time has passed.
@@ -25,14 +26,3 @@ impl Moments {
 }
 
 ghost use Rattle.std.specs.Prelude.{◌≤◌};
-
-/// The system's clock; 0 if it can't be read.
-fn milliseconds<R: Clock>(rt: &R) -> u64 {
-    let Ok(now) = SystemTime::now(rt) else {
-        return 0;
-    };
-    match now.duration_since(UNIX_EPOCH) {
-        Ok(passed) => u64::try_from(passed.as_millis()).unwrap_or(u64::MAX),
-        Err(_) => 0,
-    }
-}

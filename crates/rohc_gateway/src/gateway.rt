@@ -11,12 +11,13 @@ use crate::sockets::MOST_CONNECTIONS;
 use crate::watch::{LONGEST, MOST_PACKETS, Watch};
 use mio::net::UdpSocket;
 use rohc_concentrator::NoLink;
-use rohc_gateway_file::{Config, VERSION};
+use rohc_gateway_file::{Config, Level, Log, VERSION};
 use rohc_station::{
     Asked, GatewayFigures, ReloadFault, ReloadReport, Request, RequestFault, Station, Times,
     write_calls, write_contexts, write_metrics, write_page,
 };
 use std::alloc::Global;
+use std::fmt::Display;
 use std::io;
 use std::io::{ErrorKind, Write};
 use std::rt::Files;
@@ -32,6 +33,7 @@ const UNSAVED: &str = "the gateway continues, and the file of the last save stay
 #[derive(Drop)]
 pub(crate) struct Gateway<'a> {
     pub(crate) config: &'a Config,
+    pub(crate) log: Log,
     pub(crate) station: Station,
     pub(crate) figures: GatewayFigures,
     pub(crate) moments: Moments,
@@ -52,40 +54,56 @@ pub(crate) struct Gateway<'a> {
 }
 
 /// Logs the first faults of a links file that is refused, and what follows.
-fn log_refused<R: Eprint>(rt: &R, name: &str, file: &str, faults: &str) {
+fn log_refused<R: Clock + Eprint>(rt: &R, log: Log, name: &str, file: &str, faults: &str) {
     for line in faults.lines().take(MOST_FAULTS) {
-        let _ = eprintln!(rt; "<4>rohc-gateway: {line}");
+        log.say(rt, Level::Warning, line);
     }
     if faults.lines().count() > MOST_FAULTS {
-        let _ = eprintln!(rt; "<4>rohc-gateway: rohctl links {file} shows more");
+        log.say(
+            rt,
+            Level::Warning,
+            format_args!("rohctl links {file} shows more"),
+        );
     }
-    let _ = eprintln!(rt; "<4>rohc-gateway: reload refused: {name}; {REFUSED}");
-}
-
-/// Refuses a links file by this name, and says why.
-fn refuse_links<R: Eprint + AllocGlobal>(
-    rt: &R,
-    name: &str,
-    file: &str,
-    lines: &Lines,
-) -> io::Result<Reply> {
-    log_refused(rt, name, file, lines.as_str());
-    Reply::links_refused(rt.alloc(), name, file, lines.as_str())
-}
-
-/// Logs why the contexts aren't saved.
-fn log_unsaved<R: Eprint>(rt: &R, unwritten: &Unwritten) {
-    let _ = eprintln!(rt; "<3>rohc-gateway: save failed: {unwritten}; {UNSAVED}");
-}
-
-/// Says that a reload had no memory.
-fn refuse_for_memory<R: Eprint + AllocGlobal>(rt: &R) -> io::Result<Reply> {
-    let text = "out of memory; new links may be missing until a reload succeeds";
-    let _ = eprintln!(rt; "<3>rohc-gateway: reload refused: {text}");
-    Reply::fault(rt.alloc(), 500, "NoMemory", text)
+    log.say(
+        rt,
+        Level::Warning,
+        format_args!("reload refused: {name}; {REFUSED}"),
+    );
 }
 
 impl Gateway<'_> {
+    /// Logs what began or ended as asked.
+    fn note<R: Clock + Eprint, D: Display + Drop>(&self, rt: &R, text: D) {
+        self.log.say(rt, Level::Info, text);
+    }
+
+    /// Refuses a links file by this name, and says why.
+    fn refuse_links<R: Clock + Eprint + AllocGlobal>(
+        &self,
+        rt: &R,
+        name: &str,
+        file: &str,
+        lines: &Lines,
+    ) -> io::Result<Reply> {
+        log_refused(rt, self.log, name, file, lines.as_str());
+        Reply::links_refused(rt.alloc(), name, file, lines.as_str())
+    }
+
+    /// Logs why the contexts aren't saved.
+    fn log_unsaved<R: Clock + Eprint>(&self, rt: &R, unwritten: &Unwritten) {
+        let text = format_args!("save failed: {unwritten}; {UNSAVED}");
+        self.log.say(rt, Level::Error, text);
+    }
+
+    /// Says that a reload had no memory.
+    fn refuse_for_memory<R: Clock + Eprint + AllocGlobal>(&self, rt: &R) -> io::Result<Reply> {
+        let text = "out of memory; new links may be missing until a reload succeeds";
+        self.log
+            .say(rt, Level::Error, format_args!("reload refused: {text}"));
+        Reply::fault(rt.alloc(), 500, "NoMemory", text)
+    }
+
     /// Takes datagrams from a socket until none waits, but at most so many. Returns whether more may wait.
     pub(crate) fn take_datagrams<R: Clock + Eprint>(
         &mut self,
@@ -128,7 +146,7 @@ impl Gateway<'_> {
         };
         if is_watched && let Some(watch) = &mut self.watch {
             let head: usize = if is_timed { 10 } else { 2 };
-            watch.log(rt, octets.len().saturating_sub(head), &taken);
+            watch.log(rt, self.log, octets.len().saturating_sub(head), &taken);
         }
         let failed = send_all(socket, self.packet.as_mut_slice(), &taken.sends);
         if failed > 0 {
@@ -177,12 +195,12 @@ impl Gateway<'_> {
         }
         self.next_save = moment.saturating_add(u64::from(seconds).saturating_mul(1000));
         if let Err(unwritten) = self.save(rt) {
-            log_unsaved(rt, &unwritten);
+            self.log_unsaved(rt, &unwritten);
         }
     }
 
     /// Reads the links file again.
-    fn reload<R: Files + Eprint + AllocGlobal>(&mut self, rt: &R) -> io::Result<Reply> {
+    fn reload<R: Files + Clock + Eprint + AllocGlobal>(&mut self, rt: &R) -> io::Result<Reply> {
         let config = self.config;
         let path = match &config.links {
             Some(path) => path.as_str(),
@@ -190,14 +208,15 @@ impl Gateway<'_> {
         };
         match self.reload_from(rt, path) {
             Ok(report) => {
-                let _ = eprintln!(rt;
-                    "<6>rohc-gateway: reloaded: {} added, {} changed, {} removed, {} contexts removed",
+                let text = format_args!(
+                    "reloaded: {} added, {} changed, {} removed, {} contexts removed",
                     report.added, report.changed, report.removed, report.contexts_gone
                 );
+                self.note(rt, text);
                 Reply::reloaded(rt.alloc(), &report)
             }
-            Err(NoLinks::Refused(name, lines)) => refuse_links(rt, name, path, &lines),
-            Err(NoLinks::Memory) => refuse_for_memory(rt),
+            Err(NoLinks::Refused(name, lines)) => self.refuse_links(rt, name, path, &lines),
+            Err(NoLinks::Memory) => self.refuse_for_memory(rt),
         }
     }
 
@@ -228,7 +247,7 @@ impl Gateway<'_> {
         let saved = match self.save(rt) {
             Ok(saved) => saved,
             Err(unwritten) => {
-                log_unsaved(rt, &unwritten);
+                self.log_unsaved(rt, &unwritten);
                 let text = format!(in alloc; "{unwritten}; {UNSAVED}")?;
                 return Reply::fault(alloc, 500, "Save", text.as_str());
             }
@@ -258,9 +277,9 @@ impl Gateway<'_> {
     }
 
     /// Takes no new call from now on.
-    fn drain<R: Eprint + AllocGlobal>(&mut self, rt: &R) -> io::Result<Reply> {
+    fn drain<R: Clock + Eprint + AllocGlobal>(&mut self, rt: &R) -> io::Result<Reply> {
         self.figures.draining = true;
-        let _ = eprintln!(rt; "<6>rohc-gateway: draining: no new call is accepted");
+        self.note(rt, "draining: no new call is accepted");
         Reply::object(200, format!(in rt.alloc(); "{{\"draining\":true}}\n"))
     }
 
@@ -276,18 +295,18 @@ impl Gateway<'_> {
             return Reply::no_link(alloc, link);
         }
         self.watch = Some(Watch::new(link, cid, self.moments.now(rt)));
-        let _ = eprintln!(rt; "<6>rohc-gateway: watch {link}/{cid} begins");
+        self.note(rt, format_args!("watch {link}/{cid} begins"));
         let text = format!(in alloc; "{{\"packets\":{MOST_PACKETS},\"milliseconds\":{LONGEST}}}\n");
         Reply::object(200, text)
     }
 
     /// Ends the watch if it is over.
-    pub(crate) fn end_watch<R: Eprint>(&mut self, rt: &R, moment: u64) {
+    pub(crate) fn end_watch<R: Clock + Eprint>(&mut self, rt: &R, moment: u64) {
         if let Some(watch) = &self.watch
             && watch.is_over(moment)
         {
             self.watch = None;
-            let _ = eprintln!(rt; "<6>rohc-gateway: watch ends");
+            self.note(rt, "watch ends");
         }
     }
 

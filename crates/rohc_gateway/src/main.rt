@@ -7,6 +7,7 @@ mod clock;
 mod connection;
 mod files;
 mod gateway;
+mod journal;
 mod lines;
 mod links_file;
 mod outputs;
@@ -16,7 +17,7 @@ mod setup;
 mod sockets;
 mod watch;
 
-use rohc_gateway_file::{Ending, Request, read_request};
+use rohc_gateway_file::{Ending, Level, Log, Request, read_request};
 use std::net::Net;
 use std::process::ExitCode;
 use std::rt::{Env, Files};
@@ -33,7 +34,7 @@ fn words<R: Env + AllocGlobal>(rt: &R) -> io::Result<Vec<String>> {
 }
 
 /// Does what the words ask for.
-fn requested<R>(rt: &R, words: &[String]) -> Result<Ending, Ending>
+fn requested<R>(rt: &R, log: Log, words: &[String]) -> Result<Ending, Ending>
 where
     R: Files + Net + Clock + Print + Eprint + AllocGlobal,
 {
@@ -43,13 +44,16 @@ where
             file,
             options,
             fresh,
-        } => run::run(rt, file, &options, fresh),
+        } => run::run(rt, log, file, &options, fresh),
     }
 }
 
 fn main(rt: HostRuntime) -> ExitCode {
+    let log = Log {
+        is_journal: journal::is_journal(&rt),
+    };
     let ending = match words(&rt) {
-        Ok(words) => match requested(&rt, words.as_slice()) {
+        Ok(words) => match requested(&rt, log, words.as_slice()) {
             Ok(ending) => ending,
             Err(ending) => ending,
         },
@@ -61,6 +65,8 @@ fn main(rt: HostRuntime) -> ExitCode {
         }
         Err(_) => Ending::Memory,
     };
-    let _ = eprint!(rt; "{ending}");
+    if ending.is_unsaid() {
+        log.say(&rt, Level::Error, ending);
+    }
     ExitCode::from(ending.status())
 }

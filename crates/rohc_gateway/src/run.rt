@@ -8,7 +8,7 @@ use crate::setup::{NoStart, Start, read_start};
 use crate::sockets::{CONTROL, METRICS, MOST_CONNECTIONS, PLAIN, Sockets, TIMED, remove_control};
 use mio::net::{TcpListener, UnixListener};
 use mio::{Events, Poll, Token};
-use rohc_gateway_file::{Config, Ending, Options};
+use rohc_gateway_file::{Config, Ending, Level, Log, Options};
 use rohc_saved::Restored;
 use rohc_station::{GatewayFigures, Station};
 use rohc_text::Reason;
@@ -74,6 +74,7 @@ impl Room {
 /// A gateway over what it starts from.
 fn gateway_of<'a, R: Clock>(
     rt: &R,
+    log: Log,
     config: &'a Config,
     restored: &Restored,
     station: Station,
@@ -83,6 +84,7 @@ fn gateway_of<'a, R: Clock>(
     let started = moments.now(rt);
     Gateway {
         config,
+        log,
         station,
         figures: GatewayFigures::default(),
         moments,
@@ -239,58 +241,54 @@ where
 }
 
 /// Tells how a run ended.
-fn tell_end<R: Eprint>(rt: &R, served: io::Result<()>) -> Result<Ending, Ending> {
+fn tell_end<R: Clock + Eprint>(rt: &R, log: Log, served: io::Result<()>) -> Result<Ending, Ending> {
     match served {
         Ok(()) => {
-            let _ = eprintln!(rt; "<6>rohc-gateway: stopped");
+            log.say(rt, Level::Info, "stopped");
             Ok(Ending::Good)
         }
         Err(e) => {
-            let _ = eprintln!(rt;
-                "<3>rohc-gateway: waiting for datagrams failed: {}",
-                Reason::of(&e)
-            );
+            let reason = Reason::of(&e);
+            let text = format_args!("waiting for datagrams failed: {reason}");
+            log.say(rt, Level::Error, text);
             Err(Ending::Socket)
         }
     }
 }
 
 /// Opens the sockets, or says which one can't be opened, and why.
-fn opened<R>(rt: &R, config: &Config) -> Result<Sockets, Ending>
+fn opened<R>(rt: &R, log: Log, config: &Config) -> Result<Sockets, Ending>
 where
-    R: Files + Net + Eprint + AllocGlobal,
+    R: Files + Net + Clock + Eprint + AllocGlobal,
 {
     match Sockets::open(rt, config) {
         Ok(sockets) => Ok(sockets),
         Err(fault) => {
-            let _ = eprintln!(rt; "<3>rohc-gateway: {fault}");
+            log.say(rt, Level::Error, fault);
             Err(Ending::Socket)
         }
     }
 }
 
 /// Runs a gateway that has restored so many contexts, from its sockets on.
-fn run_from<R>(
-    rt: &R,
-    config: &Config,
-    gateway: &mut Gateway<'_>,
-    contexts: u64,
-) -> Result<Ending, Ending>
+fn run_from<R>(rt: &R, gateway: &mut Gateway<'_>, contexts: u64) -> Result<Ending, Ending>
 where
     R: Files + Net + Clock + Eprint + AllocGlobal,
 {
+    let Gateway { config, log, .. } = *gateway;
     let links = gateway.station.concentrator().tables().len();
-    let mut sockets = opened(rt, config)?;
-    let _ = eprintln!(rt; "<6>rohc-gateway: started: {links} links, {contexts} contexts restored");
+    let mut sockets = opened(rt, log, config)?;
+    let text = format_args!("started: {links} links, {contexts} contexts restored");
+    log.say(rt, Level::Info, text);
     let served = serve(rt, gateway, &mut sockets);
     if let Some(path) = &config.control {
         let _ = remove_control(rt, path.as_str());
     }
-    tell_end(rt, served)
+    tell_end(rt, log, served)
 }
 
 /// Runs a gateway from what was read.
-fn run_read<R>(rt: &R, start: Start) -> Result<Ending, Ending>
+fn run_read<R>(rt: &R, log: Log, start: Start) -> Result<Ending, Ending>
 where
     R: Files + Net + Clock + Eprint + AllocGlobal,
 {
@@ -306,20 +304,21 @@ where
     let Ok(station) = Station::new(rt.alloc(), concentrator, links) else {
         return Err(Ending::Memory);
     };
-    let mut gateway = gateway_of(rt, &config, &restored, station, room);
-    run_from(rt, &config, &mut gateway, restored.contexts)
+    let mut gateway = gateway_of(rt, log, &config, &restored, station, room);
+    run_from(rt, &mut gateway, restored.contexts)
 }
 
 /// Says why a gateway doesn't start.
-fn say_wrong<R: Eprint>(rt: &R, lines: &Lines) {
+fn say_wrong<R: Clock + Eprint>(rt: &R, log: Log, lines: &Lines) {
     for line in lines.as_str().lines() {
-        let _ = eprintln!(rt; "<3>rohc-gateway: {line}");
+        log.say(rt, Level::Error, line);
     }
 }
 
 /// Runs a gateway until it is told to stop.
 pub(crate) fn run<R>(
     rt: &R,
+    log: Log,
     file: &str,
     options: &Options<'_>,
     fresh: bool,
@@ -328,9 +327,9 @@ where
     R: Files + Net + Clock + Eprint + AllocGlobal,
 {
     match read_start(rt, file, options, fresh) {
-        Ok(start) => run_read(rt, start),
+        Ok(start) => run_read(rt, log, start),
         Err(NoStart::Wrong(lines)) => {
-            say_wrong(rt, &lines);
+            say_wrong(rt, log, &lines);
             Ok(Ending::Refused)
         }
         Err(NoStart::Memory) => Err(Ending::Memory),

@@ -1,6 +1,9 @@
 //! A call that is watched: each of its packets is logged for a while.
 
+use rohc_gateway_file::{Level, Log};
 use rohc_station::Taken;
+use std::fmt;
+use std::time::Clock;
 
 /// The most packets that are logged.
 pub(crate) const MOST_PACKETS: u32 = 100;
@@ -41,30 +44,42 @@ impl Watch {
     }
 
     /// Logs what became of a packet.
-    pub(crate) fn log<R: Eprint>(&mut self, rt: &R, octets: usize, taken: &Taken<'_>) {
+    pub(crate) fn log<R: Clock + Eprint>(
+        &mut self,
+        rt: &R,
+        log: Log,
+        octets: usize,
+        taken: &Taken<'_>,
+    ) {
         self.left = self.left.saturating_sub(1);
         let Watch { link, cid, .. } = *self;
+        let result = Became { taken };
+        let text = format_args!("watch {link}/{cid}: {octets} octets: {result}");
+        log.say(rt, Level::Debug, text);
+    }
+}
+
+/// What became of a packet, as the log shows it.
+#[derive(Clone, Copy)]
+struct Became<'a> {
+    taken: &'a Taken<'a>,
+}
+
+impl fmt::Display for Became<'_> {
+    fn fmt<W: fmt::Write>(&self, f: &mut fmt::Formatter<W>) -> fmt::Result {
+        let Became { taken } = *self;
         let feedback = match &taken.sends.feedback {
             Some(element) => element.len(),
             None => 0,
         };
-        let head = "<7>rohc-gateway: watch";
-        let _ = match (&taken.sends.packet, taken.refusal) {
+        match (&taken.sends.packet, taken.refusal) {
             (Some(packet), _) => {
                 let size = packet.head.len().saturating_add(packet.payload.len());
-                eprintln!(rt;
-                    "{head} {link}/{cid}: {octets} octets: delivered {size}, feedback {feedback}"
-                )
+                write!(f, "delivered {size}, feedback {feedback}")
             }
-            (None, Some(refusal)) => eprintln!(rt;
-                "{head} {link}/{cid}: {octets} octets: refused {refusal}, feedback {feedback}"
-            ),
-            (None, None) if taken.sends.refused => {
-                eprintln!(rt; "{head} {link}/{cid}: {octets} octets: refused while draining")
-            }
-            (None, None) => eprintln!(rt;
-                "{head} {link}/{cid}: {octets} octets: nothing delivered, feedback {feedback}"
-            ),
-        };
+            (None, Some(refusal)) => write!(f, "refused {refusal}, feedback {feedback}"),
+            (None, None) if taken.sends.refused => f.write_str("refused while draining"),
+            (None, None) => write!(f, "nothing delivered, feedback {feedback}"),
+        }
     }
 }

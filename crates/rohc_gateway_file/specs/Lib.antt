@@ -1,1 +1,3 @@
+pub mod Civil
 pub mod Ending
+pub mod Log

@@ -1,4 +1,4 @@
-//! How a run of `rohc-gateway` ends: its exit status, and the line that it prints on standard error.
+//! How a run of `rohc-gateway` ends: its exit status, and what is logged then.
 
 use rohc_text::Reason;
 use std::{fmt, io};
@@ -24,7 +24,14 @@ pub enum Ending {
 
 impl Ending {
     ghost use Rattle.std.specs.Prelude.{◌≡◌};
-    ghost use Rattle.rohc_gateway_file.specs.Ending.{status_of};
+    ghost use Rattle.rohc_gateway_file.specs.Ending.{status_of, is_unsaid};
+
+    /// Whether its text is still to be logged.
+    pub fn is_unsaid(&self) -> bool
+        ensures { result ≡ is_unsaid self.now }
+    {
+        matches!(self, Ending::Write(_) | Ending::Memory)
+    }
 
     /// The exit status of the program.
     pub fn status(&self) -> u8
@@ -49,16 +56,10 @@ impl fmt::Display for Ending {
             | Ending::CommandLine
             | Ending::Refused
             | Ending::Socket => Ok(()),
-            Ending::Write(error) => {
-                write!(
-                    f,
-                    "<3>rohc-gateway: standard output: {}\n",
-                    Reason::of(error)
-                )
+            Ending::Write(error) => write!(f, "standard output: {}", Reason::of(error)),
+            Ending::Memory => {
+                f.write_str("out of memory; rohctl plan --calls COUNT shows what calls need")
             }
-            Ending::Memory => f.write_str(
-                "<3>rohc-gateway: out of memory; rohctl plan --calls COUNT shows what calls need\n",
-            ),
         }
     }
 }

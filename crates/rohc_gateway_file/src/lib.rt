@@ -1,10 +1,14 @@
-//! The command line of a gateway, its file, and how it ends.
+//! The command line of a gateway, its file, its log, and how it ends.
 #![tactic(auto)]
 
+pub mod civil;
 pub mod command;
 pub mod config;
 pub mod ending;
+pub mod log;
 
+pub use civil::{Civil, civil_at};
 pub use command::{Options, Request, VERSION, read_request};
 pub use config::{Config, ConfigFault, Place, Reading, Unread, Wrong, read_config, write_place};
 pub use ending::Ending;
+pub use log::{Level, Log, milliseconds};
