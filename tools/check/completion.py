@@ -57,11 +57,12 @@ ROHCTL: tuple[Row, ...] = (
 GATEWAY: tuple[Row, ...] = (
     ("check run", ("",)),
     ("run", ("r",)),
-    ("--control --help --links --metrics-port --port --save-seconds --state --timed-port", ("check", "--")),
-    ("--control --fresh --help --links --metrics-port --port --save-seconds --state --timed-port", ("run", "--")),
+    ("--control --help --links --log-format --metrics-port --port --save-seconds --state --timed-port", ("check", "--")),
+    ("--control --fresh --help --links --log-format --metrics-port --port --save-seconds --state --timed-port", ("run", "--")),
     ("--save-seconds --state", ("run", "--s")),
     ("links.toml", ("check", "--links", "li")),
     ("", ("run", "--port", "")),
+    ("json text", ("run", "--log-format", "")),
 )
 
 

@@ -413,9 +413,38 @@ def check_watched(trial: Trial) -> None:
     trial.demand(count == WATCHED, f"watched: {count} packets have a line; wanted {WATCHED}")
 
 
+def log_objects(trial: Trial, begun: datetime) -> None:
+    """With log_format = "json" each line is an object, whoever reads it."""
+    with Receivers() as receivers:
+        gateway = Gateway(trial, trial.scratch / "objects", receivers.links([1]))
+        gateway.file.write_text(gateway.file.read_text() + 'log_format = "json"\n')
+        with gateway:
+            gateway.ask("POST", "/watch?link=1&cid=0")
+            gateway.send(Arrival(1, 5, bytes.fromhex("fc00b745aa")))
+            gateway.wait_taken()
+            gateway.write_links(gateway.links.replace("k1 =", '"k\\u001b" ='))
+            gateway.ask("POST", "/reload")
+            gateway.stop()
+            rows = [json.loads(line) for line in gateway.said.splitlines()]
+    found = [(row["level"], row["text"]) for row in rows]
+    wanted = [
+        ("info", "started: 1 links, 0 contexts restored"),
+        ("info", "watch 1/0 begins"),
+        ("debug", found[2][1]),
+        ("warning", f'{gateway.folder}/links.toml:2: link 1: unknown key "k\\u001b"; did you mean k1?'),
+        ("warning", f"{gateway.folder}/links.toml:2: link 1: k1 is missing; expected a number from 1 to n1"),
+        ("warning", f"reload refused: UnknownKey; {gateway_wrong.CONTINUES}"),
+        ("info", "stopped"),
+    ]
+    trial.demand(found == wanted and found[2][1].startswith("watch 1/0: 5 octets: delivered 2, "), f"objects: {rows}")
+    for row in rows:
+        trial.demand(begun <= datetime.fromisoformat(row["time"]) <= datetime.now(UTC), f"objects: {row} is not of this time")
+
+
 def check_logged(trial: Trial) -> None:
-    """Where no journal reads the log, each line begins with the date and time in UTC."""
+    """Where no journal reads the log, each line begins with the date and time in UTC; log_format makes it an object."""
     begun = datetime.now(UTC).replace(microsecond=0)
+    log_objects(trial, begun)
     with Receivers() as receivers:
         gateway = Gateway(trial, trial.scratch / "logged", receivers.links([1]), is_journal=False)
         # Another stream is the journal's, as in a terminal that a service started.

@@ -4,6 +4,7 @@ In the tables FILE is the gateway file, DIR the folder of all files, and DATE th
 wrong with a file is told by `check` with status 1, and by `run` with status 3 on standard error.
 """
 
+import json
 import os
 import re
 import socket
@@ -49,7 +50,7 @@ MISSING = "no such file or directory"
 NO_DIRECTORY = "a part of the path is not a directory"
 NO_LINKS_FILE = f"{MISSING}; {READABLE}"
 A_GATEWAY_FILE = "expected a gateway file that this user can read (man rohc-gateway)"
-KEYS = "links, port, timed_port, state, save_seconds, control, metrics_port"
+KEYS = "links, port, timed_port, state, save_seconds, control, metrics_port, log_format"
 OWN = "expected a path of its own"
 WRITABLE = "expected a path in a directory that this user may write"
 WHOLE = "expected a complete state file of this version (run --fresh starts without it)"
@@ -77,6 +78,9 @@ GATEWAY_FILES: tuple[tuple[bytes | str, tuple[str, ...]], ...] = (
     ('links = "links.toml"\n[port]\n', (f"FILE: port is a table; {PORT}",)),
     (GOOD + 'state = "calls"\nsave_seconds = 86401\n', ("FILE:4: save_seconds is 86401; expected a number from 1 to 86400",)),
     (GOOD + "control = 5\n", ("FILE:3: control is 5; expected a path in quotes",)),
+    (GOOD + 'log_format = "xml"\n', ('FILE:3: log_format is "xml"; expected "text" or "json"',)),
+    (GOOD + "log_format = 1\n", ('FILE:3: log_format is 1; expected "text" or "json"',)),
+    (GOOD + 'log_fromat = "json"\n', ('FILE:3: unknown key "log_fromat"; did you mean log_format?',)),
     ("= 4000\n", ("FILE:1: not TOML: invalid key; expected letters, numbers, `-`, `_` or a quoted key",)),
     ("[links\n", ("FILE:1: not TOML: unclosed table; expected `]`",)),
     ("[[links]\n", ("FILE:1: not TOML: unclosed array table; expected `]]`",)),
@@ -234,6 +238,8 @@ WORDS: tuple[tuple[tuple[Word, ...], tuple[str, ...]], ...] = (
     (("run", "--port", "-1", "f"), ("unexpected argument '-1'", "Usage:")),
     (("run", "--port=", "f"), ("invalid value '' for '--port <PORT>'",)),
     (("run", "--timed-port", "4000.5", "f"), ("invalid value '4000.5' for '--timed-port <PORT>'",)),
+    (("run", "--log-format", "xml", "f"), ("invalid value 'xml' for '--log-format <FORMAT>'", "[possible values: text, json]")),
+    (("run", "--log-format"), ("a value is required for '--log-format <FORMAT>'",)),
     (("run", b"\xff"), ("error: a word of the command line is not UTF-8; expected UTF-8, also in file names",)),
 )
 
@@ -627,6 +633,33 @@ def check_states(trial: Trial) -> None:
             trial.demand((told.status, told.text) == (1, wanted), f"{damage(good)!r}: {told.end()}, {told.text}; wanted {wanted}", told.call)
 
 
+def check_objects(trial: Trial) -> None:
+    """With log_format = "json" each line is an object, also of what is wrong at the start."""
+    folder = prepare(trial, "objects")
+    program, file = trial.top / PROGRAM, folder / "gateway.toml"
+    name = 'a"\\\x1b\u00e9.toml'
+    for words, text, wanted in (
+        (("--log-format", "json"), "port = 4000\n", (f'{file}: links is missing; expected links = "FILE"',)),
+        (("--log-format", "json"), "= 4000\n", (f"{file}:1: not TOML: invalid key; expected letters, numbers, `-`, `_` or a quoted key",)),
+        ((), GOOD + 'log_format = "json"\nprot = 1\nstate = ""\n', (
+            f'{file}:4: unknown key "prot"; did you mean port?',
+            f'{file}:5: state is ""; expected a path in quotes',
+        )),
+        (("--links", name), GOOD + 'log_format = "json"\n', (f"{name}: {NO_LINKS_FILE}",)),
+        (("--log-format", "text"), GOOD + 'log_format = "json"\nprot = 1\n', ()),
+    ):  # fmt: skip
+        file.write_text(text)
+        told = trial.ran(program, "run", *words, file, seconds=20)
+        if not wanted:
+            line = f'{LINE}{file}:4: unknown key "prot"; did you mean port?'
+            trial.demand((told.status, dated(told.said)) == (3, line), f"{words}: {told.end()}", told.call)
+            continue
+        rows = [json.loads(line) for line in told.said.splitlines()]
+        fits = told.said.isascii() and [(row["level"], row["text"]) for row in rows] == [("error", line) for line in wanted]
+        trial.demand(told.status == 3 and fits, f"{words}: {told.end()}; wanted {wanted}", told.call)
+        trial.demand(all(dated(row["time"] + " ") == "DATE " for row in rows), f"{words}: {told.said}", told.call)
+
+
 def check_stateless(trial: Trial) -> None:
     """A gateway without a state file can't save."""
     with Receivers() as receivers:
@@ -652,6 +685,7 @@ def check(trial: Trial) -> None:
         check_waiting(trial)
         check_states(trial)
         check_stateless(trial)
+        check_objects(trial)
         check_hung(trial, told.result())
     calls = sum(map(len, (GATEWAY_FILES, LINKS_FILES, WORDS, OPTIONS, FORBIDDEN, CONTROLS, REFUSED)))
     trial.say(f"wrong: {calls} wrong calls, each answered by what is wrong and what to do")

@@ -29,7 +29,7 @@ pub(crate) fn check<R: Files + Print + AllocGlobal>(
 ) -> Result<Ending, Ending> {
     match read_start(rt, file, options, false) {
         Ok(_) => say_good(rt),
-        Err(NoStart::Wrong(lines)) => say_wrong(rt, &lines),
+        Err(NoStart::Wrong(lines, _)) => say_wrong(rt, &lines),
         Err(NoStart::Memory) => Err(Ending::Memory),
     }
 }

@@ -54,7 +54,13 @@ pub(crate) struct Gateway<'a> {
 }
 
 /// Logs the first faults of a links file that is refused, and what follows.
-fn log_refused<R: Clock + Eprint>(rt: &R, log: Log, name: &str, file: &str, faults: &str) {
+fn log_refused<R: Clock + Eprint + AllocGlobal>(
+    rt: &R,
+    log: Log,
+    name: &str,
+    file: &str,
+    faults: &str,
+) {
     for line in faults.lines().take(MOST_FAULTS) {
         log.say(rt, Level::Warning, line);
     }
@@ -74,7 +80,7 @@ fn log_refused<R: Clock + Eprint>(rt: &R, log: Log, name: &str, file: &str, faul
 
 impl Gateway<'_> {
     /// Logs what began or ended as asked.
-    fn note<R: Clock + Eprint, D: Display + Drop>(&self, rt: &R, text: D) {
+    fn note<R: Clock + Eprint + AllocGlobal, D: Display + Drop>(&self, rt: &R, text: D) {
         self.log.say(rt, Level::Info, text);
     }
 
@@ -91,7 +97,7 @@ impl Gateway<'_> {
     }
 
     /// Logs why the contexts aren't saved.
-    fn log_unsaved<R: Clock + Eprint>(&self, rt: &R, unwritten: &Unwritten) {
+    fn log_unsaved<R: Clock + Eprint + AllocGlobal>(&self, rt: &R, unwritten: &Unwritten) {
         let text = format_args!("save failed: {unwritten}; {UNSAVED}");
         self.log.say(rt, Level::Error, text);
     }
@@ -105,7 +111,7 @@ impl Gateway<'_> {
     }
 
     /// Takes datagrams from a socket until none waits, but at most so many. Returns whether more may wait.
-    pub(crate) fn take_datagrams<R: Clock + Eprint>(
+    pub(crate) fn take_datagrams<R: Clock + Eprint + AllocGlobal>(
         &mut self,
         rt: &R,
         socket: &UdpSocket,
@@ -125,7 +131,7 @@ impl Gateway<'_> {
 
     /// Takes the datagram of this size that was received, and sends what is due.
     #[inline(always)]
-    fn take_datagram<R: Clock + Eprint>(
+    fn take_datagram<R: Clock + Eprint + AllocGlobal>(
         &mut self,
         rt: &R,
         socket: &UdpSocket,
@@ -301,7 +307,7 @@ impl Gateway<'_> {
     }
 
     /// Ends the watch if it is over.
-    pub(crate) fn end_watch<R: Clock + Eprint>(&mut self, rt: &R, moment: u64) {
+    pub(crate) fn end_watch<R: Clock + Eprint + AllocGlobal>(&mut self, rt: &R, moment: u64) {
         if let Some(watch) = &self.watch
             && watch.is_over(moment)
         {

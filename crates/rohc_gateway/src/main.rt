@@ -17,7 +17,7 @@ mod setup;
 mod sockets;
 mod watch;
 
-use rohc_gateway_file::{Ending, Level, Log, Request, read_request};
+use rohc_gateway_file::{Ending, Level, Log, LogFormat, Request, read_request};
 use std::net::Net;
 use std::process::ExitCode;
 use std::rt::{Env, Files};
@@ -34,7 +34,7 @@ fn words<R: Env + AllocGlobal>(rt: &R) -> io::Result<Vec<String>> {
 }
 
 /// Does what the words ask for.
-fn requested<R>(rt: &R, log: Log, words: &[String]) -> Result<Ending, Ending>
+fn requested<R>(rt: &R, log: &mut Log, words: &[String]) -> Result<Ending, Ending>
 where
     R: Files + Net + Clock + Print + Eprint + AllocGlobal,
 {
@@ -49,11 +49,12 @@ where
 }
 
 fn main(rt: HostRuntime) -> ExitCode {
-    let log = Log {
+    let mut log = Log {
         is_journal: journal::is_journal(&rt),
+        format: LogFormat::Text,
     };
     let ending = match words(&rt) {
-        Ok(words) => match requested(&rt, log, words.as_slice()) {
+        Ok(words) => match requested(&rt, &mut log, words.as_slice()) {
             Ok(ending) => ending,
             Err(ending) => ending,
         },

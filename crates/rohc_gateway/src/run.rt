@@ -241,7 +241,11 @@ where
 }
 
 /// Tells how a run ended.
-fn tell_end<R: Clock + Eprint>(rt: &R, log: Log, served: io::Result<()>) -> Result<Ending, Ending> {
+fn tell_end<R: Clock + Eprint + AllocGlobal>(
+    rt: &R,
+    log: Log,
+    served: io::Result<()>,
+) -> Result<Ending, Ending> {
     match served {
         Ok(()) => {
             log.say(rt, Level::Info, "stopped");
@@ -309,16 +313,16 @@ where
 }
 
 /// Says why a gateway doesn't start.
-fn say_wrong<R: Clock + Eprint>(rt: &R, log: Log, lines: &Lines) {
+fn say_wrong<R: Clock + Eprint + AllocGlobal>(rt: &R, log: Log, lines: &Lines) {
     for line in lines.as_str().lines() {
         log.say(rt, Level::Error, line);
     }
 }
 
-/// Runs a gateway until it is told to stop.
+/// Runs a gateway until it is told to stop. The log has the format of the gateway file from then on.
 pub(crate) fn run<R>(
     rt: &R,
-    log: Log,
+    log: &mut Log,
     file: &str,
     options: &Options<'_>,
     fresh: bool,
@@ -326,10 +330,15 @@ pub(crate) fn run<R>(
 where
     R: Files + Net + Clock + Eprint + AllocGlobal,
 {
+    log.format = options.log_format.unwrap_or(log.format);
     match read_start(rt, file, options, fresh) {
-        Ok(start) => run_read(rt, log, start),
-        Err(NoStart::Wrong(lines)) => {
-            say_wrong(rt, log, &lines);
+        Ok(start) => {
+            log.format = start.config.log_format;
+            run_read(rt, *log, start)
+        }
+        Err(NoStart::Wrong(lines, format)) => {
+            log.format = format;
+            say_wrong(rt, *log, &lines);
             Ok(Ending::Refused)
         }
         Err(NoStart::Memory) => Err(Ending::Memory),

@@ -5,7 +5,7 @@ use crate::lines::Lines;
 use crate::links_file::{NoLinks, read_links_file};
 use crate::outputs::write_overwritten;
 use rohc_concentrator::{Concentrator, SetupFault};
-use rohc_gateway_file::{Config, Options, Reading, read_config};
+use rohc_gateway_file::{Config, LogFormat, Options, Reading, read_config};
 use rohc_links::Links;
 use rohc_saved::{Restored, SavedFault, restore};
 use rohc_text::{Reason, shown_word};
@@ -26,8 +26,8 @@ pub(crate) struct Start {
 /// Why a gateway doesn't start.
 #[derive(Drop)]
 pub(crate) enum NoStart {
-    /// Something is wrong, which the lines say.
-    Wrong(Lines),
+    /// Something is wrong, which the lines say, to be logged in this format.
+    Wrong(Lines, LogFormat),
     /// There is no memory.
     Memory,
 }
@@ -221,16 +221,20 @@ fn start_with<R: Files + AllocGlobal>(
 }
 
 /// Reads all that a gateway starts from. `None` if something is wrong, which the lines say. With `fresh` no
-/// contexts are restored.
+/// contexts are restored. The format becomes that of the gateway file.
 fn start_of<R: Files + AllocGlobal>(
     rt: &R,
     file: &str,
     options: &Options<'_>,
     fresh: bool,
     lines: &mut Lines,
+    format: &mut LogFormat,
 ) -> io::Result<Option<Start>> {
     match config_of(rt, file, options, lines)? {
-        Some(config) => start_with(rt, config, fresh, lines),
+        Some(config) => {
+            *format = config.log_format;
+            start_with(rt, config, fresh, lines)
+        }
         None => Ok(None),
     }
 }
@@ -243,11 +247,12 @@ pub(crate) fn read_start<R: Files + AllocGlobal>(
     fresh: bool,
 ) -> Result<Start, NoStart> {
     let mut lines = Lines::new(rt.alloc());
-    let Ok(start) = start_of(rt, file, options, fresh, &mut lines) else {
+    let mut format = options.log_format.unwrap_or(LogFormat::Text);
+    let Ok(start) = start_of(rt, file, options, fresh, &mut lines, &mut format) else {
         return Err(NoStart::Memory);
     };
     if !lines.is_empty() {
-        return Err(NoStart::Wrong(lines));
+        return Err(NoStart::Wrong(lines, format));
     }
-    start.ok_or(NoStart::Wrong(lines))
+    start.ok_or(NoStart::Wrong(lines, format))
 }

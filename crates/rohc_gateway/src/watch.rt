@@ -44,7 +44,7 @@ impl Watch {
     }
 
     /// Logs what became of a packet.
-    pub(crate) fn log<R: Clock + Eprint>(
+    pub(crate) fn log<R: Clock + Eprint + AllocGlobal>(
         &mut self,
         rt: &R,
         log: Log,

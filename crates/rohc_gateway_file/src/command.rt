@@ -1,6 +1,8 @@
 //! The command line.
 
 use crate::ending::Ending;
+use crate::log::{FORMATS, LogFormat};
+use clap::builder::ValueParser;
 use clap::error::ErrorKind;
 use clap::{Arg, ArgAction, ArgMatches, Command};
 use std::alloc::{AllocError, Global};
@@ -25,6 +27,8 @@ pub struct Options<'a> {
     pub control: Option<&'a str>,
     /// The port for metrics.
     pub metrics_port: Option<u16>,
+    /// The format of log lines.
+    pub log_format: Option<LogFormat>,
 }
 
 impl Options<'_> {
@@ -38,6 +42,7 @@ impl Options<'_> {
             "save_seconds" => self.save_seconds.is_some(),
             "control" => self.control.is_some(),
             "metrics_port" => self.metrics_port.is_some(),
+            "log_format" => self.log_format.is_some(),
             _ => false,
         }
     }
@@ -73,6 +78,8 @@ enum Value {
     Port,
     /// Seconds, up to a day.
     Seconds,
+    /// A format of log lines.
+    Format,
 }
 
 /// An option with a value.
@@ -84,7 +91,7 @@ struct Word {
 }
 
 /// The options of both subcommands.
-const OPTIONS: [Word; 7] = [
+const OPTIONS: [Word; 8] = [
     Word {
         name: "links",
         value: Value::Path,
@@ -120,6 +127,11 @@ const OPTIONS: [Word; 7] = [
         value: Value::Port,
         help: "TCP port for metrics",
     },
+    Word {
+        name: "log-format",
+        value: Value::Format,
+        help: "Format of log lines",
+    },
 ];
 
 impl Word {
@@ -143,6 +155,10 @@ impl Word {
             Value::Seconds => {
                 let seconds = clap::value_parser!(u32).range(1..=86_400);
                 self.valued(alloc, "SECONDS").value_parser(seconds)
+            }
+            Value::Format => {
+                let formats = ValueParser::Names(&FORMATS);
+                self.valued(alloc, "FORMAT").value_parser(formats)
             }
         }
     }
@@ -206,6 +222,7 @@ fn options_in<'a>(matches: &ArgMatches<'a>) -> Options<'a> {
         save_seconds: matches.get_one::<u32>("save-seconds"),
         control: matches.get_str("control"),
         metrics_port: matches.get_one::<u16>("metrics-port"),
+        log_format: matches.get_str("log-format").and_then(LogFormat::of),
     }
 }
 

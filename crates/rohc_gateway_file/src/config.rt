@@ -1,6 +1,7 @@
 //! The gateway file, with the options that win over it.
 
 use crate::command::Options;
+use crate::log::LogFormat;
 use rohc_text::{error_line, nearest_name, write_quoted, write_toml_reason, write_value};
 use std::alloc::{AllocError, Global};
 use std::io;
@@ -8,7 +9,7 @@ use std::io::{ErrorKind, Write};
 use toml::{Table, Value};
 
 /// The keys of a gateway file.
-const KEYS: [&str; 7] = [
+const KEYS: [&str; 8] = [
     "links",
     "port",
     "timed_port",
@@ -16,6 +17,7 @@ const KEYS: [&str; 7] = [
     "save_seconds",
     "control",
     "metrics_port",
+    "log_format",
 ];
 
 /// The longest path of a control socket, in octets: the system has room for 107, and it is first bound under a name that
@@ -27,6 +29,9 @@ const A_PATH: &str = "a path in quotes";
 
 /// What a port must be.
 const A_PORT: &str = "a number from 1 to 65535";
+
+/// What a format of log lines must be.
+const A_FORMAT: &str = "\"text\" or \"json\"";
 
 /// What a gateway is to do.
 #[derive(Drop)]
@@ -45,6 +50,8 @@ pub struct Config {
     pub control: Option<String>,
     /// The port for metrics.
     pub metrics_port: Option<u16>,
+    /// The format of log lines.
+    pub log_format: LogFormat,
 }
 
 /// What is wrong at a key.
@@ -305,6 +312,20 @@ impl Reading<'_> {
         }
     }
 
+    /// The format of log lines, text if the key isn't there, or a fault.
+    fn format_at(&mut self, table: &Table, key: &'static str) -> Result<LogFormat, AllocError> {
+        let Some(value) = table.get(key) else {
+            return Ok(LogFormat::Text);
+        };
+        match format_of(value) {
+            Some(format) => Ok(format),
+            None => {
+                self.add_value(key, value, A_FORMAT)?;
+                Ok(LogFormat::Text)
+            }
+        }
+    }
+
     /// Reads the table of a gateway file.
     fn read_table(&mut self, table: &Table, folder: &str) -> Result<(), AllocError> {
         for (key, _) in table {
@@ -325,6 +346,7 @@ impl Reading<'_> {
         )?;
         self.config.control = self.path_at(table, "control", folder)?;
         self.config.metrics_port = self.port_at(table, "metrics_port")?;
+        self.config.log_format = self.format_at(table, "log_format")?;
         Ok(())
     }
 
@@ -345,6 +367,7 @@ impl Reading<'_> {
         config.timed_port = options.timed_port.or(config.timed_port);
         config.save_seconds = options.save_seconds.or(config.save_seconds);
         config.metrics_port = options.metrics_port.or(config.metrics_port);
+        config.log_format = options.log_format.unwrap_or(config.log_format);
         Ok(())
     }
 
@@ -419,6 +442,11 @@ fn number_of(value: &Value, greatest: u32) -> Option<u32> {
     }
 }
 
+/// The format that a value names.
+fn format_of(value: &Value) -> Option<LogFormat> {
+    LogFormat::of(value.as_str()?)
+}
+
 /// The folder of a file, with the slash at its end; empty for a file in the working directory.
 fn folder_of(path: &str) -> &str {
     match path.rfind("/") {
@@ -447,6 +475,7 @@ pub fn read_config<'a>(
         save_seconds: None,
         control: None,
         metrics_port: None,
+        log_format: LogFormat::Text,
     };
     let mut reading = Reading {
         alloc,

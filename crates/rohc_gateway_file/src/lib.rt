@@ -11,4 +11,4 @@ pub use civil::{Civil, civil_at};
 pub use command::{Options, Request, VERSION, read_request};
 pub use config::{Config, ConfigFault, Place, Reading, Unread, Wrong, read_config, write_place};
 pub use ending::Ending;
-pub use log::{Level, Log, milliseconds};
+pub use log::{Level, Log, LogFormat, milliseconds};
