@@ -572,6 +572,35 @@ def check_poor(trial: Trial) -> None:
         trial.demand(gateway.stop() == 0, "poor: it doesn't stop")
 
 
+# How long ago the last save was, by the dashboard, 1000 seconds after the beginning: of a gateway that has saved, of one
+# that hasn't yet, and of one without a state file.
+SINCE = """
+rule_files: []
+tests:
+  - interval: 10s
+    input_series:
+      - {series: 'polorowan_start_timestamp_seconds{instance="saved"}', values: '100x200'}
+      - {series: 'polorowan_last_save_timestamp_seconds{instance="saved"}', values: '970x200'}
+      - {series: 'polorowan_start_timestamp_seconds{instance="new"}', values: '600x200'}
+      - {series: 'polorowan_last_save_timestamp_seconds{instance="new"}', values: '0x200'}
+      - {series: 'polorowan_start_timestamp_seconds{instance="stateless"}', values: '600x200'}
+    promql_expr_test:
+      - expr: EXPRESSION
+        eval_time: 1000s
+        exp_samples:
+          - {labels: '{instance="saved"}', value: 30}
+          - {labels: '{instance="new"}', value: 400}
+"""
+
+
+def check_since(trial: Trial) -> None:
+    """The dashboard shows the time since the last save, or since the start before the first one."""
+    panels = json.loads((trial.top / "deploy/rohc-gateway.dashboard.json").read_text())["panels"]
+    expression = next(panel["targets"][0]["expr"] for panel in panels if panel["title"].startswith("Since the last save"))
+    text = SINCE.replace("EXPRESSION", json.dumps(expression.replace("$instance", ".*")))
+    trial.must_run("promtool", "test", "rules", trial.write("since.yml", text))
+
+
 def check_files(trial: Trial) -> None:
     """The units, the alerts and the dashboard name what there is."""
     deploy = trial.top / "deploy"
@@ -583,8 +612,9 @@ def check_files(trial: Trial) -> None:
     json.loads((deploy / "rohc-gateway.dashboard.json").read_text())
     if shutil.which("promtool"):
         trial.must_run("promtool", "check", "rules", deploy / "rohc-gateway.rules.yml")
+        check_since(trial)
     else:
-        trial.leave_out("promtool is not installed, deploy/rohc-gateway.rules.yml was not checked by it")
+        trial.leave_out("promtool is not installed, deploy/rohc-gateway.rules.yml and the dashboard were not checked by it")
     if shutil.which("systemd-analyze"):
         unit = trial.write("rohc-gateway@.service", (deploy / "rohc-gateway@.service").read_text())
         unit.write_text(re.sub(r"/usr/local/bin/rohc\S+", "/bin/true", unit.read_text()))

@@ -37,8 +37,6 @@ pub(crate) struct Gateway<'a> {
     pub(crate) station: Station,
     pub(crate) figures: GatewayFigures,
     pub(crate) moments: Moments,
-    /// When it was started.
-    pub(crate) started: u64,
     /// When the contexts are to be saved next.
     pub(crate) next_save: u64,
     /// The call that is watched, if one is.
@@ -333,7 +331,7 @@ impl Gateway<'_> {
             self.station.concentrator().tables().len(),
             self.context_count(),
             self.figures.draining,
-            self.started,
+            self.figures.started,
             self.figures.last_save
         )
     }

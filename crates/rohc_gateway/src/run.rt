@@ -82,13 +82,15 @@ fn gateway_of<'a, R: Clock>(
 ) -> Gateway<'a> {
     let mut moments = Moments::from(restored.moment);
     let started = moments.now(rt);
+    let mut figures = GatewayFigures::default();
+    figures.started = started;
+    figures.has_state = config.state.is_some();
     Gateway {
         config,
         log,
         station,
-        figures: GatewayFigures::default(),
+        figures,
         moments,
-        started,
         next_save: started.saturating_add(u64::from(config.save_seconds.unwrap_or(0)) * 1000),
         watch: None,
         is_stopped: false,

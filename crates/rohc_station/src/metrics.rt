@@ -26,6 +26,10 @@ pub struct GatewayFigures {
     pub saves: u64,
     /// Saves that failed.
     pub failed_saves: u64,
+    /// When the gateway was started, in milliseconds since 1970.
+    pub started: u64,
+    /// Whether there is a state file.
+    pub has_state: bool,
     /// When the last save was done, in milliseconds since 1970; 0 before the first.
     pub last_save: u64,
     /// Whether no new call is taken.
@@ -289,6 +293,27 @@ fn write_totals<W: Write>(
     Ok(())
 }
 
+/// Writes when the gateway was started and, if there is a state file, when it was last saved.
+fn write_times<W: Write>(out: &mut W, figures: &GatewayFigures) -> io::Result<()> {
+    write_one(
+        out,
+        "polorowan_start_timestamp_seconds",
+        "gauge",
+        "Time of the start.",
+        figures.started / 1000,
+    )?;
+    if !figures.has_state {
+        return Ok(());
+    }
+    write_one(
+        out,
+        "polorowan_last_save_timestamp_seconds",
+        "gauge",
+        "Time of the last completed save, 0 before the first; only with a state file.",
+        figures.last_save / 1000,
+    )
+}
+
 /// Writes all metrics.
 pub fn write_metrics<W: Write>(
     out: &mut W,
@@ -303,14 +328,7 @@ pub fn write_metrics<W: Write>(
     write_sends(out, station)?;
     write_contexts(out, station)?;
     write_totals(out, station, figures)?;
-    let saved = "polorowan_last_save_timestamp_seconds";
-    write_one(
-        out,
-        saved,
-        "gauge",
-        "Time of the last completed save.",
-        figures.last_save / 1000,
-    )?;
+    write_times(out, figures)?;
     let draining = "polorowan_draining";
     write_one(
         out,
