@@ -27,7 +27,7 @@ from random_script import check8
 from trial import Trial
 
 ROHCTL = "crates/rohctl/out/rohctl"
-PARTS = ("words", "wrong", "heads", "calls", "killed", "reloaded", "asked", "watched", "logged", "hostile", "flood", "poor", "files")
+PARTS = ("words", "wrong", "heads", "calls", "killed", "reloaded", "asked", "watched", "logged", "named", "hostile", "flood", "poor", "files")
 LINKS = range(1, 21)
 KILLS = 20
 SLOW = 40
@@ -458,6 +458,59 @@ def check_logged(trial: Trial) -> None:
     for line in lines:
         moment = datetime.fromisoformat(line.split(" ")[0])
         trial.demand(begun <= moment <= datetime.now(UTC), f"logged: {line} is not of this time")
+
+
+def check_named(trial: Trial) -> None:
+    """Links have names in the log, the metrics and the status, and a reload reads them again, or refuses the gateway file."""
+    name = 'B\u00fcro "2" \\ 3'
+    tables = f"[[link]]\nnumber = 1\nname = {json.dumps(name)}\n[[link]]\nname = 'gone'\nnumber = 9\n[[link]]\nnumber = 3\n"
+    with Receivers() as receivers:
+        gateway = Gateway(trial, trial.scratch / "named", receivers.links([1, 3]))
+        plain = gateway.file.read_text()
+        gateway.file.write_text(plain + tables)
+        line = plain.count("\n")
+        stranger = f"{gateway.file}:{line + 6}: link table 2: link 9 is not in the links file"
+        told = trial.ran(trial.top / PROGRAM, "check", gateway.file)
+        trial.demand(told.is_good and told.text == f"warning: {stranger}\ngood\n", f"check: {told.end()} {told.text}", told.call)
+        with gateway:
+            trial.demand(f"<4>rohc-gateway: {stranger}\n" in gateway.said, f"named: {gateway.said}")
+            gateway.ask("POST", "/watch?link=1&cid=0")
+            gateway.send(Arrival(1, 5, bytes.fromhex("fc00b745aa")))
+            gateway.wait_taken()
+            for start in ("<6>rohc-gateway: watch 1/0 ({}) begins\n", "<7>rohc-gateway: watch 1/0 ({}): 5 octets: delivered 2, "):
+                trial.demand(start.format(name) in gateway.said, f"named: {gateway.said}; wanted {start.format(name)}")
+            # Prometheus has a quote and a backslash behind a backslash.
+            shown = name.replace("\\", "\\\\").replace('"', '\\"')
+            infos = [row for row in gateway.metrics().splitlines() if row.startswith("polorowan_link_info")]
+            trial.demand(infos == [f'polorowan_link_info{{link="1",name="{shown}"}} 1'], f"named: {infos}")
+            trial.demand(gateway.ask("GET", "/status").json["names"] == {"1": name, "9": "gone"}, "named: other names in the status")
+            check_names_again(trial, gateway, plain)
+
+
+def check_names_again(trial: Trial, gateway: Gateway, plain: str) -> None:
+    """A gateway file that a reload refuses changes nothing, not even the links, and a good one changes the names."""
+    links, names = gateway.links, gateway.ask("GET", "/status").json["names"]
+    gateway.write_links(links.replace("k1 = 2", "k1 = 3"))
+    gateway.file.write_text(plain + "[[link]]\nnumber = 1\nnam = 'x'\n")
+    told = gateway.ask("POST", "/reload")
+    line = f'{gateway.file}:{plain.count(chr(10)) + 3}: link table 1: unknown key "nam"; did you mean name?'
+    wanted = {"fault": "GatewayFile", "file": str(gateway.file), "text": [line], "more": 0, "note": gateway_wrong.CONTINUES}
+    trial.demand((told.status, told.json) == (409, wanted), f"named: {told}")
+    log = f"<4>rohc-gateway: {line}\n<4>rohc-gateway: reload refused: GatewayFile; {gateway_wrong.CONTINUES}\n"
+    trial.demand(gateway.said.endswith(log), f"named: {gateway.said}")
+    gateway.file.unlink()
+    told = gateway.ask("POST", "/reload")
+    missing = f"{gateway.file}: {gateway_wrong.MISSING}; {gateway_wrong.A_GATEWAY_FILE}"
+    trial.demand((told.status, told.json["text"]) == (409, [missing]), f"named: {told}")
+    trial.demand(gateway.ask("GET", "/status").json["names"] == names, "named: a refused gateway file changed the names")
+    gateway.file.write_text(plain + "[[link]]\nnumber = 3\nname = 'three'\n")
+    told = gateway.ask("POST", "/reload")
+    trial.demand(told.status == 200 and told.json["changed"] == 2, f"named: {told}; wanted both links changed only now")
+    trial.demand(gateway.ask("GET", "/status").json["names"] == {"3": "three"}, "named: a reload reads no names")
+    gateway.file.write_text(plain + "".join(f"[[link]]\nname = {number}\n" for number in range(11)))
+    told = gateway.ask("POST", "/reload")
+    trial.demand(told.status == 409 and told.json["more"] == 2, f"named: {told}")
+    trial.demand(f"<4>rohc-gateway: rohc-gateway check {gateway.file} shows more\n" in gateway.said, f"named: {gateway.said[-400:]}")
 
 
 def slow_ones(gateway: Gateway) -> Iterator[socket.socket]:

@@ -45,12 +45,14 @@ relay_port = 6003
 NEWER = LINKS.replace("version = 1", "version = 2") + "idle_ms = 0\n"
 GOOD = 'links = "links.toml"\nport = 4000\n'
 PORT = "expected a number from 1 to 65535"
+NUMBER = "expected a number from 0 to 65535"
+NAME = "expected a text of 1 to 64 characters, without control characters"
 READABLE = "expected a links file that this user can read (rohctl links --new writes one)"
 MISSING = "no such file or directory"
 NO_DIRECTORY = "a part of the path is not a directory"
 NO_LINKS_FILE = f"{MISSING}; {READABLE}"
 A_GATEWAY_FILE = "expected a gateway file that this user can read (man rohc-gateway)"
-KEYS = "links, port, timed_port, state, save_seconds, control, metrics_port, log_format"
+KEYS = "links, port, timed_port, state, save_seconds, control, metrics_port, log_format, link"
 OWN = "expected a path of its own"
 WRITABLE = "expected a path in a directory that this user may write"
 WHOLE = "expected a complete state file of this version (run --fresh starts without it)"
@@ -81,6 +83,22 @@ GATEWAY_FILES: tuple[tuple[bytes | str, tuple[str, ...]], ...] = (
     (GOOD + 'log_format = "xml"\n', ('FILE:3: log_format is "xml"; expected "text" or "json"',)),
     (GOOD + "log_format = 1\n", ('FILE:3: log_format is 1; expected "text" or "json"',)),
     (GOOD + 'log_fromat = "json"\n', ('FILE:3: unknown key "log_fromat"; did you mean log_format?',)),
+    (GOOD + "[[link]]\n", (f"FILE:3: link table 1: number is missing; {NUMBER}",)),
+    (GOOD + '[[link]]\nnumber = 65536\n', (f"FILE:4: link table 1: number is 65536; {NUMBER}",)),
+    (GOOD + '[[link]]\nnumber = 0\n[[ link ]] # two\nname = "a"\nnumber = "1"\n', (f'FILE:7: link table 2: number is "1"; {NUMBER}',)),
+    (GOOD + '[[link]]\nnumber = 1\nnam = "a"\n', ('FILE:5: link table 1: unknown key "nam"; did you mean name?',)),
+    (GOOD + "[[link]]\nnumber = 1\ncolour = 1\n", ('FILE:5: link table 1: unknown key "colour"; expected one of number, name',)),
+    (GOOD + '[[link]]\nnumber = 1\nname = ""\n', (f'FILE:5: link table 1: name is ""; {NAME}',)),
+    (GOOD + '[[link]]\nnumber = 1\nname = 7\n', (f"FILE:5: link table 1: name is 7; {NAME}",)),
+    (GOOD + '[[link]]\nnumber = 1\nname = "a\\u0007"\n', (f'FILE:5: link table 1: name is "a\\u0007"; {NAME}',)),
+    (GOOD + f'[[link]]\nnumber = 1\nname = "{"a" * 65}"\n', (f'FILE:5: link table 1: name is "{"a" * 60}.."; {NAME}',)),
+    (GOOD + "[[link]]\nnumber = 1\n[[link]]\nnumber = 2\n[[link]]\nnumber = 1\n", (
+        "FILE:8: link table 3: number 1 is already used by link table 1; expected another number",
+    )),
+    (GOOD + "link = 5\n", ("FILE:3: link is 5; expected tables [[link]]",)),
+    (GOOD + "link = [5]\n", ("FILE:3: link is an array; expected tables [[link]]",)),
+    (GOOD + "[link]\nnumber = 1\n", ("FILE: link is a table; expected tables [[link]]",)),
+    (GOOD + "[[lnk]]\nnumber = 1\n", ('FILE: unknown key "lnk"; did you mean link?',)),
     ("= 4000\n", ("FILE:1: not TOML: invalid key; expected letters, numbers, `-`, `_` or a quoted key",)),
     ("[links\n", ("FILE:1: not TOML: unclosed table; expected `]`",)),
     ("[[links]\n", ("FILE:1: not TOML: unclosed array table; expected `]]`",)),

@@ -1,9 +1,20 @@
 //! `check`: all that is wrong, and nothing is changed.
 
 use crate::lines::Lines;
+use crate::names::write_strangers;
 use crate::setup::{NoStart, read_start};
 use rohc_gateway_file::{Ending, Options};
 use std::rt::Files;
+
+/// Says what may be wrong.
+fn say_warnings<R: Print>(rt: &R, lines: &Lines) -> Result<(), Ending> {
+    for line in lines.as_str().lines() {
+        if let Err(e) = println!(rt; "warning: {line}") {
+            return Err(Ending::Write(e));
+        }
+    }
+    Ok(())
+}
 
 /// Says that nothing is wrong.
 fn say_good<R: Print>(rt: &R) -> Result<Ending, Ending> {
@@ -21,14 +32,23 @@ fn say_wrong<R: Print>(rt: &R, lines: &Lines) -> Result<Ending, Ending> {
     }
 }
 
-/// Says all that is wrong with a gateway file, its links file and its state file, a line each, or `good`.
+/// Says all that is wrong with a gateway file, its links file and its state file, a line each, or `good` behind what may be
+/// wrong.
 pub(crate) fn check<R: Files + Print + AllocGlobal>(
     rt: &R,
     file: &str,
     options: &Options<'_>,
 ) -> Result<Ending, Ending> {
     match read_start(rt, file, options, false) {
-        Ok(_) => say_good(rt),
+        Ok(start) => {
+            let mut lines = Lines::new(rt.alloc());
+            let notes = start.config.notes.as_slice();
+            if write_strangers(&mut lines, file, notes, &start.concentrator).is_err() {
+                return Err(Ending::Memory);
+            }
+            say_warnings(rt, &lines)?;
+            say_good(rt)
+        }
         Err(NoStart::Wrong(lines, _)) => say_wrong(rt, &lines),
         Err(NoStart::Memory) => Err(Ending::Memory),
     }

@@ -6,12 +6,13 @@ use crate::connection::{Connection, Progress};
 use crate::files::{Unwritten, replace_file};
 use crate::lines::Lines;
 use crate::links_file::{NoLinks, read_links_file};
+use crate::names::{Shown, name_of, read_notes, write_link_info, write_names, write_strangers};
 use crate::sending::send_all;
 use crate::sockets::MOST_CONNECTIONS;
 use crate::watch::{LONGEST, MOST_PACKETS, Watch};
 use mio::net::UdpSocket;
 use rohc_concentrator::NoLink;
-use rohc_gateway_file::{Config, Level, Log, VERSION};
+use rohc_gateway_file::{Config, Level, LinkNote, Log, Options, VERSION};
 use rohc_station::{
     Asked, GatewayFigures, ReloadFault, ReloadReport, Request, RequestFault, Station, Times,
     write_calls, write_contexts, write_metrics, write_page,
@@ -29,11 +30,22 @@ const BATCH: u32 = 256;
 /// What follows when a save fails.
 const UNSAVED: &str = "the gateway continues, and the file of the last save stays";
 
+/// What a gateway was started with.
+#[derive(Clone, Copy)]
+pub(crate) struct Frame<'a> {
+    pub(crate) log: Log,
+    /// The gateway file.
+    pub(crate) file: &'a str,
+    pub(crate) options: Options<'a>,
+    pub(crate) config: &'a Config,
+}
+
 /// A gateway.
 #[derive(Drop)]
 pub(crate) struct Gateway<'a> {
-    pub(crate) config: &'a Config,
-    pub(crate) log: Log,
+    pub(crate) frame: Frame<'a>,
+    /// What the gateway file says of links.
+    pub(crate) notes: Vec<LinkNote>,
     pub(crate) station: Station,
     pub(crate) figures: GatewayFigures,
     pub(crate) moments: Moments,
@@ -51,59 +63,74 @@ pub(crate) struct Gateway<'a> {
     pub(crate) connections: Vec<Option<Connection>>,
 }
 
-/// Logs the first faults of a links file that is refused, and what follows.
+/// A file that a reload refuses.
+#[derive(Clone, Copy)]
+struct Refused<'a> {
+    /// The name of the fault.
+    name: &'a str,
+    path: &'a str,
+    /// The command that shows all faults of such a file.
+    shows: &'static str,
+}
+
+/// Logs the first faults of a file that a reload refuses, and what follows.
 fn log_refused<R: Clock + Eprint + AllocGlobal>(
     rt: &R,
     log: Log,
-    name: &str,
-    file: &str,
+    refused: Refused<'_>,
     faults: &str,
 ) {
+    let Refused { name, path, shows } = refused;
     for line in faults.lines().take(MOST_FAULTS) {
         log.say(rt, Level::Warning, line);
     }
     if faults.lines().count() > MOST_FAULTS {
-        log.say(
-            rt,
-            Level::Warning,
-            format_args!("rohctl links {file} shows more"),
-        );
+        let text = format_args!("{shows} {path} shows more");
+        log.say(rt, Level::Warning, text);
     }
-    log.say(
-        rt,
-        Level::Warning,
-        format_args!("reload refused: {name}; {REFUSED}"),
-    );
+    let text = format_args!("reload refused: {name}; {REFUSED}");
+    log.say(rt, Level::Warning, text);
 }
 
 impl Gateway<'_> {
     /// Logs what began or ended as asked.
     fn note<R: Clock + Eprint + AllocGlobal, D: Display + Drop>(&self, rt: &R, text: D) {
-        self.log.say(rt, Level::Info, text);
+        self.frame.log.say(rt, Level::Info, text);
     }
 
-    /// Refuses a links file by this name, and says why.
-    fn refuse_links<R: Clock + Eprint + AllocGlobal>(
+    /// Refuses a file at a reload, and says why.
+    fn refuse_file<R: Clock + Eprint + AllocGlobal>(
         &self,
         rt: &R,
-        name: &str,
-        file: &str,
+        refused: Refused<'_>,
         lines: &Lines,
     ) -> io::Result<Reply> {
-        log_refused(rt, self.log, name, file, lines.as_str());
-        Reply::links_refused(rt.alloc(), name, file, lines.as_str())
+        log_refused(rt, self.frame.log, refused, lines.as_str());
+        Reply::links_refused(rt.alloc(), refused.name, refused.path, lines.as_str())
+    }
+
+    /// Logs which tables of the gateway file name no link.
+    pub(crate) fn log_strangers<R: Clock + Eprint + AllocGlobal>(&self, rt: &R) {
+        let mut lines = Lines::new(rt.alloc());
+        let (file, concentrator) = (self.frame.file, self.station.concentrator());
+        // Without memory for all lines those are logged that are whole.
+        let _ = write_strangers(&mut lines, file, self.notes.as_slice(), concentrator);
+        for line in lines.as_str().lines() {
+            self.frame.log.say(rt, Level::Warning, line);
+        }
     }
 
     /// Logs why the contexts aren't saved.
     fn log_unsaved<R: Clock + Eprint + AllocGlobal>(&self, rt: &R, unwritten: &Unwritten) {
         let text = format_args!("save failed: {unwritten}; {UNSAVED}");
-        self.log.say(rt, Level::Error, text);
+        self.frame.log.say(rt, Level::Error, text);
     }
 
     /// Says that a reload had no memory.
     fn refuse_for_memory<R: Clock + Eprint + AllocGlobal>(&self, rt: &R) -> io::Result<Reply> {
         let text = "out of memory; new links may be missing until a reload succeeds";
-        self.log
+        self.frame
+            .log
             .say(rt, Level::Error, format_args!("reload refused: {text}"));
         Reply::fault(rt.alloc(), 500, "NoMemory", text)
     }
@@ -149,8 +176,15 @@ impl Gateway<'_> {
             (false, true) => self.station.take_known(self.moments.now(rt), octets),
         };
         if is_watched && let Some(watch) = &mut self.watch {
+            let name = name_of(self.notes.as_slice(), watch.link());
             let head: usize = if is_timed { 10 } else { 2 };
-            watch.log(rt, self.log, octets.len().saturating_sub(head), &taken);
+            watch.log(
+                rt,
+                self.frame.log,
+                name,
+                octets.len().saturating_sub(head),
+                &taken,
+            );
         }
         let failed = send_all(socket, self.packet.as_mut_slice(), &taken.sends);
         if failed > 0 {
@@ -163,7 +197,7 @@ impl Gateway<'_> {
         &mut self,
         rt: &R,
     ) -> Result<Option<usize>, Unwritten> {
-        let Some(path) = &self.config.state else {
+        let Some(path) = &self.frame.config.state else {
             return Ok(None);
         };
         let moment = self.moments.now(rt);
@@ -191,7 +225,7 @@ impl Gateway<'_> {
         rt: &R,
         moment: u64,
     ) {
-        let Some(seconds) = self.config.save_seconds else {
+        let Some(seconds) = self.frame.config.save_seconds else {
             return;
         };
         if moment < self.next_save {
@@ -203,25 +237,53 @@ impl Gateway<'_> {
         }
     }
 
-    /// Reads the links file again.
+    /// Reads the tables [[link]] of the gateway file and the links file again. If one of the files is refused, nothing
+    /// changes.
     fn reload<R: Files + Clock + Eprint + AllocGlobal>(&mut self, rt: &R) -> io::Result<Reply> {
-        let config = self.config;
+        let Frame { file, options, .. } = self.frame;
+        match read_notes(rt, file, &options) {
+            Ok(notes) => self.reload_links(rt, notes),
+            Err(NoLinks::Refused(name, lines)) => {
+                let (path, shows) = (file, "rohc-gateway check");
+                self.refuse_file(rt, Refused { name, path, shows }, &lines)
+            }
+            Err(NoLinks::Memory) => self.refuse_for_memory(rt),
+        }
+    }
+
+    /// Reads the links file again. If it is accepted, the gateway file says this of its links.
+    fn reload_links<R: Files + Clock + Eprint + AllocGlobal>(
+        &mut self,
+        rt: &R,
+        notes: Vec<LinkNote>,
+    ) -> io::Result<Reply> {
+        let config = self.frame.config;
         let path = match &config.links {
             Some(path) => path.as_str(),
             None => "",
         };
         match self.reload_from(rt, path) {
             Ok(report) => {
-                let text = format_args!(
-                    "reloaded: {} added, {} changed, {} removed, {} contexts removed",
-                    report.added, report.changed, report.removed, report.contexts_gone
-                );
-                self.note(rt, text);
+                self.notes = notes;
+                self.log_reloaded(rt, &report);
                 Reply::reloaded(rt.alloc(), &report)
             }
-            Err(NoLinks::Refused(name, lines)) => self.refuse_links(rt, name, path, &lines),
+            Err(NoLinks::Refused(name, lines)) => {
+                let shows = "rohctl links";
+                self.refuse_file(rt, Refused { name, path, shows }, &lines)
+            }
             Err(NoLinks::Memory) => self.refuse_for_memory(rt),
         }
+    }
+
+    /// Logs what a reload did.
+    fn log_reloaded<R: Clock + Eprint + AllocGlobal>(&self, rt: &R, report: &ReloadReport) {
+        let text = format_args!(
+            "reloaded: {} added, {} changed, {} removed, {} contexts removed",
+            report.added, report.changed, report.removed, report.contexts_gone
+        );
+        self.note(rt, text);
+        self.log_strangers(rt);
     }
 
     /// Accepts the links of the file at this path in place of those that are there.
@@ -299,7 +361,9 @@ impl Gateway<'_> {
             return Reply::no_link(alloc, link);
         }
         self.watch = Some(Watch::new(link, cid, self.moments.now(rt)));
-        self.note(rt, format_args!("watch {link}/{cid} begins"));
+        let name = name_of(self.notes.as_slice(), link);
+        let call = Shown { link, cid, name };
+        self.note(rt, format_args!("watch {call} begins"));
         let text = format!(in alloc; "{{\"packets\":{MOST_PACKETS},\"milliseconds\":{LONGEST}}}\n");
         Reply::object(200, text)
     }
@@ -323,17 +387,20 @@ impl Gateway<'_> {
         contexts
     }
 
-    /// Writes what stands, in a few numbers.
+    /// Writes what stands, in a few numbers, and the names of links.
     fn write_status<W: Write>(&self, out: &mut W) -> io::Result<()> {
-        writeln!(
+        write!(
             out,
-            "{{\"version\":\"{VERSION}\",\"links\":{},\"contexts\":{},\"draining\":{},\"started\":{},\"saved\":{}}}",
+            "{{\"version\":\"{VERSION}\",\"links\":{},\"contexts\":{},\"draining\":{},\"started\":{},\"saved\":{}",
             self.station.concentrator().tables().len(),
             self.context_count(),
             self.figures.draining,
             self.figures.started,
             self.figures.last_save
-        )
+        )?;
+        write!(out, ",\"names\":{{")?;
+        write_names(out, self.notes.as_slice())?;
+        writeln!(out, "}}}}")
     }
 
     /// What stands, in a few numbers.
@@ -370,6 +437,8 @@ impl Gateway<'_> {
     fn metrics<R: AllocGlobal>(&self, rt: &R) -> io::Result<Reply> {
         let mut body = Vec::new(rt.alloc());
         write_metrics(&mut body, &self.station, &self.figures, VERSION)?;
+        let concentrator = self.station.concentrator();
+        write_link_info(&mut body, self.notes.as_slice(), concentrator)?;
         Ok(Reply {
             status: 200,
             kind: Kind::Metrics,

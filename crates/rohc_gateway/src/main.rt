@@ -10,6 +10,7 @@ mod gateway;
 mod journal;
 mod lines;
 mod links_file;
+mod names;
 mod outputs;
 mod run;
 mod sending;

@@ -2,21 +2,21 @@
 
 use crate::clock::Moments;
 use crate::connection::{Connection, Stream};
-use crate::gateway::Gateway;
+use crate::gateway::{Frame, Gateway};
 use crate::lines::Lines;
 use crate::setup::{NoStart, Start, read_start};
 use crate::sockets::{CONTROL, METRICS, MOST_CONNECTIONS, PLAIN, Sockets, TIMED, remove_control};
 use mio::net::{TcpListener, UnixListener};
 use mio::{Events, Poll, Token};
-use rohc_gateway_file::{Config, Ending, Level, Log, Options};
+use rohc_gateway_file::{Config, Ending, Level, LinkNote, Log, Options};
 use rohc_saved::Restored;
 use rohc_station::{GatewayFigures, Station};
 use rohc_text::Reason;
 use std::alloc::{AllocError, Global};
-use std::io;
 use std::net::Net;
 use std::rt::Files;
 use std::time::{Clock, Duration};
+use std::{io, mem};
 
 /// The longest datagram, in octets: a link's number, a moment and a packet.
 const LONGEST_DATAGRAM: usize = 65_545;
@@ -74,8 +74,8 @@ impl Room {
 /// A gateway over what it starts from.
 fn gateway_of<'a, R: Clock>(
     rt: &R,
-    log: Log,
-    config: &'a Config,
+    frame: Frame<'a>,
+    notes: Vec<LinkNote>,
     restored: &Restored,
     station: Station,
     room: Room,
@@ -84,14 +84,14 @@ fn gateway_of<'a, R: Clock>(
     let started = moments.now(rt);
     let mut figures = GatewayFigures::default();
     figures.started = started;
-    figures.has_state = config.state.is_some();
+    figures.has_state = frame.config.state.is_some();
     Gateway {
-        config,
-        log,
+        frame,
+        notes,
         station,
         figures,
         moments,
-        next_save: started.saturating_add(u64::from(config.save_seconds.unwrap_or(0)) * 1000),
+        next_save: started.saturating_add(u64::from(frame.config.save_seconds.unwrap_or(0)) * 1000),
         watch: None,
         is_stopped: false,
         datagram: room.datagram,
@@ -281,11 +281,12 @@ fn run_from<R>(rt: &R, gateway: &mut Gateway<'_>, contexts: u64) -> Result<Endin
 where
     R: Files + Net + Clock + Eprint + AllocGlobal,
 {
-    let Gateway { config, log, .. } = *gateway;
+    let Frame { config, log, .. } = gateway.frame;
     let links = gateway.station.concentrator().tables().len();
     let mut sockets = opened(rt, log, config)?;
     let text = format_args!("started: {links} links, {contexts} contexts restored");
     log.say(rt, Level::Info, text);
+    gateway.log_strangers(rt);
     let served = serve(rt, gateway, &mut sockets);
     if let Some(path) = &config.control {
         let _ = remove_control(rt, path.as_str());
@@ -294,7 +295,13 @@ where
 }
 
 /// Runs a gateway from what was read.
-fn run_read<R>(rt: &R, log: Log, start: Start) -> Result<Ending, Ending>
+fn run_read<R>(
+    rt: &R,
+    log: Log,
+    file: &str,
+    options: &Options<'_>,
+    start: Start,
+) -> Result<Ending, Ending>
 where
     R: Files + Net + Clock + Eprint + AllocGlobal,
 {
@@ -302,7 +309,7 @@ where
         return Err(Ending::Memory);
     };
     let Start {
-        config,
+        mut config,
         links,
         concentrator,
         restored,
@@ -310,7 +317,14 @@ where
     let Ok(station) = Station::new(rt.alloc(), concentrator, links) else {
         return Err(Ending::Memory);
     };
-    let mut gateway = gateway_of(rt, log, &config, &restored, station, room);
+    let notes = mem::replace(&mut config.notes, Vec::new(rt.alloc()));
+    let frame = Frame {
+        log,
+        file,
+        options: *options,
+        config: &config,
+    };
+    let mut gateway = gateway_of(rt, frame, notes, &restored, station, room);
     run_from(rt, &mut gateway, restored.contexts)
 }
 
@@ -336,7 +350,7 @@ where
     match read_start(rt, file, options, fresh) {
         Ok(start) => {
             log.format = start.config.log_format;
-            run_read(rt, *log, start)
+            run_read(rt, *log, file, options, start)
         }
         Err(NoStart::Wrong(lines, format)) => {
             log.format = format;

@@ -13,6 +13,10 @@ use std::alloc::Global;
 use std::io::{self, ErrorKind, Write};
 use std::rt::Files;
 
+/// What is expected where no gateway file can be read.
+pub(crate) const A_FILE: &str =
+    "expected a gateway file that this user can read (man rohc-gateway)";
+
 /// What a gateway starts from.
 #[derive(Drop)]
 pub(crate) struct Start {
@@ -83,9 +87,8 @@ fn config_of<R: Files + AllocGlobal>(
         Ok(text) => config_in(rt, file, text.as_str(), options, lines),
         Err(Reason::Memory) => Err(no_memory()),
         Err(reason) => {
-            let expected = "expected a gateway file that this user can read";
             let file = shown_word(file);
-            writeln!(lines, "{file}: {reason}; {expected} (man rohc-gateway)")?;
+            writeln!(lines, "{file}: {reason}; {A_FILE}")?;
             Ok(None)
         }
     }

@@ -1,5 +1,6 @@
 //! A call that is watched: each of its packets is logged for a while.
 
+use crate::names::Shown;
 use rohc_gateway_file::{Level, Log};
 use rohc_station::Taken;
 use std::fmt;
@@ -33,6 +34,11 @@ impl Watch {
         }
     }
 
+    /// The link of the call.
+    pub(crate) fn link(&self) -> u16 {
+        self.link
+    }
+
     /// Whether a packet of this call is logged.
     pub(crate) fn sees(&self, call: Option<(u16, u16)>) -> bool {
         self.left > 0 && call == Some((self.link, self.cid))
@@ -48,13 +54,15 @@ impl Watch {
         &mut self,
         rt: &R,
         log: Log,
+        name: Option<&str>,
         octets: usize,
         taken: &Taken<'_>,
     ) {
         self.left = self.left.saturating_sub(1);
         let Watch { link, cid, .. } = *self;
         let result = Became { taken };
-        let text = format_args!("watch {link}/{cid}: {octets} octets: {result}");
+        let call = Shown { link, cid, name };
+        let text = format_args!("watch {call}: {octets} octets: {result}");
         log.say(rt, Level::Debug, text);
     }
 }

@@ -1,5 +1,5 @@
 -- Dates of the Gregorian calendar. Words: is_leap, days_in a month; IsDate; days_to a date; seconds_to, IsCivil.
-use Rattle.std.specs.Prelude.{◌≡◌, ◌≤◌, ◌<◌, ℕ, ◌+◌, ◌*◌, ◌-◌, ◌/◌, ◌%◌, Bool, nat_lt, ◌==◌, ◌&&◌, ◌||◌, not, if◌then◌else◌}
+use Rattle.std.specs.Prelude.{◌≤◌, ◌<◌, ℕ, ◌+◌, ◌*◌, ◌-◌, ◌/◌, ◌%◌, Bool, nat_lt, ◌==◌, ◌&&◌, ◌||◌, not, if◌then◌else◌}
 use Rattle.rohc_gateway_file.specs.declared.civil.Civil.{Civil}
 
 -- each fourth year is a leap year, but of the centuries only each fourth

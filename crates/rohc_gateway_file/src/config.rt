@@ -1,6 +1,7 @@
 //! The gateway file, with the options that win over it.
 
 use crate::command::Options;
+use crate::link_tables::{LINK_KEYS, LinkNote};
 use crate::log::LogFormat;
 use rohc_text::{error_line, nearest_name, write_quoted, write_toml_reason, write_value};
 use std::alloc::{AllocError, Global};
@@ -9,7 +10,7 @@ use std::io::{ErrorKind, Write};
 use toml::{Table, Value};
 
 /// The keys of a gateway file.
-const KEYS: [&str; 8] = [
+const KEYS: [&str; 9] = [
     "links",
     "port",
     "timed_port",
@@ -18,6 +19,7 @@ const KEYS: [&str; 8] = [
     "control",
     "metrics_port",
     "log_format",
+    "link",
 ];
 
 /// The longest path of a control socket, in octets: the system has room for 107, and it is first bound under a name that
@@ -52,6 +54,8 @@ pub struct Config {
     pub metrics_port: Option<u16>,
     /// The format of log lines.
     pub log_format: LogFormat,
+    /// What the tables [[link]] say.
+    pub notes: Vec<LinkNote>,
 }
 
 /// What is wrong at a key.
@@ -63,6 +67,8 @@ pub enum Wrong {
     UnknownKey(Option<&'static str>),
     /// The key has a value of this text; that was expected.
     WrongValue(String, &'static str),
+    /// Another table [[link]] has this number already: the one of that number.
+    SameNumber(u16, usize),
     /// Another key has the same port.
     SamePort(&'static str),
     /// Without a state file there is nothing to save.
@@ -87,6 +93,8 @@ pub enum Place {
 pub struct ConfigFault {
     /// Where it is.
     pub place: Place,
+    /// The table [[link]], counted from 1, if it is in one.
+    pub table: Option<usize>,
     /// The key.
     pub key: String,
     /// What is wrong there.
@@ -102,14 +110,16 @@ pub fn write_place<W: Write>(out: &mut W, path: &str, place: Place) -> io::Resul
     }
 }
 
-/// Writes that no gateway file has this key.
-fn write_unknown<W: Write>(out: &mut W, key: &str, near: Option<&'static str>) -> io::Result<()> {
-    write!(out, "unknown key ")?;
-    write_quoted(out, key)?;
-    if let Some(near) = near {
-        return write!(out, "; did you mean {near}?");
-    }
+/// Writes which keys there are.
+fn write_names<W: Write>(out: &mut W, is_link: bool) -> io::Result<()> {
     write!(out, "; expected one of")?;
+    if is_link {
+        for (place, key) in LINK_KEYS.iter().enumerate() {
+            let comma = if place == 0 { "" } else { "," };
+            write!(out, "{comma} {}", key.name)?;
+        }
+        return Ok(());
+    }
     for (place, key) in KEYS.iter().enumerate() {
         let comma = if place == 0 { "" } else { "," };
         write!(out, "{comma} {key}")?;
@@ -117,17 +127,39 @@ fn write_unknown<W: Write>(out: &mut W, key: &str, near: Option<&'static str>) -
     Ok(())
 }
 
+/// Writes that no gateway file has this key, or no table [[link]].
+fn write_unknown<W: Write>(
+    out: &mut W,
+    key: &str,
+    near: Option<&'static str>,
+    is_link: bool,
+) -> io::Result<()> {
+    write!(out, "unknown key ")?;
+    write_quoted(out, key)?;
+    match near {
+        Some(near) => write!(out, "; did you mean {near}?"),
+        None => write_names(out, is_link),
+    }
+}
+
 impl ConfigFault {
     /// Writes the fault as a line for a reader of the gateway file at this path.
     pub fn write<W: Write>(&self, out: &mut W, path: &str) -> io::Result<()> {
         write_place(out, path, self.place)?;
+        if let Some(table) = self.table {
+            write!(out, "link table {table}: ")?;
+        }
         let key = self.key.as_str();
         match &self.wrong {
             Wrong::Missing(expected) => write!(out, "{key} is missing; expected {expected}")?,
-            Wrong::UnknownKey(near) => write_unknown(out, key, *near)?,
+            Wrong::UnknownKey(near) => write_unknown(out, key, *near, self.table.is_some())?,
             Wrong::WrongValue(value, expected) => {
                 write!(out, "{key} is {value}; expected {expected}")?
             }
+            Wrong::SameNumber(number, other) => write!(
+                out,
+                "{key} {number} is already used by link table {other}; expected another number"
+            )?,
             Wrong::SamePort(other) => {
                 write!(out, "{key} is the same as {other}; expected another port")?
             }
@@ -149,9 +181,9 @@ impl ConfigFault {
 /// What was read of a gateway file, and what is wrong with it.
 #[derive(Drop)]
 pub struct Reading<'a> {
-    alloc: Global,
+    pub(crate) alloc: Global,
     /// The text of the file.
-    text: &'a str,
+    pub(crate) text: &'a str,
     /// The options, which win.
     options: Options<'a>,
     /// What the gateway is to do, as far as it can be read.
@@ -226,32 +258,52 @@ impl Reading<'_> {
         }
     }
 
-    /// Adds a fault of this place.
-    fn add_at(&mut self, place: Place, key: &str, wrong: Wrong) -> Result<(), AllocError> {
+    /// Adds a fault of this place, and of this table [[link]] if it is in one.
+    pub(crate) fn add_fault(
+        &mut self,
+        place: Place,
+        table: Option<usize>,
+        key: &str,
+        wrong: Wrong,
+    ) -> Result<(), AllocError> {
         let key = String::from_str(self.alloc, key)?;
-        self.faults.push(ConfigFault { place, key, wrong })?;
+        self.faults.push(ConfigFault {
+            place,
+            table,
+            key,
+            wrong,
+        })?;
         Ok(())
     }
 
     /// Adds a fault of what was given at a key.
     fn add(&mut self, key: &str, wrong: Wrong) -> Result<(), AllocError> {
-        self.add_at(self.place_of(key), key, wrong)
+        self.add_fault(self.place_of(key), None, key, wrong)
     }
 
     /// Adds a fault of the file at a key.
     fn add_in_file(&mut self, key: &str, wrong: Wrong) -> Result<(), AllocError> {
-        self.add_at(self.place_in_file(key), key, wrong)
+        self.add_fault(self.place_in_file(key), None, key, wrong)
+    }
+
+    /// That a key was expected to have another value.
+    pub(crate) fn wrong_value(
+        &self,
+        value: &Value,
+        expected: &'static str,
+    ) -> Result<Wrong, AllocError> {
+        Ok(Wrong::WrongValue(value_text(self.alloc, value)?, expected))
     }
 
     /// Adds that the file was expected to have another value at a key.
-    fn add_value(
+    pub(crate) fn add_value(
         &mut self,
         key: &str,
         value: &Value,
         expected: &'static str,
     ) -> Result<(), AllocError> {
-        let text = value_text(self.alloc, value)?;
-        self.add_in_file(key, Wrong::WrongValue(text, expected))
+        let wrong = self.wrong_value(value, expected)?;
+        self.add_in_file(key, wrong)
     }
 
     /// The path of an option, or a fault if it is empty.
@@ -347,7 +399,7 @@ impl Reading<'_> {
         self.config.control = self.path_at(table, "control", folder)?;
         self.config.metrics_port = self.port_at(table, "metrics_port")?;
         self.config.log_format = self.format_at(table, "log_format")?;
-        Ok(())
+        self.read_links(table)
     }
 
     /// Lets the options win.
@@ -373,7 +425,9 @@ impl Reading<'_> {
 
     /// Whether there is a fault at this key.
     fn is_faulty(&self, key: &str) -> bool {
-        self.faults.iter().any(|fault| fault.key.as_str() == key)
+        self.faults
+            .iter()
+            .any(|fault| fault.table.is_none() && fault.key.as_str() == key)
     }
 
     /// Judges the length of the control socket's path.
@@ -476,6 +530,7 @@ pub fn read_config<'a>(
         control: None,
         metrics_port: None,
         log_format: LogFormat::Text,
+        notes: Vec::new(alloc),
     };
     let mut reading = Reading {
         alloc,

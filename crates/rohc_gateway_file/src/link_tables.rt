@@ -1,0 +1,218 @@
+//! The tables `[[link]]` of a gateway file: what it says of links beside the links file.
+
+use crate::config::{Place, Reading, Wrong};
+use rohc_text::nearest_name;
+use std::alloc::{AllocError, Global};
+use toml::{Table, Value};
+
+/// A key of a table.
+pub(crate) struct LinkKey {
+    pub(crate) name: &'static str,
+    /// What its value must be.
+    expected: &'static str,
+}
+
+/// The keys of a table, each with an arm of `set`.
+pub(crate) const LINK_KEYS: [LinkKey; 2] = [
+    LinkKey {
+        name: "number",
+        expected: "a number from 0 to 65535",
+    },
+    LinkKey {
+        name: "name",
+        expected: "a text of 1 to 64 characters, without control characters",
+    },
+];
+
+/// The most characters of a name.
+const LONGEST_NAME: usize = 64;
+
+/// What a gateway file says of a link.
+#[derive(Drop)]
+pub struct LinkNote {
+    /// The number of the link.
+    pub number: u16,
+    /// The name, if it has one.
+    pub name: Option<String>,
+    /// The table, counted from 1.
+    pub table: usize,
+    /// Where the number stands.
+    pub place: Place,
+}
+
+/// What was read of a table so far.
+#[derive(Drop)]
+struct Found {
+    number: Option<u16>,
+    name: Option<String>,
+}
+
+/// A name of a link: 1 to 64 characters, none of them a control character.
+fn name_in(alloc: Global, value: &Value) -> Result<Option<String>, AllocError> {
+    let Some(text) = value.as_str() else {
+        return Ok(None);
+    };
+    let count = text.chars().count();
+    if count == 0 || count > LONGEST_NAME || text.chars().any(char::is_control) {
+        return Ok(None);
+    }
+    Ok(Some(String::from_str(alloc, text)?))
+}
+
+/// The number of a link.
+fn number_in(value: &Value) -> Option<u16> {
+    u16::try_from(value.as_integer()?).ok()
+}
+
+impl Found {
+    /// Sets a key to a value. Returns whether the key can have it.
+    fn set(&mut self, alloc: Global, key: &str, value: &Value) -> Result<bool, AllocError> {
+        match key {
+            "number" => {
+                self.number = number_in(value);
+                Ok(self.number.is_some())
+            }
+            "name" => {
+                self.name = name_in(alloc, value)?;
+                Ok(self.name.is_some())
+            }
+            _ => Ok(false),
+        }
+    }
+}
+
+/// The key of this name.
+fn key_of(name: &str) -> Option<&'static LinkKey> {
+    LINK_KEYS.iter().find(|key| key.name == name)
+}
+
+/// The key to which the fewest edits lead from a name, if these are few.
+fn nearest_key(alloc: Global, name: &str) -> Result<Option<&'static str>, AllocError> {
+    let mut names = Vec::new(alloc);
+    for key in &LINK_KEYS {
+        names.push(key.name)?;
+    }
+    nearest_name(alloc, name, names.as_slice())
+}
+
+/// Whether a line is the header of a table `[[link]]`.
+fn is_header(line: &str) -> bool {
+    match line.trim().strip_prefix("[[") {
+        Some(rest) => match rest.split_once("]]") {
+            Some((name, _)) => name.trim() == "link",
+            None => false,
+        },
+        None => false,
+    }
+}
+
+/// The number of the line at which a key of a table stands, or else its header; both are counted from 1.
+fn line_in_table(text: &str, table: usize, key: &str) -> Option<usize> {
+    let mut tables = 0usize;
+    let mut header = None;
+    for (place, line) in text.split("\n").enumerate() {
+        let number = place.saturating_add(1);
+        if is_header(line) {
+            tables = tables.saturating_add(1);
+            if tables == table {
+                header = Some(number);
+            }
+        } else if tables == table
+            && let Some((front, _)) = line.split_once("=")
+            && front.trim() == key
+        {
+            return Some(number);
+        }
+    }
+    header
+}
+
+impl Reading<'_> {
+    /// Where a key of a table stands.
+    fn place_in_table(&self, table: usize, key: &str) -> Place {
+        match line_in_table(self.text, table, key) {
+            Some(line) => Place::Line(line),
+            None => Place::File,
+        }
+    }
+
+    /// Adds a fault of a key of a table.
+    fn add_of_link(&mut self, table: usize, key: &str, wrong: Wrong) -> Result<(), AllocError> {
+        self.add_fault(self.place_in_table(table, key), Some(table), key, wrong)
+    }
+
+    /// Reads the key of a table.
+    fn read_link_key(
+        &mut self,
+        found: &mut Found,
+        table: usize,
+        key: &str,
+        value: &Value,
+    ) -> Result<(), AllocError> {
+        let Some(known) = key_of(key) else {
+            let near = nearest_key(self.alloc, key)?;
+            return self.add_of_link(table, key, Wrong::UnknownKey(near));
+        };
+        if found.set(self.alloc, key, value)? {
+            return Ok(());
+        }
+        let wrong = self.wrong_value(value, known.expected)?;
+        self.add_of_link(table, key, wrong)
+    }
+
+    /// The table before it that has the number of a link.
+    fn table_of(&self, number: u16) -> Option<usize> {
+        for note in &self.config.notes {
+            if note.number == number {
+                return Some(note.table);
+            }
+        }
+        None
+    }
+
+    /// Reads the table of this number.
+    fn read_link(&mut self, table: usize, members: &Table) -> Result<(), AllocError> {
+        let mut found = Found {
+            number: None,
+            name: None,
+        };
+        for (key, value) in members {
+            self.read_link_key(&mut found, table, key.as_str(), value)?;
+        }
+        let Some(number) = found.number else {
+            if !members.contains_key("number") {
+                self.add_of_link(table, "number", Wrong::Missing("a number from 0 to 65535"))?;
+            }
+            return Ok(());
+        };
+        if let Some(other) = self.table_of(number) {
+            return self.add_of_link(table, "number", Wrong::SameNumber(number, other));
+        }
+        let place = self.place_in_table(table, "number");
+        self.config.notes.push(LinkNote {
+            number,
+            name: found.name,
+            table,
+            place,
+        })?;
+        Ok(())
+    }
+
+    /// Reads the tables `[[link]]`.
+    pub(crate) fn read_links(&mut self, members: &Table) -> Result<(), AllocError> {
+        let Some(value) = members.get("link") else {
+            return Ok(());
+        };
+        let tables: &[Value] = match value.as_array() {
+            Some(tables) => tables.as_slice(),
+            None => return self.add_value("link", value, "tables [[link]]"),
+        };
+        for (place, one) in tables.iter().enumerate() {
+            match one.as_table() {
+                Some(members) => self.read_link(place.saturating_add(1), members)?,
+                None => return self.add_value("link", value, "tables [[link]]"),
+            }
+        }
+        Ok(())
+    }
+}
