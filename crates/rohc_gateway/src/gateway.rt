@@ -14,7 +14,7 @@ use mio::net::UdpSocket;
 use rohc_concentrator::NoLink;
 use rohc_gateway_file::{Config, Level, LinkNote, Log, Options, VERSION};
 use rohc_station::{
-    Asked, GatewayFigures, ReloadFault, ReloadReport, Request, RequestFault, Station, Times,
+    Asked, GatewayFigures, LinkName, Page, ReloadFault, ReloadReport, Request, RequestFault, Station,
     write_calls, write_contexts, write_metrics, write_page,
 };
 use std::alloc::Global;
@@ -449,12 +449,25 @@ impl Gateway<'_> {
     /// The page for people.
     fn page<R: Clock + AllocGlobal>(&mut self, rt: &R) -> io::Result<Reply> {
         let alloc = rt.alloc();
-        let times = Times {
-            started: self.started,
-            now: self.moments.now(rt),
+        let now = self.moments.now(rt);
+        let mut names = Vec::new(alloc);
+        for note in &self.notes {
+            if let Some(name) = &note.name {
+                names.push(LinkName {
+                    link: note.number,
+                    name: name.as_str(),
+                })?;
+            }
+        }
+        let page = Page {
+            station: &self.station,
+            figures: &self.figures,
+            names: names.as_slice(),
+            now,
+            version: VERSION,
         };
         let mut body = Vec::new(alloc);
-        write_page(alloc, &mut body, &self.station, &self.figures, times, VERSION)?;
+        write_page(alloc, &mut body, &page)?;
         Ok(Reply {
             status: 200,
             kind: Kind::Page,

@@ -18,7 +18,7 @@ pub use calls::{CallCounts, FIRST_REFUSAL, Order, Sequence};
 pub use counters::{LinkCounters, Octets, StationCounters};
 pub use lists::{write_calls, write_contexts};
 pub use metrics::{GatewayFigures, write_metrics};
-pub use page::{Times, write_page};
+pub use page::{LinkName, Page, write_page};
 pub use reload::{ReloadFault, ReloadReport};
 pub use request::{Asked, Request, RequestFault, is_head, read_request, request_of};
 pub use sending::Taken;

@@ -21,13 +21,24 @@ const MOST_SILENT: usize = 100;
 /// How often a browser loads the page again, in seconds.
 const REFRESH: u64 = 5;
 
-/// Times of a gateway, in milliseconds since 1970.
+/// The name of a link.
 #[derive(Clone, Copy)]
-pub struct Times {
-    /// When it was started.
-    pub started: u64,
-    /// Now.
+pub struct LinkName<'a> {
+    pub link: u16,
+    pub name: &'a str,
+}
+
+/// What the page is of.
+#[derive(Clone, Copy)]
+pub struct Page<'a> {
+    pub station: &'a Station,
+    pub figures: &'a GatewayFigures,
+    /// The names of the links that have one.
+    pub names: &'a [LinkName<'a>],
+    /// Now, in milliseconds since 1970.
     pub now: u64,
+    /// The version of the gateway.
+    pub version: &'a str,
 }
 
 /// Writes a duration in milliseconds with its two largest units, as `3 min 10 s`.
@@ -42,18 +53,14 @@ fn write_duration<W: Write>(out: &mut W, milliseconds: u64) -> io::Result<()> {
 }
 
 /// Writes the start of the page, up to its title and version.
-fn write_start<W: Write>(
-    out: &mut W,
-    figures: &GatewayFigures,
-    times: Times,
-    version: &str,
-) -> io::Result<()> {
+fn write_start<W: Write>(out: &mut W, page: &Page<'_>) -> io::Result<()> {
     write!(
         out,
-        "<!DOCTYPE html>\n<html lang=\"en\">\n<head>\n<meta charset=\"utf-8\">\n<meta http-equiv=\"Content-Security-Policy\" content=\"{POLICY}\">\n<meta http-equiv=\"refresh\" content=\"{REFRESH}\">\n<meta name=\"viewport\" content=\"width=device-width, initial-scale=1\">\n<meta name=\"referrer\" content=\"no-referrer\">\n<title>rohc-gateway</title>\n<style>{STYLE}</style>\n</head>\n<body>\n<header>\n<h1>rohc-gateway</h1>\n<p class=\"quiet\">Version {version}, running for "
+        "<!DOCTYPE html>\n<html lang=\"en\">\n<head>\n<meta charset=\"utf-8\">\n<meta http-equiv=\"Content-Security-Policy\" content=\"{POLICY}\">\n<meta http-equiv=\"refresh\" content=\"{REFRESH}\">\n<meta name=\"viewport\" content=\"width=device-width, initial-scale=1\">\n<meta name=\"referrer\" content=\"no-referrer\">\n<title>rohc-gateway</title>\n<style>{STYLE}</style>\n</head>\n<body>\n<header>\n<h1>rohc-gateway</h1>\n<p class=\"quiet\">Version {}, running for ",
+        page.version
     )?;
-    write_duration(out, times.now.saturating_sub(times.started))?;
-    let draining = if figures.draining {
+    write_duration(out, page.now.saturating_sub(page.figures.started))?;
+    let draining = if page.figures.draining {
         " <b>Draining: no new call is accepted.</b>"
     } else {
         ""
@@ -66,6 +73,9 @@ fn write_start<W: Write>(
 
 /// Writes when the contexts were last saved, and how many saves failed.
 fn write_saves<W: Write>(out: &mut W, figures: &GatewayFigures, now: u64) -> io::Result<()> {
+    if !figures.has_state {
+        return writeln!(out, "<p>There is no state file: a stop loses all calls.</p>");
+    }
     write!(out, "<p>")?;
     if figures.last_save == 0 {
         write!(out, "Not saved since the start")?;
@@ -105,12 +115,8 @@ fn sum_of(station: &Station, is_refused: bool) -> u64 {
 }
 
 /// Writes the totals.
-fn write_totals<W: Write>(
-    out: &mut W,
-    station: &Station,
-    figures: &GatewayFigures,
-    now: u64,
-) -> io::Result<()> {
+fn write_totals<W: Write>(out: &mut W, page: &Page<'_>) -> io::Result<()> {
+    let (station, figures) = (page.station, page.figures);
     writeln!(out, "<section aria-label=\"Totals\">\n<ul class=\"tiles\">")?;
     let totals = station.totals();
     for (name, number, is_bad) in [
@@ -125,7 +131,7 @@ fn write_totals<W: Write>(
         write_tile(out, name, number, is_bad)?;
     }
     writeln!(out, "</ul>")?;
-    write_saves(out, figures, now)?;
+    write_saves(out, figures, page.now)?;
     writeln!(out, "</section>")
 }
 
@@ -170,15 +176,38 @@ fn write_saved<W: Write>(out: &mut W, octets: Octets) -> io::Result<()> {
     }
 }
 
+/// Writes the row header of a link: its number, and its name if it has one.
+fn write_link_header<W: Write>(
+    alloc: Global,
+    out: &mut W,
+    page: &Page<'_>,
+    link: u16,
+) -> io::Result<()> {
+    write!(out, "<tr><th scope=\"row\">{link}")?;
+    for named in page.names {
+        if named.link == link {
+            write!(out, " ")?;
+            write_escaped(alloc, out, named.name.as_bytes())?;
+        }
+    }
+    write!(out, "</th>")
+}
+
 /// Writes the row of a link.
-fn write_link<W: Write>(out: &mut W, station: &Station, link: u16) -> io::Result<()> {
+fn write_link<W: Write>(
+    alloc: Global,
+    out: &mut W,
+    page: &Page<'_>,
+    link: u16,
+) -> io::Result<()> {
+    let station = page.station;
     let (Some(of_link), Some(records)) = (
         station.counters().get(&link),
         station.concentrator().tables().get(&link),
     ) else {
         return Ok(());
     };
-    write!(out, "<tr><th scope=\"row\">{link}</th>")?;
+    write_link_header(alloc, out, page, link)?;
     let states = states_of(records);
     let [_, nacks, static_nacks, _] = of_link.answers.words;
     for number in [
@@ -199,7 +228,7 @@ fn write_link<W: Write>(out: &mut W, station: &Station, link: u16) -> io::Result
 }
 
 /// Writes the table of links.
-fn write_links<W: Write>(out: &mut W, station: &Station) -> io::Result<()> {
+fn write_links<W: Write>(alloc: Global, out: &mut W, page: &Page<'_>) -> io::Result<()> {
     write_columns(
         out,
         "Links",
@@ -219,8 +248,8 @@ fn write_links<W: Write>(out: &mut W, station: &Station) -> io::Result<()> {
             "Failed sends",
         ],
     )?;
-    for (link, _) in station.counters() {
-        write_link(out, station, *link)?;
+    for (link, _) in page.station.counters() {
+        write_link(alloc, out, page, *link)?;
     }
     write_end(out)
 }
@@ -410,22 +439,15 @@ fn write_both<W: Write>(
     write_calls(alloc, out, station, First::Silent, MOST_SILENT, now)
 }
 
-/// Writes the page of a gateway of this version. Nothing in it comes from elsewhere, and no script runs in it.
-pub fn write_page<W: Write>(
-    alloc: Global,
-    out: &mut W,
-    station: &Station,
-    figures: &GatewayFigures,
-    times: Times,
-    version: &str,
-) -> io::Result<()> {
-    write_start(out, figures, times, version)?;
-    write_totals(out, station, figures, times.now)?;
-    write_links(out, station)?;
-    write_refusals(alloc, out, station)?;
-    write_both(alloc, out, station, times.now)?;
+/// Writes the page. Nothing in it comes from elsewhere, and no script runs in it.
+pub fn write_page<W: Write>(alloc: Global, out: &mut W, page: &Page<'_>) -> io::Result<()> {
+    write_start(out, page)?;
+    write_totals(out, page)?;
+    write_links(alloc, out, page)?;
+    write_refusals(alloc, out, page.station)?;
+    write_both(alloc, out, page.station, page.now)?;
     writeln!(
         out,
-        "</main>\n<footer><p class=\"quiet\">This page reloads every {REFRESH} seconds. Counts begin with the start of the gateway.</p></footer>\n</body>\n</html>"
+        "</main>\n<footer><p class=\"quiet\">This page reloads every {REFRESH} seconds. Counts begin with the start of the gateway, those of a call with its first packet.</p></footer>\n</body>\n</html>"
     )
 }

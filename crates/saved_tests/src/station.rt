@@ -6,7 +6,7 @@ use rohc_context::Refusal;
 use rohc_links::{Links, read_links};
 use rohc_saved::restore;
 use rohc_station::{
-    Asked, GatewayFigures, ReloadReport, Request, RequestFault, Station, Times, read_request,
+    Asked, GatewayFigures, LinkName, Page, ReloadReport, Request, RequestFault, Station, read_request,
     timed_datagram, write_calls, write_contexts, write_metrics, write_page,
 };
 use std::alloc::Global;
@@ -185,23 +185,26 @@ fn shows_a_page(rt: HostRuntime) {
     let mut station = station(&rt, 4, 5);
     let _ = station.take(1000, DATAGRAM);
     let _ = station.take(2000, &[0, 5, 0x00]);
-    let times = Times {
-        started: 0,
+    let figures = GatewayFigures {
+        has_state: true,
+        ..GatewayFigures::default()
+    };
+    let shown = Page {
+        station: &station,
+        figures: &figures,
+        names: &[LinkName {
+            link: 4,
+            name: "North <1>",
+        }],
         now: 191_000,
+        version: "1.0.0",
     };
     let mut page = Vec::new(rt.alloc());
-    write_page(
-        rt.alloc(),
-        &mut page,
-        &station,
-        &GatewayFigures::default(),
-        times,
-        "1.0.0",
-    ).expect(&rt, "it works");
+    write_page(rt.alloc(), &mut page, &shown).expect(&rt, "it works");
     let page = String::from_utf8(page).expect(&rt, "it works");
     for part in [
         "<p class=\"quiet\">Version 1.0.0, running for 3 min 11 s.</p>",
-        "<tr><th scope=\"row\">4</th><td>1</td><td>0</td><td>0</td><td>1</td><td>0</td><td>0</td><td>42</td><td>41</td><td>none</td><td>0</td></tr>",
+        "<tr><th scope=\"row\">4 North &lt;1&gt;</th><td>1</td><td>0</td><td>0</td><td>1</td><td>0</td><td>0</td><td>42</td><td>41</td><td>none</td><td>0</td></tr>",
         "<tr><th scope=\"row\">5</th><td class=\"text\">NoContext</td>",
         "<tr><th scope=\"row\">4/0</th><td class=\"text\">0x0001</td><td class=\"text\">Full Context</td><td>3 min 10 s</td><td>1</td><td>0</td><td>0</td><td class=\"text\"></td></tr>",
         "<p>Not saved since the start.</p>",
