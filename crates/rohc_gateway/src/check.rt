@@ -1,7 +1,7 @@
 //! `check`: all that is wrong, and nothing is changed.
 
 use crate::lines::Lines;
-use crate::names::write_strangers;
+use crate::names::write_unknown_links;
 use crate::setup::{NoStart, read_start};
 use rohc_gateway_file::{Ending, Options};
 use std::rt::Files;
@@ -43,7 +43,7 @@ pub(crate) fn check<R: Files + Print + AllocGlobal>(
         Ok(start) => {
             let mut lines = Lines::new(rt.alloc());
             let notes = start.config.notes.as_slice();
-            if write_strangers(&mut lines, file, notes, &start.concentrator).is_err() {
+            if write_unknown_links(&mut lines, file, notes, &start.concentrator).is_err() {
                 return Err(Ending::Memory);
             }
             say_warnings(rt, &lines)?;

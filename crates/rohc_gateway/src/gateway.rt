@@ -6,7 +6,7 @@ use crate::connection::{Connection, Progress};
 use crate::files::{Unwritten, replace_file};
 use crate::lines::Lines;
 use crate::links_file::{NoLinks, read_links_file};
-use crate::names::{Shown, name_of, read_notes, write_link_info, write_names, write_strangers};
+use crate::names::{Shown, name_of, read_notes, write_link_info, write_names, write_unknown_links};
 use crate::sending::send_all;
 use crate::sockets::MOST_CONNECTIONS;
 use crate::watch::{LONGEST, MOST_PACKETS, Watch};
@@ -110,11 +110,11 @@ impl Gateway<'_> {
     }
 
     /// Logs which tables of the gateway file name no link.
-    pub(crate) fn log_strangers<R: Clock + Eprint + AllocGlobal>(&self, rt: &R) {
+    pub(crate) fn log_unknown_links<R: Clock + Eprint + AllocGlobal>(&self, rt: &R) {
         let mut lines = Lines::new(rt.alloc());
         let (file, concentrator) = (self.frame.file, self.station.concentrator());
         // Without memory for all lines those are logged that are whole.
-        let _ = write_strangers(&mut lines, file, self.notes.as_slice(), concentrator);
+        let _ = write_unknown_links(&mut lines, file, self.notes.as_slice(), concentrator);
         for line in lines.as_str().lines() {
             self.frame.log.say(rt, Level::Warning, line);
         }
@@ -283,7 +283,7 @@ impl Gateway<'_> {
             report.added, report.changed, report.removed, report.contexts_gone
         );
         self.note(rt, text);
-        self.log_strangers(rt);
+        self.log_unknown_links(rt);
     }
 
     /// Accepts the links of the file at this path in place of those that are there.

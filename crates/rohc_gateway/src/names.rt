@@ -107,7 +107,7 @@ impl fmt::Display for Shown<'_> {
 }
 
 /// Writes a line for each table [[link]] of the gateway file at this path whose number the links file doesn't have.
-pub(crate) fn write_strangers<W: Write>(
+pub(crate) fn write_unknown_links<W: Write>(
     out: &mut W,
     file: &str,
     notes: &[LinkNote],

@@ -286,7 +286,7 @@ where
     let mut sockets = opened(rt, log, config)?;
     let text = format_args!("started: {links} links, {contexts} contexts restored");
     log.say(rt, Level::Info, text);
-    gateway.log_strangers(rt);
+    gateway.log_unknown_links(rt);
     let served = serve(rt, gateway, &mut sockets);
     if let Some(path) = &config.control {
         let _ = remove_control(rt, path.as_str());
