@@ -381,6 +381,8 @@ def check_asked(trial: Trial) -> None:
         trial.demand(found == [b"\x45\xaa"] * 2, f"drained: {found}")
         status = json.loads(asked(trial, gateway, "status").text)
         trial.demand((status["links"], status["contexts"], status["draining"]) == (len(LINKS), 1, True), f"status: {status}")
+        # Only a package says what it was built from.
+        trial.demand((status["sources"], status["logic"]) == ("unknown", "unknown"), f"status: {status}")
         told = asked(trial, gateway, "save")
         trial.demand(told.is_good and json.loads(told.text)["saved"] == (gateway.folder / "calls").stat().st_size, f"save: {told.all}")
         told = asked(trial, gateway, "reset", "--link", "1")

@@ -57,6 +57,7 @@ def check_unpacked(trial: Trial, folder: Path) -> None:
     for name in PROGRAMS:
         ended = run(Call((root / "usr/bin" / name, "--version")))
         trial.demand(ended.is_good and version in ended.text, f"{name} --version: {ended.end()}", ended.call)
+    check_build(trial, root / "usr")
     ended = run(Call((root / "usr/bin/rohcd",)))
     trial.demand((ended.status, ended.said) == (2, "rohcd: command line"), f"rohcd: {ended.end()}", ended.call)
     unit = root / "usr/lib/systemd/system/rohc-gateway@.service"
@@ -75,6 +76,33 @@ def check_unpacked(trial: Trial, folder: Path) -> None:
     top = next((trial.scratch / "tarball").iterdir())
     ended = run(Call((top / "bin/rohctl", "verify", top / "share/polorowan/polorowan.digests", "--root", top)))
     trial.demand(ended.is_good, f"the tarball: {ended.all}", ended.call)
+    check_build(trial, top)
+
+
+def check_build(trial: Trial, prefix: Path) -> None:
+    """The program says of which sources it was made, and with other sources the digest is another."""
+    sources = trial.ran("bin/sources", "digest").text.strip()
+    logic = trial.ran("rt", "version").text.split()[-1]
+    copy = trial.scratch / "sources"
+    if not copy.exists():
+        shutil.copytree(trial.top / "crates", copy / "crates", ignore=shutil.ignore_patterns("out"))
+        shutil.copytree(trial.top / "bin", copy / "bin")
+        shutil.copy(trial.top / "crates.txt", copy)
+    trial.demand(run(Call((copy / "bin/sources", "digest"))).text.strip() == sources, "the copy of the sources has another digest")
+    changed = copy / "crates/rohc_gateway/src/main.rt"
+    text = changed.read_text()
+    changed.write_text(f"{text}\n")
+    other = run(Call((copy / "bin/sources", "digest"))).text.strip()
+    changed.write_text(text)
+    ended = run(Call((prefix / "bin/rohc-gateway", "--version")))
+    version = (trial.top / "VERSION").read_text().strip()
+    wanted = f"rohc-gateway {version} (sources {sources}, logic {logic})\n"
+    trial.demand(ended.text == wanted and other not in ended.text, f"{prefix}: {ended.text}, wanted {wanted}", ended.call)
+    (prefix / "share/polorowan/build").rename(trial.scratch / "build")
+    ended = run(Call((prefix / "bin/rohc-gateway", "--version")))
+    (trial.scratch / "build").rename(prefix / "share/polorowan/build")
+    wanted = f"rohc-gateway {version} (sources unknown, logic unknown)\n"
+    trial.demand(ended.text == wanted, f"{prefix}: {ended.text}, wanted {wanted}", ended.call)
 
 
 def check_clean(trial: Trial, folder: Path) -> None:

@@ -12,7 +12,7 @@ use crate::sockets::MOST_CONNECTIONS;
 use crate::watch::{LONGEST, MOST_PACKETS, Watch};
 use mio::net::UdpSocket;
 use rohc_concentrator::NoLink;
-use rohc_gateway_file::{Config, Level, LinkNote, Log, Options, VERSION};
+use rohc_gateway_file::{Build, Config, Level, LinkNote, Log, Options, VERSION};
 use rohc_station::{
     Asked, GatewayFigures, LinkName, Page, ReloadFault, ReloadReport, Request, RequestFault, Station,
     write_calls, write_contexts, write_metrics, write_page,
@@ -34,6 +34,7 @@ const UNSAVED: &str = "the gateway continues, and the file of the last save stay
 #[derive(Clone, Copy)]
 pub(crate) struct Frame<'a> {
     pub(crate) log: Log,
+    pub(crate) build: Build<'a>,
     /// The gateway file.
     pub(crate) file: &'a str,
     pub(crate) options: Options<'a>,
@@ -398,7 +399,11 @@ impl Gateway<'_> {
             self.figures.started,
             self.figures.last_save
         )?;
-        write!(out, ",\"names\":{{")?;
+        let Build { sources, logic } = self.frame.build;
+        write!(
+            out,
+            ",\"sources\":\"{sources}\",\"logic\":\"{logic}\",\"names\":{{"
+        )?;
         write_names(out, self.notes.as_slice())?;
         writeln!(out, "}}}}")
     }

@@ -18,7 +18,8 @@ mod setup;
 mod sockets;
 mod watch;
 
-use rohc_gateway_file::{Ending, Level, Log, LogFormat, Request, read_request};
+use crate::files::{folder_of, read_text};
+use rohc_gateway_file::{Build, Ending, Level, Log, LogFormat, Request, VERSION, read_request};
 use std::net::Net;
 use std::process::ExitCode;
 use std::rt::{Env, Files};
@@ -35,18 +36,30 @@ fn words<R: Env + AllocGlobal>(rt: &R) -> io::Result<Vec<String>> {
 }
 
 /// Does what the words ask for.
-fn requested<R>(rt: &R, log: &mut Log, words: &[String]) -> Result<Ending, Ending>
+fn requested<R>(rt: &R, log: &mut Log, build: Build<'_>, words: &[String]) -> Result<Ending, Ending>
 where
     R: Files + Net + Clock + Print + Eprint + AllocGlobal,
 {
-    match read_request(rt, words)? {
+    let Ok(version) = format!(in rt.alloc(); "{VERSION} ({build})") else {
+        return Err(Ending::Memory);
+    };
+    match read_request(rt, version.as_str(), words)? {
         Request::Check { file, options } => check::check(rt, file, &options),
         Request::Run {
             file,
             options,
             fresh,
-        } => run::run(rt, log, file, &options, fresh),
+        } => run::run(rt, log, build, file, &options, fresh),
     }
+}
+
+/// The text of the file in which a package says what it was built from, if there is one: in a folder beside that of the
+/// program.
+fn build_text<R: Files + AllocGlobal>(rt: &R) -> Option<String> {
+    let program = env::current_exe(rt).ok()?;
+    let folder = folder_of(program.as_str());
+    let path = format!(in rt.alloc(); "{folder}/../share/polorowan/build").ok()?;
+    read_text(rt, path.as_str()).ok()
 }
 
 fn main(rt: HostRuntime) -> ExitCode {
@@ -54,8 +67,13 @@ fn main(rt: HostRuntime) -> ExitCode {
         is_journal: journal::is_journal(&rt),
         format: LogFormat::Text,
     };
+    let text = build_text(&rt);
+    let build = Build::of(match &text {
+        Some(text) => text.as_str(),
+        None => "",
+    });
     let ending = match words(&rt) {
-        Ok(words) => match requested(&rt, &mut log, words.as_slice()) {
+        Ok(words) => match requested(&rt, &mut log, build, words.as_slice()) {
             Ok(ending) => ending,
             Err(ending) => ending,
         },

@@ -8,7 +8,7 @@ use crate::setup::{NoStart, Start, read_start};
 use crate::sockets::{CONTROL, METRICS, MOST_CONNECTIONS, PLAIN, Sockets, TIMED, remove_control};
 use mio::net::{TcpListener, UnixListener};
 use mio::{Events, Poll, Token};
-use rohc_gateway_file::{Config, Ending, Level, LinkNote, Log, Options};
+use rohc_gateway_file::{Build, Config, Ending, Level, LinkNote, Log, Options};
 use rohc_saved::Restored;
 use rohc_station::{GatewayFigures, Station};
 use rohc_text::Reason;
@@ -298,6 +298,7 @@ where
 fn run_read<R>(
     rt: &R,
     log: Log,
+    build: Build<'_>,
     file: &str,
     options: &Options<'_>,
     start: Start,
@@ -320,6 +321,7 @@ where
     let notes = mem::replace(&mut config.notes, Vec::new(rt.alloc()));
     let frame = Frame {
         log,
+        build,
         file,
         options: *options,
         config: &config,
@@ -339,6 +341,7 @@ fn say_wrong<R: Clock + Eprint + AllocGlobal>(rt: &R, log: Log, lines: &Lines) {
 pub(crate) fn run<R>(
     rt: &R,
     log: &mut Log,
+    build: Build<'_>,
     file: &str,
     options: &Options<'_>,
     fresh: bool,
@@ -350,7 +353,7 @@ where
     match read_start(rt, file, options, fresh) {
         Ok(start) => {
             log.format = start.config.log_format;
-            run_read(rt, *log, file, options, start)
+            run_read(rt, *log, build, file, options, start)
         }
         Err(NoStart::Wrong(lines, format)) => {
             log.format = format;

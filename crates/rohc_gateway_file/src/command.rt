@@ -195,11 +195,11 @@ fn check_words<'a>(alloc: Global) -> Result<Command<'a>, AllocError> {
 }
 
 /// The parser of the command line, without its subcommands.
-fn program<'a>(alloc: Global) -> Result<Command<'a>, AllocError> {
+fn program<'a>(alloc: Global, version: &'a str) -> Result<Command<'a>, AllocError> {
     let named = Command::new(alloc, "rohc-gateway").bin_name("rohc-gateway")?;
     Ok(
         named
-            .version(VERSION)
+            .version(version)
             .about("Decompress ROHC for many links, as a service")
             .no_binary_name(true)
             .subcommand_required(true),
@@ -207,8 +207,8 @@ fn program<'a>(alloc: Global) -> Result<Command<'a>, AllocError> {
 }
 
 /// The parser of the command line.
-fn command<'a>(alloc: Global) -> Result<Command<'a>, AllocError> {
-    let with_run = program(alloc)?.subcommand(run_words(alloc)?)?;
+fn command<'a>(alloc: Global, version: &'a str) -> Result<Command<'a>, AllocError> {
+    let with_run = program(alloc, version)?.subcommand(run_words(alloc)?)?;
     with_run.subcommand(check_words(alloc)?)
 }
 
@@ -242,13 +242,14 @@ fn asked_for<'a>(matches: &ArgMatches<'a>) -> Option<Request<'a>> {
     }
 }
 
-/// Reads the request from the words of the command line. Help, the version and what is wrong with the words
+/// Reads the request from the words of the command line. Help, this text for the version and what is wrong with the words
 /// are printed here.
 pub fn read_request<'a, R: Print + Eprint + AllocGlobal>(
     rt: &R,
+    version: &'a str,
     words: &'a [String],
 ) -> Result<Request<'a>, Ending> {
-    let Ok(command) = command(rt.alloc()) else {
+    let Ok(command) = command(rt.alloc(), version) else {
         return Err(Ending::Memory);
     };
     match command.try_get_matches_from(words) {

@@ -1,6 +1,7 @@
 //! The command line of a gateway, its file, its log, and how it ends.
 #![tactic(auto)]
 
+pub mod build;
 pub mod civil;
 pub mod command;
 pub mod config;
@@ -8,6 +9,7 @@ pub mod ending;
 pub mod link_tables;
 pub mod log;
 
+pub use build::Build;
 pub use civil::{Civil, civil_at};
 pub use command::{Options, Request, VERSION, read_request};
 pub use config::{Config, ConfigFault, Place, Reading, Unread, Wrong, read_config, write_place};
