@@ -14,8 +14,8 @@ use mio::net::UdpSocket;
 use rohc_concentrator::NoLink;
 use rohc_gateway_file::{Build, Config, Level, LinkNote, Log, Options, VERSION};
 use rohc_station::{
-    Asked, GatewayFigures, LinkName, Page, ReloadFault, ReloadReport, Request, RequestFault, Station,
-    write_calls, write_contexts, write_metrics, write_page,
+    Asked, GatewayFigures, LinkName, Page, ReloadFault, ReloadReport, Request, RequestFault,
+    Station, write_calls, write_contexts, write_metrics, write_page,
 };
 use std::alloc::Global;
 use std::fmt::Display;
@@ -509,7 +509,8 @@ impl Gateway<'_> {
     {
         let alloc = rt.alloc();
         match asked {
-            Asked::Whole(request @ (Request::Metrics | Request::Page | Request::Ready)) => self.answer(rt, request),
+            Asked::Whole(request @ (Request::Metrics | Request::Page | Request::Ready)) =>
+                self.answer(rt, request),
             Asked::Whole(request) if is_control => self.answer(rt, request),
             Asked::Whole(_) => Reply::refused(alloc, RequestFault::NotFound),
             Asked::Faulty(fault) => Reply::refused(alloc, fault),

@@ -142,7 +142,9 @@ impl CallCounts {
         ensures { HasAnswer (response_of reply.now) self.old self.new }
     {
         count_refusal(&mut self.refused, refusal_of(reply.outcome));
-        self.delivered = self.delivered.saturating_add(delivered_count(reply.outcome));
+        self.delivered = self
+            .delivered
+            .saturating_add(delivered_count(reply.outcome));
         self.sequence.see(sn_in(&reply.packet));
     }
 }

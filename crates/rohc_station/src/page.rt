@@ -74,7 +74,10 @@ fn write_start<W: Write>(out: &mut W, page: &Page<'_>) -> io::Result<()> {
 /// Writes when the contexts were last saved, and how many saves failed.
 fn write_saves<W: Write>(out: &mut W, figures: &GatewayFigures, now: u64) -> io::Result<()> {
     if !figures.has_state {
-        return writeln!(out, "<p>There is no state file: a stop loses all calls.</p>");
+        return writeln!(
+            out,
+            "<p>There is no state file: a stop loses all calls.</p>"
+        );
     }
     write!(out, "<p>")?;
     if figures.last_save == 0 {
@@ -170,7 +173,11 @@ fn write_cell<W: Write>(out: &mut W, number: u64) -> io::Result<()> {
 fn write_saved<W: Write>(out: &mut W, octets: Octets) -> io::Result<()> {
     match octets.rebuilt.checked_sub(octets.compressed) {
         Some(saved) if octets.rebuilt > 0 => {
-            write!(out, "<td>{} %</td>", saved.saturating_mul(100) / octets.rebuilt)
+            write!(
+                out,
+                "<td>{} %</td>",
+                saved.saturating_mul(100) / octets.rebuilt
+            )
         }
         _ => write!(out, "<td>none</td>"),
     }
@@ -194,12 +201,7 @@ fn write_link_header<W: Write>(
 }
 
 /// Writes the row of a link.
-fn write_link<W: Write>(
-    alloc: Global,
-    out: &mut W,
-    page: &Page<'_>,
-    link: u16,
-) -> io::Result<()> {
+fn write_link<W: Write>(alloc: Global, out: &mut W, page: &Page<'_>, link: u16) -> io::Result<()> {
     let station = page.station;
     let (Some(of_link), Some(records)) = (
         station.counters().get(&link),
@@ -385,7 +387,10 @@ fn write_call<W: Write>(
             write_cell(out, counts.sequence.late)?;
             write_reasons(out, counts)?;
         }
-        None => write!(out, "<td>0</td><td>0</td><td>0</td><td class=\"text\"></td>")?,
+        None => write!(
+            out,
+            "<td>0</td><td>0</td><td>0</td><td class=\"text\"></td>"
+        )?,
     }
     writeln!(out, "</tr>")
 }
@@ -426,13 +431,11 @@ const CALL_COLUMNS: [&str; 8] = [
 ];
 
 /// Writes the tables of calls.
-fn write_both<W: Write>(
-    alloc: Global,
-    out: &mut W,
-    station: &Station,
-    now: u64,
-) -> io::Result<()> {
-    let (worst, silent) = ("Calls with the most refusals", "Calls that are silent longest");
+fn write_both<W: Write>(alloc: Global, out: &mut W, station: &Station, now: u64) -> io::Result<()> {
+    let (worst, silent) = (
+        "Calls with the most refusals",
+        "Calls that are silent longest",
+    );
     write_columns(out, worst, "worst", 3, &CALL_COLUMNS)?;
     write_calls(alloc, out, station, First::Refused, MOST_WORST, now)?;
     write_columns(out, silent, "silent", 3, &CALL_COLUMNS)?;

@@ -6,8 +6,8 @@ use rohc_context::Refusal;
 use rohc_links::{Links, read_links};
 use rohc_saved::restore;
 use rohc_station::{
-    Asked, GatewayFigures, LinkName, Page, ReloadReport, Request, RequestFault, Station, read_request,
-    timed_datagram, write_calls, write_contexts, write_metrics, write_page,
+    Asked, GatewayFigures, LinkName, Page, ReloadReport, Request, RequestFault, Station,
+    read_request, timed_datagram, write_calls, write_contexts, write_metrics, write_page,
 };
 use std::alloc::Global;
 use std::process::Abort;
