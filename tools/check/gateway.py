@@ -27,7 +27,7 @@ from random_script import check8
 from trial import Trial
 
 ROHCTL = "crates/rohctl/out/rohctl"
-PARTS = ("words", "wrong", "heads", "calls", "killed", "reloaded", "asked", "watched", "logged", "named", "hostile", "flood", "poor", "files")
+PARTS = ("words", "wrong", "heads", "whole", "killed", "reloaded", "asked", "watched", "logged", "named", "hostile", "flood", "poor", "files")
 LINKS = range(1, 21)
 KILLS = 20
 SLOW = 40
@@ -271,7 +271,7 @@ def check_page(trial: Trial, gateway: Gateway, wanted: Counter[tuple[str, str]])
         trial.leave_out("tidy is not installed, the page of the gateway was not checked by it")
 
 
-def check_calls(trial: Trial) -> None:
+def check_whole(trial: Trial) -> None:
     """Whole calls at the timed port, their counts, and a stop after which all contexts are there again."""
     arrivals = made_arrivals(20_000, 11)
     with Receivers() as receivers, Gateway(trial, trial.scratch / "calls", receivers.links(LINKS)) as gateway:
