@@ -25,7 +25,9 @@ name = "b"
 port = 7002
 links = ["2-9", 12]
 """
-TABLE = """# Each datagram to the process of its link: `nft -f FILE`, as root.
+TABLE = """# Each datagram to the process of its link: `nft -f FILE`, as root. It replaces the rules that were set before.
+table ip polorowan
+delete table ip polorowan
 table ip polorowan {
     counter unknown_links {}
     chain to_process {

@@ -108,7 +108,11 @@ def on_one_host(trial: Trial, folder: Path, way: str) -> int:
     with contextlib.ExitStack() as stack:
         receivers = [stack.enter_context(Receivers()) for _ in NAMES]
         (folder / "links.toml").write_text(links_of(receivers))
-        text = hosts((), range(PORT + 1, PORT + 1 + len(NAMES)))
+        ports = range(PORT + 1, PORT + 1 + len(NAMES))
+        if way == "nftables":
+            # Rules that were set before, which the new ones replace.
+            subprocess.run(["nft", "-f", rules(trial, folder, hosts((), ports[::-1]))], check=True)
+        text = hosts((), ports)
         file = rules(trial, folder, text, "--out", folder, *(["--nginx"] if way == "nginx" else []))
         if way == "nginx":
             stack.enter_context(nginx(trial, folder))

@@ -267,7 +267,9 @@ fn gives_address(processes: &[Process<'_>]) -> bool {
 
 /// What stands before the rules of the table of nftables.
 const TABLE_HEAD: &str = "\
-# Each datagram to the process of its link: `nft -f FILE`, as root.
+# Each datagram to the process of its link: `nft -f FILE`, as root. It replaces the rules that were set before.
+table ip polorowan
+delete table ip polorowan
 table ip polorowan {
     counter unknown_links {}
     chain to_process {
