@@ -42,6 +42,15 @@ def phone(trial: Trial, side: str, calls: int, *words: str) -> subprocess.Popen[
     return subprocess.Popen(call, cwd=folder, stdin=nothing, stdout=nothing, stderr=nothing)
 
 
+def ends_well(phone: subprocess.Popen[bytes]) -> bool:
+    """Whether a phone ends its calls, and all of them were good."""
+    try:
+        return phone.wait(90) == 0
+    except subprocess.TimeoutExpired:
+        phone.kill()
+        return False
+
+
 def start_gateway(trial: Trial, folder: Path) -> None:
     """Starts the gateway of side b, which examples/call/down ends with the others."""
     with (folder / "b/log").open("ab") as log:
@@ -73,9 +82,7 @@ def check_steady(trial: Trial, folder: Path) -> None:
     told = ask(trial, folder, "stop")
     trial.demand(told.get("stopped") is True, f"call: stop: {told}")
     start_gateway(trial, folder)
-    status = calling.wait(90)
-    answering.wait(30)
-    trial.demand(status == 0, f"call: sipp ended with {status}")
+    trial.demand(ends_well(calling) and ends_well(answering), "call: sipp's calls were not all good")
     time.sleep(0.5)
     ended = run(Call((trial.top / "examples/call/compare", folder)))
     trial.say(ended.text.strip())
@@ -98,17 +105,27 @@ def check_killed(trial: Trial, folder: Path) -> None:
             os.kill(int(pid), 9)
     time.sleep(0.2)
     start_gateway(trial, folder)
-    status = calling.wait(60)
-    answering.wait(30)
-    trial.demand(status == 0, f"call: sipp ended with {status} after the kill")
+    trial.demand(ends_well(calling) and ends_well(answering), "call: sipp's call wasn't good after the kill")
     trial.say("call: it goes on after the gateway was killed")
+
+
+def missing() -> str:
+    """What a call needs and this machine doesn't have, if anything."""
+    tools = [tool for tool in TOOLS if not shutil.which(tool)] + ([] if PCAPS.exists() else [str(PCAPS)])
+    if tools:
+        return f"{', '.join(tools)} is not installed"
+    if os.geteuid() != 0 or not os.access("/dev/net/tun", os.R_OK | os.W_OK):
+        return "root or a TUN device isn't there"
+    name = f"rohc-{os.getpid()}"
+    if subprocess.run(["ip", "netns", "add", name], capture_output=True, check=False).returncode != 0:
+        return "network namespaces can't be made here"
+    subprocess.run(["ip", "netns", "delete", name], capture_output=True, check=False)
+    return ""
 
 
 def check(trial: Trial) -> None:
     """Makes the calls, if all that they need is there."""
-    missing = [tool for tool in TOOLS if not shutil.which(tool)] + ([] if PCAPS.exists() else [str(PCAPS)])
-    if os.geteuid() != 0 or missing:
-        why = f"{', '.join(missing)} is not installed" if missing else "it takes root"
+    if why := missing():
         trial.leave_out(f"{why}, so no call went from phone to phone")
         return
     compressor = evidence.build_compressor(trial)
