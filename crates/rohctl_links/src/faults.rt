@@ -232,6 +232,15 @@ fn write_brief<W: Write>(
     }
 }
 
+/// Prints why a file can't be read, if that is the ending. Any other ending stays.
+fn print_unread<'a, R: Eprint>(rt: &R, ending: Ending<'a>) -> Result<Ending<'a>, Ending<'a>> {
+    if !matches!(&ending, Ending::LinksUnread(_, _)) {
+        return Err(ending);
+    }
+    let _ = eprint!(rt; "{ending}");
+    Ok(Ending::LinksFile)
+}
+
 /// Writes of one of several files what is wrong, or that it is good. Prints why it can't be read, if it can't.
 fn write_one<'a, R, W>(
     rt: &R,
@@ -245,12 +254,7 @@ where
 {
     match links_text(rt, path) {
         Ok(text) => write_brief(out, rt.alloc(), path, text.as_str(), json),
-        Err(Ending::LinksUnread(path, reason)) => {
-            let unread = Ending::LinksUnread(path, reason);
-            let _ = eprint!(rt; "{unread}");
-            Ok(Ending::LinksFile)
-        }
-        Err(ending) => Err(ending),
+        Err(ending) => print_unread(rt, ending),
     }
 }
 
