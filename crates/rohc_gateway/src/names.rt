@@ -5,7 +5,7 @@ use crate::lines::Lines;
 use crate::links_file::NoLinks;
 use crate::setup::A_FILE;
 use rohc_concentrator::Concentrator;
-use rohc_gateway_file::{LinkNote, Options, read_config, write_place};
+use rohc_gateway_file::{LinkNote, Options, Reading, read_config, write_place};
 use rohc_text::{Reason, write_json_text};
 use std::alloc::Global;
 use std::io::{ErrorKind, Write};
@@ -20,6 +20,22 @@ fn no_memory() -> io::Error {
     io::Error::from(ErrorKind::OutOfMemory)
 }
 
+/// What a gateway file that was read says of links; `None` if it has faults, which the lines say.
+fn judged(
+    file: &str,
+    reading: Reading<'_>,
+    lines: &mut Lines,
+) -> io::Result<Option<Vec<LinkNote>>> {
+    for fault in &reading.faults {
+        fault.write(lines, file)?;
+    }
+    if !reading.faults.is_empty() {
+        return Ok(None);
+    }
+    let config = reading.config;
+    Ok(Some(config.notes))
+}
+
 /// What a gateway file with this text says of links; `None` if it is refused, which the lines say.
 fn notes_in(
     alloc: Global,
@@ -28,20 +44,12 @@ fn notes_in(
     options: &Options<'_>,
     lines: &mut Lines,
 ) -> io::Result<Option<Vec<LinkNote>>> {
-    let reading = match read_config(alloc, file, text, options) {
-        Ok(reading) => reading,
+    match read_config(alloc, file, text, options) {
+        Ok(reading) => judged(file, reading, lines),
         Err(unread) => {
             unread.write(lines, file, text)?;
-            return Ok(None);
+            Ok(None)
         }
-    };
-    for fault in &reading.faults {
-        fault.write(lines, file)?;
-    }
-    if reading.faults.is_empty() {
-        Ok(Some(reading.config.notes))
-    } else {
-        Ok(None)
     }
 }
 
