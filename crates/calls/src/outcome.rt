@@ -7,7 +7,7 @@ use std::fmt;
 #[derive(Clone, Copy)]
 pub(crate) enum Outcome {
     Done,
-    /// So many contexts were removed.
+    /// The number of contexts that were removed.
     Gone(usize),
     Fault(&'static str),
 }

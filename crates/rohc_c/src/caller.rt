@@ -21,13 +21,13 @@ impl<'a> Sink<'a> for Caller<'_> {
 
     ghost has_room = { HasRoomFor };
 
-    ghost takes = { IsTold };
+    ghost takes = { λ old report _ new. IsTold old report new };
 
     fn rebuilt(&mut self, cid: u16, packet: Delivered<'a>) {
         *self.arrival = tell_alone(cid, put_long(&packet, self.packet));
     }
 
-    fn arrived(&mut self, cid: u16, reply: Reply<'a>, relayed: Elements<'a>) {
+    fn arrived(&mut self, cid: u16, reply: Reply<'a>, _: bool, relayed: Elements<'a>) {
         let (has_packet, packet_length) = tell_packet(&reply, self.packet);
         let (has_feedback, feedback_length) = tell_feedback(&reply, self.feedback);
         let told = put_elements(relayed, self.relayed);

@@ -13,7 +13,7 @@ use rohc_concentrator::Concentrator;
 /// The most packets that one call takes.
 const MANY: usize = 1024;
 
-/// Whether each packet lies within so many octets, and they have at most `left` octets.
+/// Whether each packet lies within the first `most` octets, and all have at most `left` octets together.
 fn are_within(packets: &[RohcPacket], most: usize, left: usize) -> bool
     ensures within { IsTrue result → LieWithin packets.now most }
     ensures count { IsTrue result → sum_by (λ p. p.count) packets.now ≤ left }

@@ -1,5 +1,5 @@
 -- Where all stays, what happens next happens as before; and what follows of a value, if there is one.
-use Rattle.std.proofs.Common.{◌≡◌, ℕ, List, length, ◌==◌, Option, refl, subst}
+use Rattle.std.proofs.Common.{◌≡◌, ℕ, List, Bool, length, ◌==◌, Option, refl, subst}
 use Rattle.std.specs.Prelude.{Some, None, IfSome}
 use Rattle.std.specs.Bool.{MatchBool}
 use Rattle.std.proofs.Math.Path.{fun_ext}
@@ -7,6 +7,7 @@ use Rattle.rohc_context.specs.Record.{Record}
 use Rattle.rohc_concentrator.specs.declared.concentrator.Concentrator.{Concentrator}
 use Rattle.rohc_concentrator.specs.Tables.{setting_at, record_at, settings_in_order, KeepsAll}
 use Rattle.rohc_concentrator.specs.Report.{Report, IsAnswered}
+use Rattle.rohc_concentrator.specs.Repaired.{IsRepaired}
 use Rattle.rohc_concentrator.specs.Seen.{view_at}
 use Rattle.rohc_concentrator.specs.Calls.{Call, CallAnswer}
 use Rattle.rohc_concentrator.specs.RunsCall.{LinkStep, IsCrowd, LinksOrdered, RunsCall}
@@ -37,3 +38,10 @@ pub answered_after : (old mid : Concentrator) (link moment : ℕ) (octets : List
 answered_after old mid link moment octets report next kept a =
     subst (λ s. IsAnswered s (record_at old link) moment octets report next) (kept.settings.each link)
     (subst (λ (r : ℕ → Option Record). IsAnswered (setting_at mid link) r moment octets report next) (fun_ext (kept.records link)) a)
+
+-- and so is whether the packet was repaired
+pub repaired_after : (old mid : Concentrator) (link moment : ℕ) (octets : List ℕ) (report : Report) (repaired : Bool)
+    → KeepsAll old mid → IsRepaired (setting_at mid link) (record_at mid link) moment octets report repaired → IsRepaired (setting_at old link) (record_at old link) moment octets report repaired
+repaired_after old mid link moment octets report repaired kept a =
+    subst (λ s. IsRepaired s (record_at old link) moment octets report repaired) (kept.settings.each link)
+    (subst (λ (r : ℕ → Option Record). IsRepaired (setting_at mid link) r moment octets report repaired) (fun_ext (kept.records link)) a)

@@ -1,5 +1,5 @@
 -- What a write at a link's place does to a concentrator.
-use Rattle.std.proofs.Common.{◌≡◌, ◌≢◌, ℕ, zero, suc, List, [], ◌∷◌, Option, Some, map, ap, sym, subst, refl, ◌∙◌, nat_eq, slice_get, unwrap_or}
+use Rattle.std.proofs.Common.{◌≡◌, ◌≢◌, ℕ, zero, suc, List, [], ◌∷◌, Bool, Option, Some, map, ap, sym, subst, refl, ◌∙◌, nat_eq, slice_get, unwrap_or}
 use Rattle.std.specs.HashMap.{get, IsUnique}
 use Rattle.std.specs.Option.{option_map, option_and_then}
 use Rattle.std.specs.Prelude.{IfSome}
@@ -15,6 +15,7 @@ use Rattle.rohc_context.specs.Record.{Record}
 use Rattle.rohc_context.specs.Step.{HasMissed}
 use Rattle.rohc_concentrator.specs.declared.setting.LinkSetting.{LinkSetting}
 use Rattle.rohc_concentrator.specs.Report.{Report, IsAnswered}
+use Rattle.rohc_concentrator.specs.Repaired.{IsRepaired}
 use Rattle.rohc_concentrator.proofs.PlaceLemmas.{own_written, others_kept}
 use Rattle.rohc_concentrator.proofs.ArriveLemmas.{takes_step}
 use Rattle.rohc_concentrator.proofs.ByNumber.{by_number}
@@ -46,6 +47,12 @@ module _ (k : Concentrator) (hints : Hints) (place link : ℕ) (before after : L
       → IsAnswered (setting_at k link) (record_at k link) moment octets report next
   answered_by moment octets report next h =
       subst (λ (x : Option LinkRecords). IsAnswered (option_map (λ (r : LinkRecords). r.setting) x) (λ cid. option_and_then (λ (r : LinkRecords). record_in r cid) x) moment octets report next) (sym at.1) h
+
+  -- and so is whether the packet was repaired
+  pub repaired_by : (moment : ℕ) (octets : List ℕ) (report : Report) (repaired : Bool) → IsRepaired (Some before.setting) (record_in before) moment octets report repaired
+      → IsRepaired (setting_at k link) (record_at k link) moment octets report repaired
+  repaired_by moment octets report repaired h =
+      subst (λ (x : Option LinkRecords). IsRepaired (option_map (λ (r : LinkRecords). r.setting) x) (λ cid. option_and_then (λ (r : LinkRecords). record_in r cid) x) moment octets report repaired) (sym at.1) h
 
   -- what arrives on the link arrives at the concentrator
   pub arrives_by : (moment : ℕ) (octets : List ℕ) (report : Report) → TakesOnLink before moment octets report after

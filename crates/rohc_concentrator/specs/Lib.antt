@@ -2,6 +2,7 @@ pub mod Setting
 pub mod Tables
 pub mod Bears
 pub mod Report
+pub mod Repaired
 pub mod Taken
 pub mod Putting
 pub mod Leaving

@@ -50,16 +50,16 @@ impl<'a> Sink<'a> for Answer<'a> {
 
     ghost has_room = { λ _ _. Unit {0} };
 
-    ghost takes = { λ _ report new. report_of new ≡ report };
+    ghost takes = { λ _ report _ new. report_of new ≡ report };
 
     #[inline(always)]
     fn rebuilt(&mut self, cid: u16, packet: Delivered<'a>) {
         let reply = Reply::delivered(packet.head, packet.payload, None);
-        self.arrived(cid, reply, Elements::none());
+        self.arrived(cid, reply, false, Elements::none());
     }
 
     #[inline(always)]
-    fn arrived(&mut self, cid: u16, reply: Reply<'a>, relayed: Elements<'a>) {
+    fn arrived(&mut self, cid: u16, reply: Reply<'a>, _: bool, relayed: Elements<'a>) {
         *self = Answer::Arrived {
             cid,
             reply,

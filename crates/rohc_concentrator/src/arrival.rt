@@ -10,11 +10,12 @@ use indexmap::IndexMap;
 use rohc_context::{Delivered, Refusal};
 
 impl Concentrator {
-    ghost use Rattle.std.specs.Prelude.{◌≡◌, [], ℕ, Option, None, length, IfSome, IfNone, is_some};
+    ghost use Rattle.std.specs.Prelude.{◌≡◌, [], ℕ, Bool, false, Option, None, length, IfSome, IfNone, is_some};
     ghost use Rattle.rohc_context.specs.Record.{Record};
     ghost use Rattle.rohc_context.specs.Response.{delivered};
     ghost use Rattle.rohc_concentrator.specs.Tables.{setting_at, record_at, AreTables, TellAll, KeepsAll};
     ghost use Rattle.rohc_concentrator.specs.Report.{Report, Arrived, report_of, IsAnswered};
+    ghost use Rattle.rohc_concentrator.specs.Repaired.{IsRepaired};
     ghost use Rattle.rohc_concentrator.specs.Taken.{MissedBy};
     ghost use Rattle.rohc_concentrator.specs.Events.{Arrives};
     ghost use Rattle.rohc_concentrator.specs.Calls.{Reset, plain_answer};
@@ -34,7 +35,8 @@ impl Concentrator {
     }
 
     /// Takes one packet of a link as `arrive` does, and puts the answer into the sink: a value, a caller's buffers, or
-    /// whatever else takes answers. The sink must have room for each answer that the packet may have.
+    /// whatever else takes answers, with whether the packet was repaired. The sink must have room for each answer that
+    /// the packet may have.
     #[inline(always)]
     pub fn arrive_into<'a, S: Sink<'a>>(
         &mut self,
@@ -45,7 +47,9 @@ impl Concentrator {
     )
         requires room { (report : Report) (after : ℕ → Option Record) → IsAnswered (setting_at self.old link) (record_at self.old link) moment octets.now report after
             → S.has_room sink.old report }
-        ensures event { (report : Report) × Arrives self.old link moment octets.entry.now report self.new × S.takes sink.old report sink.new }
+        ensures event { (report : Report) × (repaired : Bool) × Arrives self.old link moment octets.entry.now report self.new
+            × IsRepaired (setting_at self.old link) (record_at self.old link) moment octets.entry.now report repaired
+            × S.takes sink.old report repaired sink.new }
     {
         match self.take_first(link, moment, octets) {
             Some((cid, packet)) => sink.rebuilt(cid, packet),
@@ -67,6 +71,8 @@ impl Concentrator {
         octets: &'a [u8],
     ) -> Option<(u16, Delivered<'a>)>
         ensures event { IfSome result (λ p. Arrives self.old link moment octets.entry.now (Arrived p.0 (delivered p.1.head.items p.1.payload.now None) []) self.new) }
+        ensures first { IfSome result (λ p. IsRepaired (setting_at self.old link) (record_at self.old link) moment octets.entry.now
+            (Arrived p.0 (delivered p.1.head.items p.1.payload.now None) []) false) }
         ensures long { IfSome result (λ p. length p.1.head.items ≡ 40) }
         ensures missed { IfNone result (MissedBy self.new link moment octets.entry.now) }
         ensures stays { IfNone result (KeepsAll self.old self.new) }
@@ -92,7 +98,9 @@ impl Concentrator {
         requires missed { MissedBy self.old link moment octets.now }
         requires room { (report : Report) (after : ℕ → Option Record) → IsAnswered (setting_at self.old link) (record_at self.old link) moment octets.now report after
             → S.has_room sink.old report }
-        ensures event { (report : Report) × Arrives self.old link moment octets.entry.now report self.new × S.takes sink.old report sink.new }
+        ensures event { (report : Report) × (repaired : Bool) × Arrives self.old link moment octets.entry.now report self.new
+            × IsRepaired (setting_at self.old link) (record_at self.old link) moment octets.entry.now report repaired
+            × S.takes sink.old report repaired sink.new }
     {
         let Some(place) = place_of(&self.links, self.hints.links.hint(link), link) else {
             return sink.refused(Refusal::NoLink);

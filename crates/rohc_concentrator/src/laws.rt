@@ -94,9 +94,9 @@ pub fn honest_runs()
     ensures sender { HasHonestSender }
 {}
 
-/// Whatever calls change a concentrator one after another, each CID of each link gets the answers of one context run alone
-/// over its own calls, and each link the answers of that link run alone. Calls that are refused because of what others hold
-/// are left out: there is no memory, or there are too many links.
+/// Whatever calls change a concentrator one after another, each CID of each link gets the answers that one context alone
+/// would give to its own calls, and each link the answers of that link alone. Calls that are refused because of what others
+/// hold are left out: there is no memory, or there are too many links.
 pub fn isolated_calls()
     ensures cids { IsolatedCalls }
     ensures links { IsolatedLinks }

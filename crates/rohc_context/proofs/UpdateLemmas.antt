@@ -28,6 +28,7 @@ use Rattle.rohc_context.specs.declared.state.FullContext as code_full
 use Rattle.rohc_context.specs.Window.{and_outcome, outcomes}
 use Rattle.rohc_context.specs.NextReference.{next_reference, kept_previous}
 use Rattle.rohc_context.specs.Explains.{Explained}
+use Rattle.rohc_context.specs.Repaired.{IsRepaired}
 use Rattle.rohc_context.specs.Update.{VerdictUnless, Judges, settled, MissesFirst, said_under, acknowledged, silent, promoted, updated}
 
 Err_not_Ok : {A E : Type 0} {e : E} {a : A} → Err e ≢ Ok a
@@ -108,50 +109,59 @@ normals st a m s h response is e =
     subst (λ x. Answers s h (Follows (rule x Other h.first) (arrival s m h) (record { accepted = a; state = x })) response (Some (record { accepted = m; state = x }))) (sym is)
     (_, refl, (e ∙ ap (delivered (h.first ∷ []) h.rest) (sym (nothing_sent s.mode h)), refl))
 
+-- A packet that was read misses by the first try, or fits by it.
+abbrev pub IsReadRepaired : Static → Reference → Result Content FormRefusal → Bool → Type 0
+IsReadRepaired fixed held read repaired = (c : Content) × (read ≡ Ok c) × IsRepaired fixed held c repaired
+
 -- What an update leads to: a packet that is accepted, and the state after it, or a fault.
-abbrev pub Updated : Static → (Content → List Try) → Result Content FormRefusal → Reference → List Bool → Result Unit Fault → Response → State → Type 0
+abbrev pub Updated : Static → (Content → List Try) → Result Content FormRefusal → Reference → List Bool → Result Bool Fault → Response → State → Type 0
 Updated fixed tries read held window result response left =
     IfOk result (λ _. (a : Acceptance) × Judges fixed tries read (Ok a) × (response ≡ delivered a.header.octets a.content.payload None) × (left ≡ updated fixed held window a))
-    × IfErr result (λ e. Judges fixed tries read (Err e))
+    × IfErr result (λ e. Judges fixed tries read (Err e)) × IfOk result (IsReadRepaired fixed held read)
 
 -- What the tries found is accepted, or the packet is unfit.
 pub updated_or_unfit : (fixed : Static) (tries : Content → List Try) (read : Result Content FormRefusal) (held : Reference) (window : List Bool) (c : Content) (found : Option Accepted)
-    (result : Result Unit Fault) (response : Response) (left : State) (Stays : Type 0) → read ≡ Ok c → length c.payload ≤ 65495 → Verdict fixed c (tries c) (verdict_of c found)
-    → IfSome found (λ a. (result ≡ Ok tt) × (response ≡ delivered a.header.header.octets c.payload None) × (left ≡ updated fixed held window (acceptance_of c a)))
+    (repaired : Bool) (result : Result Bool Fault) (response : Response) (left : State) (Stays : Type 0) → read ≡ Ok c → length c.payload ≤ 65495 → Verdict fixed c (tries c) (verdict_of c found)
+    → IsRepaired fixed held c repaired
+    → IfSome found (λ a. (result ≡ Ok repaired) × (response ≡ delivered a.header.header.octets c.payload None) × (left ≡ updated fixed held window (acceptance_of c a)))
     → IfNone found ((result ≡ Err Unfit) × Stays) → Updated fixed tries read held window result response left
-updated_or_unfit fixed tries read held window c None result response left Stays e few is some none =
-    subst (λ r. Updated fixed tries read held window r response left) (sym none.0) (tt, judged fixed tries read c (Err Unfit) e few is)
-updated_or_unfit fixed tries read held window c (Some a) result response left Stays e few is some none =
+updated_or_unfit fixed tries read held window c None repaired result response left Stays e few is how some none =
+    subst (λ r. Updated fixed tries read held window r response left) (sym none.0) (tt, judged fixed tries read c (Err Unfit) e few is, tt)
+updated_or_unfit fixed tries read held window c (Some a) repaired result response left Stays e few is how some none =
     subst (λ r. Updated fixed tries read held window r response left) (sym some.0)
-    ((acceptance_of c a, judged fixed tries read c (Ok (acceptance_of c a)) e few is, some.1, some.2), tt)
+    ((acceptance_of c a, judged fixed tries read c (Ok (acceptance_of c a)) e few is, some.1, some.2), tt, (c, e, how))
 
 -- Where earlier tries miss, the third decides. The context is still the one that the packet found.
-pub after_miss : (s : Limits) (passed : ℕ) (h : Header) (x y : code_full.FullContext) (c : Content) (result : Result Unit Fault) (response : Response) (left : State)
-    → y ≡ x → said_under h (reference_of x.reference) ≡ Ok c → length c.payload ≤ 65495
+pub after_miss : (s : Limits) (passed : ℕ) (h : Header) (x y : code_full.FullContext) (c : Content) (result : Result Bool Fault) (response : Response) (left : State)
+    → y ≡ x → said_under h (reference_of x.reference) ≡ Ok c → length c.payload ≤ 65495 → Misses x.fixed (unshifted (reference_of x.reference)) c
     → ((verdict : Result Acceptance Fault) → Verdict x.fixed c (third_tries (previous_of x) c) verdict
     → Verdict x.fixed c (full_tries s passed (reference_of x.reference) (previous_of x) c) verdict)
     → IfOk result (λ _. (a : Acceptance) × Verdict y.fixed c (third_tries (previous_of y) c) (Ok a) × (response ≡ delivered a.header.octets a.content.payload None)
     × (left ≡ updated y.fixed (reference_of y.reference) (outcomes y.windows.0) a))
+    → IfOk result (λ repaired. repaired ≡ true)
     → IfErr result (λ e. Verdict y.fixed c (third_tries (previous_of y) c) (Err e))
     → Updated x.fixed (full_tries s passed (reference_of x.reference) (previous_of x)) (said_under h (reference_of x.reference)) (reference_of x.reference) (outcomes x.windows.0)
     result response left
-after_miss s passed h x y c result response left same read few others = subst (λ (z : code_full.FullContext).
+after_miss s passed h x y c result response left same read few first others = subst (λ (z : code_full.FullContext).
     IfOk result (λ _. (a : Acceptance) × Verdict z.fixed c (third_tries (previous_of z) c) (Ok a) × (response ≡ delivered a.header.octets a.content.payload None)
     × (left ≡ updated z.fixed (reference_of z.reference) (outcomes z.windows.0) a))
-    → IfErr result (λ e. Verdict z.fixed c (third_tries (previous_of z) c) (Err e)) → Came result) (sym same) (came result)
+    → IfOk result (λ repaired. repaired ≡ true) → IfErr result (λ e. Verdict z.fixed c (third_tries (previous_of z) c) (Err e)) → Came result) (sym same) (came result)
   where
-    Came : Result Unit Fault → Type 0
-    Came r = Updated x.fixed (full_tries s passed (reference_of x.reference) (previous_of x)) (said_under h (reference_of x.reference)) (reference_of x.reference) (outcomes x.windows.0) r response left
+    said : Result Content FormRefusal
+    said = said_under h (reference_of x.reference)
+
+    Came : Result Bool Fault → Type 0
+    Came r = Updated x.fixed (full_tries s passed (reference_of x.reference) (previous_of x)) said (reference_of x.reference) (outcomes x.windows.0) r response left
 
     all : (verdict : Result Acceptance Fault) → Verdict x.fixed c (third_tries (previous_of x) c) verdict
-        → Judges x.fixed (full_tries s passed (reference_of x.reference) (previous_of x)) (said_under h (reference_of x.reference)) verdict
-    all verdict third = judged x.fixed (full_tries s passed (reference_of x.reference) (previous_of x)) (said_under h (reference_of x.reference)) c verdict read few (others verdict third)
+        → Judges x.fixed (full_tries s passed (reference_of x.reference) (previous_of x)) said verdict
+    all verdict third = judged x.fixed (full_tries s passed (reference_of x.reference) (previous_of x)) said c verdict read few (others verdict third)
 
-    came : (r : Result Unit Fault) → IfOk r (λ _. (a : Acceptance) × Verdict x.fixed c (third_tries (previous_of x) c) (Ok a) × (response ≡ delivered a.header.octets a.content.payload None)
+    came : (r : Result Bool Fault) → IfOk r (λ _. (a : Acceptance) × Verdict x.fixed c (third_tries (previous_of x) c) (Ok a) × (response ≡ delivered a.header.octets a.content.payload None)
         × (left ≡ updated x.fixed (reference_of x.reference) (outcomes x.windows.0) a))
-        → IfErr r (λ e. Verdict x.fixed c (third_tries (previous_of x) c) (Err e)) → Came r
-    came (Ok done) (a, third, is, next) _ = ((a, all (Ok a) third, is, next), tt)
-    came (Err e) _ third = (tt, all (Err e) third)
+        → IfOk r (λ repaired. repaired ≡ true) → IfErr r (λ e. Verdict x.fixed c (third_tries (previous_of x) c) (Err e)) → Came r
+    came (Ok repaired) (a, third, is, next) how _ = ((a, all (Ok a) third, is, next), tt, (c, read, subst (IsRepaired x.fixed (reference_of x.reference) c) (sym how) first))
+    came (Err e) _ _ third = (tt, all (Err e) third, tt)
 
 -- What a try without an extension 3 takes, by the tries of a context, and the state after it.
 abbrev pub TakesPlain : Limits → (passed : ℕ) → code_full.FullContext → Content → (head : List ℕ) → (left : State) → Type 0

@@ -26,6 +26,7 @@ pub mod Update
 pub mod View
 pub mod Lent
 pub mod Step
+pub mod Repaired
 pub mod Shown
 pub mod ShownLaws
 pub mod Honest

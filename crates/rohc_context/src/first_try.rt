@@ -18,6 +18,7 @@ impl FullContext {
     ghost use Rattle.rohc_header.specs.Prepared.{IsPrepared};
     ghost use Rattle.rohc_chain.specs.Good.{IsGoodDynamic};
     ghost use Rattle.rohc_frame.specs.Reading.{header_of};
+    ghost use Rattle.rohc_forms.specs.Content.{Content};
     ghost use Rattle.rohc_forms.specs.Packets.{IsOther, content};
     ghost use Rattle.rohc_context.specs.Settings.{Limits};
     ghost use Rattle.rohc_context.specs.declared.state.State.TheVariants.{Full as Level};
@@ -29,6 +30,7 @@ impl FullContext {
     ghost use Rattle.rohc_context.specs.Read.{try_of};
     ghost use Rattle.rohc_context.specs.declared.fault.Fault.TheVariants.{Unfit};
     ghost use Rattle.rohc_context.specs.Tries.{Acceptance, Fits, Misses, Verdict, check_for, third_tries, full_tries};
+    ghost use Rattle.rohc_context.specs.Repaired.{IsRepaired};
     ghost use Rattle.rohc_context.specs.Update.{said_under, Judges, MissesFirst, updated};
 
     /// The header with these fields, if its check is the packet's, of the width that packets of this format carry.
@@ -147,6 +149,8 @@ impl FullContext {
             (said_under (header_of forward.now) (reference_of self.old.reference)) (Ok a))
             × (packet.head.items ≡ a.header.octets) × (packet.payload.now ≡ a.content.payload)
             × (state_of (Level self.new) ≡ updated self.old.fixed (reference_of self.old.reference) (outcomes self.old.windows.0) a)) }
+        ensures first { IfSome result (λ packet. (c : Content) × (said_under (header_of forward.now) (reference_of self.old.reference) ≡ Ok c)
+            × IsRepaired self.old.fixed (reference_of self.old.reference) c false) }
         ensures long { IfSome result (λ packet. length packet.head.items ≡ 40) }
         ensures missed { IfNone result (MissesFirst self.old.fixed (reference_of self.old.reference) (said_under (header_of forward.now) (reference_of self.old.reference))) }
         ensures stays { IfNone result (self.new ≡ self.old) }

@@ -107,11 +107,12 @@ impl FullContext {
     ghost use Rattle.rohc_context.specs.Response.{response_of, delivered};
     ghost use Rattle.rohc_context.specs.Read.{acceptance_of, IsSound};
     ghost use Rattle.rohc_context.specs.Tries.{Acceptance, Misses, Verdict, unshifted, third_tries, full_tries};
+    ghost use Rattle.rohc_context.specs.Repaired.{IsRepaired};
     ghost use Rattle.rohc_context.specs.Update.{said_under, Judges, MissesFirst, updated};
 
     /// Takes a packet of kind Other, `passed` milliseconds after the last accepted arrival, and writes the rebuilt
-    /// packet into the reply. `tried` is whether it was tried before, and misses by the first try. If it returns a fault,
-    /// this context stays as it was, and what `reply` holds means nothing.
+    /// packet into the reply. Returns whether the packet misses by the first try. `tried` is whether it is known to do so. If
+    /// it returns a fault, this context stays as it was, and what `reply` holds means nothing.
     pub(crate) fn update<'a>(
         &mut self,
         settings: &Settings,
@@ -119,7 +120,7 @@ impl FullContext {
         forward: &Forward<'a>,
         tried: bool,
         reply: &mut Reply<'a>,
-    ) -> Result<(), Fault>
+    ) -> Result<bool, Fault>
         requires kind { IsOther forward.now.kind }
         requires good { AreGood settings.now }
         requires missed { tried ≡ true → MissesFirst self.old.fixed (reference_of self.old.reference) (said_under (header_of forward.now) (reference_of self.old.reference)) }
@@ -128,6 +129,8 @@ impl FullContext {
             (said_under (header_of forward.now) (reference_of self.old.reference)) (Ok a)
             × (response_of reply.new ≡ delivered a.header.octets a.content.payload None)
             × (state_of (Level self.new) ≡ updated self.old.fixed (reference_of self.old.reference) (outcomes self.old.windows.0) a)) }
+        ensures repaired { IfOk result (λ repaired. (c : Content) × (said_under (header_of forward.now) (reference_of self.old.reference) ≡ Ok c)
+            × IsRepaired self.old.fixed (reference_of self.old.reference) c repaired) }
         ensures fault { IfErr result (λ e.
             Judges self.old.fixed (full_tries (limits settings.now) passed (reference_of self.old.reference) (previous_of self.old))
             (said_under (header_of forward.now) (reference_of self.old.reference)) (Err e)) }
@@ -137,26 +140,27 @@ impl FullContext {
         // Only copies are lent to what isn't inlined, so that on the likely way what was read stays in registers.
         if form.values.is_some() {
             let extended = form;
-            let accepted = self.accepted(settings, passed, &extended);
-            return self.take(&extended, accepted, reply);
+            let (accepted, repaired) = self.accepted(settings, passed, &extended);
+            return self.take(&extended, accepted, repaired, reply);
         }
-        if let Some(head) = self.take_plain(settings, passed, &form, tried) {
+        if let Some((head, repaired)) = self.take_plain(settings, passed, &form, tried) {
             *reply = Reply::delivered(head, form.payload, None);
-            return Ok(());
+            return Ok(repaired);
         }
         let left = form;
         self.take_third(&left, reply)
     }
 
-    /// Takes a packet without an extension 3 by the third try, and writes the rebuilt packet into the reply. If it doesn't
-    /// fit, the fault is `Unfit`, and this context stays as it was.
-    fn take_third<'a>(&mut self, form: &Form<'a>, reply: &mut Reply<'a>) -> Result<(), Fault>
+    /// Takes a packet without an extension 3 by the third try, and writes the rebuilt packet into the reply. Returns that it
+    /// misses by the first try. If it doesn't fit, the fault is `Unfit`, and this context stays as it was.
+    fn take_third<'a>(&mut self, form: &Form<'a>, reply: &mut Reply<'a>) -> Result<bool, Fault>
         requires plain { is_some form.now.values ≡ false }
         requires payload { length form.now.payload.now ≤ longest_payload }
         ensures taken { IfOk result (λ _. (a : Acceptance)
             × Verdict self.old.fixed (content form.now) (third_tries (previous_of self.old) (content form.now)) (Ok a)
             × (response_of reply.new ≡ delivered a.header.octets a.content.payload None)
             × (state_of (Level self.new) ≡ updated self.old.fixed (reference_of self.old.reference) (outcomes self.old.windows.0) a)) }
+        ensures repaired { IfOk result (λ repaired. repaired ≡ true) }
         ensures unfit { IfErr result (λ e. Verdict self.old.fixed (content form.now) (third_tries (previous_of self.old) (content form.now)) (Err e)) }
         ensures stays { IfErr result (λ e. self.new ≡ self.old) }
     {
@@ -165,17 +169,17 @@ impl FullContext {
         };
         if !previous.alike {
             let accepted = self.third_try(form);
-            return self.take(form, accepted, reply);
+            return self.take(form, accepted, true, reply);
         }
         let Some(head) = self.take_back(previous, form) else {
             return Err(Fault::Unfit);
         };
         *reply = Reply::delivered(head, form.payload, None);
-        Ok(())
+        Ok(true)
     }
 
-    /// Takes a packet without an extension 3 by the first or the second try, if one fits, and returns its header. Otherwise
-    /// the context stays as it was. `tried` is whether it misses by the first try.
+    /// Takes a packet without an extension 3 by the first or the second try, if one fits, and returns its header and whether
+    /// it misses by the first. Otherwise the context stays as it was. `tried` is whether it is known to miss by the first.
     #[inline(always)]
     fn take_plain(
         &mut self,
@@ -183,22 +187,24 @@ impl FullContext {
         passed: u64,
         form: &Form<'_>,
         tried: bool,
-    ) -> Option<ArrayVec<u8, 40>>
+    ) -> Option<(ArrayVec<u8, 40>, bool)>
         requires good { AreGood settings.now }
         requires plain { is_some form.now.values ≡ false }
         requires payload { length form.now.payload.now ≤ longest_payload }
         requires missed { tried ≡ true → Misses self.old.fixed (unshifted (reference_of self.old.reference)) (content form.now) }
-        ensures taken { IfSome result (λ head. (a : Acceptance)
+        ensures taken { IfSome result (λ p. (a : Acceptance)
             × Verdict self.old.fixed (content form.now) (full_tries (limits settings.now) passed (reference_of self.old.reference) (previous_of self.old) (content form.now)) (Ok a)
-            × (head.items ≡ a.header.octets) × (a.content ≡ content form.now)
+            × (p.0.items ≡ a.header.octets) × (a.content ≡ content form.now)
             × (state_of (Level self.new) ≡ updated self.old.fixed (reference_of self.old.reference) (outcomes self.old.windows.0) a)) }
+        ensures repaired { IfSome result (λ p. IsRepaired self.old.fixed (reference_of self.old.reference) (content form.now) p.1) }
+        ensures first { IfNone result (Misses self.old.fixed (unshifted (reference_of self.old.reference)) (content form.now)) }
         ensures misses { IfNone result ((verdict : Result Acceptance Fault) → Verdict self.old.fixed (content form.now) (third_tries (previous_of self.old) (content form.now)) verdict
             → Verdict self.old.fixed (content form.now) (full_tries (limits settings.now) passed (reference_of self.old.reference) (previous_of self.old) (content form.now)) verdict) }
         ensures stays { IfNone result (self.new ≡ self.old) }
     {
         if !tried {
             if let Some(head) = self.take_shifted(0, form) {
-                return Some(head);
+                return Some((head, false));
             }
         }
         let Some(shift) = self.second_shift(settings, passed, form) else {
@@ -207,20 +213,21 @@ impl FullContext {
         let Some(head) = self.take_shifted(shift, form) else {
             return None;
         };
-        Some(head)
+        Some((head, true))
     }
 
-    /// Updates the reference by an accepted header, and writes the rebuilt packet into the reply. Without one, the
-    /// fault is `Unfit`, and this context stays as it was.
+    /// Updates the reference by an accepted header, and writes the rebuilt packet into the reply. Returns `repaired`. Without
+    /// a header, the fault is `Unfit`, and this context stays as it was.
     fn take<'a>(
         &mut self,
         form: &Form<'a>,
         accepted: Option<Accepted>,
+        repaired: bool,
         reply: &mut Reply<'a>,
-    ) -> Result<(), Fault>
+    ) -> Result<bool, Fault>
         requires sound { IfSome accepted (λ a. IsSound self.now.fixed a) }
         requires near { IfSome accepted (λ a. SharesNumbering self.now.reference.moving a.reference.moving) }
-        ensures taken { IfSome accepted (λ a. (result ≡ Ok tt)
+        ensures taken { IfSome accepted (λ a. (result ≡ Ok repaired)
             × (response_of reply.new ≡ delivered a.header.header.octets form.now.payload.now None)
             × (state_of (Level self.new) ≡ updated self.old.fixed (reference_of self.old.reference) (outcomes self.old.windows.0) (acceptance_of (content form.now) a))) }
         ensures unfit { IfNone accepted ((result ≡ Err Unfit) × (self.new ≡ self.old)) }
@@ -236,7 +243,7 @@ impl FullContext {
         self.windows.0.push(false);
         let packet = packet(&accepted, form);
         *reply = Reply::delivered(packet.head, packet.payload, None);
-        Ok(())
+        Ok(repaired)
     }
 }
 

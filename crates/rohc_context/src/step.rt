@@ -15,7 +15,7 @@ use rohc_chain::ChainRefusal;
 use rohc_frame::{Forward, HeadKind};
 
 impl Context {
-    ghost use Rattle.std.specs.Prelude.{◌≡◌, ◌≤◌, length, Some, None, option_map, true, IfSome, IfNone, IfOk, IfErr, if◌then◌else◌};
+    ghost use Rattle.std.specs.Prelude.{◌≡◌, ◌≤◌, length, Some, None, option_map, true, false, IfSome, IfNone, IfOk, IfErr, if◌then◌else◌};
     ghost use Rattle.rohc_frame.specs.Reading.{header_of};
     ghost use Rattle.rohc_frame.specs.declared.header.HeadKind.TheVariants.{IrDyn as KindIrDyn, Other as KindOther};
     ghost use Rattle.rohc_chain.specs.Packets.{IsIr, IsIrDyn, ir_at};
@@ -24,12 +24,13 @@ impl Context {
     ghost use Rattle.rohc_context.specs.Settings.{AreGood, limits};
     ghost use Rattle.rohc_context.specs.Record.{record_of, state_of, is_static};
     ghost use Rattle.rohc_context.specs.declared.settings.Settings.{Settings as Set};
-    ghost use Rattle.rohc_context.specs.Response.{response_of, delivered, refused};
+    ghost use Rattle.rohc_context.specs.Response.{Response, response_of, delivered, refused};
     ghost use Rattle.rohc_context.specs.Update.{MissesIn};
     ghost use Rattle.rohc_context.specs.Failures.{after_low_state};
     ghost use Rattle.rohc_context.specs.Faults.{fault_of_chain};
     ghost use Rattle.rohc_context.specs.Outcomes.{fails, ends};
     ghost use Rattle.rohc_context.specs.Renewal.{Renews};
+    ghost use Rattle.rohc_context.specs.Repaired.{RepairsBy, Repairs};
     ghost use Rattle.rohc_context.specs.Step.{LoneStep, HasMissed, Steps, Gives, Answers, arrival, counts_within};
 
     /// Takes the first arrival for a CID without a record. Returns the record that an IR makes and the answer.
@@ -37,7 +38,7 @@ impl Context {
     /// The settings are good, and the header has their CID kind and a CID of at most `max_cid`. `moment` is the
     /// arrival time in milliseconds. If the result is an `Err`, the arrival is refused for this reason, and no
     /// record is made.
-    #[tactic(auto, unfolding(crate::specs::Step::LoneStep, crate::specs::Record::record_of))]
+    #[tactic(auto, unfolding(crate::specs::Step::LoneStep, crate::specs::Repaired::Repairs, crate::specs::Record::record_of))]
     pub fn first<'a>(
         settings: &Settings,
         moment: u64,
@@ -48,6 +49,7 @@ impl Context {
         requires within { forward.now.cid ≤ settings.now.max_cid }
         ensures made { IfOk result (λ made. LoneStep None settings.now moment (header_of forward.now) (response_of made.1) (Some (record_of made.0))) }
         ensures refusal { IfErr result (λ e. LoneStep None settings.now moment (header_of forward.now) (refused e) None) }
+        ensures unrepaired { (response : Response) → Repairs None settings.now moment (header_of forward.now) response false }
     {
         let HeadKind::Ir { .. } = forward.kind else {
             return Err(Refusal::NoContext);
@@ -91,7 +93,7 @@ impl Context {
     /// It is the first half of `arrive`, under any settings with this `idle_ms`. It lends nothing to a call, so what it reads
     /// stays in registers, and where the compiler knows how a packet begins, it drops all other formats.
     #[inline(always)]
-    #[tactic(auto, unfolding(crate::specs::Step::LoneStep, crate::specs::Step::HasMissed, crate::specs::Record::record_of))]
+    #[tactic(auto, unfolding(crate::specs::Step::LoneStep, crate::specs::Step::HasMissed, crate::specs::Repaired::Repairs, crate::specs::Record::record_of))]
     pub fn take_first<'a>(
         &mut self,
         idle_ms: u32,
@@ -101,6 +103,8 @@ impl Context {
         requires kind { IsOther forward.now.kind }
         ensures taken { IfSome result (λ packet. (s : Set) → s.idle_ms ≡ idle_ms → LoneStep (Some (record_of self.old)) s moment (header_of forward.now)
             (delivered packet.head.items packet.payload.now None) (Some (record_of self.new))) }
+        ensures first { IfSome result (λ packet. (s : Set) → s.idle_ms ≡ idle_ms → Repairs (Some (record_of self.old)) s moment (header_of forward.now)
+            (delivered packet.head.items packet.payload.now None) false) }
         ensures long { IfSome result (λ packet. length packet.head.items ≡ 40) }
         ensures missed { IfNone result (HasMissed idle_ms moment (record_of self.old) (header_of forward.now)) }
         ensures stays { IfNone result (self.new ≡ self.old) }
@@ -118,12 +122,13 @@ impl Context {
         Some(packet)
     }
 
-    /// Takes an arrival of any kind as `arrive` does, and writes the answer over what `reply` held. `tried` is whether
-    /// `take_first` left the packet: then the first try isn't made again.
+    /// Takes an arrival of any kind as `arrive` does, and writes the answer over what `reply` held. Returns whether the
+    /// packet is repaired: delivered by the second or the third try. `tried` is whether `take_first` left the packet: then
+    /// the first try isn't made again.
     ///
     /// The settings are good. `moment` is the arrival time in milliseconds.
     #[inline(never)]
-    #[tactic(auto, unfolding(crate::specs::Step::LoneStep, crate::specs::Step::HasMissed, crate::specs::Record::record_of))]
+    #[tactic(auto, unfolding(crate::specs::Step::LoneStep, crate::specs::Step::HasMissed, crate::specs::Repaired::Repairs, crate::specs::Record::record_of))]
     pub fn step<'a>(
         &mut self,
         settings: &Settings,
@@ -131,21 +136,29 @@ impl Context {
         forward: &Forward<'a>,
         tried: bool,
         reply: &mut Reply<'a>,
-    )
+    ) -> bool
         requires good { AreGood settings.now }
         requires missed { tried ≡ true → HasMissed settings.now.idle_ms moment (record_of self.old) (header_of forward.now) }
-        ensures { LoneStep (Some (record_of self.old)) settings.now moment (header_of forward.now) (response_of reply.new) (Some (record_of self.new)) }
+        ensures repaired { Repairs (Some (record_of self.old)) settings.now moment (header_of forward.now) (response_of reply.new) result }
+        ensures step { LoneStep (Some (record_of self.old)) settings.now moment (header_of forward.now) (response_of reply.new) (Some (record_of self.new)) }
     {
         let counts = self.counts(settings.idle_ms, moment);
         match forward.kind {
-            HeadKind::Ir { .. } => self.renew(settings, moment, forward, counts, reply),
+            HeadKind::Ir { .. } => {
+                self.renew(settings, moment, forward, counts, reply);
+                false
+            }
             HeadKind::IrDyn | HeadKind::Other if !counts => {
                 *reply = Reply::refused(Refusal::NoContext);
+                false
             }
-            HeadKind::IrDyn => self.refresh(settings, moment, forward, reply),
+            HeadKind::IrDyn => {
+                self.refresh(settings, moment, forward, reply);
+                false
+            }
             HeadKind::Other => {
                 let tried = tried && forward.first < 0x80;
-                self.update(settings, moment, forward, tried, reply);
+                self.update(settings, moment, forward, tried, reply)
             }
         }
     }
@@ -268,8 +281,8 @@ impl Context {
         }
     }
 
-    /// Takes a packet of kind Other, and writes the answer into the reply. The record counts. `tried` is whether the packet
-    /// misses by the first try in Full Context.
+    /// Takes a packet of kind Other, and writes the answer into the reply. Returns whether the packet is repaired. The record
+    /// counts. `tried` is whether the packet is known to miss by the first try in Full Context.
     #[tactic(auto, unfolding(crate::specs::Record::record_of))]
     fn update<'a>(
         &mut self,
@@ -278,23 +291,37 @@ impl Context {
         forward: &Forward<'a>,
         tried: bool,
         reply: &mut Reply<'a>,
-    )
+    ) -> bool
         requires kind { IsOther forward.now.kind }
         requires good { AreGood settings.now }
         requires missed { tried ≡ true → MissesIn (record_of self.old).state (header_of forward.now) }
-        ensures { Answers settings.now (header_of forward.now) (Steps KindOther (Some (record_of self.old)) (Some (record_of self.old)) (arrival settings.now moment (header_of forward.now))) (response_of reply.new) (Some (record_of self.new)) }
+        ensures repaired { RepairsBy (Some (record_of self.old)) KindOther (header_of forward.now) (response_of reply.new) result }
+        ensures step { Answers settings.now (header_of forward.now) (Steps KindOther (Some (record_of self.old)) (Some (record_of self.old)) (arrival settings.now moment (header_of forward.now))) (response_of reply.new) (Some (record_of self.new)) }
     {
         let passed = moment.saturating_sub(self.accepted);
         match &mut self.state {
             State::Plain => {
                 *reply = Reply::normal(forward.first, forward.rest);
                 self.accepted = moment;
+                false
             }
-            State::NoContext(_) => self.refuse_low(settings, moment, forward, reply),
-            State::Static(_) => self.promote(settings, moment, forward, reply),
+            State::NoContext(_) => {
+                self.refuse_low(settings, moment, forward, reply);
+                false
+            }
+            State::Static(_) => {
+                self.promote(settings, moment, forward, reply);
+                false
+            }
             State::Full(context) => match context.update(settings, passed, forward, tried, reply) {
-                Ok(()) => self.accepted = moment,
-                Err(fault) => self.end(settings, moment, forward, fault, reply),
+                Ok(repaired) => {
+                    self.accepted = moment;
+                    repaired
+                }
+                Err(found) => {
+                    self.end(settings, moment, forward, found, reply);
+                    false
+                }
             },
         }
     }

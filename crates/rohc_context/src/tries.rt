@@ -87,6 +87,7 @@ impl FullContext {
     ghost use Rattle.rohc_context.specs.Record.{reference_of, previous_of};
     ghost use Rattle.rohc_context.specs.Previous.{SharesNumbering};
     ghost use Rattle.rohc_context.specs.Tries.{Verdict, second_tries, third_tries, full_tries};
+    ghost use Rattle.rohc_context.specs.Repaired.{IsRepaired};
     ghost use Rattle.rohc_context.specs.Read.{try_of, tries_of, verdict_of, IsSound};
 
     /// The third try: against the previous reference, if there is one and the packet has a 3-bit
@@ -148,24 +149,25 @@ impl FullContext {
         self.third_try(form)
     }
 
-    /// The header of the first try that fits.
+    /// The header of the first try that fits, and whether the packet misses by the first try.
     pub(crate) fn accepted(
         &self,
         settings: &Settings,
         passed: u64,
         form: &Form<'_>,
-    ) -> Option<Accepted>
+    ) -> (Option<Accepted>, bool)
         requires good { AreGood settings.now }
         requires payload { length form.now.payload.now ≤ longest_payload }
         ensures verdict { Verdict self.now.fixed (content form.now)
             (full_tries (limits settings.now) passed (reference_of self.now.reference) (previous_of self.now) (content form.now))
-            (verdict_of (content form.now) result) }
-        ensures sound { IfSome result (λ a. IsSound self.now.fixed a) }
-        ensures near { IfSome result (λ a. SharesNumbering self.now.reference.moving a.reference.moving) }
+            (verdict_of (content form.now) result.0) }
+        ensures sound { IfSome result.0 (λ a. IsSound self.now.fixed a) }
+        ensures near { IfSome result.0 (λ a. SharesNumbering self.now.reference.moving a.reference.moving) }
+        ensures repaired { IsRepaired self.now.fixed (reference_of self.now.reference) (content form.now) result.1 }
     {
         match attempt(&self.fixed, &self.reference, 0, form) {
-            Some(accepted) => Some(accepted),
-            None => self.later_tries(settings, passed, form),
+            Some(accepted) => (Some(accepted), false),
+            None => (self.later_tries(settings, passed, form), true),
         }
     }
 }

@@ -75,9 +75,9 @@ LinkComesBack = (k : Concentrator) (moment : ℕ) (s : LinkSetting) → IsInOrde
     ((cid : ℕ) → record_at new s.link cid ≡ record_at k s.link cid)
     × (identifiers_at new s.link ≡ identifiers_at k s.link))
 
--- A concentrator is sound if it was made from settings whose numbers have 16 bits, if it keeps all that a sound
--- one keeps, if it was restored, also under other settings, and if it was sound before one of its links was
--- restored. Calls keep it sound, by a law of rohc_concentrator.
+-- A concentrator is sound if it was made from settings whose numbers have 16 bits, if it keeps all that a
+-- sound one keeps, if it was restored, also under other settings, and if it was sound before one of its links
+-- was restored. Calls keep it sound, by a law of rohc_concentrator.
 abbrev pub IsMadeSound : Type 0
 IsMadeSound = (settings : List LinkSetting) (k : Concentrator) → AreFine settings →
     All (λ (s : LinkSetting). s.link < 65536) settings → settings_in_order k ≡ settings →

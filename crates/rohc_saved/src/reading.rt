@@ -27,7 +27,7 @@ fn place(total: usize, cursor: &Cursor<'_>) -> usize
     total.saturating_sub(cursor.rest().len())
 }
 
-/// Takes so many octets, or returns the error `short` if fewer are left.
+/// Takes `count` octets, or returns the error `short` if fewer are left.
 #[tactic(auto, unfolding(crate::specs::Reading::part_at), using(crate::proofs::ReadingLemmas::part_is))]
 fn part<'a>(
     cursor: &mut Cursor<'a>,

@@ -23,9 +23,9 @@ take_later-requires c κs =
 pub returns : goal.returns
 returns c =
     let t = c.take_later.ensures.event in
-    let written = t.2.written in
-    let packet = t.2.packet_lent in
-    let feedback = t.2.feedback_lent in
-    let relayed = t.2.relayed_lent in
-    let arrival = t.2.arrival_lent in
-    (t.0, t.1, search rules)
+    let written = t.4.written in
+    let packet = t.4.packet_lent in
+    let feedback = t.4.feedback_lent in
+    let relayed = t.4.relayed_lent in
+    let arrival = t.4.arrival_lent in
+    (t.0, t.2, search rules)

@@ -17,7 +17,7 @@ returns-clause-own c =
     let lent = c.pair_mut-context.ensures in
     let written = own_written c.args.records.now.contexts c.in-Some-place_of.place c.args.packet.now.forward.cid s.value c.step.new.self lent.unique s.entry in
     let same = same_value _ _ _ _ _ s.entry lent.value in
-    rw (s.found, written, same) (inl (rw c.settings_of-settings.ensures at c.step.ensures))
+    rw (s.found, written, same) (inl (rw c.settings_of-settings.ensures at c.step.ensures.step))
 
 pub returns-clause-others : goal.returns-clause-others
 returns-clause-others c = λ other is.
@@ -28,3 +28,9 @@ pub returns-clause-order : goal.returns-clause-order
 returns-clause-order c =
     let s = c.in-Some-place_of.ensures.there in
     rw s.found (keys-with_value_at c.args.records.now.contexts c.in-Some-place_of.place c.step.new.self)
+
+pub returns-clause-repaired : goal.returns-clause-repaired
+returns-clause-repaired c =
+    let s = c.in-Some-place_of.ensures.there in
+    let same = same_value _ _ _ _ _ s.entry c.pair_mut-context.ensures.value in
+    rw (s.found, same) (rw c.settings_of-settings.ensures at c.step.ensures.repaired)

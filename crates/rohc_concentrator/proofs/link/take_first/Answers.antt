@@ -39,3 +39,10 @@ returns-in_default-take_first-clause-stays c =
           (λ other is. ap (option_map record_of) (others_kept contexts place cid s.value c.take_first.new.self lent.unique s.entry other is));
       order = keys-with_value_at contexts place c.take_first.new.self;
     }
+
+pub returns-clause-first : goal.returns-clause-first
+returns-clause-first c =
+    let cid = c.in-Some.forward.cid in
+    let s = c.in-Some-place_of.ensures.there in
+    let value = same_value _ _ _ _ _ s.entry c.pair_mut-context.ensures.value in
+    rw c.in-Some.ensures.parts (rw (s.found, value) (c.in-Some-take_first.ensures.first (settings_of c.args.records.now.setting cid) refl))

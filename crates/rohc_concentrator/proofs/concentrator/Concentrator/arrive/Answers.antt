@@ -6,5 +6,5 @@ pub returns : goal.returns
 returns c = record {
   event =
       subst (λ report. Arrives c.args.self.now c.args.link c.args.moment c.args.octets.now report c.arrive_into.new.self)
-      (sym c.arrive_into.ensures.event.2) c.arrive_into.ensures.event.1;
+      (sym c.arrive_into.ensures.event.4) c.arrive_into.ensures.event.2;
 }

@@ -1,7 +1,7 @@
 use Rattle.std.proofs.Common.{refl}
 use Rattle.rohc_concentrator.specs.Calls.{Arrive, Reported}
 use Rattle.rohc_concentrator.proofs.ArrivedLemmas.{arrived}
-use Rattle.rohc_concentrator.proofs.KeepLemmas.{runs_after, answered_after}
+use Rattle.rohc_concentrator.proofs.KeepLemmas.{runs_after, answered_after, repaired_after}
 use Rattle.rohc_concentrator.proofs.concentrator.Concentrator.arrive_into.Goals as goal
 
 pub rebuilt-requires : goal.rebuilt-requires
@@ -23,5 +23,11 @@ pub returns-in-None : goal.returns-in-None
 returns-in-None g c = record {
   event =
       let all = c.take_later.ensures.event in
-      (all.0, runs_after c.args.self.now c.take_first.new.self c.args.link (Arrive c.args.moment c.args.octets.now) (Reported all.0) c.take_later.new.self c.in-None.ensures.stays all.1, all.2);
+      let stays = c.in-None.ensures.stays in (
+        all.0,
+        all.1,
+        runs_after c.args.self.now c.take_first.new.self c.args.link (Arrive c.args.moment c.args.octets.now) (Reported all.0) c.take_later.new.self stays all.2,
+        repaired_after c.args.self.now c.take_first.new.self c.args.link c.args.moment c.args.octets.now all.0 all.1 stays all.3,
+        all.4,
+      );
 }

@@ -5,7 +5,7 @@ use Rattle.rohc_context.specs.Response.{response_of}
 use Rattle.rohc_context.proofs.Taken.{idles}
 use Rattle.rohc_context.proofs.record.Context.step.Goals as goal
 
-pub returns-in-IrDyn : goal.returns-in-IrDyn
-returns-in-IrDyn c =
+pub returns-in-IrDyn-clause-step : goal.returns-in-IrDyn-clause-step
+returns-in-IrDyn-clause-step c =
     idles c.args.settings.now c.args.moment (header_of c.args.forward.now) (record_of c.args.self.now) (response_of c.refused.result) (search (rules, c.in-IrDyn.is))
     (sym c.counts-counts.ensures ∙ (search rules)) c.refused.ensures

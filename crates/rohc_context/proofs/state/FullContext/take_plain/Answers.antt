@@ -25,3 +25,9 @@ returns-clause-taken c =
     ] in
     second_taken (limits c.args.settings.now) c.args.passed c.args.self.now c.if-not-tried.self (content c.args.form.now) c.in-Some-second_shift.shift
     _ (state_of (Full c.take_shifted-2.new.self)) same missed c.in-Some-second_shift.ensures.tries c.in-Some-take_shifted.ensures.taken
+
+pub returns-clause-repaired : goal.returns-clause-repaired
+returns-clause-repaired c = elim c.if-not-tried.branch [
+  | then-not-tried+in_default w ↦ w.in_default.ensures.misses
+  | else-not-tried w ↦ c.requires.missed (search rules)
+]
