@@ -13,11 +13,12 @@ HAS_TRIES = ("Uo0", "Uo1", "Uo1Id", "Uo1Ts")
 
 @dataclass(frozen=True)
 class Decoded:
-    """A header, its octets, and the reference against which the packet was decoded."""
+    """A header, its octets, the reference against which the packet was decoded, and whether an earlier try missed."""
 
     fields: Fields
     octets: bytes
     against: Reference
+    is_repaired: bool = False
 
 
 def in_force(fields: Fields, content: Content) -> Fields:
@@ -86,10 +87,10 @@ def verdict(
 ) -> Decoded:
     """The header of the first try that fits."""
     refuse_if(len(content.payload) > LONGEST_PAYLOAD, "TooLong")
-    for reference, shift in tries(state, content, packet_ms, passed(now, last)):
+    for place, (reference, shift) in enumerate(tries(state, content, packet_ms, passed(now, last))):
         found = decoded(state.static, content, reference, shift)
         if found:
-            return found
+            return replace(found, is_repaired=place > 0)
     raise Refused("Check")
 
 

@@ -24,12 +24,13 @@ def lines_of(text: bytes) -> list[bytes]:
 
 
 class Concentrator:
-    """The contexts of all links."""
+    """The contexts of all links, and how many packets were repaired."""
 
     def __init__(self, links: dict[int, Setting]) -> None:
         """There is no context at first."""
         self.links = links
         self.records: dict[tuple[int, int], Record] = {}
+        self.repaired = 0
 
     def reset(self, link: int) -> Iterator[str]:
         """Forgets the contexts of a link."""
@@ -52,6 +53,7 @@ class Concentrator:
         if packet.header is not None:
             pair = (link, packet.header.cid)
             made = step(self.records.get(pair), Arrival(packet.header, now, setting))
+            self.repaired += made.is_repaired
             if made.record is not None:
                 self.records[pair] = made.record
             yield from answer(setting, packet.header.cid, made)
@@ -89,6 +91,17 @@ def replay_by_line(links: dict[int, Setting], script: bytes) -> Iterator[tuple[b
     concentrator = Concentrator(links)
     for line in lines_of(script):
         yield line, list(run_line(concentrator, line))
+
+
+def repaired_lines(links: dict[int, Setting], script: bytes) -> Iterator[int]:
+    """The numbers of the lines whose packets are repaired, from 1."""
+    concentrator = Concentrator(links)
+    for number, line in enumerate(lines_of(script), 1):
+        before = concentrator.repaired
+        for _ in run_line(concentrator, line):
+            pass
+        if concentrator.repaired > before:
+            yield number
 
 
 def replay(links: dict[int, Setting], script: bytes) -> Iterator[str]:

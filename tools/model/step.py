@@ -45,12 +45,16 @@ class Arrival:
 
 @dataclass(frozen=True)
 class Step:
-    """What an arrival leads to: the record after it, and a packet, none (stored), or the name of a refusal."""
+    """What an arrival leads to: the record after it, and a packet, none (stored), or the name of a refusal.
+
+    A packet may be repaired: delivered by the second or the third try.
+    """
 
     record: Record | None
     packet: bytes | None = None
     due: Due | None = None
     refused: str | None = None
+    is_repaired: bool = False
 
 
 @dataclass(frozen=True)
@@ -60,6 +64,7 @@ class Taken:
     state: State
     packet: bytes | None
     due: Due | None = None
+    is_repaired: bool = False
 
 
 def number_of(reference: Reference | None) -> int | None:
@@ -125,7 +130,7 @@ def update(state: State, arrival: Arrival, last: int) -> Taken:
         return Taken(FullContext(state.static, reference), packet, Due("Ack", found.fields.sn))
     window = with_outcome(state.window, SUCCESS)
     previous = decoding.next_previous(found, reference)
-    return Taken(FullContext(state.static, reference, previous, window), packet)
+    return Taken(FullContext(state.static, reference, previous, window), packet, is_repaired=found.is_repaired)
 
 
 def taken(record: Record | None, arrival: Arrival) -> Taken:
@@ -183,4 +188,4 @@ def step(record: Record | None, arrival: Arrival) -> Step:
             return Step(record, refused=refusal.name)
         state, due = failed(counting.state, arrival, refusal.name)
         return Step(Record(counting.last, state), due=due, refused=refusal.name)
-    return Step(Record(arrival.now, found.state), found.packet, found.due)
+    return Step(Record(arrival.now, found.state), found.packet, found.due, is_repaired=found.is_repaired)
