@@ -7,3 +7,4 @@ pub mod ChangeLemmas
 pub mod AddLemmas
 pub mod ReloadLemmas
 pub mod LifeLemmas
+pub mod ShownLemmas

@@ -1,5 +1,5 @@
 -- A station's whole life is one run of calls of its concentrator.
-use Rattle.std.proofs.Common.{◌≡◌, ℕ, ◌<◌, List, [], ◌∷◌, ◌++◌, map, inl, inr, ◌⊎◌, All, not, Bool, true, false, Some, None, Ok, Err, refl, sym, ap, subst}
+use Rattle.std.proofs.Common.{◌≡◌, ℕ, ◌<◌, List, [], ◌∷◌, ◌++◌, map, inl, inr, ◌⊎◌, All, not, Bool, true, false, Some, None, Ok, Err, refl, sym, ap, ◌∙◌, subst}
 use Rattle.std.specs.List.{AllByRecursion, flat_map}
 use Rattle.rohc_concentrator.specs.declared.concentrator.Concentrator.{Concentrator}
 use Rattle.rohc_concentrator.specs.declared.setting.LinkSetting.{LinkSetting}
@@ -13,9 +13,9 @@ use Rattle.rohc_station.specs.declared.station.Station.{Station}
 use Rattle.rohc_station.specs.declared.reload.ReloadFault.TheVariants.{Settings, NoMemory}
 use Rattle.rohc_station.specs.Timed.{TimedPacket}
 use Rattle.rohc_station.specs.Told.{Told}
-use Rattle.rohc_station.specs.Taking.{TakesPacket, TakesUnless, IsRefusedUnread, begins_call}
+use Rattle.rohc_station.specs.Taking.{TakesIf, TakesUnless, IsRefusedUnread, begins_call, turns_away}
 use Rattle.rohc_station.specs.Reload.{is_among, removed, changed, added, removing, changing, adding, refused_add, reload_turns, StopsIn}
-use Rattle.rohc_station.specs.Life.{StationCall, StationTurn, Take, TakeKnown, Reset, Reload, AddFailedSends, IsTurn, TakesTurns, IsFit, IsFitPacket, LifeIsRun, LifeKeepsSound, IsolatedLife, IsolatedLinkLife, SameLives, SameLinkLives}
+use Rattle.rohc_station.specs.Life.{StationCall, StationTurn, Take, TakeKnown, Reset, Reload, AddFailedSends, SetLimits, IsTurn, TakesTurns, IsFit, IsFitPacket, LifeIsRun, LifeKeepsSound, IsolatedLife, IsolatedLinkLife, SameLives, SameLinkLives}
 use Rattle.rohc_saved.proofs.PutLemmas.{runs_append}
 use Rattle.rohc_station.proofs.CallLemmas.{all_weaker, all_passed, all_if}
 
@@ -26,21 +26,23 @@ module _ (old new : Station) (calls : List Turn) where
   unread_runs : (told : Told) → IsRefusedUnread old new told calls → RunsThem calls
   unread_runs told p = subst RunsThem (sym p.none) p.concentrator
 
-  packet_runs : (t : TimedPacket) (told : Told) → TakesPacket old new t.link t.moment t.packet told calls → RunsThem calls
-  packet_runs t told p = subst RunsThem (sym p.these) (new.concentrator, p.call, refl)
+  within_runs : (away : Bool) (second : ℕ) (t : TimedPacket) (told : Told) → TakesIf away old new second t told calls → RunsThem calls
+  within_runs true second t told (mid, counts, p) = subst RunsThem (sym p.none) (p.concentrator ∙ counts.concentrator)
+  within_runs false second t told (mid, whole, p, limits) =
+      subst RunsThem (sym p.these) (mid.concentrator, p.call, limits.counts.concentrator)
 
-  known_runs : (begins : Bool) (t : TimedPacket) (told : Told) → TakesUnless begins old new t told calls → RunsThem calls
-  known_runs true t told p = unread_runs told p
-  known_runs false t told p = packet_runs t told p
+  known_runs : (begins : Bool) (second : ℕ) (t : TimedPacket) (told : Told) → TakesUnless begins old new second t told calls → RunsThem calls
+  known_runs true second t told p = unread_runs told p
+  known_runs false second t told p = within_runs (turns_away old second t.link t.packet) second t told p
 
   none_runs : new ≡ old → calls ≡ [] → RunsThem calls
   none_runs stays none = subst RunsThem (sym none) (ap (λ (s : Station). s.concentrator) stays)
 
   turn_runs : (call : StationCall) → IsTurn old call calls new → RunsThem calls
-  turn_runs (Take None told) p = unread_runs told p
-  turn_runs (Take (Some t) told) p = packet_runs t told p
-  turn_runs (TakeKnown None told) p = unread_runs told p
-  turn_runs (TakeKnown (Some t) told) p = known_runs (begins_call old.concentrator t.link t.packet) t told p
+  turn_runs (Take second None told) p = unread_runs told p
+  turn_runs (Take second (Some t) told) p = within_runs (turns_away old second t.link t.packet) second t told p
+  turn_runs (TakeKnown second None told) p = unread_runs told p
+  turn_runs (TakeKnown second (Some t) told) p = known_runs (begins_call old.concentrator t.link t.packet) second t told p
   turn_runs (Reset link cid answer) p = subst RunsThem (sym p.1) (new.concentrator, p.0.call, refl)
   turn_runs (Reload file (Ok report)) p = p.runs
   turn_runs (Reload file (Err (Settings fault))) p = none_runs p.0 p.1
@@ -48,6 +50,7 @@ module _ (old new : Station) (calls : List Turn) where
   turn_runs (Reload file (Err NoMemory)) (inr p) = p.runs
   turn_runs (AddFailedSends None failed) p = none_runs p.0 p.1
   turn_runs (AddFailedSends (Some link) failed) p = subst RunsThem (sym p.1) p.0.concentrator
+  turn_runs (SetLimits link limits) p = subst RunsThem (sym p.1) p.0.concentrator
 
 -- ---- What a call is given fits
 
@@ -83,18 +86,19 @@ module _ (k : Concentrator) (numbers : List ℕ) (file : List LinkSetting) (fit 
       by (inr (s, rest, next, is)) = subst AreFit (sym is) (all_append IsFitTurn front (refused_add s ∷ []) parts.0 ((subst AreFit next parts.1).0, tt))
 
 module _ (old new : Station) (calls : List Turn) where
-  packet_fit : (t : TimedPacket) (told : Told) → IsFitPacket (Some t) → TakesPacket old new t.link t.moment t.packet told calls → AreFit calls
-  packet_fit t told fit p = subst AreFit (sym p.these) (fit, tt)
+  within_fit : (away : Bool) (second : ℕ) (t : TimedPacket) (told : Told) → IsFitPacket (Some t) → TakesIf away old new second t told calls → AreFit calls
+  within_fit true second t told fit (mid, counts, p) = subst AreFit (sym p.none) tt
+  within_fit false second t told fit (mid, whole, p, limits) = subst AreFit (sym p.these) (fit, tt)
 
-  known_fit : (begins : Bool) (t : TimedPacket) (told : Told) → IsFitPacket (Some t) → TakesUnless begins old new t told calls → AreFit calls
-  known_fit true t told fit p = subst AreFit (sym p.none) tt
-  known_fit false t told fit p = packet_fit t told fit p
+  known_fit : (begins : Bool) (second : ℕ) (t : TimedPacket) (told : Told) → IsFitPacket (Some t) → TakesUnless begins old new second t told calls → AreFit calls
+  known_fit true second t told fit p = subst AreFit (sym p.none) tt
+  known_fit false second t told fit p = within_fit (turns_away old second t.link t.packet) second t told fit p
 
   turn_fit : (call : StationCall) → IsFit call → IsTurn old call calls new → AreFit calls
-  turn_fit (Take None told) fit p = subst AreFit (sym p.none) tt
-  turn_fit (Take (Some t) told) fit p = packet_fit t told fit p
-  turn_fit (TakeKnown None told) fit p = subst AreFit (sym p.none) tt
-  turn_fit (TakeKnown (Some t) told) fit p = known_fit (begins_call old.concentrator t.link t.packet) t told fit p
+  turn_fit (Take second None told) fit p = subst AreFit (sym p.none) tt
+  turn_fit (Take second (Some t) told) fit p = within_fit (turns_away old second t.link t.packet) second t told fit p
+  turn_fit (TakeKnown second None told) fit p = subst AreFit (sym p.none) tt
+  turn_fit (TakeKnown second (Some t) told) fit p = known_fit (begins_call old.concentrator t.link t.packet) second t told fit p
   turn_fit (Reset link None answer) fit p = subst AreFit (sym p.1) (tt, tt)
   turn_fit (Reset link (Some cid) answer) fit p = subst AreFit (sym p.1) (tt, tt)
   turn_fit (Reload file (Ok report)) fit p = subst AreFit (sym p.these) (reload_fit old.concentrator p.numbers file.settings fit)
@@ -102,6 +106,7 @@ module _ (old new : Station) (calls : List Turn) where
   turn_fit (Reload file (Err NoMemory)) fit (inl p) = subst AreFit (sym p.1) tt
   turn_fit (Reload file (Err NoMemory)) fit (inr p) = stopped_fit old.concentrator p.numbers file.settings fit calls p.stops
   turn_fit (AddFailedSends link failed) fit p = subst AreFit (sym p.1) tt
+  turn_fit (SetLimits link limits) fit p = subst AreFit (sym p.1) tt
 
 -- ---- A life
 

@@ -1,5 +1,5 @@
 -- What is counted for each call, as long as its context stands. Words: sn_in; order_of, ordered,
--- with_sn; HasAnswer; IsBegun; CountsCall, CountsForCall; stands, KeepsStanding.
+-- with_sn; last_of; HasAnswer; IsBegun; CountsCall, CountsNone, CountsForCall; stands, KeepsStanding.
 use Rattle.std.specs.Prelude.{◌≡◌, ◌≢◌, ℕ, ◌+◌, ◌-◌, ◌*◌, ◌/◌, ◌%◌, ◌^◌, ◌<◌, ◌==◌, length, get_or, min, Bool, true, false, nat_lt, if◌then◌else◌, Option, Some, None, is_some, slice_index}
 use Rattle.indexmap.specs.IndexMap.{get}
 use Rattle.rohc_context.specs.declared.refusal.Refusal.{Refusal}
@@ -13,7 +13,7 @@ use Rattle.rohc_concentrator.specs.Report.{Report, Arrived, OnlyFront}
 use Rattle.rohc_concentrator.specs.Report as reports
 use Rattle.rohc_links.specs.Limits.{counted}
 use Rattle.rohc_report.specs.Taken.{key_of}
-use Rattle.rohc_station.specs.Counting.{one_if}
+use Rattle.rohc_station.specs.Limits.{one_if}
 use Rattle.rohc_station.specs.Told.{refusal_of}
 use Rattle.rohc_station.specs.declared.calls.CallCounts.{CallCounts}
 use Rattle.rohc_station.specs.declared.calls.Sequence.{Sequence}
@@ -47,7 +47,7 @@ order_of (Some newest) sn = order_by (ahead newest sn)
 abbrev pub ordered : Order → (sn : ℕ) → Sequence → Sequence
 ordered Again sn q = q
 ordered (Follows missing) sn q = record { lost = counted q.lost missing; late = q.late; newest = Some sn }
-ordered Late sn q = record { lost = q.lost - 1; late = counted q.late 1; newest = q.newest }
+ordered Late sn q = record { lost = q.lost - 1; late = min (q.late + 1) (2 ^ 32 - 1); newest = q.newest }
 ordered Restarts sn q = record { lost = q.lost; late = q.late; newest = Some sn }
 
 abbrev pub with_sn : Option ℕ → Sequence → Sequence
@@ -61,16 +61,23 @@ more_for None place before = before
 more_for (Some refusal) place before =
     if number_of refusal == place + 10 then min (before + 1) (2 ^ 32 - 1) else before
 
+-- the last refusal after an answer: its own, or the one before
+abbrev pub last_of : Option Refusal → (before : Option Refusal) → Option Refusal
+last_of None before = before
+last_of (Some refusal) before = Some refusal
+
 abbrev pub is_delivered : Outcome → Bool
 is_delivered outcomes.Delivered = true
 is_delivered outcomes.Stored = false
 is_delivered (outcomes.Refused refusal) = false
 
 -- the counts of a call with one more answer
-pub record HasAnswer (r : Response) (before after : CallCounts) : Type 0 where
+pub record HasAnswer (r : Response) (is_repaired : Bool) (before after : CallCounts) : Type 0 where
   pub refused : (place : ℕ) → place < 19 → slice_index after.refused place
       ≡ more_for (refusal_of r.outcome) place (slice_index before.refused place)
+  pub last : after.last_refused ≡ last_of (refusal_of r.outcome) before.last_refused
   pub delivered : after.delivered ≡ counted before.delivered (one_if (is_delivered r.outcome))
+  pub repaired : after.repaired ≡ counted before.repaired (one_if is_repaired)
   pub sequence : after.sequence ≡ with_sn (sn_in r.packet) before.sequence
   pub since : after.since ≡ before.since
 
@@ -86,26 +93,37 @@ pub record IsBegun (moment : ℕ) (c : CallCounts) : Type 0 where
   pub none_refused : (place : ℕ) → place < 19 → slice_index c.refused place ≡ 0
   pub since : c.since ≡ moment
   pub none_delivered : c.delivered ≡ 0
+  pub none_repaired : c.repaired ≡ 0
+  pub no_refusal : c.last_refused ≡ None
   pub no_sn : c.sequence ≡ record { lost = 0; late = 0; newest = None }
 
--- One answer more for a call. It has counts from its first answer on for which its context stands afterwards.
--- Without memory for them it has none.
-abbrev pub CountsCall : (stands : Bool) → (moment : ℕ) → Response → (before after : Option CallCounts) →
-    Type 0
-CountsCall stands moment r (Some before) None = ⊥
-CountsCall stands moment r (Some before) (Some after) = HasAnswer r before after
-CountsCall stands moment r None None = Unit {0}
-CountsCall stands moment r None (Some after) =
-    (stands ≡ true) × ((begun : CallCounts) × IsBegun moment begun × HasAnswer r begun after)
+-- One answer more for a call. It has counts from its first answer on for which its context stands afterwards,
+-- unless that answer is uncounted, for want of memory.
+abbrev pub CountsCall : (stands : Bool) → (moment : ℕ) → Response → (is_repaired is_uncounted : Bool) →
+    (before after : Option CallCounts) → Type 0
+CountsCall stands moment r is_repaired is_uncounted (Some before) None = ⊥
+CountsCall stands moment r is_repaired is_uncounted (Some before) (Some after) =
+    (is_uncounted ≡ false) × HasAnswer r is_repaired before after
+CountsCall stands moment r is_repaired is_uncounted None None = is_uncounted ≡ stands
+CountsCall stands moment r is_repaired is_uncounted None (Some after) =
+    (is_uncounted ≡ false) × (stands ≡ true)
+    × ((begun : CallCounts) × IsBegun moment begun × HasAnswer r is_repaired begun after)
+
+-- the counts of no call change, and none are missing
+abbrev pub CountsNone : (is_uncounted : Bool) → (before after : ℕ → Option CallCounts) → Type 0
+CountsNone is_uncounted before after = (is_uncounted ≡ false) × ((key : ℕ) → after key ≡ before key)
 
 -- an answer to a packet of a link is counted for the call of its CID, and for no other
 abbrev pub CountsForCall : (stands : ℕ → ℕ → Bool) → (link moment : ℕ) → Report →
-    (before after : ℕ → Option CallCounts) → Type 0
-CountsForCall stands link moment (Arrived cid r relayed) before after =
-    CountsCall (stands link cid) moment r (before (key_of link cid)) (after (key_of link cid))
+    (is_repaired is_uncounted : Bool) → (before after : ℕ → Option CallCounts) → Type 0
+CountsForCall stands link moment (Arrived cid r relayed) is_repaired is_uncounted before after =
+    CountsCall (stands link cid) moment r is_repaired is_uncounted (before (key_of link cid))
+    (after (key_of link cid))
     × ((key : ℕ) → key ≢ key_of link cid → after key ≡ before key)
-CountsForCall stands link moment (OnlyFront relayed) before after = (key : ℕ) → after key ≡ before key
-CountsForCall stands link moment (reports.Refused refusal) before after = (key : ℕ) → after key ≡ before key
+CountsForCall stands link moment (OnlyFront relayed) is_repaired is_uncounted before after =
+    CountsNone is_uncounted before after
+CountsForCall stands link moment (reports.Refused refusal) is_repaired is_uncounted before after =
+    CountsNone is_uncounted before after
 
 -- the CID of a link has a context
 abbrev pub stands : Concentrator → ℕ → ℕ → Bool

@@ -1,23 +1,25 @@
--- What is counted. Words: one_if; with_datagram; IsUncounted; rebuilt_octets, with_packet; CountsAnswer;
--- with_failed_sends; KeepsCounts.
-use Rattle.std.specs.Prelude.{◌≡◌, ℕ, ◌+◌, length, Bool, if◌then◌else◌, Option, Some, None, option_map, slice_index}
+-- What is counted. Words: with_datagram; IsUncounted; rebuilt_octets, with_packet; CountsAnswer;
+-- with_failed_sends; limiter_in, with_limiter; KeepsCounts.
+use Rattle.std.specs.Prelude.{◌≡◌, ℕ, ◌+◌, [], length, Bool, if◌then◌else◌, Option, Some, None, option_map, slice_index}
 use Rattle.rohc_context.specs.Response.{Packet}
 use Rattle.rohc_concentrator.specs.Report.{Report, Arrived, OnlyFront, Refused}
 use Rattle.rohc_concentrator.specs.declared.setting.LinkSetting.{LinkSetting}
 use Rattle.rohc_links.specs.Limits.{counted}
 use Rattle.rohc_counts.specs.Counted.{IsCounted}
+use Rattle.rohc_station.specs.declared.limits.Limiter.{Limiter}
+use Rattle.rohc_station.specs.Limits.{one_if, unlimited}
+use Rattle.rohc_station.specs.Unknown.{unknown_in}
 use Rattle.rohc_station.specs.declared.counters.LinkCounters.{LinkCounters}
 use Rattle.rohc_station.specs.declared.counters.Octets.{Octets}
 use Rattle.rohc_station.specs.declared.counters.StationCounters.{StationCounters}
 
-abbrev pub one_if : Bool → ℕ
-one_if holds = if holds then 1 else 0
-
--- one more datagram, which may be bad: too short, of a link that isn't there, or turned away
-abbrev pub with_datagram : StationCounters → Bool → StationCounters
-with_datagram c is_bad = record {
+-- One more datagram. It may be bad: too short, of a link that isn't there, or turned away. For want of memory
+-- its answer may be uncounted for its call.
+abbrev pub with_datagram : StationCounters → (is_bad is_uncounted : Bool) → StationCounters
+with_datagram c is_bad is_uncounted = record {
   datagrams = counted c.datagrams 1;
   bad_datagrams = counted c.bad_datagrams (one_if is_bad);
+  uncounted = counted c.uncounted (one_if is_uncounted);
 }
 
 -- nothing is counted yet
@@ -27,7 +29,10 @@ pub record IsUncounted (c : LinkCounters) : Type 0 where
   pub no_fronts : c.answers.fronts ≡ 0
   pub none_relayed : c.answers.relayed ≡ 0
   pub no_octets : c.octets ≡ record { received = 0; compressed = 0; rebuilt = 0 }
+  pub none_repaired : c.repaired ≡ 0
   pub none_failed : c.failed_sends ≡ 0
+  pub no_limiter : c.limiter ≡ unlimited
+  pub none_unknown : c.unknown.items ≡ []
 
 -- how many octets the rebuilt packet of an answer has, if it has one
 abbrev pub rebuilt_octets : Report → Option ℕ
@@ -45,17 +50,31 @@ with_packet arrived (Some rebuilt) o = record {
   rebuilt = counted o.rebuilt rebuilt;
 }
 
--- one more answer, to a packet of so many octets, in the counts of a link that has some
-abbrev pub CountsAnswer : (arrived : ℕ) → Report → Option LinkCounters → Option LinkCounters → Type 0
-CountsAnswer arrived report None after = after ≡ None
-CountsAnswer arrived report (Some before) None = ⊥
-CountsAnswer arrived report (Some before) (Some after) = IsCounted report before.answers after.answers
+-- One more answer, to a packet of so many octets, which may be repaired, in the counts of a link that has
+-- some. These CIDs of the link have a context after it.
+abbrev pub CountsAnswer : (stands : ℕ → Bool) → (arrived : ℕ) → Report → (is_repaired : Bool)
+    → Option LinkCounters → Option LinkCounters → Type 0
+CountsAnswer stands arrived report is_repaired None after = after ≡ None
+CountsAnswer stands arrived report is_repaired (Some before) None = ⊥
+CountsAnswer stands arrived report is_repaired (Some before) (Some after) =
+    IsCounted report before.answers after.answers
+    × (after.repaired ≡ counted before.repaired (one_if is_repaired))
+    × (after.unknown.items ≡ unknown_in stands report before.unknown.items)
     × (after.octets ≡ with_packet arrived (rebuilt_octets report) before.octets)
-    × (after.failed_sends ≡ before.failed_sends)
+    × (after.failed_sends ≡ before.failed_sends) × (after.limiter ≡ before.limiter)
 
 -- so many more failed sends
 abbrev pub with_failed_sends : ℕ → LinkCounters → LinkCounters
 with_failed_sends failed c = record c { failed_sends = counted c.failed_sends failed }
+
+-- the limits of a link that may have counts, and what they did
+abbrev pub limiter_in : Option LinkCounters → Limiter
+limiter_in None = unlimited
+limiter_in (Some c) = c.limiter
+
+-- the limits change so
+abbrev pub with_limiter : (Limiter → Limiter) → LinkCounters → LinkCounters
+with_limiter change c = record c { limiter = change c.limiter }
 
 -- The counts of a link, by its entry in a file that is taken: it keeps those that it has, and begins with
 -- none. A link that isn't in the file has no counts.

@@ -1,5 +1,8 @@
 pub mod Timed
 pub mod Told
+pub mod Sent
+pub mod Limits
+pub mod Unknown
 pub mod Counting
 pub mod ByCall
 pub mod Taking
@@ -7,4 +10,5 @@ pub mod Same
 pub mod Reload
 pub mod Reset
 pub mod Requests
+pub mod Shown
 pub mod Life

@@ -16,19 +16,23 @@ use Rattle.rohc_station.specs.declared.reload.ReloadReport.{ReloadReport}
 use Rattle.rohc_station.specs.declared.reload.ReloadFault.{ReloadFault}
 use Rattle.rohc_station.specs.Timed.{TimedPacket}
 use Rattle.rohc_station.specs.Told.{Told}
-use Rattle.rohc_station.specs.Taking.{Takes, TakesKnown, FailsSends}
+use Rattle.rohc_station.specs.declared.limits.LinkLimits.{LinkLimits}
+use Rattle.rohc_station.specs.Taking.{Takes, TakesKnown, FailsSends, SetsLimits}
 use Rattle.rohc_station.specs.Reload.{Reloads, ReloadStays}
 use Rattle.rohc_station.specs.Reset.{reset_turn, Forgets}
 
--- One call of a station, with what it told. A datagram was taken, as it was read, or was taken while no
--- call is begun; records of a link were forgotten, or that of one CID; the links of a file were taken, or
--- not; so many sends failed for a datagram of a link.
+-- One call of a station, with what it told. In a second of the gateway's clock a datagram was taken, as it
+-- was read, or was taken while no call is begun; records of a link were forgotten, or that of one CID; the
+-- links of a file were taken, or not; a number of sends failed for a datagram of a link; a link was given
+-- limits. A packet that is turned away is no call of the concentrator, and withheld feedback is still its
+-- answer.
 pub data StationCall : Type 0 where
-  Take : Option TimedPacket → Told → StationCall
-  TakeKnown : Option TimedPacket → Told → StationCall
+  Take : ℕ → Option TimedPacket → Told → StationCall
+  TakeKnown : ℕ → Option TimedPacket → Told → StationCall
   Reset : ℕ → Option ℕ → CallAnswer → StationCall
   Reload : Lists → Result ReloadReport ReloadFault → StationCall
   AddFailedSends : Option ℕ → ℕ → StationCall
+  SetLimits : ℕ → LinkLimits → StationCall
 
 -- with the calls that it made of its concentrator
 pub record StationTurn : Type 0 where
@@ -37,13 +41,14 @@ pub record StationTurn : Type 0 where
 
 -- each turn is what the contract of its call says
 abbrev pub IsTurn : Station → StationCall → List Turn → Station → Type 0
-IsTurn old (Take read told) calls new = Takes old new read told calls
-IsTurn old (TakeKnown read told) calls new = TakesKnown old new read told calls
+IsTurn old (Take second read told) calls new = Takes old new second read told calls
+IsTurn old (TakeKnown second read told) calls new = TakesKnown old new second read told calls
 IsTurn old (Reset link cid answer) calls new =
     Forgets old new link cid answer × (calls ≡ reset_turn link cid answer ∷ [])
 IsTurn old (Reload file (Ok report)) calls new = Reloads old file report calls new
 IsTurn old (Reload file (Err fault)) calls new = ReloadStays old file fault calls new
 IsTurn old (AddFailedSends link failed) calls new = FailsSends old new link failed × (calls ≡ [])
+IsTurn old (SetLimits link limits) calls new = SetsLimits old new link limits × (calls ≡ [])
 
 -- a life from outside: the station before it and after it, and its turns
 pub record Life : Type 0 where
@@ -71,8 +76,8 @@ IsFitPacket None = ⊤
 IsFitPacket (Some t) = (t.moment < 2 ^ 64) × All IsOctet t.packet
 
 abbrev pub IsFit : StationCall → Type 0
-IsFit (Take read told) = IsFitPacket read
-IsFit (TakeKnown read told) = IsFitPacket read
+IsFit (Take second read told) = IsFitPacket read
+IsFit (TakeKnown second read told) = IsFitPacket read
 IsFit (Reload file result) = All (λ (s : LinkSetting). s.link < 65536) file.settings
 IsFit call = ⊤
 

@@ -1,9 +1,10 @@
--- Requests. Words: digit_of, number_in; is_head; changes a request; IsAskedByPost, ChangesNothing; status_of a fault.
+-- Requests. Words: digit_of, number_in; is_head; changes a request; IsAskedByPost, ChangesNothing;
+-- status_of a fault.
 use Rattle.std.specs.Prelude.{◌≡◌, ℕ, ◌+◌, ◌*◌, ◌-◌, List, [], ◌∷◌, Bool, true, false, nat_lt, nat_le, ◌&&◌, ◌||◌, ◌==◌, nat_eq, if◌then◌else◌, codes, Option, Some, None, Result, Ok, Err, ⊤}
 use Rattle.std.specs.List.{starts_with}
 use Rattle.std.specs.Option.{option_and_then}
 use Rattle.rohc_station.specs.declared.request.Request.{Request}
-use Rattle.rohc_station.specs.declared.request.Request.TheVariants.{Stop, Save, Reload, Reset, Drain, Watch, Ready, Status, Metrics, Page, Contexts, Calls}
+use Rattle.rohc_station.specs.declared.request.Request.TheVariants.{Stop, Save, Reload, Reset, Drain, Watch, Ready, Status, State, Metrics, Page, Top, Contexts, Calls}
 use Rattle.rohc_station.specs.declared.request.RequestFault.{RequestFault}
 use Rattle.rohc_station.specs.declared.request.RequestFault.TheVariants.{BadRequest, NotFound, MethodNotAllowed, TooLarge}
 
@@ -44,10 +45,12 @@ changes Drain = true
 changes (Watch link cid) = false
 changes Ready = false
 changes Status = false
+changes State = false
 changes Metrics = false
 changes Page = false
+changes Top = false
 changes (Contexts link) = false
-changes (Calls link) = false
+changes (Calls link form) = false
 
 -- a request that changes something came by POST
 abbrev pub IsAskedByPost : List ℕ → Request → Type 0

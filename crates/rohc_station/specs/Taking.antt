@@ -1,28 +1,39 @@
--- What a station does with a datagram. Words: counters_at a link; by_call_at; arrival, TakesPacket;
--- IsRefusedUnread; dated; Takes; begins_call; call_in, timed_call_in; TakesUnless, TakesKnown;
--- CountsFailedSends, FailsSends.
-use Rattle.std.specs.Prelude.{◌≡◌, ◌≢◌, ℕ, List, [], ◌∷◌, length, Option, Some, None, nat_eq, not, is_some, Bool, true, false}
+-- What a station does with a datagram. Words: counters_at, limiter_at a link; by_call_at; arrival,
+-- TakesPacket; IsRefusedUnread; dated; begins_call; CountsChange; turns_away, TurnsAway; made_on,
+-- LimitsFeedback; TakesIf, TakesWithin; Takes, AnswersWithin; call_in, timed_call_in; TakesUnless,
+-- TakesKnown; FailsSends, SetsLimits.
+use Rattle.std.specs.Prelude.{◌≡◌, ◌≢◌, ℕ, ◌-◌, ◌&&◌, List, [], ◌∷◌, length, Option, Some, None, nat_eq, not, is_some, Bool, true, false}
 use Rattle.std.specs.Option.{option_map}
 use Rattle.indexmap.specs.IndexMap.{get}
 use Rattle.rohc_context.specs.Record.{Record}
 use Rattle.rohc_concentrator.specs.declared.concentrator.Concentrator.{Concentrator}
-use Rattle.rohc_concentrator.specs.Tables.{setting_at, record_at}
+use Rattle.rohc_concentrator.specs.Tables.{setting_at, record_at, identifiers_at}
 use Rattle.rohc_concentrator.specs.Bears.{borne}
 use Rattle.rohc_concentrator.specs.Report.{Report}
+use Rattle.rohc_concentrator.specs.Repaired.{IsRepaired}
 use Rattle.rohc_concentrator.specs.Calls.{Arrive, Reported}
 use Rattle.rohc_concentrator.specs.RunsCall.{RunsCall, Turn}
-use Rattle.rohc_serve.specs.Datagram.{named_link, datagram_packet, ports_of}
+use Rattle.rohc_serve.specs.Outgoing.{Outgoing, refused_for}
+use Rattle.rohc_serve.specs.Datagram.{named_link, datagram_packet, ports_of, Answers}
+use Rattle.rohc_links.specs.Links.{Lists}
+use Rattle.rohc_station.specs.declared.limits.LinkLimits.{LinkLimits}
+use Rattle.rohc_station.specs.declared.limits.Limiter.{Limiter}
 use Rattle.rohc_station.specs.declared.counters.LinkCounters.{LinkCounters}
 use Rattle.rohc_station.specs.declared.station.Station.{Station}
 use Rattle.rohc_station.specs.declared.calls.CallCounts.{CallCounts}
-use Rattle.rohc_station.specs.Counting.{CountsAnswer, with_datagram, with_failed_sends}
+use Rattle.rohc_station.specs.Limits.{second_of, is_full, is_silent, with_work, with_turned_away, with_limits}
+use Rattle.rohc_station.specs.Counting.{CountsAnswer, with_datagram, with_failed_sends, limiter_in, with_limiter}
 use Rattle.rohc_station.specs.ByCall.{CountsForCall, stands}
 use Rattle.rohc_station.specs.Timed.{TimedPacket}
-use Rattle.rohc_station.specs.Told.{Told, told_unread, told_for}
+use Rattle.rohc_station.specs.Told.{Told, told_unread, told_for, outgoing_within, told_within}
 
 -- the counts of a link, if it has some
 abbrev pub counters_at : Station → ℕ → Option LinkCounters
 counters_at s link = get nat_eq s.counters link
+
+-- the limits of a link, and what they did; none if it has no counts
+abbrev pub limiter_at : Station → ℕ → Limiter
+limiter_at s link = limiter_in (counters_at s link)
 
 -- the counts of the call of this key, if it has some
 abbrev pub by_call_at : Station → ℕ → Option CallCounts
@@ -41,11 +52,16 @@ pub record TakesPacket (old new : Station) (link moment : ℕ) (packet : List �
   pub these : calls ≡ arrival link moment packet report ∷ []
   pub call : RunsCall old.concentrator link (Arrive moment packet) (Reported report) new.concentrator
   pub tells : told ≡ told_for (ports_of link old.links) report
-  pub counts : CountsAnswer (length packet) report (counters_at old link) (counters_at new link)
+  pub is_repaired : Bool
+  pub repaired : IsRepaired (setting_at old.concentrator link) (record_at old.concentrator link) moment packet
+      report is_repaired
+  pub counts : CountsAnswer (stands new.concentrator link) (length packet) report is_repaired
+      (counters_at old link) (counters_at new link)
   pub others : (l : ℕ) → l ≢ link → counters_at new l ≡ counters_at old l
-  pub counts_call :
-      CountsForCall (stands new.concentrator) link moment report (by_call_at old) (by_call_at new)
-  pub totals : new.totals ≡ with_datagram old.totals (not (is_some (ports_of link old.links)))
+  pub is_uncounted : Bool
+  pub counts_call : CountsForCall (stands new.concentrator) link moment report is_repaired is_uncounted
+      (by_call_at old) (by_call_at new)
+  pub totals : new.totals ≡ with_datagram old.totals (not (is_some (ports_of link old.links))) is_uncounted
   pub links : new.links ≡ old.links
 
 -- a datagram that is too short, or turned away: nothing is called or sent, and no link's counts change
@@ -55,7 +71,7 @@ pub record IsRefusedUnread (old new : Station) (told : Told) (calls : List Turn)
   pub tells : told ≡ told_unread
   pub counters : new.counters ≡ old.counters
   pub by_call : new.by_call ≡ old.by_call
-  pub totals : new.totals ≡ with_datagram old.totals true
+  pub totals : new.totals ≡ with_datagram old.totals true false
   pub links : new.links ≡ old.links
 
 -- a datagram that came at this moment: the link that it names, if it names one, the moment and the packet
@@ -63,11 +79,6 @@ abbrev pub dated : ℕ → List ℕ → Option TimedPacket
 dated moment octets =
     option_map (λ link. record { link = link; moment = moment; packet = datagram_packet octets })
     (named_link octets)
-
--- a datagram is taken, as it was read: a packet with its link and its moment, if it could be read
-abbrev pub Takes : Station → Station → Option TimedPacket → Told → List Turn → Type 0
-Takes old new None told calls = IsRefusedUnread old new told calls
-Takes old new (Some t) told calls = TakesPacket old new t.link t.moment t.packet told calls
 
 -- this CID, if there is one, has no record
 abbrev pub is_unknown : Option ℕ → (ℕ → Option Record) → Bool
@@ -77,6 +88,73 @@ is_unknown (Some cid) records = not (is_some (records cid))
 -- a packet begins a call: it bears a CID that has no record
 abbrev pub begins_call : Concentrator → ℕ → List ℕ → Bool
 begins_call k link packet = is_unknown (borne (setting_at k link) packet) (record_at k link)
+
+-- The counts of one link change so, if it has some, and nothing else.
+pub record CountsChange (old new : Station) (link : ℕ) (change : LinkCounters → LinkCounters) : Type 0 where
+  pub own : counters_at new link ≡ option_map change (counters_at old link)
+  pub others : (l : ℕ) → l ≢ link → counters_at new l ≡ counters_at old l
+  pub by_call : new.by_call ≡ old.by_call
+  pub concentrator : new.concentrator ≡ old.concentrator
+  pub totals : new.totals ≡ old.totals
+  pub links : new.links ≡ old.links
+
+-- A packet is turned away in a second: it begins a call on a link that makes no more contexts then. The limit
+-- is that of its link alone.
+abbrev pub turns_away : Station → (second link : ℕ) → List ℕ → Bool
+turns_away s second link packet =
+    is_full second (limiter_at s link) && begins_call s.concentrator link packet
+
+-- It is counted for its link, and as a datagram that is refused unread.
+abbrev pub TurnsAway : (old new : Station) → (link : ℕ) → Told → List Turn → Type 0
+TurnsAway old new link told calls = (mid : Station)
+    × CountsChange old mid link (with_limiter with_turned_away) × IsRefusedUnread mid new told calls
+
+-- how many contexts a link has more
+abbrev pub made_on : (old new : Concentrator) → ℕ → ℕ
+made_on old new link = length (identifiers_at new link) - length (identifiers_at old link)
+
+-- A packet was taken, which told the whole. Feedback that its link may send no more in this second is
+-- withheld; what the packet made and had is counted for the link.
+pub record LimitsFeedback (old mid new : Station) (second link : ℕ) (whole told : Told) : Type 0 where
+  pub tells : told ≡ told_within (is_silent second (limiter_at old link)) whole
+  pub counts : CountsChange mid new link (with_limiter (with_work second
+      (made_on old.concentrator mid.concentrator link) (is_some whole.outgoing.feedback)))
+
+-- so a packet is turned away exactly if it is to be, and otherwise it is taken
+abbrev pub TakesIf : (is_away : Bool) → Station → Station → (second : ℕ) → TimedPacket → Told → List Turn
+    → Type 0
+TakesIf true old new second t told calls = TurnsAway old new t.link told calls
+TakesIf false old new second t told calls = (mid : Station) × (whole : Told)
+    × TakesPacket old mid t.link t.moment t.packet whole calls
+    × LimitsFeedback old mid new second t.link whole told
+
+abbrev pub TakesWithin : Station → Station → (second : ℕ) → TimedPacket → Told → List Turn → Type 0
+TakesWithin old new second t told calls =
+    TakesIf (turns_away old second t.link t.packet) old new second t told calls
+
+-- A datagram is taken in a second of the gateway's clock, as it was read: a packet with its link and its
+-- moment, if it could be read.
+abbrev pub Takes : Station → Station → (second : ℕ) → Option TimedPacket → Told → List Turn → Type 0
+Takes old new second None told calls = IsRefusedUnread old new told calls
+Takes old new second (Some t) told calls = TakesWithin old new second t told calls
+
+-- Nothing is sent for a datagram that is turned away. For every other that is sent which answer_datagram
+-- sends, but for feedback that is withheld.
+abbrev pub AnswersIf : (is_away is_withheld : Bool) → Lists → Concentrator → ℕ → List ℕ → Outgoing
+    → Concentrator → Type 0
+AnswersIf true is_withheld links old moment octets sent new = (sent ≡ refused_for None) × (new ≡ old)
+AnswersIf false is_withheld links old moment octets sent new = (whole : Outgoing)
+    × Answers links old moment octets whole new × (sent ≡ outgoing_within is_withheld whole)
+
+abbrev pub AnswersOnLink : Station → (moment : ℕ) → Option ℕ → List ℕ → Outgoing → Concentrator → Type 0
+AnswersOnLink s moment None octets sent new =
+    AnswersIf false false s.links s.concentrator moment octets sent new
+AnswersOnLink s moment (Some link) octets sent new =
+    AnswersIf (turns_away s (second_of moment) link (datagram_packet octets))
+    (is_silent (second_of moment) (limiter_at s link)) s.links s.concentrator moment octets sent new
+
+abbrev pub AnswersWithin : Station → (moment : ℕ) → List ℕ → Outgoing → Concentrator → Type 0
+AnswersWithin s moment octets sent new = AnswersOnLink s moment (named_link octets) octets sent new
 
 -- the call of a packet on a link: the link, and the CID that the packet bears there
 abbrev pub call_in : Concentrator → Option ℕ → List ℕ → Option (ℕ × ℕ)
@@ -89,25 +167,20 @@ timed_call_in k None = None
 timed_call_in k (Some t) = call_in k (Some t.link) t.packet
 
 -- while no call is begun, a packet that would begin one is refused, and every other is taken
-abbrev pub TakesUnless : Bool → Station → Station → TimedPacket → Told → List Turn → Type 0
-TakesUnless true old new t told calls = IsRefusedUnread old new told calls
-TakesUnless false old new t told calls = TakesPacket old new t.link t.moment t.packet told calls
+abbrev pub TakesUnless : Bool → Station → Station → (second : ℕ) → TimedPacket → Told → List Turn → Type 0
+TakesUnless true old new second t told calls = IsRefusedUnread old new told calls
+TakesUnless false old new second t told calls = TakesWithin old new second t told calls
 
-abbrev pub TakesKnown : Station → Station → Option TimedPacket → Told → List Turn → Type 0
-TakesKnown old new None told calls = IsRefusedUnread old new told calls
-TakesKnown old new (Some t) told calls =
-    TakesUnless (begins_call old.concentrator t.link t.packet) old new t told calls
-
--- sends for a packet of this link failed, and are counted for it, if it has counts
-pub record CountsFailedSends (old new : Station) (link failed : ℕ) : Type 0 where
-  pub own : counters_at new link ≡ option_map (with_failed_sends failed) (counters_at old link)
-  pub others : (l : ℕ) → l ≢ link → counters_at new l ≡ counters_at old l
-  pub by_call : new.by_call ≡ old.by_call
-  pub concentrator : new.concentrator ≡ old.concentrator
-  pub totals : new.totals ≡ old.totals
-  pub links : new.links ≡ old.links
+abbrev pub TakesKnown : Station → Station → (second : ℕ) → Option TimedPacket → Told → List Turn → Type 0
+TakesKnown old new second None told calls = IsRefusedUnread old new told calls
+TakesKnown old new second (Some t) told calls =
+    TakesUnless (begins_call old.concentrator t.link t.packet) old new second t told calls
 
 -- sends failed for a datagram of the link that it names, if it names one
 abbrev pub FailsSends : Station → Station → Option ℕ → ℕ → Type 0
 FailsSends old new None failed = new ≡ old
-FailsSends old new (Some link) failed = CountsFailedSends old new link failed
+FailsSends old new (Some link) failed = CountsChange old new link (with_failed_sends failed)
+
+-- a link is given limits
+abbrev pub SetsLimits : Station → Station → ℕ → LinkLimits → Type 0
+SetsLimits old new link limits = CountsChange old new link (with_limiter (with_limits limits))

@@ -1,5 +1,6 @@
--- What came of a datagram. Words: refusal_in a report; Told, told_of; told_unread, told_for a report.
-use Rattle.std.specs.Prelude.{Option, Some, None}
+-- What came of a datagram. Words: refusal_in a report; Told, told_of; told_unread, told_for a report;
+-- outgoing_within, told_within a limit.
+use Rattle.std.specs.Prelude.{Bool, true, false, Option, Some, None}
 use Rattle.rohc_context.specs.declared.refusal.Refusal.{Refusal}
 use Rattle.rohc_context.specs.declared.reply.Outcome.{Outcome}
 use Rattle.rohc_context.specs.declared.reply.Outcome.TheVariants as outcomes
@@ -35,3 +36,12 @@ told_unread = record { outgoing = refused_for None; refusal = None }
 -- of a report, to the ports of its link
 abbrev pub told_for : Option Ports → Report → Told
 told_for ports report = record { outgoing = sends_of ports report; refusal = refusal_in report }
+
+-- feedback for the compressor is withheld, or isn't
+abbrev pub outgoing_within : (is_withheld : Bool) → Outgoing → Outgoing
+outgoing_within true o = record o { feedback = None }
+outgoing_within false o = o
+
+abbrev pub told_within : (is_withheld : Bool) → Told → Told
+told_within is_withheld t =
+    record { outgoing = outgoing_within is_withheld t.outgoing; refusal = t.refusal }

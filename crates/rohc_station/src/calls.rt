@@ -4,9 +4,11 @@ ghost use Rattle.std.specs.Prelude.{◌≡◌, ℕ, ◌<◌, nat_eq, length, sli
 ghost use Rattle.indexmap.specs.IndexMap.{get};
 ghost use Rattle.rohc_context.specs.Response.{packet_in, response_of};
 ghost use Rattle.rohc_concentrator.specs.Report.{report_of};
-ghost use Rattle.rohc_station.specs.Counting.{one_if};
-ghost use Rattle.rohc_station.specs.ByCall.{refused_in, sn_in, order_of, is_delivered, more_for, HasAnswer, IsBegun, CountsForCall, stands, KeepsStanding};
+ghost use Rattle.rohc_station.specs.Limits.{one_if};
+ghost use Rattle.rohc_station.specs.ByCall.{refused_in, sn_in, order_of, is_delivered, more_for, last_of, HasAnswer, IsBegun, CountsForCall, stands, KeepsStanding};
 
+use crate::counters::counted_if;
+use crate::marked::Marked;
 use crate::sending::refusal_of;
 use indexmap::IndexMap;
 use rohc_concentrator::{Answer, Concentrator};
@@ -22,7 +24,7 @@ pub struct Sequence {
     /// Packets that are missing.
     pub lost: u64,
     /// Packets that were delivered after a later one.
-    pub late: u64,
+    pub late: u32,
     /// The newest sequence number.
     pub newest: Option<u16>,
 }
@@ -34,10 +36,14 @@ pub struct CallCounts {
     pub since: u64,
     /// Delivered packets.
     pub delivered: u64,
+    /// Those of them that were delivered by the second or the third try.
+    pub repaired: u64,
     /// What its sequence numbers say.
     pub sequence: Sequence,
     /// Refused packets by the number of the refusal, from `FIRST_REFUSAL` to 28, `Check`.
     pub refused: [u32; 19],
+    /// Why a packet was last refused, if one was.
+    pub last_refused: Option<Refusal>,
 }
 
 /// How a sequence number compares to the newest one (RFC 3550 A.1).
@@ -115,12 +121,14 @@ impl CallCounts {
         CallCounts {
             since: moment,
             delivered: 0,
+            repaired: 0,
             sequence: Sequence {
                 lost: 0,
                 late: 0,
                 newest: None,
             },
             refused: [0; 19],
+            last_refused: None,
         }
     }
 
@@ -137,14 +145,17 @@ impl CallCounts {
         }
     }
 
-    /// Counts an answer.
-    fn count(&mut self, reply: &Reply<'_>)
-        ensures { HasAnswer (response_of reply.now) self.old self.new }
+    /// Counts an answer, to a packet that may be repaired.
+    fn count(&mut self, reply: &Reply<'_>, repaired: bool)
+        ensures { HasAnswer (response_of reply.now) repaired self.old self.new }
     {
-        count_refusal(&mut self.refused, refusal_of(reply.outcome));
+        let refusal = refusal_of(reply.outcome);
+        count_refusal(&mut self.refused, refusal);
+        self.last_refused = last_of(refusal, self.last_refused);
         self.delivered = self
             .delivered
             .saturating_add(delivered_count(reply.outcome));
+        self.repaired = counted_if(self.repaired, repaired);
         self.sequence.see(sn_in(&reply.packet));
     }
 }
@@ -156,6 +167,16 @@ fn delivered_count(outcome: Outcome) -> u64
     match outcome {
         Outcome::Delivered => 1,
         Outcome::Stored | Outcome::Refused(_) => 0,
+    }
+}
+
+/// The last refusal after an answer: its own, if it is one, otherwise the one before.
+fn last_of(refusal: Option<Refusal>, before: Option<Refusal>) -> Option<Refusal>
+    ensures { result ≡ last_of refusal before }
+{
+    match refusal {
+        Some(refusal) => Some(refusal),
+        None => before,
     }
 }
 
@@ -176,27 +197,30 @@ fn count_refusal(refused: &mut [u32], refusal: Option<Refusal>)
     }
 }
 
-/// Counts the answer to a packet of a link for its call.
+/// Counts the answer to a packet of a link for its call. Returns whether there was no memory to begin its counts.
 pub(crate) fn count_call(
     calls: &mut IndexMap<u32, CallCounts>,
     concentrator: &Concentrator,
     link: u16,
     moment: u64,
-    answer: &Answer<'_>,
-)
-    ensures { CountsForCall (stands concentrator.now) link moment (report_of answer.now) (get nat_eq calls.old) (get nat_eq calls.new) }
+    marked: &Marked<'_>,
+) -> bool
+    ensures { CountsForCall (stands concentrator.now) link moment (report_of marked.now.answer) marked.now.repaired result (get nat_eq calls.old) (get nat_eq calls.new) }
 {
-    let Answer::Arrived { cid, reply, .. } = answer else {
-        return;
+    let Answer::Arrived { cid, reply, .. } = &marked.answer else {
+        return false;
     };
     let key = key_of(link, *cid);
     if let Some(counts) = calls.get_mut(&key) {
-        counts.count(reply);
-    } else if concentrator.has_context(link, *cid) {
-        let mut counts = CallCounts::new(moment);
-        counts.count(reply);
-        let _ = calls.insert(key, counts);
+        counts.count(reply, marked.repaired);
+        return false;
     }
+    if !concentrator.has_context(link, *cid) {
+        return false;
+    }
+    let mut counts = CallCounts::new(moment);
+    counts.count(reply, marked.repaired);
+    calls.insert(key, counts).is_err()
 }
 
 /// Keeps the counts of the calls whose contexts stand.

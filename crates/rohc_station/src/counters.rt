@@ -4,10 +4,18 @@ ghost use Rattle.std.specs.Prelude.{◌≡◌, ◌≢◌, ℕ, nat_eq, option_ma
 ghost use Rattle.indexmap.specs.IndexMap.{get};
 ghost use Rattle.rohc_concentrator.specs.Report.{report_of};
 ghost use Rattle.rohc_links.specs.Limits.{counted};
-ghost use Rattle.rohc_station.specs.Counting.{CountsAnswer, one_if, rebuilt_octets, with_failed_sends};
+ghost use Rattle.rohc_station.specs.Limits.{one_if, with_work, with_turned_away, with_limits};
+ghost use Rattle.rohc_station.specs.Unknown.{unknown_in};
+ghost use Rattle.rohc_station.specs.ByCall.{stands};
+ghost use Rattle.rohc_station.specs.Counting.{CountsAnswer, limiter_in, rebuilt_octets, with_failed_sends, with_limiter};
 
+use crate::limits::{Limiter, LinkLimits, Work};
+use crate::marked::Marked;
+use crate::sending::refusal_of;
+use crate::unknown::{UnknownCid, copied, notice};
+use arrayvec::ArrayVec;
 use indexmap::IndexMap;
-use rohc_concentrator::Answer;
+use rohc_concentrator::{Answer, Concentrator};
 use rohc_counts::Counts;
 
 /// The octets of a link.
@@ -25,7 +33,7 @@ impl Octets {
     ghost use Rattle.std.specs.Prelude.{◌≡◌};
     ghost use Rattle.rohc_station.specs.Counting.{with_packet};
 
-    /// Counts a packet that arrived with so many octets, and the octets of what it was rebuilt to, if it was.
+    /// Counts the octets of a packet as it arrived, and of what it was rebuilt to, if it was.
     fn add(&mut self, arrived: u64, rebuilt: Option<u64>)
         ensures { self.new ≡ with_packet arrived rebuilt self.old }
     {
@@ -38,17 +46,24 @@ impl Octets {
 }
 
 /// The counts of a link.
-#[derive(Clone, Copy)]
+#[derive(Drop)]
 pub struct LinkCounters {
     /// The answers to its packets.
     pub answers: Counts,
     /// The octets of its packets.
     pub octets: Octets,
+    /// Packets that were delivered by the second or the third try.
+    pub repaired: u64,
     /// Sends that failed.
     pub failed_sends: u64,
+    /// Its limits, and what they did.
+    pub limiter: Limiter,
+    /// The last CIDs without a context whose packets were refused for that, the newest last.
+    pub unknown: ArrayVec<UnknownCid, 64>,
 }
 
 impl LinkCounters {
+    ghost use Rattle.std.specs.Prelude.{◌≡◌};
     ghost use Rattle.rohc_station.specs.Counting.{IsUncounted};
 
     /// Nothing is counted yet.
@@ -62,7 +77,24 @@ impl LinkCounters {
                 compressed: 0,
                 rebuilt: 0,
             },
+            repaired: 0,
             failed_sends: 0,
+            limiter: Limiter::new(),
+            unknown: ArrayVec::new(),
+        }
+    }
+
+    /// A copy.
+    pub(crate) fn copied(&self) -> LinkCounters
+        ensures { result ≡ self.now }
+    {
+        LinkCounters {
+            answers: self.answers,
+            octets: self.octets,
+            repaired: self.repaired,
+            failed_sends: self.failed_sends,
+            limiter: self.limiter,
+            unknown: copied(&self.unknown),
         }
     }
 }
@@ -74,6 +106,8 @@ pub struct StationCounters {
     pub datagrams: u64,
     /// Datagrams that are too short, of a link that isn't there, or turned away.
     pub bad_datagrams: u64,
+    /// Datagrams whose answers there was no memory to count for their calls.
+    pub uncounted: u64,
 }
 
 impl StationCounters {
@@ -84,20 +118,23 @@ impl StationCounters {
     pub(crate) fn new() -> StationCounters
         ensures datagrams { result.datagrams ≡ 0 }
         ensures bad { result.bad_datagrams ≡ 0 }
+        ensures uncounted { result.uncounted ≡ 0 }
     {
         StationCounters {
             datagrams: 0,
             bad_datagrams: 0,
+            uncounted: 0,
         }
     }
 
     /// Counts a datagram.
-    pub(crate) fn add(&mut self, is_bad: bool)
-        ensures { self.new ≡ with_datagram self.old is_bad }
+    pub(crate) fn add(&mut self, is_bad: bool, is_uncounted: bool)
+        ensures { self.new ≡ with_datagram self.old is_bad is_uncounted }
     {
         *self = StationCounters {
             datagrams: self.datagrams.saturating_add(1),
             bad_datagrams: counted_if(self.bad_datagrams, is_bad),
+            uncounted: counted_if(self.uncounted, is_uncounted),
         };
     }
 }
@@ -112,8 +149,50 @@ pub(crate) fn count_failed_sends(counters: &mut IndexMap<u16, LinkCounters>, lin
     }
 }
 
+/// The limits of a link, and what they did; none if it has no counts.
+pub(crate) fn limiter_of(counters: &IndexMap<u16, LinkCounters>, link: u16) -> Limiter
+    ensures { result ≡ limiter_in (get nat_eq counters.now link) }
+{
+    match counters.get(&link) {
+        Some(of_link) => of_link.limiter,
+        None => Limiter::new(),
+    }
+}
+
+/// Gives a link these limits, if it has counts.
+pub(crate) fn set_limits(counters: &mut IndexMap<u16, LinkCounters>, link: u16, limits: LinkLimits)
+    ensures own { get nat_eq counters.new link ≡ option_map (with_limiter (with_limits limits)) (get nat_eq counters.old link) }
+    ensures others { (l : ℕ) → l ≢ link → get nat_eq counters.new l ≡ get nat_eq counters.old l }
+{
+    if let Some(of_link) = counters.get_mut(&link) {
+        of_link.limiter.limits = limits;
+    }
+}
+
+/// Counts a packet of a link that was turned away, if the link has counts.
+pub(crate) fn count_turned_away(counters: &mut IndexMap<u16, LinkCounters>, link: u16)
+    ensures own { get nat_eq counters.new link ≡ option_map (with_limiter with_turned_away) (get nat_eq counters.old link) }
+    ensures others { (l : ℕ) → l ≢ link → get nat_eq counters.new l ≡ get nat_eq counters.old l }
+{
+    if let Some(of_link) = counters.get_mut(&link) {
+        let count = of_link.limiter.contexts_limited;
+        of_link.limiter.contexts_limited = count.saturating_add(1);
+    }
+}
+
+/// Counts what came of a packet for the limits of its link, if the link has counts.
+pub(crate) fn count_work(counters: &mut IndexMap<u16, LinkCounters>, link: u16, work: Work)
+    ensures own { get nat_eq counters.new link
+        ≡ option_map (with_limiter (with_work work.second work.new_contexts work.has_feedback)) (get nat_eq counters.old link) }
+    ensures others { (l : ℕ) → l ≢ link → get nat_eq counters.new l ≡ get nat_eq counters.old l }
+{
+    if let Some(of_link) = counters.get_mut(&link) {
+        of_link.limiter.count(work);
+    }
+}
+
 /// The count plus one if `holds`.
-fn counted_if(count: u64, holds: bool) -> u64
+pub(crate) fn counted_if(count: u64, holds: bool) -> u64
     ensures { result ≡ counted count (one_if holds) }
 {
     count.saturating_add(u64::from(holds))
@@ -132,18 +211,37 @@ fn rebuilt_octets(answer: &Answer<'_>) -> Option<u64>
     }
 }
 
-/// Counts an answer to a packet of a link that arrived with so many octets, if the link has counts.
-pub(crate) fn count_answer(
-    counters: &mut IndexMap<u16, LinkCounters>,
+/// Takes notice of an answer for the list of CIDs without a context on its link.
+fn notice_unknown(
+    list: &mut ArrayVec<UnknownCid, 64>,
+    concentrator: &Concentrator,
     link: u16,
-    arrived: u64,
     answer: &Answer<'_>,
 )
-    ensures own { CountsAnswer arrived (report_of answer.now) (get nat_eq counters.old link) (get nat_eq counters.new link) }
+    ensures { list.new.items ≡ unknown_in (stands concentrator.now link) (report_of answer.now) list.old.items }
+{
+    if let Answer::Arrived { cid, reply, .. } = answer {
+        let has_context = concentrator.has_context(link, *cid);
+        notice(list, *cid, has_context, refusal_of(reply.outcome));
+    }
+}
+
+/// Counts an answer to a packet, with its octets and whether it was repaired, if the link has counts.
+pub(crate) fn count_answer(
+    counters: &mut IndexMap<u16, LinkCounters>,
+    concentrator: &Concentrator,
+    link: u16,
+    arrived: u64,
+    marked: &Marked<'_>,
+)
+    ensures own { CountsAnswer (stands concentrator.now link) arrived (report_of marked.now.answer) marked.now.repaired (get nat_eq counters.old link) (get nat_eq counters.new link) }
     ensures others { (l : ℕ) → l ≢ link → get nat_eq counters.new l ≡ get nat_eq counters.old l }
 {
     if let Some(of_link) = counters.get_mut(&link) {
+        let answer = &marked.answer;
         of_link.answers.count(answer);
         of_link.octets.add(arrived, rebuilt_octets(answer));
+        of_link.repaired = counted_if(of_link.repaired, marked.repaired);
+        notice_unknown(&mut of_link.unknown, concentrator, link, answer);
     }
 }

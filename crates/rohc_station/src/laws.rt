@@ -1,6 +1,7 @@
-//! The laws of a station's whole life, as contracts of functions that do nothing.
+//! The laws of a station's whole life, and of names in its page, as contracts of functions that do nothing.
 
 ghost use Rattle.rohc_station.specs.Life.{LifeIsRun, LifeKeepsSound, IsolatedLife, IsolatedLinkLife, SameLives, SameLinkLives};
+ghost use Rattle.rohc_station.specs.Shown.{NamesStayText};
 
 /// All that a station does in its life is one run of calls of its concentrator. It keeps a sound concentrator sound.
 pub fn whole_life()
@@ -8,8 +9,8 @@ pub fn whole_life()
     ensures sound { LifeKeepsSound }
 {}
 
-/// In a station's life each CID gets the answers of one context run alone over its own calls, and each link those of the
-/// link run alone, whatever comes for others and whatever files say.
+/// In a station's life each CID gets the answers that one context alone would give to its own calls, and each link those
+/// of the link alone, whatever comes for others and whatever files say.
 pub fn isolated_life()
     ensures cids { IsolatedLife }
     ensures links { IsolatedLinkLife }
@@ -20,4 +21,10 @@ pub fn isolated_life()
 pub fn same_lives()
     ensures cids { SameLives }
     ensures links { SameLinkLives }
+{}
+
+/// No name of a link can put a tag, an entity of its own, the end of an attribute or a control character of ASCII into
+/// the page.
+pub fn names_stay_text()
+    ensures { NamesStayText }
 {}

@@ -1,10 +1,12 @@
-//! The contexts of a link as JSON lines.
+//! Contexts and calls as JSON lines.
 
 use crate::calls::CallCounts;
+use crate::counters::LinkCounters;
+use crate::rows::{CallList, CallRow, First, is_listed};
 use crate::station::Station;
-use rohc_concentrator::LinkRecords;
 use rohc_context::{Context, ContextState, Profile, Refusal};
-use std::alloc::{AllocError, Global};
+use rohc_header::Static;
+use std::alloc::Global;
 use std::io;
 use std::io::Write;
 
@@ -36,13 +38,54 @@ fn write_context<W: Write>(out: &mut W, link: u16, cid: u16, context: &Context) 
     )
 }
 
+/// Writes the member that says for how long a call is silent.
+fn write_silent<W: Write>(out: &mut W, row: &CallRow<'_>) -> io::Result<()> {
+    match row.silent {
+        Some(silent) => write!(out, ",\"silent_ms\":{silent}"),
+        None => write!(out, ",\"silent_ms\":null"),
+    }
+}
+
+/// Writes the members of an address and its port.
+fn write_endpoint<W: Write>(
+    out: &mut W,
+    name: &str,
+    address: [u8; 4],
+    port: u16,
+) -> io::Result<()> {
+    let [first, second, third, fourth] = address;
+    write!(
+        out,
+        ",\"{name}\":\"{first}.{second}.{third}.{fourth}\",\"{name}_port\":{port}"
+    )
+}
+
+/// Writes the members that have the addresses, the ports and the SSRC of a call.
+fn write_fixed<W: Write>(out: &mut W, fixed: &Static) -> io::Result<()> {
+    write_endpoint(out, "source", fixed.source, fixed.source_port)?;
+    write_endpoint(
+        out,
+        "destination",
+        fixed.destination,
+        fixed.destination_port,
+    )?;
+    let ssrc = fixed.ssrc;
+    write!(out, ",\"ssrc\":{ssrc},\"ssrc_text\":\"0x{ssrc:08x}\"")
+}
+
 /// Writes the members that have the counts of a call.
 fn write_counts<W: Write>(out: &mut W, counts: &CallCounts) -> io::Result<()> {
     write!(
         out,
-        ",\"since\":{},\"delivered\":{},\"lost\":{},\"late\":{},\"refused\":{{",
-        counts.since, counts.delivered, counts.sequence.lost, counts.sequence.late
+        ",\"since\":{},\"delivered\":{},\"repaired\":{},\"lost\":{},\"late\":{}",
+        counts.since, counts.delivered, counts.repaired, counts.sequence.lost, counts.sequence.late
     )?;
+    write_refused(out, counts)
+}
+
+/// Writes the member that has the refusals of a call.
+fn write_refused<W: Write>(out: &mut W, counts: &CallCounts) -> io::Result<()> {
+    write!(out, ",\"refused\":{{")?;
     let mut comma = "";
     for refusal in Refusal::all() {
         let count = counts.refused(refusal);
@@ -52,6 +95,22 @@ fn write_counts<W: Write>(out: &mut W, counts: &CallCounts) -> io::Result<()> {
         }
     }
     write!(out, "}}")
+}
+
+/// Writes a call as an object.
+fn write_call<W: Write>(out: &mut W, row: &CallRow<'_>) -> io::Result<()> {
+    write_context(out, row.link, row.cid, row.context)?;
+    write_silent(out, row)?;
+    if let Some(fixed) = &row.fixed {
+        write_fixed(out, fixed)?;
+    }
+    if let Some(counts) = row.counts {
+        write_counts(out, counts)?;
+    }
+    match row.last_refused() {
+        Some(refusal) => writeln!(out, ",\"last_refused\":\"{refusal}\"}}"),
+        None => writeln!(out, ",\"last_refused\":null}}"),
+    }
 }
 
 /// Writes the contexts of a link, one object per line, in the order of their first IRs. Nothing is written for
@@ -66,35 +125,38 @@ pub fn write_contexts<W: Write>(out: &mut W, station: &Station, link: u16) -> io
     Ok(())
 }
 
-/// The places of a link's contexts, longest without an accepted arrival first.
-fn oldest_first(alloc: Global, records: &LinkRecords) -> Result<Vec<(u64, usize)>, AllocError> {
-    let mut places = Vec::new(alloc);
-    for (place, (_, context)) in records.contexts.iter().enumerate() {
-        places.push((context.accepted(), place))?;
+/// Writes the CIDs of a link that have no context, whose packets were refused for that, one object per line, the newest
+/// last.
+fn write_unknown<W: Write>(out: &mut W, link: u16, of_link: &LinkCounters) -> io::Result<()> {
+    for unknown in &of_link.unknown {
+        let no_context = Refusal::NoContext;
+        writeln!(
+            out,
+            "{{\"link\":{link},\"cid\":{},\"profile\":null,\"state\":null,\"refused\":{{\"{no_context}\":{}}}}}",
+            unknown.cid, unknown.packets
+        )?;
     }
-    places.sort()?;
-    Ok(places)
+    Ok(())
 }
 
-/// Writes the contexts of a link as `write_contexts` does, those that were longest without an accepted
-/// arrival first, and with them what is counted of the calls that had packets in this run.
+/// Writes the calls of one link, or of all, one object per line, those that were longest without an accepted packet
+/// first: each context as `write_contexts` does, the call that it is of, and what is counted of one that had packets in
+/// this run. Behind them follow the CIDs without a context whose packets were refused for that, the newest of each link
+/// last.
 pub fn write_calls<W: Write>(
     alloc: Global,
     out: &mut W,
-    station: &Station,
-    link: u16,
+    calls: &CallList<'_>,
+    only: Option<u16>,
 ) -> io::Result<()> {
-    let concentrator = station.concentrator();
-    if let Some(records) = concentrator.tables().get(&link) {
-        let places = oldest_first(alloc, records)?;
-        for (_, place) in &places {
-            if let Some((cid, context)) = concentrator.context_at(link, *place) {
-                write_context(out, link, cid, context)?;
-                if let Some(counts) = station.counts_of(link, cid) {
-                    write_counts(out, counts)?;
-                }
-                writeln!(out, "}}")?;
-            }
+    for place in &calls.sorted(alloc, First::Silent, only)? {
+        if let Some(row) = calls.row_at(place) {
+            write_call(out, &row)?;
+        }
+    }
+    for (link, of_link) in calls.station.counters() {
+        if is_listed(only, *link) {
+            write_unknown(out, *link, of_link)?;
         }
     }
     Ok(())

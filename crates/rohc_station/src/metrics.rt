@@ -30,7 +30,7 @@ pub struct GatewayFigures {
     pub started: u64,
     /// Whether there is a state file.
     pub has_state: bool,
-    /// When the last save was done, in milliseconds since 1970; 0 before the first.
+    /// When the last save was done, by this run or the one before it, in milliseconds since 1970; 0 before the first.
     pub last_save: u64,
     /// Whether no new call is taken.
     pub draining: bool,
@@ -148,7 +148,7 @@ fn write_feedback<W: Write>(out: &mut W, station: &Station) -> io::Result<()> {
         out,
         name,
         "counter",
-        "Feedback elements for the peer, by link and kind.",
+        "Feedback elements for the compressor, by link and kind, sent or withheld by a limit.",
     )?;
     for (link, of_link) in station.counters() {
         let [acks, nacks, static_nacks, plain] = of_link.answers.words;
@@ -211,6 +211,17 @@ fn write_octets<W: Write>(out: &mut W, station: &Station) -> io::Result<()> {
     Ok(())
 }
 
+/// Writes the repaired packets of each link.
+fn write_repaired<W: Write>(out: &mut W, station: &Station) -> io::Result<()> {
+    let name = "polorowan_repaired_total";
+    let help = "Packets delivered by the second or the third try.";
+    write_head(out, name, "counter", help)?;
+    for (link, of_link) in station.counters() {
+        writeln!(out, "{name}{{link=\"{link}\"}} {}", of_link.repaired)?;
+    }
+    Ok(())
+}
+
 /// Writes what each link relayed, and its failed sends.
 fn write_sends<W: Write>(out: &mut W, station: &Station) -> io::Result<()> {
     let relayed = "polorowan_relayed_total";
@@ -235,6 +246,25 @@ fn write_sends<W: Write>(out: &mut W, station: &Station) -> io::Result<()> {
     Ok(())
 }
 
+/// Writes what the limits of each link did.
+fn write_limited<W: Write>(out: &mut W, station: &Station) -> io::Result<()> {
+    let contexts = "polorowan_contexts_limited_total";
+    let help = "Packets of new calls turned away above new_contexts_per_second.";
+    write_head(out, contexts, "counter", help)?;
+    for (link, of_link) in station.counters() {
+        let count = of_link.limiter.contexts_limited;
+        writeln!(out, "{contexts}{{link=\"{link}\"}} {count}")?;
+    }
+    let feedback = "polorowan_feedback_limited_total";
+    let help = "Feedback elements for the peer not sent, above feedback_per_second.";
+    write_head(out, feedback, "counter", help)?;
+    for (link, of_link) in station.counters() {
+        let count = of_link.limiter.feedback_limited;
+        writeln!(out, "{feedback}{{link=\"{link}\"}} {count}")?;
+    }
+    Ok(())
+}
+
 /// Writes the contexts of each link by state.
 fn write_contexts<W: Write>(out: &mut W, station: &Station) -> io::Result<()> {
     let name = "polorowan_contexts";
@@ -254,11 +284,7 @@ fn write_contexts<W: Write>(out: &mut W, station: &Station) -> io::Result<()> {
 }
 
 /// Writes the counts over all links.
-fn write_totals<W: Write>(
-    out: &mut W,
-    station: &Station,
-    figures: &GatewayFigures,
-) -> io::Result<()> {
+fn write_totals<W: Write>(out: &mut W, station: &Station) -> io::Result<()> {
     let totals = station.totals();
     for (name, help, count) in [
         (
@@ -268,9 +294,23 @@ fn write_totals<W: Write>(
         ),
         (
             "polorowan_bad_datagrams_total",
-            "Datagrams refused: too short, of an unknown link, or of a new call while draining.",
+            "Datagrams refused: too short, of an unknown link, or of a new call while draining or above a limit.",
             totals.bad_datagrams,
         ),
+        (
+            "polorowan_uncounted_total",
+            "Packets that are missing in the counts of their call, for lack of memory.",
+            totals.uncounted,
+        ),
+    ] {
+        write_one(out, name, "counter", help, count)?;
+    }
+    Ok(())
+}
+
+/// Writes what a gateway counts beside its station.
+fn write_figures<W: Write>(out: &mut W, figures: &GatewayFigures) -> io::Result<()> {
+    for (name, help, count) in [
         (
             "polorowan_failed_receives_total",
             "Failed receives.",
@@ -322,12 +362,15 @@ pub fn write_metrics<W: Write>(
     version: &str,
 ) -> io::Result<()> {
     write_packets(out, station)?;
+    write_repaired(out, station)?;
     write_refusals(out, station)?;
     write_feedback(out, station)?;
     write_octets(out, station)?;
     write_sends(out, station)?;
+    write_limited(out, station)?;
     write_contexts(out, station)?;
-    write_totals(out, station, figures)?;
+    write_totals(out, station)?;
+    write_figures(out, figures)?;
     write_times(out, figures)?;
     let draining = "polorowan_draining";
     write_one(

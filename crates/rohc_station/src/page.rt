@@ -1,19 +1,19 @@
 //! The page of a gateway, for people: its links, its refusals with their likely causes, and its calls.
 
 use crate::calls::CallCounts;
-use crate::counters::Octets;
+use crate::calls_text::last_column;
+use crate::counters::LinkCounters;
 use crate::lists::profile_name;
-use crate::metrics::{GatewayFigures, delivered, refused, states_of};
+use crate::metrics::{GatewayFigures, delivered, refused};
+use crate::rows::{CallList, CallRow, First, MOST_WORST, state_text};
+use crate::shown::write_shown;
 use crate::station::Station;
-use rohc_context::{Context, ContextState, Refusal};
+use rohc_context::Refusal;
 use rohc_explain::cause_of;
 use rohc_report::{POLICY, STYLE, write_escaped, write_number, write_tile};
-use std::alloc::{AllocError, Global};
+use std::alloc::Global;
 use std::io;
 use std::io::Write;
-
-/// How many of the calls with the most refusals the page lists.
-const MOST_WORST: usize = 20;
 
 /// How many of the calls that are silent longest the page lists.
 const MOST_SILENT: usize = 100;
@@ -31,18 +31,24 @@ pub struct LinkName<'a> {
 /// What the page is of.
 #[derive(Clone, Copy)]
 pub struct Page<'a> {
-    pub station: &'a Station,
+    pub calls: CallList<'a>,
     pub figures: &'a GatewayFigures,
     /// The names of the links that have one.
     pub names: &'a [LinkName<'a>],
-    /// Now, in milliseconds since 1970.
-    pub now: u64,
     /// The version of the gateway.
     pub version: &'a str,
 }
 
+impl<'a> Page<'a> {
+    /// The name of a link, if it has one.
+    pub(crate) fn name_of(&self, link: u16) -> Option<&'a str> {
+        let named = self.names.iter().find(|named| named.link == link)?;
+        Some(named.name)
+    }
+}
+
 /// Writes a duration in milliseconds with its two largest units, as `3 min 10 s`.
-fn write_duration<W: Write>(out: &mut W, milliseconds: u64) -> io::Result<()> {
+pub(crate) fn write_duration<W: Write>(out: &mut W, milliseconds: u64) -> io::Result<()> {
     let seconds = milliseconds / 1000;
     match seconds {
         0..=59 => write!(out, "{seconds} s"),
@@ -59,7 +65,7 @@ fn write_start<W: Write>(out: &mut W, page: &Page<'_>) -> io::Result<()> {
         "<!DOCTYPE html>\n<html lang=\"en\">\n<head>\n<meta charset=\"utf-8\">\n<meta http-equiv=\"Content-Security-Policy\" content=\"{POLICY}\">\n<meta http-equiv=\"refresh\" content=\"{REFRESH}\">\n<meta name=\"viewport\" content=\"width=device-width, initial-scale=1\">\n<meta name=\"referrer\" content=\"no-referrer\">\n<title>rohc-gateway</title>\n<style>{STYLE}</style>\n</head>\n<body>\n<header>\n<h1>rohc-gateway</h1>\n<p class=\"quiet\">Version {}, running for ",
         page.version
     )?;
-    write_duration(out, page.now.saturating_sub(page.figures.started))?;
+    write_duration(out, page.calls.now.saturating_sub(page.figures.started))?;
     let draining = if page.figures.draining {
         " <b>Draining: no new call is accepted.</b>"
     } else {
@@ -67,7 +73,7 @@ fn write_start<W: Write>(out: &mut W, page: &Page<'_>) -> io::Result<()> {
     };
     write!(
         out,
-        ".{draining}</p>\n<nav aria-label=\"Sections\"><a href=\"#links\">Links</a><a href=\"#refusals\">Refusals</a><a href=\"#worst\">Refused calls</a><a href=\"#silent\">Silent calls</a></nav>\n</header>\n<main>\n"
+        ".{draining}</p>\n<nav aria-label=\"Sections\"><a href=\"#links\">Links</a><a href=\"#traffic\">Traffic</a><a href=\"#refusals\">Refusals</a><a href=\"#worst\">Refused calls</a><a href=\"#silent\">Silent calls</a><a href=\"#unknown\">Unknown CIDs</a></nav>\n</header>\n<main>\n"
     )
 }
 
@@ -83,12 +89,12 @@ fn write_saves<W: Write>(out: &mut W, figures: &GatewayFigures, now: u64) -> io:
     if figures.last_save == 0 {
         write!(out, "Not saved since the start")?;
     } else {
-        write!(out, "Last saved ")?;
+        write!(out, "Saves since the start: {}. Last saved ", figures.saves)?;
         write_duration(out, now.saturating_sub(figures.last_save))?;
         write!(out, " ago")?;
     }
     if figures.failed_saves > 0 {
-        write!(out, "; <b>{} saves failed</b>", figures.failed_saves)?;
+        write!(out, "; <b>saves failed: {}</b>", figures.failed_saves)?;
     }
     writeln!(out, ".</p>")
 }
@@ -119,7 +125,7 @@ fn sum_of(station: &Station, is_refused: bool) -> u64 {
 
 /// Writes the totals.
 fn write_totals<W: Write>(out: &mut W, page: &Page<'_>) -> io::Result<()> {
-    let (station, figures) = (page.station, page.figures);
+    let (station, figures) = (page.calls.station, page.figures);
     writeln!(out, "<section aria-label=\"Totals\">\n<ul class=\"tiles\">")?;
     let totals = station.totals();
     for (name, number, is_bad) in [
@@ -127,6 +133,7 @@ fn write_totals<W: Write>(out: &mut W, page: &Page<'_>) -> io::Result<()> {
         ("Contexts", context_count(station), false),
         ("Datagrams", totals.datagrams, false),
         ("Bad datagrams", totals.bad_datagrams, true),
+        ("Not counted", totals.uncounted, true),
         ("Delivered", sum_of(station, false), false),
         ("Refused", sum_of(station, true), true),
         ("Failed receives", figures.failed_receives, true),
@@ -134,7 +141,7 @@ fn write_totals<W: Write>(out: &mut W, page: &Page<'_>) -> io::Result<()> {
         write_tile(out, name, number, is_bad)?;
     }
     writeln!(out, "</ul>")?;
-    write_saves(out, figures, page.now)?;
+    write_saves(out, figures, page.calls.now)?;
     writeln!(out, "</section>")
 }
 
@@ -148,7 +155,7 @@ fn write_columns<W: Write>(
 ) -> io::Result<()> {
     write!(
         out,
-        "<section aria-labelledby=\"{anchor}\">\n<h2 id=\"{anchor}\">{title}</h2>\n<div class=\"wide\" role=\"region\" aria-label=\"{title}\" tabindex=\"0\"><table>\n<thead><tr>"
+        "<section id=\"{anchor}\" aria-labelledby=\"{anchor}-title\">\n<h2 id=\"{anchor}-title\">{title}</h2>\n<div class=\"wide\" role=\"region\" aria-label=\"{title}\" tabindex=\"0\"><table>\n<thead><tr>"
     )?;
     for (place, column) in columns.iter().enumerate() {
         let class = if place < texts { " class=\"text\"" } else { "" };
@@ -169,17 +176,11 @@ fn write_cell<W: Write>(out: &mut W, number: u64) -> io::Result<()> {
     write!(out, "</td>")
 }
 
-/// Writes the share of the rebuilt octets that wasn't sent, in percent.
-fn write_saved<W: Write>(out: &mut W, octets: Octets) -> io::Result<()> {
-    match octets.rebuilt.checked_sub(octets.compressed) {
-        Some(saved) if octets.rebuilt > 0 => {
-            write!(
-                out,
-                "<td>{} %</td>",
-                saved.saturating_mul(100) / octets.rebuilt
-            )
-        }
-        _ => write!(out, "<td>none</td>"),
+/// Writes the share of the rebuilt octets that wasn't sent.
+fn write_saved<W: Write>(out: &mut W, saved: Option<u64>) -> io::Result<()> {
+    match saved {
+        Some(saved) => write!(out, "<td>{saved} %</td>"),
+        None => write!(out, "<td>none</td>"),
     }
 }
 
@@ -191,41 +192,31 @@ fn write_link_header<W: Write>(
     link: u16,
 ) -> io::Result<()> {
     write!(out, "<tr><th scope=\"row\">{link}")?;
-    for named in page.names {
-        if named.link == link {
-            write!(out, " ")?;
-            write_escaped(alloc, out, named.name.as_bytes())?;
-        }
+    if let Some(name) = page.name_of(link) {
+        write!(out, " ")?;
+        write_shown(alloc, out, name)?;
     }
     write!(out, "</th>")
 }
 
-/// Writes the row of a link.
+/// Writes the row of a link: its contexts and its packets.
 fn write_link<W: Write>(alloc: Global, out: &mut W, page: &Page<'_>, link: u16) -> io::Result<()> {
-    let station = page.station;
-    let (Some(of_link), Some(records)) = (
-        station.counters().get(&link),
-        station.concentrator().tables().get(&link),
-    ) else {
+    let Some(row) = page.calls.link_row(link) else {
         return Ok(());
     };
     write_link_header(alloc, out, page, link)?;
-    let states = states_of(records);
-    let [_, nacks, static_nacks, _] = of_link.answers.words;
     for number in [
-        states.full,
-        states.fixed,
-        states.no,
-        delivered(&of_link.answers),
-        refused(&of_link.answers),
-        nacks.saturating_add(static_nacks),
-        of_link.octets.received,
-        of_link.octets.rebuilt,
+        row.states.full,
+        row.states.fixed,
+        row.states.no,
+        row.per_second,
+        row.delivered,
+        row.refused,
+        row.nacks,
     ] {
         write_cell(out, number)?;
     }
-    write_saved(out, of_link.octets)?;
-    write_cell(out, of_link.failed_sends)?;
+    write_saved(out, row.saved)?;
     writeln!(out, "</tr>")
 }
 
@@ -241,17 +232,53 @@ fn write_links<W: Write>(alloc: Global, out: &mut W, page: &Page<'_>) -> io::Res
             "Full Context",
             "Static Context",
             "No Context",
+            "Packets per second",
             "Delivered",
             "Refused",
-            "NACKs sent",
-            "Octets received",
-            "Octets delivered",
+            "NACKs",
             "Saved",
-            "Failed sends",
         ],
     )?;
-    for (link, _) in page.station.counters() {
+    for (link, _) in page.calls.station.counters() {
         write_link(alloc, out, page, *link)?;
+    }
+    write_end(out)
+}
+
+/// Writes the row of a link's octets, and what was not sent.
+fn write_traffic_of<W: Write>(
+    alloc: Global,
+    out: &mut W,
+    page: &Page<'_>,
+    link: u16,
+    of_link: &LinkCounters,
+) -> io::Result<()> {
+    write_link_header(alloc, out, page, link)?;
+    for number in [
+        of_link.octets.received,
+        of_link.octets.rebuilt,
+        of_link.failed_sends,
+        of_link.limiter.contexts_limited,
+        of_link.limiter.feedback_limited,
+    ] {
+        write_cell(out, number)?;
+    }
+    writeln!(out, "</tr>")
+}
+
+/// Writes the table of what came and went on each link.
+fn write_traffic<W: Write>(alloc: Global, out: &mut W, page: &Page<'_>) -> io::Result<()> {
+    let columns = [
+        "Link",
+        "Octets received",
+        "Octets delivered",
+        "Failed sends",
+        "New calls turned away",
+        "Feedback withheld",
+    ];
+    write_columns(out, "Traffic and limits", "traffic", 1, &columns)?;
+    for (link, of_link) in page.calls.station.counters() {
+        write_traffic_of(alloc, out, page, *link, of_link)?;
     }
     write_end(out)
 }
@@ -293,65 +320,8 @@ fn write_refusals<W: Write>(alloc: Global, out: &mut W, station: &Station) -> io
     write_end(out)
 }
 
-/// Which calls come first in a table.
-#[derive(Clone, Copy)]
-enum First {
-    /// Those that were silent for the longest time.
-    Silent,
-    /// Those with the most refusals.
-    Refused,
-}
-
-impl First {
-    /// What a call is sorted by: the least come first.
-    fn key(self, station: &Station, link: u16, cid: u16, context: &Context) -> u64 {
-        match self {
-            First::Silent => context.accepted(),
-            First::Refused => match station.counts_of(link, cid) {
-                Some(counts) => u64::MAX - refusals_of(counts),
-                None => u64::MAX,
-            },
-        }
-    }
-}
-
-/// How many packets of a call were refused.
-fn refusals_of(counts: &CallCounts) -> u64 {
-    let mut sum = 0u64;
-    for refusal in Refusal::all() {
-        sum = sum.saturating_add(u64::from(counts.refused(refusal)));
-    }
-    sum
-}
-
-/// The calls of all links in this order: what each is sorted by, its link, and its place there.
-fn sorted(
-    alloc: Global,
-    station: &Station,
-    first: First,
-) -> Result<Vec<(u64, u16, usize)>, AllocError> {
-    let mut places = Vec::new(alloc);
-    for (link, records) in station.concentrator().tables() {
-        for (place, (cid, context)) in records.contexts.iter().enumerate() {
-            places.push((first.key(station, *link, *cid, context), *link, place))?;
-        }
-    }
-    places.sort()?;
-    Ok(places)
-}
-
-/// The state of a context, as people read it.
-fn state_text(state: ContextState) -> &'static str {
-    match state {
-        ContextState::NoContext => "No Context",
-        ContextState::StaticContext => "Static Context",
-        ContextState::FullContext => "Full Context",
-    }
-}
-
 /// Writes the refusals of a call, by name.
-fn write_reasons<W: Write>(out: &mut W, counts: &CallCounts) -> io::Result<()> {
-    write!(out, "<td class=\"text\">")?;
+pub(crate) fn write_reasons<W: Write>(out: &mut W, counts: &CallCounts) -> io::Result<()> {
     let mut comma = "";
     for refusal in Refusal::all() {
         let count = counts.refused(refusal);
@@ -360,36 +330,43 @@ fn write_reasons<W: Write>(out: &mut W, counts: &CallCounts) -> io::Result<()> {
             comma = ", ";
         }
     }
+    Ok(())
+}
+
+/// Writes the cell of a call's last accepted packet: how long ago it was, or its moment where that may be no time
+/// since 1970.
+fn write_last<W: Write>(out: &mut W, row: &CallRow<'_>) -> io::Result<()> {
+    write!(out, "<td>")?;
+    match row.silent {
+        Some(silent) => write_duration(out, silent)?,
+        None => write!(out, "{}", row.context.accepted())?,
+    }
     write!(out, "</td>")
 }
 
 /// Writes the row of a call.
-fn write_call<W: Write>(
-    out: &mut W,
-    station: &Station,
-    link: u16,
-    cid: u16,
-    context: &Context,
-    now: u64,
-) -> io::Result<()> {
-    let profile = profile_name(context.profile());
-    let state = state_text(context.state());
+fn write_call<W: Write>(out: &mut W, row: &CallRow<'_>) -> io::Result<()> {
+    let profile = profile_name(row.context.profile());
+    let state = state_text(row.context.state());
     write!(
         out,
-        "<tr><th scope=\"row\">{link}/{cid}</th><td class=\"text\">{profile}</td><td class=\"text\">{state}</td><td>"
+        "<tr><th scope=\"row\">{}/{}</th><td class=\"text\">{profile}</td><td class=\"text\">{state}</td>",
+        row.link, row.cid
     )?;
-    write_duration(out, now.saturating_sub(context.accepted()))?;
-    write!(out, "</td>")?;
-    match station.counts_of(link, cid) {
+    write_last(out, row)?;
+    match row.counts {
         Some(counts) => {
             write_cell(out, counts.delivered)?;
+            write_cell(out, counts.repaired)?;
             write_cell(out, counts.sequence.lost)?;
-            write_cell(out, counts.sequence.late)?;
+            write_cell(out, u64::from(counts.sequence.late))?;
+            write!(out, "<td class=\"text\">")?;
             write_reasons(out, counts)?;
+            write!(out, "</td>")?;
         }
         None => write!(
             out,
-            "<td>0</td><td>0</td><td>0</td><td class=\"text\"></td>"
+            "<td>0</td><td>0</td><td>0</td><td>0</td><td class=\"text\"></td>"
         )?,
     }
     writeln!(out, "</tr>")
@@ -399,15 +376,14 @@ fn write_call<W: Write>(
 fn write_calls<W: Write>(
     alloc: Global,
     out: &mut W,
-    station: &Station,
+    page: &Page<'_>,
     first: First,
     most: usize,
-    now: u64,
 ) -> io::Result<()> {
-    let places = sorted(alloc, station, first)?;
-    for (_, link, place) in places.iter().take(most) {
-        if let Some((cid, context)) = station.concentrator().context_at(*link, *place) {
-            write_call(out, station, *link, cid, context, now)?;
+    let places = page.calls.sorted(alloc, first, None)?;
+    for place in places.iter().take(most) {
+        if let Some(row) = page.calls.row_at(place) {
+            write_call(out, &row)?;
         }
     }
     write_end(out)?;
@@ -418,28 +394,46 @@ fn write_calls<W: Write>(
     Ok(())
 }
 
-/// The columns of a table of calls.
-const CALL_COLUMNS: [&str; 8] = [
-    "Link/CID",
-    "Profile",
-    "State",
-    "Silent for",
-    "Delivered",
-    "Lost",
-    "Late",
-    "Refused",
-];
+/// The columns of a table of calls. The fourth has their last accepted arrivals.
+fn call_columns(has_timed: bool) -> [&'static str; 9] {
+    [
+        "Link/CID",
+        "Profile",
+        "State",
+        last_column(has_timed),
+        "Delivered",
+        "Repaired",
+        "Lost",
+        "Late",
+        "Refused",
+    ]
+}
 
 /// Writes the tables of calls.
-fn write_both<W: Write>(alloc: Global, out: &mut W, station: &Station, now: u64) -> io::Result<()> {
+fn write_both<W: Write>(alloc: Global, out: &mut W, page: &Page<'_>) -> io::Result<()> {
     let (worst, silent) = (
         "Calls with the most refusals",
         "Calls that are silent longest",
     );
-    write_columns(out, worst, "worst", 3, &CALL_COLUMNS)?;
-    write_calls(alloc, out, station, First::Refused, MOST_WORST, now)?;
-    write_columns(out, silent, "silent", 3, &CALL_COLUMNS)?;
-    write_calls(alloc, out, station, First::Silent, MOST_SILENT, now)
+    let columns = call_columns(page.calls.has_timed);
+    write_columns(out, worst, "worst", 3, &columns)?;
+    write_calls(alloc, out, page, First::Refused, MOST_WORST)?;
+    write_columns(out, silent, "silent", 3, &columns)?;
+    write_calls(alloc, out, page, First::Silent, MOST_SILENT)
+}
+
+/// Writes the table of CIDs without a context whose packets were refused for that, the newest of each link first.
+fn write_unknown<W: Write>(out: &mut W, station: &Station) -> io::Result<()> {
+    let title = "CIDs that only got NoContext";
+    write_columns(out, title, "unknown", 1, &["Link/CID", "Packets"])?;
+    for (link, of_link) in station.counters() {
+        for unknown in of_link.unknown.iter().rev() {
+            write!(out, "<tr><th scope=\"row\">{link}/{}</th>", unknown.cid)?;
+            write_cell(out, unknown.packets)?;
+            writeln!(out, "</tr>")?;
+        }
+    }
+    write_end(out)
 }
 
 /// Writes the page. Nothing in it comes from elsewhere, and no script runs in it.
@@ -447,10 +441,12 @@ pub fn write_page<W: Write>(alloc: Global, out: &mut W, page: &Page<'_>) -> io::
     write_start(out, page)?;
     write_totals(out, page)?;
     write_links(alloc, out, page)?;
-    write_refusals(alloc, out, page.station)?;
-    write_both(alloc, out, page.station, page.now)?;
+    write_traffic(alloc, out, page)?;
+    write_refusals(alloc, out, page.calls.station)?;
+    write_both(alloc, out, page)?;
+    write_unknown(out, page.calls.station)?;
     writeln!(
         out,
-        "</main>\n<footer><p class=\"quiet\">This page reloads every {REFRESH} seconds. Counts begin with the start of the gateway, those of a call with its first packet.</p></footer>\n</body>\n</html>"
+        "</main>\n<footer><p class=\"quiet\">This page reloads every {REFRESH} seconds. Counts begin with the start of the gateway, those of a call with its first packet. Packets per second are those of the last whole second. At most the last 64 CIDs of a link that only got NoContext are shown.</p></footer>\n</body>\n</html>"
     )
 }

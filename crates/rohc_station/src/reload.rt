@@ -309,7 +309,7 @@ fn counts_of(counters: &IndexMap<u16, LinkCounters>, link: u16) -> LinkCounters
     ensures { (s : LinkSetting) → KeepsCounts (get nat_eq counters.now link) (Some s) (Some result) }
 {
     match counters.get(&link) {
-        Some(counts) => *counts,
+        Some(counts) => counts.copied(),
         None => LinkCounters::new(),
     }
 }

@@ -9,6 +9,15 @@ use httparse::spans::{EMPTY_HEADER_SPAN, HeaderSpan, RequestSpans, parse_request
 /// The most header fields of a request.
 const MOST_FIELDS: usize = 64;
 
+/// How a list is written.
+#[derive(Clone, Copy, PartialEq, Eq)]
+pub enum Form {
+    /// One object of JSON per line.
+    Json,
+    /// A table for people.
+    Text,
+}
+
 /// What is asked of a gateway.
 #[derive(Clone, Copy, PartialEq, Eq)]
 pub enum Request {
@@ -38,19 +47,25 @@ pub enum Request {
     Ready,
     /// `GET /status`
     Status,
+    /// `GET /state`: the contexts as a save would write them now.
+    State,
     /// `GET /metrics`
     Metrics,
     /// `GET /`: the page for people.
     Page,
+    /// `GET /top`: the links and the worst calls, as text for people.
+    Top,
     /// `GET /contexts?link=L`
     Contexts {
         /// The link.
         link: u16,
     },
-    /// `GET /calls?link=L`
+    /// `GET /calls`, with `link=L` and `as=text` or without
     Calls {
-        /// The link.
-        link: u16,
+        /// The link, if only its calls are meant.
+        link: Option<u16>,
+        /// How they are written.
+        form: Form,
     },
 }
 
@@ -68,8 +83,10 @@ impl Request {
             | Request::Watch { .. }
             | Request::Ready
             | Request::Status
+            | Request::State
             | Request::Metrics
             | Request::Page
+            | Request::Top
             | Request::Contexts { .. }
             | Request::Calls { .. } => false,
         }
@@ -228,6 +245,27 @@ fn link_in(query: Option<&[u8]>) -> Result<u16, RequestFault> {
     }
 }
 
+/// The form that `as=text` asks for, or none.
+fn form_in(query: Option<&[u8]>) -> Option<Form> {
+    match query {
+        None => Some(Form::Json),
+        Some(query) if query == b"as=text".as_slice() => Some(Form::Text),
+        Some(_) => None,
+    }
+}
+
+/// The link and the form in a query of `/calls`: `link=L`, `as=text`, both with `&` between them, or none.
+fn calls_in(query: Option<&[u8]>) -> Result<(Option<u16>, Form), RequestFault> {
+    if let Some(form) = form_in(query) {
+        return Ok((None, form));
+    }
+    let (first, second) = split_at_first(query.ok_or(RequestFault::BadRequest)?, b'&');
+    match (link_in(Some(first)), form_in(second)) {
+        (Ok(link), Some(form)) => Ok((Some(link), form)),
+        _ => Err(RequestFault::BadRequest),
+    }
+}
+
 /// What a query of `/reset` means.
 fn reset_in(query: Option<&[u8]>) -> Result<Request, RequestFault> {
     match query_in(query.ok_or(RequestFault::BadRequest)?) {
@@ -286,6 +324,10 @@ fn got(path: &[u8], query: Option<&[u8]>) -> Option<Result<Request, RequestFault
         Some(alone(Request::Ready, query))
     } else if path == b"/status".as_slice() {
         Some(alone(Request::Status, query))
+    } else if path == b"/state".as_slice() {
+        Some(alone(Request::State, query))
+    } else if path == b"/top".as_slice() {
+        Some(alone(Request::Top, query))
     } else if path == b"/metrics".as_slice() {
         Some(alone(Request::Metrics, query))
     } else if path == b"/".as_slice() {
@@ -293,7 +335,7 @@ fn got(path: &[u8], query: Option<&[u8]>) -> Option<Result<Request, RequestFault
     } else if path == b"/contexts".as_slice() {
         Some(link_in(query).map(|link| Request::Contexts { link }))
     } else if path == b"/calls".as_slice() {
-        Some(link_in(query).map(|link| Request::Calls { link }))
+        Some(calls_in(query).map(|(link, form)| Request::Calls { link, form }))
     } else {
         None
     }

@@ -6,7 +6,7 @@ ghost use Rattle.rohc_serve.specs.Outgoing.{outgoing_of, sends_of, refused_for};
 ghost use Rattle.rohc_serve.specs.Datagram.{place_of, ports_of};
 
 use rohc_concentrator::{Answer, LinkSetting};
-use rohc_context::{Outcome, Refusal};
+use rohc_context::{Delivered, Outcome, Refusal};
 use rohc_frame::Elements;
 use rohc_links::{Links, Ports};
 use rohc_serve::Sends;
@@ -38,7 +38,7 @@ pub struct Taken<'a> {
     pub refusal: Option<Refusal>,
 }
 
-ghost use Rattle.rohc_station.specs.Told.{refusal_of, refusal_in, told_of, told_unread, told_for};
+ghost use Rattle.rohc_station.specs.Told.{refusal_of, refusal_in, told_of, told_unread, told_for, told_within};
 
 /// The refusal of an outcome, if it is one.
 pub(crate) fn refusal_of(outcome: Outcome) -> Option<Refusal>
@@ -123,5 +123,81 @@ pub(crate) fn answered<'a>(ports: Option<Ports>, answer: Answer<'a>) -> Taken<'a
     Taken {
         sends: sends_of(ports, answer),
         refusal,
+    }
+}
+
+/// Removes the feedback for the compressor if it is withheld.
+pub(crate) fn withhold_if(taken: &mut Taken<'_>, is_withheld: bool)
+    ensures { told_of taken.new ≡ told_within is_withheld (told_of taken.old) }
+{
+    if is_withheld {
+        taken.sends.feedback = None;
+    }
+}
+
+ghost use Rattle.std.specs.Prelude.{◌≤◌, ◌+◌, ◌++◌, take, IfNone};
+ghost use Rattle.rohc_station.specs.Sent.{front_of, sent_element, NumberedNamesLink, NamesLink};
+
+/// Writes octets into the buffer, and others behind them. Returns how many these are, or `None` if there is no room.
+fn put(buffer: &mut [u8], front: &[u8], rest: &[u8]) -> Option<usize>
+    ensures put { IfSome result (λ size. take size buffer.new ≡ front.now ++ rest.now) }
+    ensures within { IfSome result (λ size. size ≤ length buffer.new) }
+    ensures long { IfNone result (length buffer.old < length front.now + length rest.now) }
+{
+    let size = front.len() + rest.len();
+    if size > buffer.len() {
+        return None;
+    }
+    buffer[..front.len()].copy_from_slice(front);
+    buffer[front.len()..size].copy_from_slice(rest);
+    Some(size)
+}
+
+/// Writes a packet into the buffer. Returns how many octets it has, or `None` if there is no room.
+pub fn put_packet(buffer: &mut [u8], packet: &Delivered<'_>) -> Option<usize>
+    ensures put { IfSome result (λ size. take size buffer.new ≡ packet.now.head.items ++ packet.now.payload.now) }
+    ensures within { IfSome result (λ size. size ≤ length buffer.new) }
+    ensures long { IfNone result (length buffer.old < length packet.now.head.items + length packet.now.payload.now) }
+{
+    put(buffer, packet.head.as_slice(), packet.payload)
+}
+
+/// The number of a link, with which a datagram of either form begins, if it is to be sent.
+fn front_of(is_numbered: bool, datagram: &[u8]) -> &[u8]
+    ensures { result.now ≡ front_of is_numbered datagram.now }
+{
+    if !is_numbered {
+        return &[];
+    }
+    datagram.get(..2).unwrap_or(datagram)
+}
+
+/// Writes an element of the answer to a datagram into the buffer, behind the number of the datagram's link if it is to be
+/// numbered. Returns how many octets these are, or `None` if there is no room.
+pub fn put_element(
+    buffer: &mut [u8],
+    is_numbered: bool,
+    datagram: &[u8],
+    element: &[u8],
+) -> Option<usize>
+    ensures put { IfSome result (λ size. take size buffer.new ≡ sent_element is_numbered datagram.now element.now) }
+    ensures within { IfSome result (λ size. size ≤ length buffer.new) }
+    ensures long { IfNone result (length buffer.old < length (sent_element is_numbered datagram.now element.now)) }
+{
+    put(buffer, front_of(is_numbered, datagram), element)
+}
+
+/// What is sent with a number reads as a datagram of the same link.
+pub fn numbered_names_link()
+    ensures { NumberedNamesLink }
+{}
+
+/// Makes what came at the port of a link, behind two octets, a datagram of this link: they become its number. Shorter
+/// octets stay as they are.
+pub fn name_link(datagram: &mut [u8], link: u16)
+    ensures { 2 ≤ length datagram.old → NamesLink link datagram.old datagram.new }
+{
+    if datagram.len() >= 2 {
+        datagram[..2].copy_from_slice(&link.to_be_bytes());
     }
 }

@@ -4,9 +4,14 @@ ghost use Rattle.std.specs.Prelude.{◌≡◌, Some, None, IfSome, IfNone};
 ghost use Rattle.rohc_serve.specs.Datagram.{named_link, datagram_packet};
 
 use crate::calls::{CallCounts, count_call, keep_standing};
-use crate::counters::{LinkCounters, StationCounters, count_answer, count_failed_sends};
+use crate::counters::{
+    LinkCounters, StationCounters, count_answer, count_failed_sends, count_turned_away, count_work,
+    limiter_of, set_limits,
+};
+use crate::limits::{LinkLimits, Work, second_of};
+use crate::marked::Marked;
 use crate::reload::{counters_for, setting_of};
-use crate::sending::{Taken, answered, ports_of, unread};
+use crate::sending::{Taken, answered, ports_of, unread, withhold_if};
 use crate::timed::timed_datagram;
 use indexmap::IndexMap;
 use rohc_concentrator::{Concentrator, LinkSetting, NoLink};
@@ -114,7 +119,7 @@ fn call_on(concentrator: &Concentrator, link: u16, packet: &[u8]) -> Option<(u16
 }
 
 impl Station {
-    ghost use Rattle.std.specs.Prelude.{◌≡◌, ℕ, List, None, IfOk, IfErr, option_map};
+    ghost use Rattle.std.specs.Prelude.{◌≡◌, ℕ, List, None, IfOk, IfErr, option_map, false};
     ghost use Rattle.rohc_concentrator.specs.Calls.{plain_answer};
     ghost use Rattle.rohc_concentrator.specs.RunsCall.{Turn};
     ghost use Rattle.rohc_concentrator.specs.Leaving.{HaveGone};
@@ -122,13 +127,14 @@ impl Station {
     ghost use Rattle.rohc_saved.specs.Form.{saved_form};
     ghost use Rattle.rohc_saved.specs.Output.{IsWhole, SaveFails};
     ghost use Rattle.rohc_serve.specs.Outgoing.{outgoing_of};
-    ghost use Rattle.rohc_serve.specs.Datagram.{named_link, datagram_packet, Answers};
+    ghost use Rattle.rohc_serve.specs.Datagram.{named_link, datagram_packet};
+    ghost use Rattle.rohc_station.specs.Limits.{second_of};
     ghost use Rattle.rohc_station.specs.Timed.{timed_in};
     ghost use Rattle.rohc_station.specs.Told.{told_of};
     ghost use Rattle.rohc_station.specs.Counting.{KeepsCounts};
     ghost use Rattle.rohc_report.specs.Taken.{key_of};
     ghost use Rattle.rohc_station.specs.Reset.{Forgets};
-    ghost use Rattle.rohc_station.specs.Taking.{counters_at, by_call_at, dated, begins_call, call_in, timed_call_in, TakesPacket, TakesUnless, Takes, TakesKnown, IsRefusedUnread, FailsSends};
+    ghost use Rattle.rohc_station.specs.Taking.{counters_at, by_call_at, dated, begins_call, call_in, timed_call_in, turns_away, TakesPacket, TurnsAway, TakesIf, TakesWithin, TakesUnless, Takes, TakesKnown, AnswersWithin, IsRefusedUnread, FailsSends, SetsLimits};
 
     /// A station of this concentrator and these links, with nothing counted. The error is lack of memory.
     pub fn new(
@@ -142,6 +148,7 @@ impl Station {
         ensures by_call { IfOk result (λ station. (key : ℕ) → by_call_at station key ≡ None) }
         ensures datagrams { IfOk result (λ station. station.totals.datagrams ≡ 0) }
         ensures bad { IfOk result (λ station. station.totals.bad_datagrams ≡ 0) }
+        ensures uncounted { IfOk result (λ station. station.totals.uncounted ≡ 0) }
     {
         let counters = counters_for(alloc, &IndexMap::new(alloc), links.settings())?;
         Ok(Station {
@@ -216,35 +223,110 @@ impl Station {
         }
     }
 
+    /// Gives a link these limits in place of those that it has, and nothing else. A link that isn't there gets none.
+    pub fn set_limits(&mut self, link: u16, limits: LinkLimits)
+        ensures { SetsLimits self.old self.new link limits }
+    {
+        set_limits(&mut self.counters, link, limits);
+    }
+
     /// Takes a packet of a link that arrived at this moment.
     fn take_packet<'a>(&mut self, link: u16, moment: u64, packet: &'a [u8]) -> Taken<'a>
         ensures { (calls : List Turn) × TakesPacket self.old self.new link moment packet.entry.now (told_of result) calls }
     {
-        let answer = self.concentrator.arrive(link, moment, packet);
-        count_answer(&mut self.counters, link, packet.len() as u64, &answer);
-        count_call(&mut self.by_call, &self.concentrator, link, moment, &answer);
+        let mut marked = Marked::blank();
+        self.concentrator
+            .arrive_into(link, moment, packet, &mut marked);
+        let size = packet.len() as u64;
+        count_answer(&mut self.counters, &self.concentrator, link, size, &marked);
+        let is_uncounted = count_call(&mut self.by_call, &self.concentrator, link, moment, &marked);
         let ports = ports_of(&self.links, link);
-        self.totals.add(ports.is_none());
-        answered(ports, answer)
+        self.totals.add(ports.is_none(), is_uncounted);
+        answered(ports, marked.answer)
     }
 
     /// Refuses a datagram that is too short, or turned away.
     fn refuse<'a>(&mut self) -> Taken<'a>
         ensures { (calls : List Turn) × IsRefusedUnread self.old self.new (told_of result) calls }
     {
-        self.totals.add(true);
+        self.totals.add(true, false);
         unread()
     }
 
+    /// Whether a packet of a link is turned away in a second: it begins a call, and the link makes no more contexts then.
+    fn turns_away(&self, second: u64, link: u16, packet: &[u8]) -> bool
+        ensures { result ≡ turns_away self.now second link packet.now }
+    {
+        limiter_of(&self.counters, link).is_full(second)
+            && begins_call(&self.concentrator, link, packet)
+    }
+
+    /// Turns a packet of a link away.
+    fn turn_away<'a>(&mut self, link: u16) -> Taken<'a>
+        ensures { (calls : List Turn) × TurnsAway self.old self.new link (told_of result) calls }
+    {
+        count_turned_away(&mut self.counters, link);
+        self.refuse()
+    }
+
+    /// Takes a packet of a link, and withholds its feedback if the link sends no more in this second.
+    fn take_allowed<'a>(
+        &mut self,
+        second: u64,
+        link: u16,
+        moment: u64,
+        packet: &'a [u8],
+    ) -> Taken<'a>
+        ensures { (calls : List Turn) × TakesIf false self.old self.new second
+            (record { link = link; moment = moment; packet = packet.entry.now }) (told_of result) calls }
+    {
+        let is_silent = limiter_of(&self.counters, link).is_silent(second);
+        let before = context_count(&self.concentrator, link);
+        let mut taken = self.take_packet(link, moment, packet);
+        let after = context_count(&self.concentrator, link);
+        let work = Work {
+            second,
+            new_contexts: after.saturating_sub(before) as u64,
+            has_feedback: taken.sends.feedback.is_some(),
+        };
+        count_work(&mut self.counters, link, work);
+        withhold_if(&mut taken, is_silent);
+        taken
+    }
+
+    /// Takes a packet of a link within the limits of the link in a second.
+    fn take_within<'a>(
+        &mut self,
+        second: u64,
+        link: u16,
+        moment: u64,
+        packet: &'a [u8],
+    ) -> Taken<'a>
+        ensures { (calls : List Turn) × TakesWithin self.old self.new second
+            (record { link = link; moment = moment; packet = packet.entry.now }) (told_of result) calls }
+    {
+        if self.turns_away(second, link, packet) {
+            self.turn_away(link)
+        } else {
+            self.take_allowed(second, link, moment, packet)
+        }
+    }
+
     /// Takes a packet of a link, unless it would begin a call.
-    fn take_known_packet<'a>(&mut self, link: u16, moment: u64, packet: &'a [u8]) -> Taken<'a>
-        ensures { (calls : List Turn) × TakesUnless (begins_call self.old.concentrator link packet.entry.now) self.old self.new
+    fn take_known_packet<'a>(
+        &mut self,
+        second: u64,
+        link: u16,
+        moment: u64,
+        packet: &'a [u8],
+    ) -> Taken<'a>
+        ensures { (calls : List Turn) × TakesUnless (begins_call self.old.concentrator link packet.entry.now) self.old self.new second
             (record { link = link; moment = moment; packet = packet.entry.now }) (told_of result) calls }
     {
         if begins_call(&self.concentrator, link, packet) {
             self.refuse()
         } else {
-            self.take_packet(link, moment, packet)
+            self.take_within(second, link, moment, packet)
         }
     }
 
@@ -252,25 +334,28 @@ impl Station {
     /// significant octet first, and a packet. Returns what came of it.
     ///
     /// The payload and the relayed feedback in the result are borrowed from `datagram`. A datagram of fewer
-    /// than two octets, or of a link that isn't there, is refused. Its answer is that of
-    /// `rohc_serve::answer_datagram`.
+    /// than two octets, or of a link that isn't there, is refused. One that would begin a call is turned away if
+    /// its link made as many contexts in the second of this moment as it may. Its answer is that of
+    /// `rohc_serve::answer_datagram`, without the feedback for the compressor if the link sent as many elements
+    /// in this second as it may.
     pub fn take<'a>(&mut self, moment: u64, datagram: &'a [u8]) -> Taken<'a>
-        ensures answer { Answers self.old.links self.old.concentrator moment datagram.entry.now (outgoing_of result.sends) self.new.concentrator }
-        ensures taken { (calls : List Turn) × Takes self.old self.new (dated moment datagram.entry.now) (told_of result) calls }
+        ensures answer { AnswersWithin self.old moment datagram.entry.now (outgoing_of result.sends) self.new.concentrator }
+        ensures taken { (calls : List Turn) × Takes self.old self.new (second_of moment) (dated moment datagram.entry.now) (told_of result) calls }
     {
         match named_link(datagram) {
-            Some((link, packet)) => self.take_packet(link, moment, packet),
+            Some((link, packet)) => self.take_within(second_of(moment), link, moment, packet),
             None => self.refuse(),
         }
     }
 
     /// Takes a timed datagram (`timed_datagram`), as `take` does at the moment that stands in it. One of
-    /// fewer than ten octets is refused.
-    pub fn take_timed<'a>(&mut self, datagram: &'a [u8]) -> Taken<'a>
-        ensures { (calls : List Turn) × Takes self.old self.new (timed_in datagram.entry.now) (told_of result) calls }
+    /// fewer than ten octets is refused. The limits of its link are those of the second of `now`, a moment of the
+    /// gateway's own clock.
+    pub fn take_timed<'a>(&mut self, now: u64, datagram: &'a [u8]) -> Taken<'a>
+        ensures { (calls : List Turn) × Takes self.old self.new (second_of now) (timed_in datagram.entry.now) (told_of result) calls }
     {
         match timed_datagram(datagram) {
-            Some(timed) => self.take_packet(timed.link, timed.moment, timed.packet),
+            Some(timed) => self.take_within(second_of(now), timed.link, timed.moment, timed.packet),
             None => self.refuse(),
         }
     }
@@ -278,20 +363,24 @@ impl Station {
     /// Takes a datagram as `take` does, but refuses one that would begin a call: whose packet bears a CID
     /// that has no record. Calls that stand go on.
     pub fn take_known<'a>(&mut self, moment: u64, datagram: &'a [u8]) -> Taken<'a>
-        ensures { (calls : List Turn) × TakesKnown self.old self.new (dated moment datagram.entry.now) (told_of result) calls }
+        ensures { (calls : List Turn) × TakesKnown self.old self.new (second_of moment) (dated moment datagram.entry.now) (told_of result) calls }
     {
         match named_link(datagram) {
-            Some((link, packet)) => self.take_known_packet(link, moment, packet),
+            Some((link, packet)) => {
+                self.take_known_packet(second_of(moment), link, moment, packet)
+            }
             None => self.refuse(),
         }
     }
 
     /// Takes a timed datagram as `take_timed` does, but refuses one that would begin a call.
-    pub fn take_timed_known<'a>(&mut self, datagram: &'a [u8]) -> Taken<'a>
-        ensures { (calls : List Turn) × TakesKnown self.old self.new (timed_in datagram.entry.now) (told_of result) calls }
+    pub fn take_timed_known<'a>(&mut self, now: u64, datagram: &'a [u8]) -> Taken<'a>
+        ensures { (calls : List Turn) × TakesKnown self.old self.new (second_of now) (timed_in datagram.entry.now) (told_of result) calls }
     {
         match timed_datagram(datagram) {
-            Some(timed) => self.take_known_packet(timed.link, timed.moment, timed.packet),
+            Some(timed) => {
+                self.take_known_packet(second_of(now), timed.link, timed.moment, timed.packet)
+            }
             None => self.refuse(),
         }
     }

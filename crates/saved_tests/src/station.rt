@@ -6,10 +6,12 @@ use rohc_context::Refusal;
 use rohc_links::{Links, read_links};
 use rohc_saved::restore;
 use rohc_station::{
-    Asked, GatewayFigures, LinkName, Page, ReloadReport, Request, RequestFault, Station,
-    read_request, timed_datagram, write_calls, write_contexts, write_metrics, write_page,
+    Asked, CallCounts, CallList, Form, GatewayFigures, LinkName, Page, ReloadReport, Request,
+    RequestFault, Station, read_request, timed_datagram, write_calls, write_calls_text,
+    write_contexts, write_metrics, write_page,
 };
 use std::alloc::Global;
+use std::mem;
 use std::process::Abort;
 
 // An entry of a links file behind its number.
@@ -76,6 +78,24 @@ fn reads_requests(rt: HostRuntime) {
         asked("GET /contexts?link=65535 HTTP/1.1\r\n\r\n")
             == Asked::Whole(Request::Contexts { link: 65_535 })
     );
+    for (target, link, form) in [
+        ("/calls", None, Form::Json),
+        ("/calls?as=text", None, Form::Text),
+        ("/calls?link=4", Some(4), Form::Json),
+        ("/calls?link=4&as=text", Some(4), Form::Text),
+    ] {
+        let head = format!(in rt.alloc(); "GET {target} HTTP/1.1\r\n\r\n").expect(&rt, "no memory");
+        assert!(rt; asked(head.as_str()) == Asked::Whole(Request::Calls { link, form }));
+    }
+    for target in [
+        "/calls?",
+        "/calls?as=json",
+        "/calls?as=text&link=4",
+        "/calls?link=4&cid=0",
+    ] {
+        let head = format!(in rt.alloc(); "GET {target} HTTP/1.1\r\n\r\n").expect(&rt, "no memory");
+        assert!(rt; asked(head.as_str()) == Asked::Faulty(RequestFault::BadRequest));
+    }
     assert!(rt;
         asked("GET /contexts?link=65536 HTTP/1.1\r\n\r\n")
             == Asked::Faulty(RequestFault::BadRequest)
@@ -90,6 +110,21 @@ fn reads_requests(rt: HostRuntime) {
             == Asked::Faulty(RequestFault::BadRequest)
     );
     assert!(rt; asked("GET /ready HTTP/1.1\r\nHost: x\r\n") == Asked::Unfinished);
+}
+
+// The calls of a station, 3 min 10 s after the first packet.
+fn list(station: &Station, has_timed: bool) -> CallList<'_> {
+    CallList {
+        station,
+        now: 191_000,
+        has_timed,
+    }
+}
+
+// The memory of a call's counts, as docs/OPERATING.md and `rohctl plan --calls` have it.
+#[test]
+fn counts_are_small(rt: HostRuntime) {
+    assert_eq!(rt; mem::size_of::<CallCounts>(), 120);
 }
 
 #[test]
@@ -152,10 +187,13 @@ fn saves_and_writes(rt: HostRuntime) {
         "{\"link\":4,\"cid\":0,\"profile\":\"0x0001\",\"state\":\"full\",\"accepted\":1000}\n";
     assert!(rt; text.as_slice() == line.as_bytes());
     let mut calls = Vec::new(rt.alloc());
-    write_calls(rt.alloc(), &mut calls, &station, 4).expect(&rt, "it works");
+    write_calls(rt.alloc(), &mut calls, &list(&station, false), Some(4)).expect(&rt, "it works");
     let line =
-        "{\"link\":4,\"cid\":0,\"profile\":\"0x0001\",\"state\":\"full\",\"accepted\":1000,\"since\":1000,\"delivered\":1,\"lost\":0,\"late\":0,\"refused\":{}}\n";
-    assert!(rt; calls.as_slice() == line.as_bytes());
+        "{\"link\":4,\"cid\":0,\"profile\":\"0x0001\",\"state\":\"full\",\"accepted\":1000,\"silent_ms\":190000,\"source\":\"10.0.0.1\",\"source_port\":5000,\"destination\":\"10.0.0.2\",\"destination_port\":5002,\"ssrc\":1,\"ssrc_text\":\"0x00000001\",\"since\":1000,\"delivered\":1,\"repaired\":0,\"lost\":0,\"late\":0,\"refused\":{},\"last_refused\":null}\n";
+    assert_eq!(rt;
+        std::str::from_utf8(calls.as_slice()).expect(&rt, "text"),
+        line
+    );
     let mut metrics = Vec::new(rt.alloc());
     write_metrics(&mut metrics, &station, &GatewayFigures::default(), "1.0.0").expect(
         &rt, "it works",
@@ -181,6 +219,43 @@ fn saves_and_writes(rt: HostRuntime) {
 }
 
 #[test]
+fn lists_calls_for_people(rt: HostRuntime) {
+    let mut station = station(&rt, 4, 5);
+    let _ = station.take(1000, DATAGRAM);
+    let _ = station.take(1500, &[0, 4, 0x01]);
+    let _ = station.take(2000, &[0, 5, 0x00]);
+    let unknown = "  5/0         CID without a context; packets refused: 1 NoContext\n";
+    for (has_timed, only, first, last, more) in [
+        (
+            false,
+            None,
+            "  Link/CID    State          Silent for     Delivered",
+            "! 4/0         Full Context   3 min 10 s             1",
+            unknown,
+        ),
+        (
+            true,
+            Some(4),
+            "  Link/CID    State          Last at moment Delivered",
+            "  4/0         Full Context   1000                   1",
+            "",
+        ),
+    ] {
+        let mut text = Vec::new(rt.alloc());
+        write_calls_text(rt.alloc(), &mut text, &list(&station, has_timed), only).expect(
+            &rt, "it works",
+        );
+        let wanted = format!(in rt.alloc();
+            "{first} Repaired   Lost   Late Refused  Last refusal    From                  To                    SSRC\n{last}        0      0      0       1  Check           10.0.0.1:5000         10.0.0.2:5002         0x00000001\n{more}"
+        ).expect(&rt, "no memory");
+        assert_eq!(rt;
+            std::str::from_utf8(text.as_slice()).expect(&rt, "text"),
+            wanted.as_str()
+        );
+    }
+}
+
+#[test]
 fn shows_a_page(rt: HostRuntime) {
     let mut station = station(&rt, 4, 5);
     let _ = station.take(1000, DATAGRAM);
@@ -190,13 +265,12 @@ fn shows_a_page(rt: HostRuntime) {
         ..GatewayFigures::default()
     };
     let shown = Page {
-        station: &station,
+        calls: list(&station, false),
         figures: &figures,
         names: &[LinkName {
             link: 4,
-            name: "North <1>",
+            name: "Nörd <1>",
         }],
-        now: 191_000,
         version: "1.0.0",
     };
     let mut page = Vec::new(rt.alloc());
@@ -204,9 +278,10 @@ fn shows_a_page(rt: HostRuntime) {
     let page = String::from_utf8(page).expect(&rt, "it works");
     for part in [
         "<p class=\"quiet\">Version 1.0.0, running for 3 min 11 s.</p>",
-        "<tr><th scope=\"row\">4 North &lt;1&gt;</th><td>1</td><td>0</td><td>0</td><td>1</td><td>0</td><td>0</td><td>42</td><td>41</td><td>none</td><td>0</td></tr>",
+        "<tr><th scope=\"row\">4 Nörd &lt;1&gt;</th><td>1</td><td>0</td><td>0</td><td>0</td><td>1</td><td>0</td><td>0</td><td>none</td></tr>",
+        "<tr><th scope=\"row\">4 Nörd &lt;1&gt;</th><td>42</td><td>41</td><td>0</td><td>0</td><td>0</td></tr>",
         "<tr><th scope=\"row\">5</th><td class=\"text\">NoContext</td>",
-        "<tr><th scope=\"row\">4/0</th><td class=\"text\">0x0001</td><td class=\"text\">Full Context</td><td>3 min 10 s</td><td>1</td><td>0</td><td>0</td><td class=\"text\"></td></tr>",
+        "<tr><th scope=\"row\">4/0</th><td class=\"text\">0x0001</td><td class=\"text\">Full Context</td><td>3 min 10 s</td><td>1</td><td>0</td><td>0</td><td>0</td><td class=\"text\"></td></tr>",
         "<p>Not saved since the start.</p>",
     ] {
         assert!(rt; page.as_str().contains(part));

@@ -1,0 +1,193 @@
+//! The links and the calls of a station, as its lists and its page show them, and which calls come first.
+
+use crate::calls::CallCounts;
+use crate::counters::Octets;
+use crate::limits::second_of;
+use crate::metrics::{States, delivered, refused, states_of};
+use crate::station::Station;
+use rohc_context::{Context, ContextState, Refusal, StateView};
+use rohc_header::Static;
+use std::alloc::{AllocError, Global};
+
+/// For how long a call has no accepted packet before it counts as silent, in milliseconds.
+const SILENT_AFTER: u64 = 2_000;
+
+/// How many of the calls with the most refusals are listed.
+pub(crate) const MOST_WORST: usize = 20;
+
+/// What is shown of a link.
+#[derive(Clone, Copy)]
+pub(crate) struct LinkRow {
+    /// Its contexts by state.
+    pub(crate) states: States,
+    /// Its packets in the last whole second.
+    pub(crate) per_second: u64,
+    pub(crate) delivered: u64,
+    pub(crate) refused: u64,
+    /// The NACKs and STATIC-NACKs for its compressor.
+    pub(crate) nacks: u64,
+    /// The share of the rebuilt octets that wasn't sent, in percent; `None` if nothing was rebuilt, or more was sent.
+    pub(crate) saved: Option<u64>,
+}
+
+/// The share of the rebuilt octets that wasn't sent, in percent.
+fn saved_share(octets: Octets) -> Option<u64> {
+    let saved = octets.rebuilt.checked_sub(octets.compressed)?;
+    saved.saturating_mul(100).checked_div(octets.rebuilt)
+}
+
+/// The calls of a station, and the moment at which they are shown.
+#[derive(Clone, Copy)]
+pub struct CallList<'a> {
+    pub station: &'a Station,
+    /// Now, in milliseconds since 1970.
+    pub now: u64,
+    /// Whether arrivals may have moments of their senders' clocks, which are no time since 1970.
+    pub has_timed: bool,
+}
+
+/// A call.
+#[derive(Clone, Copy)]
+pub(crate) struct CallRow<'a> {
+    pub(crate) link: u16,
+    pub(crate) cid: u16,
+    pub(crate) context: &'a Context,
+    /// For how many milliseconds it has no accepted packet, unless its moments may be no time since 1970.
+    pub(crate) silent: Option<u64>,
+    /// Its addresses, its ports and its SSRC, if its context keeps them.
+    pub(crate) fixed: Option<Static>,
+    /// Its counts, if it had a packet in this run.
+    pub(crate) counts: Option<&'a CallCounts>,
+}
+
+impl CallRow<'_> {
+    /// Whether the call is silent.
+    pub(crate) fn is_silent(&self) -> bool {
+        match self.silent {
+            Some(silent) => silent > SILENT_AFTER,
+            None => false,
+        }
+    }
+
+    /// Why a packet of the call was last refused, if one was in this run.
+    pub(crate) fn last_refused(&self) -> Option<Refusal> {
+        self.counts?.last_refused
+    }
+}
+
+/// The addresses, the ports and the SSRC of a call, if its context keeps them.
+fn fixed_of(context: &Context) -> Option<Static> {
+    match context.view().state {
+        StateView::Plain | StateView::NoContext { .. } => None,
+        StateView::Static { fixed, .. } | StateView::Full { fixed, .. } => Some(fixed),
+    }
+}
+
+/// Which calls come first in a list.
+#[derive(Clone, Copy)]
+pub(crate) enum First {
+    /// Those that were silent for the longest time.
+    Silent,
+    /// Those with the most refusals. One without any is not listed.
+    Refused,
+}
+
+impl First {
+    /// What a call is sorted by, if it is listed: the least come first.
+    fn key(self, station: &Station, link: u16, cid: u16, context: &Context) -> Option<u64> {
+        match self {
+            First::Silent => Some(context.accepted()),
+            First::Refused => match refusals_of(station.counts_of(link, cid)?) {
+                0 => None,
+                refusals => Some(u64::MAX - refusals),
+            },
+        }
+    }
+}
+
+/// How many packets of a call were refused.
+pub(crate) fn refusals_of(counts: &CallCounts) -> u64 {
+    let mut sum = 0u64;
+    for refusal in Refusal::all() {
+        sum = sum.saturating_add(u64::from(counts.refused(refusal)));
+    }
+    sum
+}
+
+/// Whether the calls of a link are listed: those of all links are, or of only one.
+pub(crate) fn is_listed(only: Option<u16>, link: u16) -> bool {
+    match only {
+        Some(only) => only == link,
+        None => true,
+    }
+}
+
+/// Where a call stands: what it is sorted by, its link, and its place there.
+pub(crate) type Standing = (u64, u16, usize);
+
+impl<'a> CallList<'a> {
+    /// A link, if it is there.
+    pub(crate) fn link_row(&self, link: u16) -> Option<LinkRow> {
+        let of_link = self.station.counters().get(&link)?;
+        let records = self.station.concentrator().tables().get(&link)?;
+        let [_, nacks, static_nacks, _] = of_link.answers.words;
+        Some(LinkRow {
+            states: states_of(records),
+            per_second: of_link.limiter.packets_before(second_of(self.now)),
+            delivered: delivered(&of_link.answers),
+            refused: refused(&of_link.answers),
+            nacks: nacks.saturating_add(static_nacks),
+            saved: saved_share(of_link.octets),
+        })
+    }
+
+    /// Where the calls of one link stand, or those of all, in this order.
+    pub(crate) fn sorted(
+        &self,
+        alloc: Global,
+        first: First,
+        only: Option<u16>,
+    ) -> Result<Vec<Standing>, AllocError> {
+        let mut places = Vec::new(alloc);
+        for (link, records) in self.station.concentrator().tables() {
+            if is_listed(only, *link) {
+                for (place, (cid, context)) in records.contexts.iter().enumerate() {
+                    if let Some(key) = first.key(self.station, *link, *cid, context) {
+                        places.push((key, *link, place))?;
+                    }
+                }
+            }
+        }
+        places.sort()?;
+        Ok(places)
+    }
+
+    /// The call that stands there.
+    pub(crate) fn row_at(&self, standing: &Standing) -> Option<CallRow<'a>> {
+        let (_, link, place) = *standing;
+        let station = self.station;
+        let (cid, context) = station.concentrator().context_at(link, place)?;
+        let silent = if self.has_timed {
+            None
+        } else {
+            Some(self.now.saturating_sub(context.accepted()))
+        };
+        Some(CallRow {
+            link,
+            cid,
+            context,
+            silent,
+            fixed: fixed_of(context),
+            counts: station.counts_of(link, cid),
+        })
+    }
+}
+
+/// The name of a state, as people read it.
+pub(crate) fn state_text(state: ContextState) -> &'static str {
+    match state {
+        ContextState::NoContext => "No Context",
+        ContextState::StaticContext => "Static Context",
+        ContextState::FullContext => "Full Context",
+    }
+}
