@@ -13,7 +13,7 @@ pub(crate) const MOST_FAULTS: usize = 20;
 pub(crate) const REFUSED: &str =
     "the gateway continues with the old links; its next start will refuse this file";
 
-/// What kind of text a body is.
+/// What kind of content a body is.
 #[derive(Clone, Copy)]
 pub(crate) enum Kind {
     /// One object of JSON.
@@ -22,8 +22,12 @@ pub(crate) enum Kind {
     Lines,
     /// The text format of Prometheus.
     Metrics,
+    /// A text for people.
+    Text,
     /// A page for people.
     Page,
+    /// The contexts as they are saved.
+    State,
 }
 
 impl Kind {
@@ -33,7 +37,9 @@ impl Kind {
             Kind::Object => "application/json",
             Kind::Lines => "application/x-ndjson",
             Kind::Metrics => "text/plain; version=0.0.4; charset=utf-8",
+            Kind::Text => "text/plain; charset=utf-8",
             Kind::Page => "text/html; charset=utf-8",
+            Kind::State => "application/octet-stream",
         }
     }
 }

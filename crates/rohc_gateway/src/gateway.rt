@@ -6,18 +6,21 @@ use crate::connection::{Connection, Progress};
 use crate::files::{Unwritten, replace_file};
 use crate::lines::Lines;
 use crate::links_file::{NoLinks, read_links_file};
-use crate::names::{Shown, name_of, read_notes, write_link_info, write_names, write_unknown_links};
+use crate::names::{
+    Shown, limits_of, name_of, read_notes, write_link_info, write_names, write_unknown_links,
+};
 use crate::sending::send_all;
 use crate::sockets::MOST_CONNECTIONS;
 use crate::watch::{LONGEST, MOST_PACKETS, Watch};
 use mio::net::UdpSocket;
 use rohc_concentrator::NoLink;
-use rohc_gateway_file::{Build, Config, Level, LinkNote, Log, Options, VERSION};
+use rohc_gateway_file::{Build, Config, Level, LinkNote, Log, Options, VERSION, civil_at};
 use rohc_station::{
-    Asked, GatewayFigures, LinkName, Page, ReloadFault, ReloadReport, Request, RequestFault,
-    Station, write_calls, write_contexts, write_metrics, write_page,
+    Asked, CallList, Form, GatewayFigures, LinkName, Page, ReloadFault, ReloadReport, Request,
+    RequestFault, Station, name_link, write_calls, write_calls_text, write_contexts, write_metrics,
+    write_page, write_top,
 };
-use std::alloc::Global;
+use std::alloc::{AllocError, Global};
 use std::fmt::Display;
 use std::io;
 use std::io::{ErrorKind, Write};
@@ -29,6 +32,28 @@ const BATCH: u32 = 256;
 
 /// What follows when a save fails.
 const UNSAVED: &str = "the gateway continues, and the file of the last save stays";
+
+/// Where datagrams come in.
+#[derive(Clone, Copy)]
+pub(crate) enum Port {
+    /// At the port for datagrams of all links.
+    Plain,
+    /// At the port for timed datagrams of all links.
+    Timed,
+    /// At the port of this link, without its number.
+    Link(u16),
+}
+
+/// Writes the members of an object that have a time in milliseconds since 1970, as a number and as a text. The time 0 is
+/// none.
+fn write_time<W: Write>(out: &mut W, name: &str, moment: u64) -> io::Result<()> {
+    write!(out, ",\"{name}\":{moment},\"{name}_text\":")?;
+    if moment == 0 {
+        return write!(out, "null");
+    }
+    let time = civil_at(moment);
+    write!(out, "\"{time}\"")
+}
 
 /// What a gateway was started with.
 #[derive(Clone, Copy)]
@@ -136,16 +161,36 @@ impl Gateway<'_> {
         Reply::fault(rt.alloc(), 500, "NoMemory", text)
     }
 
+    /// Receives a datagram into the buffer. One at the port of a link becomes one that names the link.
+    fn receive(&mut self, socket: &UdpSocket, port: Port) -> io::Result<usize> {
+        let start: usize = match port {
+            Port::Plain | Port::Timed => 0,
+            Port::Link(_) => 2,
+        };
+        let Some(room) = self.datagram.as_mut_slice().get_mut(start..) else {
+            return Err(io::Error::from(ErrorKind::OutOfMemory));
+        };
+        let (size, _) = socket.recv_from(room)?;
+        if let Port::Link(link) = port {
+            name_link(self.datagram.as_mut_slice(), link);
+        }
+        Ok(size.saturating_add(start))
+    }
+
     /// Takes datagrams from a socket until none waits, but at most so many. Returns whether more may wait.
     pub(crate) fn take_datagrams<R: Clock + Eprint + AllocGlobal>(
         &mut self,
         rt: &R,
         socket: &UdpSocket,
-        is_timed: bool,
+        port: Port,
     ) -> bool {
+        let is_timed = match port {
+            Port::Timed => true,
+            Port::Plain | Port::Link(_) => false,
+        };
         for _ in 0..BATCH {
-            match socket.recv_from(self.datagram.as_mut_slice()) {
-                Ok((size, _)) => self.take_datagram(rt, socket, is_timed, size),
+            match self.receive(socket, port) {
+                Ok(size) => self.take_datagram(rt, socket, is_timed, size),
                 Err(e) if e.kind() == ErrorKind::WouldBlock => return false,
                 Err(_) => {
                     self.figures.failed_receives = self.figures.failed_receives.saturating_add(1);
@@ -170,11 +215,12 @@ impl Gateway<'_> {
             Some(watch) => watch.sees(self.station.call_of(octets)),
             None => false,
         };
+        let now = self.moments.now(rt);
         let taken = match (is_timed, self.figures.draining) {
-            (true, false) => self.station.take_timed(octets),
-            (true, true) => self.station.take_timed_known(octets),
-            (false, false) => self.station.take(self.moments.now(rt), octets),
-            (false, true) => self.station.take_known(self.moments.now(rt), octets),
+            (true, false) => self.station.take_timed(now, octets),
+            (true, true) => self.station.take_timed_known(now, octets),
+            (false, false) => self.station.take(now, octets),
+            (false, true) => self.station.take_known(now, octets),
         };
         if is_watched && let Some(watch) = &mut self.watch {
             let name = name_of(self.notes.as_slice(), watch.link());
@@ -187,9 +233,20 @@ impl Gateway<'_> {
                 &taken,
             );
         }
-        let failed = send_all(socket, self.packet.as_mut_slice(), &taken.sends);
+        let is_numbered = self.frame.config.numbered_feedback;
+        let buffer = self.packet.as_mut_slice();
+        let failed = send_all(socket, buffer, is_numbered, octets, &taken.sends);
         if failed > 0 {
             self.station.add_failed_sends(octets, failed);
+        }
+    }
+
+    /// The contexts as they are saved at this moment.
+    fn state(&self, alloc: Global, moment: u64) -> Result<Vec<u8>, Unwritten> {
+        let mut octets = Vec::new(alloc);
+        match self.station.save(moment, &mut octets) {
+            Ok(_) => Ok(octets),
+            Err(_) => Err(Unwritten::Memory),
         }
     }
 
@@ -202,16 +259,15 @@ impl Gateway<'_> {
             return Ok(None);
         };
         let moment = self.moments.now(rt);
-        let mut octets = Vec::new(rt.alloc());
-        let saved = match self.station.save(moment, &mut octets) {
-            Ok(_) => replace_file(rt, path.as_str(), octets.as_slice()),
-            Err(_) => Err(Unwritten::Memory),
+        let saved = match self.state(rt.alloc(), moment) {
+            Ok(octets) => replace_file(rt, path.as_str(), octets.as_slice()).map(|_| octets.len()),
+            Err(unwritten) => Err(unwritten),
         };
         match saved {
-            Ok(()) => {
+            Ok(count) => {
                 self.figures.saves = self.figures.saves.saturating_add(1);
                 self.figures.last_save = moment;
-                Ok(Some(octets.len()))
+                Ok(Some(count))
             }
             Err(e) => {
                 self.figures.failed_saves = self.figures.failed_saves.saturating_add(1);
@@ -266,6 +322,7 @@ impl Gateway<'_> {
         match self.reload_from(rt, path) {
             Ok(report) => {
                 self.notes = notes;
+                self.set_limits();
                 self.log_reloaded(rt, &report);
                 Reply::reloaded(rt.alloc(), &report)
             }
@@ -274,6 +331,17 @@ impl Gateway<'_> {
                 self.refuse_file(rt, Refused { name, path, shows }, &lines)
             }
             Err(NoLinks::Memory) => self.refuse_for_memory(rt),
+        }
+    }
+
+    /// Gives each link the limits of its table in the gateway file, or none.
+    pub(crate) fn set_limits(&mut self) {
+        for place in 0..self.station.counters().len() {
+            if let Some((link, _)) = self.station.counters().get_index(place) {
+                let link = *link;
+                self.station
+                    .set_limits(link, limits_of(self.notes.as_slice(), link));
+            }
         }
     }
 
@@ -358,7 +426,7 @@ impl Gateway<'_> {
         cid: u16,
     ) -> io::Result<Reply> {
         let alloc = rt.alloc();
-        if !self.station.concentrator().tables().contains_key(&link) {
+        if !self.has_link(link) {
             return Reply::no_link(alloc, link);
         }
         self.watch = Some(Watch::new(link, cid, self.moments.now(rt)));
@@ -388,17 +456,31 @@ impl Gateway<'_> {
         contexts
     }
 
+    /// Writes what the limits of all links did.
+    fn write_limited<W: Write>(&self, out: &mut W) -> io::Result<()> {
+        let (mut contexts, mut feedback) = (0u64, 0u64);
+        for (_, of_link) in self.station.counters() {
+            contexts = contexts.saturating_add(of_link.limiter.contexts_limited);
+            feedback = feedback.saturating_add(of_link.limiter.feedback_limited);
+        }
+        write!(
+            out,
+            ",\"contexts_limited\":{contexts},\"feedback_limited\":{feedback}"
+        )
+    }
+
     /// Writes what stands, in a few numbers, and the names of links.
     fn write_status<W: Write>(&self, out: &mut W) -> io::Result<()> {
         write!(
             out,
-            "{{\"version\":\"{VERSION}\",\"links\":{},\"contexts\":{},\"draining\":{},\"started\":{},\"saved\":{}",
+            "{{\"version\":\"{VERSION}\",\"links\":{},\"contexts\":{},\"draining\":{}",
             self.station.concentrator().tables().len(),
             self.context_count(),
-            self.figures.draining,
-            self.figures.started,
-            self.figures.last_save
+            self.figures.draining
         )?;
+        write_time(out, "started", self.figures.started)?;
+        write_time(out, "saved", self.figures.last_save)?;
+        self.write_limited(out)?;
         let Build { sources, logic } = self.frame.build;
         write!(
             out,
@@ -419,23 +501,82 @@ impl Gateway<'_> {
         })
     }
 
-    /// The contexts of a link, in the order of their first IRs or of their last accepted arrivals.
-    fn contexts<R: AllocGlobal>(&self, rt: &R, link: u16, by_age: bool) -> io::Result<Reply> {
+    /// Whether the links file has a link.
+    fn has_link(&self, link: u16) -> bool {
+        self.station.concentrator().tables().contains_key(&link)
+    }
+
+    /// The contexts of a link, in the order of their first IRs.
+    fn contexts<R: AllocGlobal>(&self, rt: &R, link: u16) -> io::Result<Reply> {
         let alloc = rt.alloc();
-        if !self.station.concentrator().tables().contains_key(&link) {
+        if !self.has_link(link) {
             return Reply::no_link(alloc, link);
         }
         let mut body = Vec::new(alloc);
-        if by_age {
-            write_calls(alloc, &mut body, &self.station, link)?;
-        } else {
-            write_contexts(&mut body, &self.station, link)?;
-        }
+        write_contexts(&mut body, &self.station, link)?;
         Ok(Reply {
             status: 200,
             kind: Kind::Lines,
             body,
         })
+    }
+
+    /// The calls, as they are at this moment.
+    fn call_list(&self, now: u64) -> CallList<'_> {
+        CallList {
+            station: &self.station,
+            now,
+            has_timed: self.frame.config.timed_port.is_some(),
+        }
+    }
+
+    /// The calls of one link, or of all, the longest silent first.
+    fn calls<R: Clock + AllocGlobal>(
+        &mut self,
+        rt: &R,
+        only: Option<u16>,
+        form: Form,
+    ) -> io::Result<Reply> {
+        let alloc = rt.alloc();
+        if let Some(link) = only
+            && !self.has_link(link)
+        {
+            return Reply::no_link(alloc, link);
+        }
+        let now = self.moments.now(rt);
+        let calls = self.call_list(now);
+        let mut body = Vec::new(alloc);
+        let kind = match form {
+            Form::Json => {
+                write_calls(alloc, &mut body, &calls, only)?;
+                Kind::Lines
+            }
+            Form::Text => {
+                write_calls_text(alloc, &mut body, &calls, only)?;
+                Kind::Text
+            }
+        };
+        Ok(Reply {
+            status: 200,
+            kind,
+            body,
+        })
+    }
+
+    /// Shows the contexts as a save would write them now.
+    fn show_state<R: Clock + AllocGlobal>(&mut self, rt: &R) -> io::Result<Reply> {
+        let moment = self.moments.now(rt);
+        match self.state(rt.alloc(), moment) {
+            Ok(body) => Ok(Reply {
+                status: 200,
+                kind: Kind::State,
+                body,
+            }),
+            Err(unwritten) => {
+                let text = format!(in rt.alloc(); "{unwritten}")?;
+                Reply::fault(rt.alloc(), 500, "NoMemory", text.as_str())
+            }
+        }
     }
 
     /// The metrics.
@@ -451,10 +592,8 @@ impl Gateway<'_> {
         })
     }
 
-    /// The page for people.
-    fn page<R: Clock + AllocGlobal>(&mut self, rt: &R) -> io::Result<Reply> {
-        let alloc = rt.alloc();
-        let now = self.moments.now(rt);
+    /// The names of the links that have one.
+    fn link_names(&self, alloc: Global) -> Result<Vec<LinkName<'_>>, AllocError> {
         let mut names = Vec::new(alloc);
         for note in &self.notes {
             if let Some(name) = &note.name {
@@ -464,18 +603,43 @@ impl Gateway<'_> {
                 })?;
             }
         }
-        let page = Page {
-            station: &self.station,
+        Ok(names)
+    }
+
+    /// What the page shows at this moment.
+    fn shown<'p>(&'p self, names: &'p [LinkName<'p>], now: u64) -> Page<'p> {
+        Page {
+            calls: self.call_list(now),
             figures: &self.figures,
-            names: names.as_slice(),
-            now,
+            names,
             version: VERSION,
-        };
+        }
+    }
+
+    /// The page for people.
+    fn page<R: Clock + AllocGlobal>(&mut self, rt: &R) -> io::Result<Reply> {
+        let alloc = rt.alloc();
+        let now = self.moments.now(rt);
+        let names = self.link_names(alloc)?;
         let mut body = Vec::new(alloc);
-        write_page(alloc, &mut body, &page)?;
+        write_page(alloc, &mut body, &self.shown(names.as_slice(), now))?;
         Ok(Reply {
             status: 200,
             kind: Kind::Page,
+            body,
+        })
+    }
+
+    /// The links and the worst calls of the page, as text.
+    fn top<R: Clock + AllocGlobal>(&mut self, rt: &R) -> io::Result<Reply> {
+        let alloc = rt.alloc();
+        let now = self.moments.now(rt);
+        let names = self.link_names(alloc)?;
+        let mut body = Vec::new(alloc);
+        write_top(alloc, &mut body, &self.shown(names.as_slice(), now))?;
+        Ok(Reply {
+            status: 200,
+            kind: Kind::Text,
             body,
         })
     }
@@ -495,9 +659,11 @@ impl Gateway<'_> {
             Request::Ready => Reply::object(200, format!(in rt.alloc(); "{{\"ready\":true}}\n")),
             Request::Status => self.status(rt),
             Request::Metrics => self.metrics(rt),
+            Request::State => self.show_state(rt),
             Request::Page => self.page(rt),
-            Request::Contexts { link } => self.contexts(rt, link, false),
-            Request::Calls { link } => self.contexts(rt, link, true),
+            Request::Top => self.top(rt),
+            Request::Contexts { link } => self.contexts(rt, link),
+            Request::Calls { link, form } => self.calls(rt, link, form),
         }
     }
 

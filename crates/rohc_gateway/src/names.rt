@@ -1,4 +1,4 @@
-//! What the gateway file says of links: their names, and numbers that the links file doesn't have.
+//! What the gateway file says of links: their names and limits, and numbers that the links file doesn't have.
 
 use crate::files::read_text;
 use crate::lines::Lines;
@@ -6,6 +6,7 @@ use crate::links_file::NoLinks;
 use crate::setup::A_FILE;
 use rohc_concentrator::Concentrator;
 use rohc_gateway_file::{LinkNote, Options, Reading, read_config, write_place};
+use rohc_station::LinkLimits;
 use rohc_text::{Reason, write_json_text};
 use std::alloc::Global;
 use std::io::{ErrorKind, Write};
@@ -94,6 +95,19 @@ pub(crate) fn name_of(notes: &[LinkNote], link: u16) -> Option<&str> {
         }
     }
     None
+}
+
+/// The limits of a link; none if the file doesn't name it.
+pub(crate) fn limits_of(notes: &[LinkNote], link: u16) -> LinkLimits {
+    for note in notes {
+        if note.number == link {
+            return LinkLimits {
+                new_contexts: note.new_contexts_per_second,
+                feedback: note.feedback_per_second,
+            };
+        }
+    }
+    LinkLimits::none()
 }
 
 /// A call as the log shows it: the link, the CID, and the name of the link if it has one.

@@ -2,10 +2,12 @@
 
 use crate::clock::Moments;
 use crate::connection::{Connection, Stream};
-use crate::gateway::{Frame, Gateway};
+use crate::gateway::{Frame, Gateway, Port};
 use crate::lines::Lines;
 use crate::setup::{NoStart, Start, read_start};
-use crate::sockets::{CONTROL, METRICS, MOST_CONNECTIONS, PLAIN, Sockets, TIMED, remove_control};
+use crate::sockets::{
+    CONTROL, LINKS, METRICS, MOST_CONNECTIONS, PLAIN, Sockets, TIMED, remove_control,
+};
 use mio::net::{TcpListener, UnixListener};
 use mio::{Events, Poll, Token};
 use rohc_gateway_file::{Build, Config, Ending, Level, LinkNote, Log, Options};
@@ -32,6 +34,7 @@ const MOST_ACCEPTED: u32 = 64;
 struct Waiting {
     plain: bool,
     timed: bool,
+    links: bool,
     control: bool,
     metrics: bool,
 }
@@ -39,7 +42,7 @@ struct Waiting {
 impl Waiting {
     /// Whether something may wait anywhere.
     fn is_any(self) -> bool {
-        self.plain || self.timed || self.control || self.metrics
+        self.plain || self.timed || self.links || self.control || self.metrics
     }
 }
 
@@ -85,6 +88,7 @@ fn gateway_of<'a, R: Clock>(
     let mut figures = GatewayFigures::default();
     figures.started = started;
     figures.has_state = frame.config.state.is_some();
+    figures.last_save = restored.moment;
     Gateway {
         frame,
         notes,
@@ -154,7 +158,13 @@ fn accept_metrics<R: Clock + AllocGlobal>(
 }
 
 /// Does what an event calls for.
-fn handle<R>(rt: &R, gateway: &mut Gateway<'_>, waiting: &mut Waiting, token: Token)
+fn handle<R>(
+    rt: &R,
+    gateway: &mut Gateway<'_>,
+    sockets: &mut Sockets,
+    waiting: &mut Waiting,
+    token: Token,
+)
 where
     R: Files + Clock + Eprint + AllocGlobal,
 {
@@ -166,25 +176,45 @@ where
         waiting.control = true;
     } else if token == METRICS {
         waiting.metrics = true;
+    } else if let Some(place) = token.0.checked_sub(LINKS) {
+        waiting.links = true;
+        sockets.note_link(place);
     } else {
         gateway.go_on(rt, token.0);
     }
+}
+
+/// Takes the datagrams that wait at the links' own ports, but only so many at a time. Returns whether more may wait.
+fn take_at_links<R: Clock + Eprint + AllocGlobal>(
+    rt: &R,
+    gateway: &mut Gateway<'_>,
+    sockets: &mut Sockets,
+) -> bool {
+    let mut left = false;
+    for one in sockets.links.iter_mut() {
+        if one.is_waiting {
+            one.is_waiting = gateway.take_datagrams(rt, &one.socket, Port::Link(one.link));
+            left = left || one.is_waiting;
+        }
+    }
+    left
 }
 
 /// Takes the datagrams and the connections that wait, but only so many at a time.
 fn take_waiting<R: Clock + Eprint + AllocGlobal>(
     rt: &R,
     gateway: &mut Gateway<'_>,
-    sockets: &Sockets,
+    sockets: &mut Sockets,
     waiting: Waiting,
 ) -> Waiting {
     let mut left = Waiting::default();
     if let Some(socket) = &sockets.plain {
-        left.plain = waiting.plain && gateway.take_datagrams(rt, socket, false);
+        left.plain = waiting.plain && gateway.take_datagrams(rt, socket, Port::Plain);
     }
     if let Some(socket) = &sockets.timed {
-        left.timed = waiting.timed && gateway.take_datagrams(rt, socket, true);
+        left.timed = waiting.timed && gateway.take_datagrams(rt, socket, Port::Timed);
     }
+    left.links = waiting.links && take_at_links(rt, gateway, sockets);
     if let Some(listener) = &sockets.control {
         left.control = waiting.control && accept_control(rt, gateway, &sockets.poll, listener);
     }
@@ -213,7 +243,7 @@ where
     sockets.poll.poll(events, Some(timeout))?;
     gateway.figures.wakes = gateway.figures.wakes.saturating_add(1);
     for event in events.iter() {
-        handle(rt, gateway, waiting, event.token());
+        handle(rt, gateway, sockets, waiting, event.token());
     }
     *waiting = take_waiting(rt, gateway, sockets, *waiting);
     let moment = gateway.moments.now(rt);
@@ -263,11 +293,11 @@ fn tell_end<R: Clock + Eprint + AllocGlobal>(
 }
 
 /// Opens the sockets, or says which one can't be opened, and why.
-fn opened<R>(rt: &R, log: Log, config: &Config) -> Result<Sockets, Ending>
+fn opened<R>(rt: &R, log: Log, config: &Config, notes: &[LinkNote]) -> Result<Sockets, Ending>
 where
     R: Files + Net + Clock + Eprint + AllocGlobal,
 {
-    match Sockets::open(rt, config) {
+    match Sockets::open(rt, config, notes) {
         Ok(sockets) => Ok(sockets),
         Err(fault) => {
             log.say(rt, Level::Error, fault);
@@ -283,7 +313,7 @@ where
 {
     let Frame { config, log, .. } = gateway.frame;
     let links = gateway.station.concentrator().tables().len();
-    let mut sockets = opened(rt, log, config)?;
+    let mut sockets = opened(rt, log, config, gateway.notes.as_slice())?;
     let text = format_args!("started: {links} links, {contexts} contexts restored");
     log.say(rt, Level::Info, text);
     gateway.log_unknown_links(rt);
@@ -327,6 +357,7 @@ where
         config: &config,
     };
     let mut gateway = gateway_of(rt, frame, notes, &restored, station, room);
+    gateway.set_limits();
     run_from(rt, &mut gateway, restored.contexts)
 }
 

@@ -3,7 +3,7 @@
 use mio::event::Source;
 use mio::net::{TcpListener, UdpSocket, UnixListener};
 use mio::{Interest, Poll, Token};
-use rohc_gateway_file::Config;
+use rohc_gateway_file::{Config, LinkNote};
 use rohc_text::Reason;
 use std::fs::Permissions;
 use std::io::ErrorKind;
@@ -27,12 +27,25 @@ pub(crate) const CONTROL: Token = Token(102);
 /// The token of the metrics port.
 pub(crate) const METRICS: Token = Token(103);
 
+/// The token of the first link's own port; the others follow in the order of the sockets.
+pub(crate) const LINKS: usize = 1000;
+
+/// The socket of a link's own port.
+#[derive(Drop)]
+pub(crate) struct LinkSocket {
+    pub(crate) link: u16,
+    pub(crate) socket: UdpSocket,
+    /// Whether more may wait there.
+    pub(crate) is_waiting: bool,
+}
+
 /// The sockets of a gateway.
 #[derive(Drop)]
 pub(crate) struct Sockets {
     pub(crate) poll: Poll,
     pub(crate) plain: Option<UdpSocket>,
     pub(crate) timed: Option<UdpSocket>,
+    pub(crate) links: Vec<LinkSocket>,
     pub(crate) control: Option<UnixListener>,
     pub(crate) metrics: Option<TcpListener>,
 }
@@ -145,6 +158,32 @@ fn bind_datagrams<R: Net>(
     Ok(Some(socket))
 }
 
+/// Adds the socket of a link's own port.
+fn add_socket(sockets: &mut Vec<LinkSocket>, link: u16, socket: UdpSocket) -> io::Result<()> {
+    sockets.push(LinkSocket {
+        link,
+        socket,
+        is_waiting: false,
+    })?;
+    Ok(())
+}
+
+/// Binds the links' own ports.
+fn bind_links<R: Net + AllocGlobal>(
+    rt: &R,
+    poll: &Poll,
+    notes: &[LinkNote],
+) -> Result<Vec<LinkSocket>, SocketFault<'static>> {
+    let mut sockets = Vec::new(rt.alloc());
+    for note in notes {
+        let token = Token(LINKS.saturating_add(sockets.len()));
+        if let Some(socket) = bind_datagrams(rt, poll, "link port", note.port, token)? {
+            at(Opened::Poll, add_socket(&mut sockets, note.number, socket))?;
+        }
+    }
+    Ok(sockets)
+}
+
 /// Removes a socket that a run left behind when it was killed.
 pub(crate) fn remove_control<R: Files>(rt: &R, path: &str) -> io::Result<()> {
     match fs::remove_file(rt, path) {
@@ -195,10 +234,12 @@ impl Sockets {
     pub(crate) fn open<'a, R: Files + Net + AllocGlobal>(
         rt: &R,
         config: &'a Config,
+        notes: &[LinkNote],
     ) -> Result<Sockets, SocketFault<'a>> {
         let poll = at(Opened::Poll, Poll::new(rt))?;
         let plain = bind_datagrams(rt, &poll, "port", config.port, PLAIN)?;
         let timed = bind_datagrams(rt, &poll, "timed_port", config.timed_port, TIMED)?;
+        let links = bind_links(rt, &poll, notes)?;
         let metrics = bind_metrics(rt, &poll, config.metrics_port)?;
         let control = match &config.control {
             Some(path) => {
@@ -211,8 +252,16 @@ impl Sockets {
             poll,
             plain,
             timed,
+            links,
             control,
             metrics,
         })
+    }
+
+    /// Notes that something waits at the link's own port of this place.
+    pub(crate) fn note_link(&mut self, place: usize) {
+        if let Some(one) = self.links.get_mut(place) {
+            one.is_waiting = true;
+        }
     }
 }

@@ -86,7 +86,7 @@ impl fmt::Display for Became<'_> {
                 write!(f, "delivered {size}, feedback {feedback}")
             }
             (None, Some(refusal)) => write!(f, "refused {refusal}, feedback {feedback}"),
-            (None, None) if taken.sends.refused => f.write_str("refused while draining"),
+            (None, None) if taken.sends.refused => f.write_str("turned away"),
             (None, None) => write!(f, "nothing delivered, feedback {feedback}"),
         }
     }

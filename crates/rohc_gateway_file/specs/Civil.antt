@@ -1,4 +1,4 @@
--- Dates of the Gregorian calendar. Words: is_leap, days_in a month; IsDate; days_to a date; seconds_to, IsCivil.
+-- Dates of the Gregorian calendar. Words: is_leap, days_in a month; IsDate; days_to; seconds_to, IsCivil.
 use Rattle.std.specs.Prelude.{◌≤◌, ◌<◌, ℕ, ◌+◌, ◌*◌, ◌-◌, ◌/◌, ◌%◌, Bool, nat_lt, ◌==◌, ◌&&◌, ◌||◌, not, if◌then◌else◌}
 use Rattle.rohc_gateway_file.specs.declared.civil.Civil.{Civil}
 
@@ -20,7 +20,7 @@ pub record IsDate (year month day : ℕ) : Type 0 where
   pub day-first : 1 ≤ day
   pub day-last : day ≤ days_in year month
 
--- the days from the first of March of the year 0 to a date whose years and months begin in March, with month 0
+-- the days from the first of March of the year 0 to a date; years begin in March here, with month 0
 abbrev pub days_from_march : (year month day : ℕ) → ℕ
 days_from_march year month day =
     365 * year + year / 4 - year / 100 + year / 400 + (153 * month + 2) / 5 + (day - 1)

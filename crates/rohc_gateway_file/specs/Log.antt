@@ -21,4 +21,5 @@ name_of Debug = codes "debug"
 
 abbrev pub format_of : List ℕ → Option LogFormat
 format_of name =
-    if bytes_eq name (codes "text") then Some Text else if bytes_eq name (codes "json") then Some Json else None
+    if bytes_eq name (codes "text") then Some Text
+    else if bytes_eq name (codes "json") then Some Json else None

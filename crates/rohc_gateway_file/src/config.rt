@@ -10,7 +10,7 @@ use std::io::{ErrorKind, Write};
 use toml::{Table, Value};
 
 /// The keys of a gateway file.
-const KEYS: [&str; 9] = [
+const KEYS: [&str; 10] = [
     "links",
     "port",
     "timed_port",
@@ -19,6 +19,7 @@ const KEYS: [&str; 9] = [
     "control",
     "metrics_port",
     "log_format",
+    "numbered_feedback",
     "link",
 ];
 
@@ -30,10 +31,13 @@ const LONGEST_SOCKET: usize = 103;
 const A_PATH: &str = "a path in quotes";
 
 /// What a port must be.
-const A_PORT: &str = "a number from 1 to 65535";
+pub(crate) const A_PORT: &str = "a number from 1 to 65535";
 
 /// What a format of log lines must be.
 const A_FORMAT: &str = "\"text\" or \"json\"";
+
+/// What a key must be that is set or isn't.
+const A_FLAG: &str = "true or false";
 
 /// What a gateway is to do.
 #[derive(Drop)]
@@ -54,8 +58,25 @@ pub struct Config {
     pub metrics_port: Option<u16>,
     /// The format of log lines.
     pub log_format: LogFormat,
+    /// Whether feedback for the compressor and relayed feedback are sent with the link's number first.
+    pub numbered_feedback: bool,
     /// What the tables [[link]] say.
     pub notes: Vec<LinkNote>,
+}
+
+impl Config {
+    /// The key that has this port, if one has.
+    pub(crate) fn key_of_port(&self, port: u16) -> Option<&'static str> {
+        if self.port == Some(port) {
+            Some("port")
+        } else if self.timed_port == Some(port) {
+            Some("timed_port")
+        } else if self.metrics_port == Some(port) {
+            Some("metrics_port")
+        } else {
+            None
+        }
+    }
 }
 
 /// What is wrong at a key.
@@ -219,9 +240,13 @@ impl From<AllocError> for Unread {
     }
 }
 
-/// The number of the line at which a key stands, counted from 1: the first that begins with it and an equals sign.
+/// The number of the line at which a key stands, counted from 1: the first before all tables that begins with it and an
+/// equals sign.
 fn line_of(text: &str, key: &str) -> Option<usize> {
     for (place, line) in text.split("\n").enumerate() {
+        if line.trim().starts_with("[") {
+            return None;
+        }
         if let Some((front, _)) = line.split_once("=")
             && front.trim() == key
         {
@@ -378,6 +403,20 @@ impl Reading<'_> {
         }
     }
 
+    /// Whether the key is set, not if it isn't there, or a fault.
+    fn flag_at(&mut self, table: &Table, key: &'static str) -> Result<bool, AllocError> {
+        let Some(value) = table.get(key) else {
+            return Ok(false);
+        };
+        match value.as_bool() {
+            Some(is_set) => Ok(is_set),
+            None => {
+                self.add_value(key, value, A_FLAG)?;
+                Ok(false)
+            }
+        }
+    }
+
     /// Reads the table of a gateway file.
     fn read_table(&mut self, table: &Table, folder: &str) -> Result<(), AllocError> {
         for (key, _) in table {
@@ -399,6 +438,7 @@ impl Reading<'_> {
         self.config.control = self.path_at(table, "control", folder)?;
         self.config.metrics_port = self.port_at(table, "metrics_port")?;
         self.config.log_format = self.format_at(table, "log_format")?;
+        self.config.numbered_feedback = self.flag_at(table, "numbered_feedback")?;
         self.read_links(table)
     }
 
@@ -477,6 +517,7 @@ impl Reading<'_> {
         {
             self.add("save_seconds", Wrong::NeedsState)?;
         }
+        self.judge_link_ports()?;
         self.judge_control()
     }
 }
@@ -530,6 +571,7 @@ pub fn read_config<'a>(
         control: None,
         metrics_port: None,
         log_format: LogFormat::Text,
+        numbered_feedback: false,
         notes: Vec::new(alloc),
     };
     let mut reading = Reading {

@@ -1,6 +1,6 @@
 //! The tables `[[link]]` of a gateway file: what it says of links beside the links file.
 
-use crate::config::{Place, Reading, Wrong};
+use crate::config::{A_PORT, Place, Reading, Wrong};
 use rohc_text::nearest_name;
 use std::alloc::{AllocError, Global};
 use toml::{Table, Value};
@@ -13,7 +13,7 @@ pub(crate) struct LinkKey {
 }
 
 /// The keys of a table, each with an arm of `set`.
-pub(crate) const LINK_KEYS: [LinkKey; 2] = [
+pub(crate) const LINK_KEYS: [LinkKey; 5] = [
     LinkKey {
         name: "number",
         expected: "a number from 0 to 65535",
@@ -22,7 +22,22 @@ pub(crate) const LINK_KEYS: [LinkKey; 2] = [
         name: "name",
         expected: "a text of 1 to 64 characters, without control characters",
     },
+    LinkKey {
+        name: "port",
+        expected: A_PORT,
+    },
+    LinkKey {
+        name: "new_contexts_per_second",
+        expected: A_LIMIT,
+    },
+    LinkKey {
+        name: "feedback_per_second",
+        expected: A_LIMIT,
+    },
 ];
+
+/// What a limit must be.
+const A_LIMIT: &str = "a number from 0 to 4294967295 (0 is no limit)";
 
 /// The most characters of a name.
 const LONGEST_NAME: usize = 64;
@@ -34,6 +49,12 @@ pub struct LinkNote {
     pub number: u16,
     /// The name, if it has one.
     pub name: Option<String>,
+    /// The port for its datagrams without a number, if it has one.
+    pub port: Option<u16>,
+    /// How many contexts it may make in a second; 0 is no limit.
+    pub new_contexts_per_second: u32,
+    /// How many feedback elements for the compressor may be sent in a second; 0 is no limit.
+    pub feedback_per_second: u32,
     /// The table, counted from 1.
     pub table: usize,
     /// Where the number stands.
@@ -45,6 +66,9 @@ pub struct LinkNote {
 struct Found {
     number: Option<u16>,
     name: Option<String>,
+    port: Option<u16>,
+    new_contexts_per_second: Option<u32>,
+    feedback_per_second: Option<u32>,
 }
 
 /// A name of a link: 1 to 64 characters, none of them a control character.
@@ -64,7 +88,28 @@ fn number_in(value: &Value) -> Option<u16> {
     u16::try_from(value.as_integer()?).ok()
 }
 
+/// A port.
+fn port_in(value: &Value) -> Option<u16> {
+    number_in(value).filter(|port| *port > 0)
+}
+
+/// A limit.
+fn limit_in(value: &Value) -> Option<u32> {
+    u32::try_from(value.as_integer()?).ok()
+}
+
 impl Found {
+    /// Nothing was read yet.
+    fn new() -> Found {
+        Found {
+            number: None,
+            name: None,
+            port: None,
+            new_contexts_per_second: None,
+            feedback_per_second: None,
+        }
+    }
+
     /// Sets a key to a value. Returns whether the key can have it.
     fn set(&mut self, alloc: Global, key: &str, value: &Value) -> Result<bool, AllocError> {
         match key {
@@ -75,6 +120,18 @@ impl Found {
             "name" => {
                 self.name = name_in(alloc, value)?;
                 Ok(self.name.is_some())
+            }
+            "port" => {
+                self.port = port_in(value);
+                Ok(self.port.is_some())
+            }
+            "new_contexts_per_second" => {
+                self.new_contexts_per_second = limit_in(value);
+                Ok(self.new_contexts_per_second.is_some())
+            }
+            "feedback_per_second" => {
+                self.feedback_per_second = limit_in(value);
+                Ok(self.feedback_per_second.is_some())
             }
             _ => Ok(false),
         }
@@ -172,10 +229,7 @@ impl Reading<'_> {
 
     /// Reads the table of this number.
     fn read_link(&mut self, table: usize, members: &Table) -> Result<(), AllocError> {
-        let mut found = Found {
-            number: None,
-            name: None,
-        };
+        let mut found = Found::new();
         for (key, value) in members {
             self.read_link_key(&mut found, table, key.as_str(), value)?;
         }
@@ -192,9 +246,37 @@ impl Reading<'_> {
         self.config.notes.push(LinkNote {
             number,
             name: found.name,
+            port: found.port,
+            new_contexts_per_second: found.new_contexts_per_second.unwrap_or(0),
+            feedback_per_second: found.feedback_per_second.unwrap_or(0),
             table,
             place,
         })?;
+        Ok(())
+    }
+
+    /// What is wrong with the port of the note at this place, and its table: another key or an earlier table has it.
+    fn clash_at(&self, place: usize) -> Option<(usize, Wrong)> {
+        let note = self.config.notes.get(place)?;
+        let port = note.port?;
+        if let Some(key) = self.config.key_of_port(port) {
+            return Some((note.table, Wrong::SamePort(key)));
+        }
+        for other in self.config.notes.iter().take(place) {
+            if other.port == Some(port) {
+                return Some((note.table, Wrong::SameNumber(port, other.table)));
+            }
+        }
+        None
+    }
+
+    /// Judges the ports of the tables.
+    pub(crate) fn judge_link_ports(&mut self) -> Result<(), AllocError> {
+        for place in 0..self.config.notes.len() {
+            if let Some((table, wrong)) = self.clash_at(place) {
+                self.add_of_link(table, "port", wrong)?;
+            }
+        }
         Ok(())
     }
 
