@@ -1,5 +1,5 @@
 -- Which link a frame belongs to. Words: by_number; by_rule; chosen; packet_in.
-use Rattle.std.specs.Prelude.{ℕ, ◌+◌, ◌*◌, List, [], ◌∷◌, length, ◌==◌, nat_le, Bool, true, false, Option, Some, None, Result, Ok}
+use Rattle.std.specs.Prelude.{ℕ, ◌+◌, ◌*◌, List, [], ◌∷◌, length, ◌==◌, nat_le, Bool, true, false, Option, Some, None, Result}
 use Rattle.rohc_capture.specs.declared.fault.FrameFault.{FrameFault}
 use Rattle.rohc_capture.specs.declared.fault.FrameFault.TheVariants.{NotWhole}
 use Rattle.rohc_capture.specs.declared.carried.Carrier.{Carrier}
@@ -7,6 +7,8 @@ use Rattle.rohc_capture.specs.declared.carried.Carrier.TheVariants.{Link, Udp}
 use Rattle.rohc_capture.specs.declared.choice.Rule.{Rule}
 use Rattle.rohc_capture.specs.declared.choice.Rule.TheVariants as rules
 use Rattle.rohc_capture.specs.Octets.{◌>>=◌, given}
+use Rattle.rohc_capture.specs.declared.framing.Framing.{Framing}
+use Rattle.rohc_capture.specs.Framing.{is_number, behind}
 use Rattle.rohc_capture.specs.Carried.{Load, carried_in}
 
 -- the packet, if the test holds
@@ -20,11 +22,6 @@ by_number true (high ∷ low ∷ packet) = Some (high * 256 + low, packet)
 by_number true (high ∷ []) = None
 by_number true [] = None
 by_number false octets = None
-
--- the number is there, and it is this one
-abbrev pub is_number : ℕ → Option ℕ → Bool
-is_number wanted None = false
-is_number wanted (Some number) = number == wanted
 
 -- the link and the packet by one rule, if it speaks of such a frame
 abbrev pub by_rule : Rule → Option ℕ → Carrier → List ℕ → Option (ℕ × List ℕ)
@@ -49,8 +46,8 @@ chosen (rule ∷ more) load = first_of (by_rule rule load.vlan load.carrier load
 
 -- the link and the packet of a frame, by its link type and how many octets it had: none if no rule speaks of
 -- it
-unfoldable pub packet_in : List Rule → ℕ → ℕ → List ℕ → Result (Option (ℕ × List ℕ)) FrameFault
-packet_in rules link original frame = do
+unfoldable pub packet_in : List Rule → Framing → ℕ → ℕ → List ℕ → Result (Option (ℕ × List ℕ)) FrameFault
+packet_in rules framing link original frame = do
   frame ← given (nat_le original (length frame)) NotWhole frame
-  load ← carried_in link frame
-  Ok (chosen rules load)
+  load ← carried_in framing link frame
+  behind framing.offset (chosen rules load)

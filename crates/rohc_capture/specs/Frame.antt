@@ -4,13 +4,13 @@ use Rattle.std.specs.Prelude.{ℕ, zero, suc, ◌+◌, ◌*◌, ◌%◌, List, l
 use Rattle.rohc_capture.specs.declared.fault.FrameFault.{FrameFault}
 use Rattle.rohc_capture.specs.declared.fault.FrameFault.TheVariants as faults
 use Rattle.rohc_capture.specs.declared.frame.Protocol.{Protocol}
-use Rattle.rohc_capture.specs.declared.frame.Protocol.TheVariants.{Rohc, Ipv4, Other}
+use Rattle.rohc_capture.specs.declared.frame.Protocol.TheVariants.{Rohc, Ipv4, EtherType, Other}
 use Rattle.rohc_capture.specs.declared.frame.Network.{Network}
 use Rattle.rohc_capture.specs.Octets.{◌>>=◌, given, octet_at, word_at, after}
 
--- by its EtherType: 22F1 is ROHC, 0800 is IPv4
+-- by its EtherType: 22F1 is ROHC, 0800 is IPv4, and any other is itself
 abbrev pub protocol_of : ℕ → Protocol
-protocol_of kind = if kind == 0x22f1 then Rohc else if kind == 0x0800 then Ipv4 else Other
+protocol_of kind = if kind == 0x22f1 then Rohc else if kind == 0x0800 then Ipv4 else EtherType kind
 
 -- by its number in PPP: 0003 is ROHC with small CIDs, 0005 with large ones (RFC 3241 2.2), 0021 is IPv4
 abbrev pub ppp_protocol : ℕ → Protocol
@@ -21,7 +21,7 @@ ppp_protocol kind =
 abbrev pub is_tag : ℕ → Bool
 is_tag kind = (kind == 0x8100) || (kind == 0x88a8)
 
--- what stands inside the headers of the link: the number of its last VLAN tag, its protocol, and its octets
+-- what the headers of the link enclose: the number of the last VLAN tag, the protocol, and the octets behind
 pub record Inside : Type 0 where
   pub vlan : Option ℕ
   pub protocol : Protocol

@@ -1,6 +1,7 @@
 pub mod Names
 pub mod Octets
 pub mod Frame
+pub mod Framing
 pub mod Udp
 pub mod Carried
 pub mod Choice
@@ -8,6 +9,7 @@ pub mod Number
 pub mod Pcap
 pub mod Block
 pub mod Written
+pub mod Annotated
 pub mod Window
 pub mod Records
 pub mod Standing

@@ -35,7 +35,7 @@ impl Batch {
     ghost use Rattle.std.specs.Prelude.{◌≡◌, ◌<◌, ◌≤◌, [], length, OnOk};
     ghost use Rattle.std.specs.Io.KnownBytes.{append_known, Keeps};
 
-    /// No records, behind so many octets of a capture.
+    /// No records, at a place of a capture in octets.
     pub fn new(place: usize) -> Self
         ensures { result ≡ [] }
     {

@@ -2,10 +2,12 @@
 
 ghost use Rattle.std.specs.Prelude.{◌≡◌, Ok, IfSome};
 ghost use Rattle.std.specs.Result.{result_map_both};
+ghost use Rattle.rohc_capture.specs.Framing.{usual};
 ghost use Rattle.rohc_capture.specs.Carried.{load_of, carried_in};
 
 use crate::fault::FrameFault;
-use crate::frame::{Protocol, network_in};
+use crate::frame::Protocol;
+use crate::framing::{Framing, network_under};
 use crate::octets::{after, word};
 use crate::udp::{datagram_at_once, datagram_in};
 
@@ -45,11 +47,11 @@ const ROHC: u16 = 0x22f1;
 const IPV4: u16 = 0x0800;
 
 /// What nearly every frame carries: a ROHC packet in an Ethernet frame without tags, or the payload of a UDP datagram over
-/// IPv4 in such a frame or by itself. `None` says nothing.
+/// IPv4 in such a frame or by itself, under the usual framing. `None` says nothing.
 #[tactic(auto, unfolding(crate::specs::Carried::carried_in, crate::specs::Frame::network_in, crate::specs::Frame::ethernet, crate::specs::Frame::untagged, crate::specs::Frame::typed, crate::specs::Frame::protocol_of))]
 #[inline(always)]
 pub(crate) fn carried_at_once(link_type: u16, frame: &[u8]) -> Option<Carried<'_>>
-    ensures { IfSome result (λ carried. carried_in link_type frame.now ≡ Ok (load_of carried)) }
+    ensures { IfSome result (λ carried. carried_in usual link_type frame.now ≡ Ok (load_of carried)) }
 {
     let packet = match link_type {
         RAW_IP | RAW_IPV4 => frame,
@@ -77,12 +79,16 @@ pub(crate) fn carried_at_once(link_type: u16, frame: &[u8]) -> Option<Carried<'_
     })
 }
 
-/// What a frame of this link type carries. The link types are those of `network_in`.
+/// What a frame of this link type carries under a framing. The link types are those of `network_under`.
 #[tactic(auto, unfolding(crate::specs::Carried::carried_in))]
-pub fn carried_in(link_type: u16, frame: &[u8]) -> Result<Carried<'_>, FrameFault>
-    ensures { result_map_both load_of (λ e. e) result ≡ carried_in link_type frame.now }
+pub fn carried_in<'a>(
+    framing: &Framing,
+    link_type: u16,
+    frame: &'a [u8],
+) -> Result<Carried<'a>, FrameFault>
+    ensures { result_map_both load_of (λ e. e) result ≡ carried_in framing.now link_type frame.entry.now }
 {
-    let network = network_in(link_type, frame)?;
+    let network = network_under(framing, link_type, frame)?;
     match network.protocol {
         Protocol::Rohc => Ok(Carried {
             vlan: network.vlan,
@@ -97,6 +103,11 @@ pub fn carried_in(link_type: u16, frame: &[u8]) -> Result<Carried<'_>, FrameFaul
                 octets: datagram.payload,
             })
         }
-        Protocol::Other => Err(FrameFault::Protocol),
+        Protocol::EtherType(kind) if framing.ether_type == Some(kind) => Ok(Carried {
+            vlan: network.vlan,
+            carrier: Carrier::Link,
+            octets: network.octets,
+        }),
+        Protocol::EtherType(_) | Protocol::Other => Err(FrameFault::Protocol),
     }
 }

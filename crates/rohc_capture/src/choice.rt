@@ -3,11 +3,13 @@
 ghost use Rattle.std.specs.Prelude.{◌≡◌, Some, Ok, IfSome, true};
 ghost use Rattle.std.specs.Option.{option_map};
 ghost use Rattle.std.specs.Result.{result_map_both};
+ghost use Rattle.rohc_capture.specs.Framing.{usual};
 ghost use Rattle.rohc_capture.specs.Carried.{load_of};
 ghost use Rattle.rohc_capture.specs.Choice.{by_number, by_rule, chosen, packet_in};
 
 use crate::carried::{Carried, Carrier, carried_at_once, carried_in};
 use crate::fault::FrameFault;
+use crate::framing::{Framing, behind};
 
 /// A rule that says which link a frame belongs to.
 #[derive(Clone, Copy, PartialEq, Eq)]
@@ -63,8 +65,8 @@ pub fn choose<'a>(rules: &[Rule], carried: &Carried<'a>) -> Option<(u16, &'a [u8
     None
 }
 
-/// What `packet_in` gives for nearly every frame: the link and the packet, in a frame that `carried_at_once` looks into. `None`
-/// says nothing.
+/// What `packet_in` gives under the usual framing for nearly every frame: the link and the packet, in a frame that
+/// `carried_at_once` looks into. `None` says nothing.
 #[tactic(auto, unfolding(crate::specs::Choice::packet_in))]
 #[inline(always)]
 pub fn packet_at_once<'a>(
@@ -73,7 +75,7 @@ pub fn packet_at_once<'a>(
     original: u32,
     frame: &'a [u8],
 ) -> Option<(u16, &'a [u8])>
-    ensures { IfSome result (λ c. packet_in rules.now link_type original frame.now ≡ Ok (Some (c.0, c.1.now))) }
+    ensures { IfSome result (λ c. packet_in rules.now usual link_type original frame.now ≡ Ok (Some (c.0, c.1.now))) }
 {
     if original as usize > frame.len() {
         return None;
@@ -81,22 +83,23 @@ pub fn packet_at_once<'a>(
     choose(rules, &carried_at_once(link_type, frame)?)
 }
 
-/// The link that a frame belongs to, and the packet that it carries, by the frame's link type, and how many octets
-/// it had; `None` if no rule speaks of it.
+/// The link that a frame belongs to, and the packet that it carries, by the framing, the frame's link type, and how many
+/// octets it had; `None` if no rule speaks of it.
 ///
-/// The errors are `NotWhole`, if not all its octets are there, and those of `carried_in`.
+/// The errors are `NotWhole`, if not all its octets are there, those of `carried_in`, and `Offset`.
 #[tactic(auto, unfolding(crate::specs::Choice::packet_in))]
 pub fn packet_in<'a>(
     rules: &[Rule],
+    framing: &Framing,
     link_type: u16,
     original: u32,
     frame: &'a [u8],
 ) -> Result<Option<(u16, &'a [u8])>, FrameFault>
-    ensures { result_map_both (λ o. option_map (λ c. (c.0, c.1.now)) o) (λ e. e) result ≡ packet_in rules.now link_type original frame.now }
+    ensures { result_map_both (λ o. option_map (λ c. (c.0, c.1.now)) o) (λ e. e) result ≡ packet_in rules.now framing.now link_type original frame.now }
 {
     if frame.len() < original as usize {
         return Err(FrameFault::NotWhole);
     }
-    let carried = carried_in(link_type, frame)?;
-    Ok(choose(rules, &carried))
+    let carried = carried_in(framing, link_type, frame)?;
+    behind(framing.offset, choose(rules, &carried))
 }

@@ -92,10 +92,12 @@ pub enum FrameFault {
     NotUdp,
     /// The UDP length is shorter than its header, or longer than the IP packet.
     UdpLength,
+    /// What the frame carries is shorter than the offset of the packet in it.
+    Offset,
 }
 
 /// How many faults of frames there are.
-pub const FRAME_FAULTS: usize = 10;
+pub const FRAME_FAULTS: usize = 11;
 
 impl FrameFault {
     ghost use Rattle.std.specs.Prelude.{◌≡◌};
@@ -113,6 +115,7 @@ impl FrameFault {
         FrameFault::Fragment,
         FrameFault::NotUdp,
         FrameFault::UdpLength,
+        FrameFault::Offset,
     ];
 
     /// The name of the fault.
@@ -130,6 +133,7 @@ impl FrameFault {
             FrameFault::Fragment => "Fragment",
             FrameFault::NotUdp => "NotUdp",
             FrameFault::UdpLength => "UdpLength",
+            FrameFault::Offset => "Offset",
         }
     }
 }

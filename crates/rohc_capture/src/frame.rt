@@ -14,11 +14,13 @@ pub enum Protocol {
     Rohc,
     /// An IPv4 packet.
     Ipv4,
+    /// What another EtherType says.
+    EtherType(u16),
     /// Anything else.
     Other,
 }
 
-/// What stands inside the headers of a link.
+/// What the headers of a link enclose.
 #[derive(Clone, Copy)]
 pub struct Network<'a> {
     /// The number of the last VLAN tag, 0 to 4095, if there is a tag.
@@ -39,7 +41,7 @@ pub(crate) fn protocol_of(kind: u16) -> Protocol
     match kind {
         0x22f1 => Protocol::Rohc,
         0x0800 => Protocol::Ipv4,
-        _ => Protocol::Other,
+        other => Protocol::EtherType(other),
     }
 }
 
@@ -203,8 +205,8 @@ fn ppp(frame: &[u8]) -> Result<Network<'_>, FrameFault>
     numbered(frame)
 }
 
-/// What stands inside the headers of a frame of this link type, as captures number them: Ethernet 1, PPP 9 and 50, raw
-/// IP 12, 14, 101 and 228, Linux cooked 113 and 276.
+/// What the headers of a frame of this link type enclose. Captures number link types: Ethernet 1, PPP 9 and 50, raw IP
+/// 12, 14, 101 and 228, Linux cooked 113 and 276.
 ///
 /// The errors are those of `FrameFault` up to `Tags`.
 #[tactic(auto, unfolding(crate::specs::Frame::network_in))]

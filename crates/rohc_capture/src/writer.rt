@@ -29,16 +29,16 @@ pub enum WriteFault {
 }
 
 /// The octets before a packet, or before the first record.
-type Head = Buffer<32>;
+pub(crate) type Head = Buffer<32>;
 
 /// The most octets before and behind a frame.
 const AROUND: usize = 35;
 
 /// The longest packet that is written, in octets.
-const LONGEST_PACKET: usize = 262_144;
+pub(crate) const LONGEST_PACKET: usize = 262_144;
 
 /// Appends a number.
-fn append(head: &mut Head, number: u32)
+pub(crate) fn append(head: &mut Head, number: u32)
     requires { length head.old + 4 ≤ 32 }
     ensures { head.new ≡ head.old ++ quad number }
 {
@@ -57,7 +57,7 @@ fn put(cells: &mut [u8], used: usize, number: u32) -> usize
 }
 
 /// How many octets are missing from a length to a multiple of four.
-fn missing(size: u32) -> u32
+pub(crate) fn missing(size: u32) -> u32
     ensures { result ≡ missing size }
 {
     (4 - size % 4) % 4
@@ -77,7 +77,7 @@ fn size_of(front: &[u8], rest: &[u8]) -> Result<u32, WriteFault>
 
 /// Writes one part.
 #[inline(always)]
-fn write_one<W: Write>(writer: &mut W, part: &[u8]) -> Result<(), WriteFault>
+pub(crate) fn write_one<W: Write>(writer: &mut W, part: &[u8]) -> Result<(), WriteFault>
     ensures written { OnOk result (Appends (W.contents writer.old) (W.contents writer.new) part.now) }
     ensures failed { IfErr result (λ e. e ≡ WriteFault.Failed) }
 {
@@ -89,7 +89,11 @@ fn write_one<W: Write>(writer: &mut W, part: &[u8]) -> Result<(), WriteFault>
 
 /// Writes two parts.
 #[inline(always)]
-fn write_two<W: Write>(writer: &mut W, first: &[u8], second: &[u8]) -> Result<(), WriteFault>
+pub(crate) fn write_two<W: Write>(
+    writer: &mut W,
+    first: &[u8],
+    second: &[u8],
+) -> Result<(), WriteFault>
     ensures written { OnOk result (Appends (W.contents writer.old) (W.contents writer.new) (first.now ++ second.now)) }
     ensures failed { IfErr result (λ e. e ≡ WriteFault.Failed) }
 {
@@ -203,7 +207,7 @@ fn pcap_head(link_type: u16) -> Head
 
 #[tactic(auto, unfolding(crate::specs::Written::section_head))]
 /// The head of a section of pcapng.
-fn section_head() -> Head
+pub(crate) fn section_head() -> Head
     ensures { result ≡ section_head }
 {
     let mut head = Head::new();

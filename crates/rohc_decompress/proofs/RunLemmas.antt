@@ -8,6 +8,7 @@ use Rattle.rohc_concentrator.specs.declared.concentrator.Concentrator.{Concentra
 use Rattle.rohc_concentrator.specs.Report.{Report}
 use Rattle.rohc_concentrator.specs.Events.{Event, RunsEvents}
 use Rattle.rohc_capture.specs.declared.choice.Rule.{Rule}
+use Rattle.rohc_capture.specs.declared.framing.Framing.{Framing}
 use Rattle.rohc_concentrator.specs.Isolation.{IsIsolatedRun}
 use Rattle.rohc_concentrator.specs.Tables.{KeepsAll}
 use Rattle.rohc_concentrator.specs.Calls.{Arrive, Reported}
@@ -39,9 +40,11 @@ flat-append : {A : Type 0} (f : A → List ℕ) (xs ys : List A) → flat_map f 
 flat-append f [] ys = refl
 flat-append f (x ∷ xs) ys = ap (λ zs. f x ++ zs) (flat-append f xs ys) ∙ sym (append_assoc (f x) (flat_map f xs) (flat_map f ys))
 
-arrivals-append : (rules : List Rule) (xs ys : List Entry) → arrivals_in rules (xs ++ ys) ≡ arrivals_in rules xs ++ arrivals_in rules ys
-arrivals-append rules [] ys = refl
-arrivals-append rules (x ∷ xs) ys = ap (λ zs. arrival_in rules x ++ zs) (arrivals-append rules xs ys) ∙ sym (append_assoc (arrival_in rules x) (arrivals_in rules xs) (arrivals_in rules ys))
+arrivals-append : (rules : List Rule) (framing : Framing) (xs ys : List Entry) →
+    arrivals_in rules framing (xs ++ ys) ≡ arrivals_in rules framing xs ++ arrivals_in rules framing ys
+arrivals-append rules framing [] ys = refl
+arrivals-append rules framing (x ∷ xs) ys = ap (λ zs. arrival_in rules framing x ++ zs) (arrivals-append rules framing xs ys)
+    ∙ sym (append_assoc (arrival_in rules framing x) (arrivals_in rules framing xs) (arrivals_in rules framing ys))
 
 run-append : (a b c : Concentrator) (xs ys : List (Event × Option Report)) → RunsEvents a xs b → RunsEvents b ys c → RunsEvents a (xs ++ ys) c
 run-append a b c [] ys p q = subst (λ k. RunsEvents k ys c) p q
@@ -54,7 +57,7 @@ pub Runs-more : (how : How) (xs ys : List Entry) (a b c : Work) → Runs how xs 
 Runs-more how xs ys a b c p q = record {
   turns = p.turns ++ q.turns;
   arrivals = map-append (λ (t : Turn). t.arrival) p.turns q.turns ∙ ap (λ l. l ++ map (λ (t : Turn). t.arrival) q.turns) p.arrivals
-      ∙ ap (λ l. arrivals_in how.rules xs ++ l) q.arrivals ∙ sym (arrivals-append how.rules xs ys);
+      ∙ ap (λ l. arrivals_in how.rules how.framing xs ++ l) q.arrivals ∙ sym (arrivals-append how.rules how.framing xs ys);
   run = subst (λ l. RunsEvents a.concentrator l c.concentrator) (sym (map-append event_of p.turns q.turns)) (run-append _ _ _ _ _ p.run q.run);
   packets = subst (Appends a.packets c.packets) (sym (flat-append (turn_packet how.format how.padded) p.turns q.turns)) (Appends-trans a.packets b.packets c.packets _ _ p.packets q.packets);
   feedback = subst (Appends a.feedback c.feedback) (sym (flat-append (turn_feedback how.format) p.turns q.turns)) (Appends-trans a.feedback b.feedback c.feedback _ _ p.feedback q.feedback);
@@ -90,7 +93,7 @@ takes_after format padded link nanos packet old mid new kept t = record {
   feedback = t.feedback;
 }
 
-pub one-turn : (how : How) (e : Entry) (link : ℕ) (packet : List ℕ) (old new : Work) → packet_in how.rules e.link_type e.original e.frame ≡ Ok (Some (link, packet)) →
+pub one-turn : (how : How) (e : Entry) (link : ℕ) (packet : List ℕ) (old new : Work) → packet_in how.rules how.framing e.link_type e.original e.frame ≡ Ok (Some (link, packet)) →
     TakesPacket how.format how.padded link e.nanos packet old new → Runs how (e ∷ []) old new
 one-turn how e link packet old new is t = record {
   turns = record { arrival = record { link = link; nanos = e.nanos; packet = packet }; report = t.report } ∷ [];
@@ -100,7 +103,7 @@ one-turn how e link packet old new is t = record {
   feedback = subst (Appends old.feedback new.feedback) (sym (append-nil (feedback_text how.format link e.nanos (feedback_of t.report)))) t.feedback;
 }
 
-none_here : (how : How) (e : Entry) (w : Work) → arrival_in how.rules e ≡ [] → Runs how (e ∷ []) w w
+none_here : (how : How) (e : Entry) (w : Work) → arrival_in how.rules how.framing e ≡ [] → Runs how (e ∷ []) w w
 none_here how e w is = record {
   turns = [];
   arrivals = sym (ap (λ l. l ++ []) is);
@@ -109,10 +112,10 @@ none_here how e w is = record {
   feedback = Appends-nil w.feedback;
 }
 
-pub no-turn : (how : How) (e : Entry) (w : Work) → packet_in how.rules e.link_type e.original e.frame ≡ Ok None → Runs how (e ∷ []) w w
+pub no-turn : (how : How) (e : Entry) (w : Work) → packet_in how.rules how.framing e.link_type e.original e.frame ≡ Ok None → Runs how (e ∷ []) w w
 no-turn how e w is = none_here how e w (ap (arrival_of e.nanos) is)
 
-pub bad-frame : (how : How) (e : Entry) (w : Work) (fault : FrameFault) → packet_in how.rules e.link_type e.original e.frame ≡ Err fault → Runs how (e ∷ []) w w
+pub bad-frame : (how : How) (e : Entry) (w : Work) (fault : FrameFault) → packet_in how.rules how.framing e.link_type e.original e.frame ≡ Err fault → Runs how (e ∷ []) w w
 bad-frame how e w fault is = none_here how e w (ap (arrival_of e.nanos) is)
 
 -- ---- the records of a capture

@@ -10,6 +10,7 @@ use Rattle.rohc_capture.specs.declared.fault.FrameFault.{FrameFault}
 use Rattle.rohc_capture.specs.declared.fault.CaptureFault.{CaptureFault}
 use Rattle.rohc_capture.specs.declared.fault.FaultKind.TheVariants.{Read}
 use Rattle.rohc_capture.specs.declared.choice.Rule.{Rule}
+use Rattle.rohc_capture.specs.declared.framing.Framing.{Framing}
 use Rattle.rohc_capture.specs.declared.reader.Kind.{Kind}
 use Rattle.rohc_capture.specs.declared.reader.Record.{Record}
 use Rattle.rohc_capture.specs.declared.writer.Format.{Format}
@@ -32,13 +33,14 @@ arrival_of nanos (Ok (Some (link, packet))) = record { link = link; nanos = nano
 arrival_of nanos (Ok None) = []
 arrival_of nanos (Err fault) = []
 
-abbrev pub arrival_in : List Rule → Entry → List Arrival
-arrival_in rules e = arrival_of e.nanos (packet_in rules e.link_type e.original e.frame)
+abbrev pub arrival_in : List Rule → Framing → Entry → List Arrival
+arrival_in rules framing e =
+    arrival_of e.nanos (packet_in rules framing e.link_type e.original e.frame)
 
 -- the arrivals in the records of a capture, in their order
-abbrev pub arrivals_in : List Rule → List Entry → List Arrival
-arrivals_in rules [] = []
-arrivals_in rules (e ∷ es) = arrival_in rules e ++ arrivals_in rules es
+abbrev pub arrivals_in : List Rule → Framing → List Entry → List Arrival
+arrivals_in rules framing [] = []
+arrivals_in rules framing (e ∷ es) = arrival_in rules framing e ++ arrivals_in rules framing es
 
 -- an arrival and its answer
 pub record Turn : Type 0 where
@@ -57,20 +59,27 @@ turn_packet format padded t = packet_text format padded t.arrival.nanos (packet_
 abbrev pub turn_feedback : Format → Turn → List ℕ
 turn_feedback format t = feedback_text format t.arrival.link t.arrival.nanos (feedback_of t.report)
 
--- How a capture is run: the rules, the form of what is written, and whether padding is cut.
+-- How a capture is run: the rules, how packets lie in frames, the form of what is written, and whether
+-- padding is cut.
 pub record How : Type 0 where
   pub rules : List Rule
+  pub framing : Framing
   pub format : Format
   pub padded : Bool
 
 abbrev pub how : Bulk → How
-how bulk = record { rules = bulk.rules.now; format = bulk.format; padded = bulk.padded }
+how bulk = record {
+  rules = bulk.rules.now;
+  framing = bulk.framing;
+  format = bulk.format;
+  padded = bulk.padded;
+}
 
 -- The arrivals in these records come one after another, each at its time. What the concentrator answers is
 -- written, and nothing else.
 pub record Runs (how : How) (es : List Entry) (old new : Work) : Type 0 where
   pub turns : List Turn
-  pub arrivals : map (λ (t : Turn). t.arrival) turns ≡ arrivals_in how.rules es
+  pub arrivals : map (λ (t : Turn). t.arrival) turns ≡ arrivals_in how.rules how.framing es
   pub run : RunsEvents old.concentrator (map event_of turns) new.concentrator
   pub packets : Appends old.packets new.packets (flat_map (turn_packet how.format how.padded) turns)
   pub feedback : Appends old.feedback new.feedback (flat_map (turn_feedback how.format) turns)

@@ -3,6 +3,7 @@
 //! Where thousands of calls come in no order, each packet would wait until its context came from memory. Here the contexts
 //! of many packets are touched one right after another, and the processor waits for all of them at once.
 
+use crate::run::Bulk;
 use rohc_capture::{Capture, Rule, packet_at_once};
 use rohc_concentrator::Concentrator;
 use rohc_context::Context;
@@ -145,21 +146,22 @@ impl Look {
         Look { pause: 0 }
     }
 
-    /// Looks at the contexts of the packets that lie ahead, if there are many contexts, and unless a look was of no use of late.
+    /// Looks at the contexts of the packets that lie ahead, if there are many contexts and the framing is the usual one, and
+    /// unless a look was of no use of late.
     pub(crate) fn ahead<R: Read>(
         &mut self,
         concentrator: &Concentrator,
-        rules: &[Rule],
+        bulk: &Bulk<'_>,
         capture: &Capture<R>,
     ) {
         if self.pause > 0 {
             self.pause -= 1;
             return;
         }
-        if !are_many(concentrator) {
+        if !bulk.framing.is_usual() || !are_many(concentrator) {
             return;
         }
-        let Some(shape) = Shape::of_next(rules, capture) else {
+        let Some(shape) = Shape::of_next(bulk.rules, capture) else {
             return;
         };
         let mut passed: usize = 0;

@@ -9,5 +9,5 @@ mod run;
 mod tally;
 
 pub use fault::BulkFault;
-pub use run::{Bulk, begin, decompress, take_packet};
+pub use run::{Bulk, begin, decompress, put_feedback, shown, take_packet};
 pub use tally::Tally;

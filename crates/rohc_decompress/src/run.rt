@@ -7,6 +7,7 @@ ghost use Rattle.rohc_context.specs.Response.{response_of};
 ghost use Rattle.rohc_feedback.specs.Element.{octets_of};
 ghost use Rattle.rohc_concentrator.specs.Report.{report_of};
 ghost use Rattle.rohc_concentrator.specs.Taken.{MissedBy};
+ghost use Rattle.rohc_capture.specs.Framing.{usual};
 ghost use Rattle.rohc_capture.specs.Written.{head_of};
 ghost use Rattle.rohc_capture.specs.Records.{Entry, standing};
 ghost use Rattle.rohc_capture.specs.Standing.{entry_of, frame_of, rest_of, place_of, ReadsOn};
@@ -19,8 +20,8 @@ use crate::cut::without_padding;
 use crate::fault::BulkFault;
 use crate::tally::{Tally, more};
 use rohc_capture::{
-    Batch, Capture, CaptureFault, FaultKind, Format, Record, Rule, WriteFault, packet_at_once,
-    packet_in, put_record, write_head, write_record,
+    Batch, Capture, CaptureFault, FaultKind, Format, Framing, Record, Rule, WriteFault,
+    packet_at_once, packet_in, put_record, write_head, write_record,
 };
 use rohc_concentrator::{Answer, Concentrator};
 use rohc_context::{Delivered, Outcome, Reply};
@@ -45,6 +46,8 @@ const HEAD: usize = 40;
 pub struct Bulk<'a> {
     /// Which link a frame belongs to: the first rule that speaks of it says so.
     pub rules: &'a [Rule],
+    /// How packets lie in frames.
+    pub framing: Framing,
     /// Whether a rebuilt packet ends at its IPv4 total length.
     pub padded: bool,
     /// The form of the captures that are written.
@@ -152,7 +155,7 @@ fn take_records<R: Read, W: Write, V: Write>(
         ) else {
             return Err(BulkFault::Write);
         };
-        look.ahead(concentrator, bulk.rules, capture);
+        look.ahead(concentrator, bulk, capture);
         let Ok(()) = take_ahead(concentrator, bulk, capture, batch, packets, feedback, tally) else {
             return Err(BulkFault::Write);
         };
@@ -163,7 +166,7 @@ fn take_records<R: Read, W: Write, V: Write>(
     }))
 }
 
-/// Takes the records that lie ahead, as nearly all do.
+/// Takes the records that lie ahead, as nearly all do. Under another framing than the usual one it takes none.
 fn take_ahead<R: Read, W: Write, V: Write>(
     concentrator: &mut Concentrator,
     bulk: &Bulk<'_>,
@@ -180,6 +183,9 @@ fn take_ahead<R: Read, W: Write, V: Write>(
         (work concentrator.old (append_known (W.contents packets.old) batch.old) (V.contents feedback.old))
         (work concentrator.new (append_known (W.contents packets.new) batch.new) (V.contents feedback.new))) }
 {
+    if !bulk.framing.is_usual() {
+        return Ok(());
+    }
     for _ in 0..u64::MAX {
         let Some(record) = capture.next_ahead() else {
             return Ok(());
@@ -272,6 +278,7 @@ fn take_frame<W: Write, V: Write>(
     feedback: &mut V,
     tally: &mut Tally,
 ) -> Result<(), WriteFault>
+    requires { bulk.now.framing ≡ usual }
     ensures { OnOk result (Runs (how bulk.now) (entry_of «record».now frame.now ∷ [])
         (work concentrator.old (append_known (W.contents packets.old) batch.old) (V.contents feedback.old))
         (work concentrator.new (append_known (W.contents packets.new) batch.new) (V.contents feedback.new))) }
@@ -337,7 +344,13 @@ fn take_any_frame<W: Write, V: Write>(
         (work concentrator.old (append_known (W.contents packets.old) batch.old) (V.contents feedback.old))
         (work concentrator.new (append_known (W.contents packets.new) batch.new) (V.contents feedback.new))) }
 {
-    match packet_in(bulk.rules, record.link_type, record.original, frame) {
+    match packet_in(
+        bulk.rules,
+        &bulk.framing,
+        record.link_type,
+        record.original,
+        frame,
+    ) {
         Ok(Some((link, packet))) => {
             take_packet::<true, W, V>(
                 concentrator,
@@ -577,7 +590,7 @@ fn take_reply<W: Write, V: Write>(
 
 /// The part of a payload that is written: all of it, unless padding is cut.
 #[inline(always)]
-fn shown<'a>(padded: bool, head: &[u8], payload: &'a [u8]) -> &'a [u8]
+pub fn shown<'a>(padded: bool, head: &[u8], payload: &'a [u8]) -> &'a [u8]
     ensures { result.now ≡ shown padded head.now payload.entry.now }
 {
     if padded {
@@ -610,8 +623,8 @@ fn put_packet<W: Write>(
     }
 }
 
-/// Writes a feedback element in an Ethernet frame.
-fn put_feedback<V: Write>(
+/// Writes a feedback element in an Ethernet frame from 02:00:00:00 with the link's number behind.
+pub fn put_feedback<V: Write>(
     format: Format,
     link: u16,
     nanos: u64,

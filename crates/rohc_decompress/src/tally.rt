@@ -30,7 +30,7 @@ pub(crate) fn more(count: &mut u64) {
 
 impl Tally {
     /// Counts a packet by what became of it.
-    pub(crate) fn add_outcome(&mut self, outcome: Outcome) {
+    pub fn add_outcome(&mut self, outcome: Outcome) {
         match outcome {
             Outcome::Delivered => more(&mut self.delivered),
             Outcome::Refused(_) => more(&mut self.refused),
@@ -55,7 +55,7 @@ impl Tally {
     }
 
     /// Counts a frame with this fault.
-    pub(crate) fn add_fault(&mut self, fault: FrameFault) {
+    pub fn add_fault(&mut self, fault: FrameFault) {
         for (count, kind) in self.faults.iter_mut().zip(FrameFault::ALL.iter()) {
             if *kind == fault {
                 *count = count.saturating_add(1);

@@ -9,6 +9,14 @@ use Rattle.rohc_decompress.specs.Run.{how, Runs}
 use Rattle.rohc_decompress.proofs.RunLemmas.{Runs-none, Runs-more, Runs-kept, led-first, led-more}
 use Rattle.rohc_decompress.proofs.run.take_ahead.Goals as goal
 
+-- other packets lie elsewhere in their frames
+pub returns-then-not-is_usual : goal.returns-then-not-is_usual
+returns-then-not-is_usual g c = (
+  [],
+  led-first c.args.capture.now.kind (place_of c.args.capture.now) (rest_of g.R.Read.remaining c.args.capture.now),
+  Runs-none (how c.args.bulk.now) (work c.args.concentrator.now (append_known (g.W.Write.contents c.args.packets.now) c.args.batch.now) (g.V.Write.contents c.args.feedback.now)),
+)
+
 pub loop-init : goal.loop-init
 loop-init g c = (
   [],
