@@ -48,7 +48,7 @@ pub struct HeaderFields {
     pub end: u32,
 }
 
-/// Tells the fields of a header of 40 octets, as far as its octets go.
+/// Passes on the fields of a header of 40 octets, as far as its octets go.
 ///
 /// The number of each field is the one of the bits in its place, and no bit up to the end of the last stands in no
 /// field or in two. Which fields there are is only tested.

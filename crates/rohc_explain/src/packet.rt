@@ -166,7 +166,7 @@ fn kind_of(octet: Option<u8>, terms: Option<Terms>) -> PacketKind {
     }
 }
 
-/// Tells the fields of a packet. Without terms, the fields of a UO-0, UO-1 or UOR-2 aren't told, since their format
+/// Passes on the fields of a packet. Without terms, those of a UO-0, UO-1 or UOR-2 are left out, since their format
 /// isn't known.
 ///
 /// The number of each field is the one of the bits in its place, and no bit before the payload stands in no field or

@@ -13,7 +13,7 @@ const EVERY: u64 = 500;
 const ROWS: usize = 16;
 
 /// Clears a terminal, and begins at its top.
-pub(crate) fn clear<W: Write>(out: &mut W) -> io::Result<()> {
+pub fn clear<W: Write>(out: &mut W) -> io::Result<()> {
     write!(out, "\x1b[H\x1b[2J")
 }
 

@@ -10,5 +10,6 @@ mod totals;
 mod tracing;
 
 pub use differences::{Compared, run_diff};
+pub use follow::clear;
 pub use totals::{Asked, Form, run_totals};
 pub use tracing::run_trace;

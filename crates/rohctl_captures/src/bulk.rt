@@ -2,6 +2,8 @@
 
 ghost use Rattle.std.specs.Prelude.{◌≡◌, ◌≢◌};
 
+use crate::annotated::{Annotated, Annotator, Interfaces};
+use crate::framing_words::framing_of;
 use crate::rules::{RuleWords, check_links, rules_of};
 use crate::unmatched::no_frame;
 use rohc_capture::{Capture, CaptureFault, FaultKind, Format};
@@ -147,15 +149,41 @@ fn arrivals(tally: &Tally) -> u64 {
         .saturating_add(tally.silent)
 }
 
+/// Runs a capture into these targets: in pcapng with what the annotator says of each packet.
+fn run_capture<A: Annotator, S: Read, F: Write + Drop, P: Write + Drop>(
+    annotator: &A,
+    links: &mut Concentrator,
+    bulk: &Bulk<'_>,
+    capture: &mut Capture<S>,
+    outputs: &mut Outputs<F, P>,
+    tally: &mut Tally,
+) -> Result<(), BulkFault> {
+    if bulk.format == Format::Pcap {
+        return run_to_both(links, bulk, capture, outputs, tally);
+    }
+    let mut annotated = Annotated {
+        annotator,
+        bulk,
+        interfaces: Interfaces::new(Vec::new(annotator.alloc())),
+        tally: *tally,
+    };
+    let (packets, feedback) = (&mut outputs.packets, &mut outputs.feedback);
+    let ran = annotated.run(links, capture, packets, feedback);
+    *tally = annotated.tally;
+    ran
+}
+
 /// Runs the capture that is asked for.
-fn run_bulk<'a, R>(
+fn run_bulk<'a, R, A>(
     rt: &R,
     asked: &Decompress<'a>,
     bulk: &Bulk<'_>,
+    annotator: &A,
     screen: Screen,
 ) -> Result<Ending<'a>, Ending<'a>>
 where
     R: Files + Input + Print + Eprint + AllocGlobal,
+    A: Annotator,
 {
     let mut links = concentrator_of(rt, asked.links)?;
     check_links(&links, asked.links, bulk.rules)?;
@@ -163,7 +191,14 @@ where
     let mut outputs = make_outputs(rt, asked)?;
     let mut tally = Tally::default();
     let ran = match Capture::new(rt.alloc(), &mut input) {
-        Ok(mut capture) => { run_to_both(&mut links, bulk, &mut capture, &mut outputs, &mut tally) }
+        Ok(mut capture) => run_capture(
+            annotator,
+            &mut links,
+            bulk,
+            &mut capture,
+            &mut outputs,
+            &mut tally,
+        ),
         Err(fault) => Err(BulkFault::Capture(fault)),
     };
     let flushed = outputs.flush();
@@ -172,7 +207,7 @@ where
     }
     match ran {
         Ok(()) if flushed && arrivals(&tally) == 0 => {
-            Err(no_frame(rt, asked.input, input.front()))
+            Err(no_frame(rt, asked.input, input.front(), &bulk.framing))
         }
         Ok(()) if flushed => Ok(Ending::Good),
         Err(BulkFault::Capture(fault)) if flushed => {
@@ -182,21 +217,25 @@ where
     }
 }
 
-/// Runs a capture, and writes what is delivered.
-pub fn run_decompress<'a, R>(
+/// Runs a capture, and writes what is delivered; in pcapng also each frame, with what the annotator says of its packet.
+pub fn run_decompress<'a, R, A>(
     rt: &R,
     asked: &Decompress<'a>,
+    annotator: &A,
     screen: Screen,
 ) -> Result<Ending<'a>, Ending<'a>>
 where
     R: Files + Input + Print + Eprint + AllocGlobal,
+    A: Annotator,
 {
     let rules = rules_of(rt.alloc(), &asked.rules)?;
+    let framing = framing_of(&asked.rules)?;
     refuse_terminal(asked.output, screen)?;
     let bulk = Bulk {
         rules: rules.as_slice(),
+        framing,
         padded: asked.padded,
         format: asked.format,
     };
-    run_bulk(rt, asked, &bulk, screen)
+    run_bulk(rt, asked, &bulk, annotator, screen)
 }

@@ -8,7 +8,7 @@ use rohc_concentrator::Concentrator;
 use rohctl_ground::{Ending, Misuse, Nothing};
 use std::alloc::Global;
 
-/// The options that say which link a frame belongs to.
+/// The options that say which link a frame belongs to, and how packets lie in frames.
 #[derive(Clone, Copy)]
 pub struct RuleWords<'a> {
     /// The link of ROHC packets that the capture's own link carries.
@@ -17,6 +17,12 @@ pub struct RuleWords<'a> {
     pub vlan: Option<&'a str>,
     /// UDP ports, as N or N=L with commas between them.
     pub port: Option<&'a str>,
+    /// Another EtherType of ROHC.
+    pub ethertype: Option<&'a str>,
+    /// A link type whose frames begin with ROHC.
+    pub linktype: Option<&'a str>,
+    /// How many octets lie before each packet.
+    pub offset: Option<&'a str>,
 }
 
 /// The options that name links.

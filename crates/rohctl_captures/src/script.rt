@@ -1,12 +1,13 @@
 //! The subcommand `script`: a capture as a script, and back.
 
 use crate::bulk::{capture_end, refuse_terminal};
+use crate::carriage::{Carriage, sender_in};
 use crate::datagrams::Datagrams;
+use crate::framing_words::framing_of;
 use crate::rules::{RuleWords, rules_of};
-use crate::sender::{Sender, sender_of};
 use crate::unmatched::no_frame;
 use hex::encode_to_slice;
-use rohc_capture::{Capture, Format, Record, Rule, packet_in, write_head};
+use rohc_capture::{Capture, Format, Record, write_head};
 use rohc_decompress::BulkFault;
 use rohctl_ground::{
     Ending, Misuse, Nothing, Screen, Stop, Told, Written, is_capture_front, keep_apart,
@@ -103,8 +104,7 @@ impl<S: Write + Drop, O: Write + Drop, L: Write + Drop> Outputs<S, O, L> {
 /// Turns a capture into lines. The error is that of the capture, or of a writer.
 fn run_frames<R, S, O, L>(
     capture: &mut Capture<R>,
-    rules: &[Rule],
-    sender: Option<Sender>,
+    wanted: &Carriage<'_>,
     out: &mut Outputs<S, O, L>,
 ) -> Result<(), BulkFault>
 where
@@ -118,19 +118,17 @@ where
             return Ok(());
         };
         let octets = capture.frame();
-        let Ok(Some((link, packet))) = packet_in(rules, record.link_type, record.original, octets)
-        else {
+        let Some((link, packet)) = wanted.packet_of(&record, octets) else {
             continue;
         };
         if packet.len() > LONGEST_PACKET {
             continue;
         }
         out.packets = out.packets.saturating_add(1);
-        let written = match &sender {
-            Some(sender) if !sender.sent(record.link_type, octets) => {
-                write_line(&mut out.other, link, record.nanos, packet)
-            }
-            _ => out.arrived(frame, &record, link, packet),
+        let written = if wanted.is_sent(&record, octets) {
+            out.arrived(frame, &record, link, packet)
+        } else {
+            write_line(&mut out.other, link, record.nanos, packet)
         };
         written.map_err(|_| BulkFault::Write)?;
         if !capture.is_ahead() {
@@ -169,12 +167,11 @@ fn unwritten_end<'a, R: Files + Print>(
     }
 }
 
-/// Turns a capture into a script, by these rules.
+/// Turns the wanted packets of a capture into a script.
 fn run_by<'a, R>(
     rt: &R,
     asked: &Script<'a>,
-    rules: &[Rule],
-    sender: Option<Sender>,
+    wanted: &Carriage<'_>,
     screen: Screen,
 ) -> Result<Ending<'a>, Ending<'a>>
 where
@@ -188,12 +185,14 @@ where
     )?;
     let mut out = outputs_of(rt, asked)?;
     let ran = match Capture::new(rt.alloc(), &mut input) {
-        Ok(mut capture) => run_frames(&mut capture, rules, sender, &mut out),
+        Ok(mut capture) => run_frames(&mut capture, wanted, &mut out),
         Err(fault) => Err(BulkFault::Capture(fault)),
     };
     let flushed = out.flush().is_ok();
     match ran {
-        Ok(()) if flushed && out.packets == 0 => Err(no_frame(rt, asked.input, input.front())),
+        Ok(()) if flushed && out.packets == 0 => {
+            Err(no_frame(rt, asked.input, input.front(), &wanted.framing))
+        },
         Ok(()) if flushed => Ok(Ending::Good),
         Err(BulkFault::Capture(fault)) if flushed => {
             Err(capture_end(asked.input, fault, input.unread(asked.input)))
@@ -207,16 +206,14 @@ fn run_forth<'a, R>(rt: &R, asked: &Script<'a>, screen: Screen) -> Result<Ending
 where
     R: Files + Input + Print + Eprint + AllocGlobal,
 {
-    let sender = match asked.from {
-        Some(text) => Some(sender_of(text).ok_or(Ending::Misuse(Misuse::Value {
-            word: "--from",
-            given: text,
-            expected: "an Ethernet address, as 02:00:00:00:00:01, or an IPv4 address, as 10.0.0.1",
-        }))?),
-        None => None,
-    };
+    let sender = sender_in(asked.from)?;
     let rules = rules_of(rt.alloc(), &asked.rules)?;
-    run_by(rt, asked, rules.as_slice(), sender, screen)
+    let wanted = Carriage {
+        rules: rules.as_slice(),
+        framing: framing_of(&asked.rules)?,
+        sender,
+    };
+    run_by(rt, asked, &wanted, screen)
 }
 
 /// The datagrams of a capture to this port, before the first.

@@ -1,135 +1,208 @@
-//! What is said of a capture of which no frame carries a packet of a link.
+//! What is said of a capture of which no frame carries a packet of a link: what it has in place of that, and which
+//! options speak of it.
 
 ghost use Rattle.std.specs.Prelude.{◌≡◌};
 
-use rohc_capture::{Capture, Carrier, Protocol, carried_in, network_in};
-use rohctl_ground::{Ending, input_name};
+use rohc_capture::{Capture, Carrier, FrameFault, Framing, Protocol, carried_in, network_under};
+use rohctl_ground::{Ending, STREAM, input_name, open_file};
 use std::alloc::Global;
 use std::fmt;
+use std::io::Read;
+use std::rt::Files;
 
-/// What the first frame of a capture is.
+/// What a frame is of which no rule speaks.
 #[derive(Clone, Copy, PartialEq, Eq)]
-pub struct FirstFrame {
-    /// The link type, as captures number them.
-    link_type: u16,
-    /// The EtherType behind the tags of a frame that has one.
-    ether_type: Option<u16>,
-    /// The number of the last VLAN tag.
-    vlan: Option<u16>,
-    load: Load,
-}
-
-/// What a frame carries.
-#[derive(Clone, Copy, PartialEq, Eq)]
-enum Load {
-    /// A ROHC packet.
-    Rohc,
+enum Find {
+    /// A ROHC packet, under a VLAN if there is one.
+    Rohc(Option<u16>),
     /// A UDP datagram to this port.
     Udp(u16),
-    /// Something else over IPv4.
-    Ipv4,
+    /// What another EtherType says, under a VLAN if there is one.
+    EtherType(u16, Option<u16>),
+    /// A frame of a link type that isn't known.
+    LinkType(u16),
+    /// What is carried ends before the packet begins, at this offset.
+    Offset(u16),
     /// Anything else.
     Other,
 }
 
-/// The most VLAN tags of a frame.
-const MOST_TAGS: usize = 8;
+/// How many kinds of frames are told apart.
+const KINDS: usize = 8;
 
-/// The word of two octets at this place of a frame.
-fn word_at(frame: &[u8], place: usize) -> Option<u16> {
-    match frame.get(place..)?.first_chunk::<2>() {
-        Some(octets) => Some(u16::from_be_bytes(*octets)),
-        None => None,
+/// How many frames of a capture are of each kind, in the order in which they are found.
+#[derive(Drop)]
+struct Finds {
+    kinds: Vec<(Find, u64)>,
+    /// The frames of further kinds.
+    more: u64,
+}
+
+/// The other EtherType of a frame, if it has one.
+fn other_type(framing: &Framing, link_type: u16, frame: &[u8]) -> Find {
+    match network_under(framing, link_type, frame) {
+        Ok(network) => match network.protocol {
+            Protocol::EtherType(kind) => Find::EtherType(kind, network.vlan),
+            _ => Find::Other,
+        },
+        Err(_) => Find::Other,
     }
 }
 
-/// The EtherType of a frame of this link type, behind its tags: Ethernet, and Linux cooked 1 and 2.
-fn ether_type_of(link_type: u16, frame: &[u8]) -> Option<u16> {
-    let mut place = match link_type {
-        1 => 12usize,
-        113 => 14,
-        276 => 0,
-        _ => return None,
-    };
-    for _ in 0..MOST_TAGS {
-        match word_at(frame, place) {
-            Some(0x8100 | 0x88a8 | 0x9100) => place = place.saturating_add(4),
-            other => return other,
+/// What a frame of this link type is.
+fn find_in(framing: &Framing, link_type: u16, frame: &[u8]) -> Find {
+    match carried_in(framing, link_type, frame) {
+        Ok(carried) if carried.octets.len() < usize::from(framing.offset) => {
+            Find::Offset(framing.offset)
+        }
+        Ok(carried) => match carried.carrier {
+            Carrier::Link => Find::Rohc(carried.vlan),
+            Carrier::Udp(port) => Find::Udp(port),
+        },
+        Err(FrameFault::LinkType) => Find::LinkType(link_type),
+        Err(FrameFault::Protocol) => other_type(framing, link_type, frame),
+        Err(_) => Find::Other,
+    }
+}
+
+impl Finds {
+    /// Nothing was found yet.
+    fn new(alloc: Global) -> Finds {
+        Finds {
+            kinds: Vec::new(alloc),
+            more: 0,
         }
     }
-    None
-}
 
-/// What a frame of this link type carries.
-fn load_of(link_type: u16, frame: &[u8]) -> Load {
-    match (carried_in(link_type, frame), network_in(link_type, frame)) {
-        (Ok(carried), _) => match carried.carrier {
-            Carrier::Link => Load::Rohc,
-            Carrier::Udp(port) => Load::Udp(port),
-        },
-        (_, Ok(network)) if network.protocol == Protocol::Ipv4 => Load::Ipv4,
-        _ => Load::Other,
-    }
-}
-
-/// The first frame of a capture with these first octets, if it has one.
-pub fn first_frame(alloc: Global, front: &[u8]) -> Option<FirstFrame> {
-    let mut capture = Capture::new(alloc, front).ok()?;
-    let record = capture.next().ok()??;
-    let frame = capture.frame();
-    Some(FirstFrame {
-        link_type: record.link_type,
-        ether_type: ether_type_of(record.link_type, frame),
-        vlan: match network_in(record.link_type, frame) {
-            Ok(network) => network.vlan,
-            Err(_) => None,
-        },
-        load: load_of(record.link_type, frame),
-    })
-}
-
-impl FirstFrame {
-    /// Writes which option speaks of the frame.
-    fn write_advice<W: fmt::Write>(&self, f: &mut fmt::Formatter<W>) -> fmt::Result {
-        match (self.load, self.vlan) {
-            (Load::Rohc, Some(vlan)) => write!(f, "pass --vlan {vlan}=LINK, or --link LINK"),
-            (Load::Rohc, None) => f.write_str("pass --link LINK"),
-            (Load::Udp(port), _) => write!(f, "pass --port {port}=LINK if it carries ROHC"),
-            (Load::Ipv4 | Load::Other, _) => {
-                f.write_str("expected EtherType 0x22f1, or UDP over IPv4 with --port")
+    /// Counts a frame.
+    fn add(&mut self, find: Find) {
+        for (kind, count) in self.kinds.iter_mut() {
+            if *kind == find {
+                *count = count.saturating_add(1);
+                return;
             }
         }
+        if self.kinds.len() >= KINDS || self.kinds.push((find, 1)).is_err() {
+            self.more = self.more.saturating_add(1);
+        }
+    }
+
+    /// Counts the frames of a capture, as far as it can be read.
+    fn add_all<S: Read>(&mut self, alloc: Global, framing: &Framing, source: &mut S) {
+        let Ok(mut capture) = Capture::new(alloc, source) else {
+            return;
+        };
+        for _ in 0..u64::MAX {
+            let Ok(Some(record)) = capture.next() else {
+                return;
+            };
+            self.add(find_in(framing, record.link_type, capture.frame()));
+        }
     }
 }
 
-impl fmt::Display for FirstFrame {
+/// Writes how many frames there are, in words.
+fn write_frames<W: fmt::Write>(f: &mut fmt::Formatter<W>, count: u64) -> fmt::Result {
+    if count == 1 {
+        f.write_str("1 frame")
+    } else {
+        write!(f, "{count} frames")
+    }
+}
+
+impl fmt::Display for Find {
     fn fmt<W: fmt::Write>(&self, f: &mut fmt::Formatter<W>) -> fmt::Result {
-        write!(f, "the first has link type {}", self.link_type)?;
-        if let Some(ether_type) = self.ether_type {
-            write!(f, ", EtherType 0x{ether_type:04x}")?;
+        match self {
+            Find::Rohc(Some(vlan)) => write!(f, "ROHC under VLAN {vlan}"),
+            Find::Rohc(None) => f.write_str("ROHC"),
+            Find::Udp(port) => write!(f, "UDP to port {port}"),
+            Find::EtherType(kind, Some(vlan)) => {
+                write!(f, "EtherType 0x{kind:04x} under VLAN {vlan}")
+            }
+            Find::EtherType(kind, None) => write!(f, "EtherType 0x{kind:04x}"),
+            Find::LinkType(number) => write!(f, "link type {number}"),
+            Find::Offset(offset) => write!(f, "fewer octets than --offset {offset}"),
+            Find::Other => f.write_str("neither ROHC nor UDP over IPv4"),
         }
-        if let Some(vlan) = self.vlan {
-            write!(f, ", VLAN {vlan}")?;
-        }
-        match self.load {
-            Load::Rohc => f.write_str(", ROHC")?,
-            Load::Udp(port) => write!(f, ", UDP to port {port}")?,
-            Load::Ipv4 => f.write_str(", IPv4 without a whole UDP datagram")?,
-            Load::Other => f.write_str(", neither ROHC nor IPv4")?,
-        }
-        f.write_str("; ")?;
-        self.write_advice(f)
     }
 }
 
-/// Prints that no frame of a capture carries a packet of a link, and what its first frame is. Returns the ending.
-pub fn no_frame<R: Eprint + AllocGlobal>(rt: &R, path: &str, front: &[u8]) -> Ending<'static>
+impl Find {
+    /// Writes which option speaks of such a frame, if one does.
+    fn write_advice<W: fmt::Write>(&self, f: &mut fmt::Formatter<W>) -> fmt::Result {
+        match self {
+            Find::Rohc(Some(vlan)) => write!(f, " (pass --vlan {vlan}=LINK, or --link LINK)"),
+            Find::Rohc(None) => f.write_str(" (pass --link LINK)"),
+            Find::Udp(port) => write!(f, " (pass --port {port}=LINK if it carries ROHC)"),
+            Find::EtherType(kind, _) => write!(
+                f,
+                " (pass --ethertype 0x{kind:04x} --link LINK if it carries ROHC)"
+            ),
+            Find::LinkType(number) => write!(
+                f,
+                " (pass --linktype {number} --link LINK if its frames begin with ROHC)"
+            ),
+            Find::Offset(_) | Find::Other => Ok(()),
+        }
+    }
+}
+
+impl fmt::Display for Finds {
+    fn fmt<W: fmt::Write>(&self, f: &mut fmt::Formatter<W>) -> fmt::Result {
+        for (place, (find, count)) in self.kinds.iter().enumerate() {
+            if place > 0 {
+                f.write_str(", ")?;
+            }
+            write!(f, "{find} in ")?;
+            write_frames(f, *count)?;
+            find.write_advice(f)?;
+        }
+        if self.more > 0 {
+            f.write_str(", others in ")?;
+            write_frames(f, self.more)?;
+        }
+        Ok(())
+    }
+}
+
+/// What the frames of a file are, if it can be read.
+fn finds_of<R: Files + AllocGlobal>(rt: &R, path: &str, framing: &Framing) -> Option<Finds> {
+    if path == STREAM {
+        return None;
+    }
+    let mut file = open_file(rt, path).ok()?;
+    let mut finds = Finds::new(rt.alloc());
+    finds.add_all(rt.alloc(), framing, &mut file);
+    Some(finds)
+}
+
+/// Prints what there is in place of a packet of a link.
+fn tell<R: Eprint>(rt: &R, path: &str, whose: &str, finds: &Finds) {
+    let name = input_name(path);
+    let _ = if finds.kinds.is_empty() {
+        eprintln!(rt; "rohctl: {name}: nothing to show: the capture has no frame")
+    } else {
+        eprintln!(rt; "rohctl: {name}: nothing to show: no frame matches; {whose} {finds}")
+    };
+}
+
+/// Prints that no frame of a capture carries a packet of a link, and what its frames are: all of a file, and of standard
+/// input those in the octets of its front that are kept. Returns the ending.
+pub fn no_frame<R: Files + Eprint + AllocGlobal>(
+    rt: &R,
+    path: &str,
+    front: &[u8],
+    framing: &Framing,
+) -> Ending<'static>
     ensures { result ≡ Ending.NoFrame }
 {
-    let name = input_name(path);
-    let _ = match first_frame(rt.alloc(), front) {
-        Some(first) => eprintln!(rt; "rohctl: {name}: nothing to show: no frame matches; {first}"),
-        None => eprintln!(rt; "rohctl: {name}: nothing to show: the capture has no frame"),
-    };
+    if let Some(finds) = finds_of(rt, path, framing) {
+        tell(rt, path, "the capture has", &finds);
+        return Ending::NoFrame;
+    }
+    let mut octets = front;
+    let mut finds = Finds::new(rt.alloc());
+    finds.add_all(rt.alloc(), framing, &mut octets);
+    tell(rt, path, "its first frames have", &finds);
     Ending::NoFrame
 }

@@ -1,5 +1,10 @@
 //! What is asked of `explain`.
 
+use crate::narrow::Times;
+use crate::packet::Explained;
+use crate::place::{Span, is_within};
+use rohctl_captures::RuleWords;
+
 /// How packets are told.
 #[derive(Clone, Copy, PartialEq, Eq)]
 pub enum Telling {
@@ -14,16 +19,19 @@ pub enum Telling {
 /// Where the packets stand.
 #[derive(Drop)]
 pub enum Source<'a> {
-    /// In a script, with the links of another file; `-` is standard input.
-    Script {
+    /// In a script or a capture, with the links of another file; `-` is standard input.
+    Input {
         links: &'a str,
         path: &'a str,
+        rules: RuleWords<'a>,
     },
-    /// In this text, with commas between them; all are packets of a link of this file.
+    /// In these words, with commas between packets; all are packets of a link of this file. An only word may lead to an
+    /// input instead.
     Text {
         links: &'a str,
         link: u16,
-        packets: String,
+        words: Vec<&'a str>,
+        rules: RuleWords<'a>,
     },
     /// In these words, with commas between packets; all are packets of a link with usual settings.
     Words {
@@ -32,15 +40,26 @@ pub enum Source<'a> {
     },
 }
 
-/// Which packets of a script are told.
+/// Which packets of an input are told.
 #[derive(Clone, Copy, PartialEq, Eq)]
 pub enum Which {
     /// All.
     All,
-    /// The one in this line.
-    Line(u64),
+    /// Those in these lines or frames.
+    Within(Span),
     /// Those of this link and CID.
     Call { link: u16, cid: u16 },
+}
+
+impl Which {
+    /// Whether a packet in this line or frame is told.
+    pub(crate) fn has(self, number: u64, explained: &Explained) -> bool {
+        match self {
+            Which::All => true,
+            Which::Within(span) => is_within(span.first, span.last, number),
+            Which::Call { link, cid } => explained.link == link && explained.cid == Some(cid),
+        }
+    }
 }
 
 /// What is asked of `explain`.
@@ -50,5 +69,7 @@ pub struct Asked<'a> {
     pub state: Option<&'a str>,
     pub source: Source<'a>,
     pub which: Which,
+    /// Between which times packets are told.
+    pub times: Times,
     pub telling: Telling,
 }

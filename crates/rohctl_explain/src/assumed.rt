@@ -51,7 +51,7 @@ pub(crate) fn assumed_link(
 }
 
 /// The word for a CID kind.
-fn size_word(size: CidKind) -> &'static str {
+pub fn size_word(size: CidKind) -> &'static str {
     match size {
         CidKind::Small => "small",
         CidKind::Large => "large",

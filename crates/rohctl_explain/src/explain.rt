@@ -1,174 +1,19 @@
-//! The subcommand `explain`: packets of a script, or given ones, each with why it got its answer.
+//! The subcommand `explain`: packets of a script or a capture, or given ones, each with why it got its answer.
 
-use crate::asked::{Asked, Source, Telling, Which};
-use crate::assumed::{Assumed, LINK, assumed_link, fits_better, write_assumed, write_assumed_json};
-use crate::explain_json::write_object;
-use crate::explain_text::{Place, write_brief, write_whole};
-use crate::packet::{Explained, Got, explain_packet};
+use crate::asked::{Asked, Source, Which};
+use crate::assumed::{Assumed, LINK, assumed_link};
+use crate::falls::Falls;
+use crate::input::{Wanted, explain_input, keep_to_unit};
+use crate::narrow::Narrow;
+use crate::place::Unit;
+use crate::run::{Run, Seen};
 use rohc_concentrator::Concentrator;
 use rohctl_ground::{
-    Ending, Line, Misuse, Nothing, Reason, STREAM, Screen, Stop, Taker, Told, concentrator_from,
-    is_capture_front, open_source, read_packets, read_script, unprinted,
+    Ending, Misuse, Nothing, STREAM, Screen, Stop, concentrator_from, read_packets,
 };
-use std::alloc::Global;
 use std::io::{BufWriter, Write};
 use std::rt::Files;
 use std::{fs, io};
-
-/// A run through packets, which are told to a writer.
-#[derive(Drop)]
-struct Run<W: Write + Drop> {
-    alloc: Global,
-    concentrator: Concentrator,
-    /// What is assumed of the link, if no links file is given.
-    assumed: Option<Assumed>,
-    which: Which,
-    telling: Telling,
-    out: W,
-    /// Whether the packets are words of the command line, and not lines of a script.
-    given: bool,
-    /// Whether a packet that was told is refused.
-    found: bool,
-    seen: Seen,
-}
-
-/// What was seen of the lines.
-#[derive(Clone, Copy, Default)]
-struct Seen {
-    lines: u64,
-    /// The lines that are events.
-    events: u64,
-    /// The packets that were told.
-    told: u64,
-}
-
-/// Whether a packet is to be told.
-fn is_told(which: Which, line: u64, explained: &Explained) -> bool {
-    match which {
-        Which::All => true,
-        Which::Line(number) => number == line,
-        Which::Call { link, cid } => explained.link == link && explained.cid == Some(cid),
-    }
-}
-
-impl<W: Write + Drop> Run<W> {
-    /// Writes what is told of a packet.
-    fn tell(&mut self, line: u64, explained: &Explained) -> Result<(), Stop> {
-        if matches!(explained.got, Got::Refused(_)) {
-            self.found = true;
-        }
-        let written = self.write(line, explained);
-        self.seen.told = self.seen.told.saturating_add(1);
-        written.map_err(|error| Stop::Write(Reason::of(&error)))
-    }
-
-    /// Writes a packet, and before the first one what is assumed.
-    fn write(&mut self, line: u64, explained: &Explained) -> io::Result<()> {
-        self.tell_assumed()?;
-        let at = if self.given {
-            Place::Packet(line)
-        } else {
-            Place::Line(line)
-        };
-        let out = &mut self.out;
-        match self.telling {
-            Telling::Whole => write_whole(out, at, explained),
-            Telling::Brief => write_brief(out, line, explained),
-            Telling::Json => write_object(out, line, explained),
-        }
-    }
-
-    /// Writes the settings that are assumed before the first packet, if some are and more than a line per packet is
-    /// wanted.
-    fn tell_assumed(&mut self) -> io::Result<()> {
-        let Some(assumed) = &self.assumed else {
-            return Ok(());
-        };
-        if self.seen.told > 0 {
-            return Ok(());
-        }
-        match self.telling {
-            Telling::Whole => write_assumed(&mut self.out, &assumed.settings),
-            Telling::Json => write_assumed_json(&mut self.out, &assumed.settings),
-            Telling::Brief => Ok(()),
-        }
-    }
-
-    /// Runs a packet, and explains it.
-    fn explain(&mut self, link: u16, moment: u64, packet: &[u8]) -> Result<Explained, Stop> {
-        let mut explained = explain_packet(
-            self.alloc,
-            &mut self.concentrator,
-            link,
-            moment,
-            packet,
-        )?;
-        if let Some(assumed) = &mut self.assumed {
-            let other = explain_packet(self.alloc, &mut assumed.other, link, moment, packet)?;
-            explained.better = fits_better(&assumed.settings, explained.got, other.got);
-        }
-        Ok(explained)
-    }
-
-    /// Flushes what was told. Returns how the run ends: whether a packet that was told is refused.
-    fn end(&mut self) -> Result<Ending<'static>, Ending<'static>> {
-        match self.out.flush() {
-            Err(error) => Err(unprinted(&error)),
-            Ok(()) if self.found => Ok(Ending::Findings),
-            Ok(()) => Ok(Ending::Good),
-        }
-    }
-}
-
-/// Why nothing was told of a script. `carriage` is whether its lines end with a carriage return.
-fn nothing_of(which: Which, seen: Seen, carriage: bool) -> Option<Nothing> {
-    if seen.told > 0 {
-        return None;
-    }
-    if seen.lines == 0 {
-        return Some(Nothing::Empty);
-    }
-    match which {
-        Which::Line(line) if line > seen.lines => Some(Nothing::NoLine {
-            line,
-            lines: seen.lines,
-        }),
-        _ if seen.events == 0 => Some(Nothing::NoEvent {
-            lines: seen.lines,
-            carriage,
-        }),
-        Which::Line(line) => Some(Nothing::NoArrival(line)),
-        Which::Call { link, cid } => Some(Nothing::NoCall { link, cid }),
-        Which::All => Some(Nothing::NoPacket),
-    }
-}
-
-impl<W: Write + Drop> Taker for Run<W> {
-    /// Runs the event of a line. A line that is no event changes nothing.
-    fn take(&mut self, number: u64, line: Line<'_>) -> Result<(), Stop> {
-        self.seen.lines = number;
-        if !matches!(&line, Line::Bad) {
-            self.seen.events = self.seen.events.saturating_add(1);
-        }
-        match line {
-            Line::Arrive {
-                link,
-                moment,
-                packet,
-            } => {
-                let explained = self.explain(link, moment, packet)?;
-                if is_told(self.which, number, &explained) {
-                    self.tell(number, &explained)?;
-                }
-            }
-            Line::Reset { link } => {
-                let _ = self.concentrator.reset(link);
-            }
-            Line::Bad => {}
-        }
-        Ok(())
-    }
-}
 
 /// How many milliseconds lie between two packets of a call on this link, if there is such a link.
 fn step_of(concentrator: &Concentrator, link: u16) -> Option<u64> {
@@ -180,13 +25,16 @@ fn step_of(concentrator: &Concentrator, link: u16) -> Option<u64> {
 fn take_text<'a, W: Write + Drop>(
     links: &'a str,
     link: u16,
-    packets: &str,
+    words: &[&str],
     run: &mut Run<W>,
 ) -> Result<(), Ending<'a>> {
     let Some(step) = step_of(&run.concentrator, link) else {
         return Err(Ending::Nothing(links, Nothing::NoLink(link)));
     };
-    let ran = read_packets(run.alloc, link, step, packets, run);
+    let Ok(packets) = words.join(run.alloc, " ") else {
+        return Err(Ending::Memory);
+    };
+    let ran = read_packets(run.alloc, link, step, packets.as_str(), run);
     ran.map_err(|stop| stop.ending(STREAM, STREAM))
 }
 
@@ -221,29 +69,6 @@ where
     }
 }
 
-/// Has the packets of a script taken.
-fn take_script<'a, R, W>(
-    rt: &R,
-    path: &'a str,
-    screen: Screen,
-    run: &mut Run<W>,
-) -> Result<(), Ending<'a>>
-where
-    R: Files + Input + Eprint + AllocGlobal,
-    W: Write + Drop,
-{
-    let mut lines = Told::new(rt, open_source(rt, path)?, screen.error && !screen.output);
-    let ran = read_script(run.alloc, &mut lines, run);
-    if is_capture_front(lines.front()) {
-        return Err(Ending::Nothing(path, Nothing::Capture));
-    }
-    ran.map_err(|stop| stop.ending(path, STREAM))?;
-    match nothing_of(run.which, run.seen, lines.has_carriage()) {
-        Some(nothing) => Err(Ending::Nothing(path, nothing)),
-        None => Ok(()),
-    }
-}
-
 /// Refuses a call of a link that the links file doesn't have.
 fn keep_to_links<'a>(
     links: &'a str,
@@ -258,31 +83,84 @@ fn keep_to_links<'a>(
     }
 }
 
-/// Has the packets that are asked for taken.
+/// Whether a word leads to an input: no packet has a dot, a slash, or a letter beyond `f` but `x`.
+fn is_path<R: Files>(rt: &R, word: &str) -> bool {
+    let is_digits = word.chars().all(|c| c.is_ascii_hexdigit()
+        || matches!(c, 'x' | 'X' | ':' | ',' | ' '));
+    word.contains(".") || word.contains("/") || (!is_digits && fs::metadata(rt, word).is_ok())
+}
+
+/// Has the packets of these words taken, or those of the input that the only word leads to.
+fn take_linked<'a, R, W>(
+    rt: &R,
+    wanted: &Wanted<'a>,
+    link: u16,
+    words: &[&'a str],
+    screen: Screen,
+    run: &mut Run<W>,
+) -> Result<Ending<'a>, Ending<'a>>
+where
+    R: Files + Input + Eprint + AllocGlobal,
+    W: Write + Drop,
+{
+    if let [word] = words
+        && is_path(rt, word)
+    {
+        let wanted = Wanted {
+            path: word,
+            ..*wanted
+        };
+        return explain_input(rt, &wanted, screen, run);
+    }
+    keep_to_unit(wanted.which, Unit::Packet)?;
+    take_text(wanted.links, link, words, run)?;
+    run.end()
+}
+
+/// Has the packets that are asked for taken, and ends the run.
 fn take_packets<'a, R, W>(
     rt: &R,
     asked: &Asked<'a>,
     screen: Screen,
     run: &mut Run<W>,
-) -> Result<(), Ending<'a>>
+) -> Result<Ending<'a>, Ending<'a>>
 where
     R: Files + Input + Eprint + AllocGlobal,
     W: Write + Drop,
 {
+    let (which, times) = (asked.which, asked.times);
     match &asked.source {
         Source::Text {
             links,
             link,
-            packets,
+            words,
+            rules,
         } => {
-            keep_to_links(links, asked.which, &run.concentrator)?;
-            take_text(links, *link, packets.as_str(), run)
+            keep_to_links(links, which, &run.concentrator)?;
+            let wanted = Wanted {
+                links,
+                path: STREAM,
+                rules: *rules,
+                which,
+                times,
+            };
+            take_linked(rt, &wanted, *link, words.as_slice(), screen, run)
         }
-        Source::Script { links, path } => {
-            keep_to_links(links, asked.which, &run.concentrator)?;
-            take_script(rt, path, screen, run)
+        Source::Input { links, path, rules } => {
+            keep_to_links(links, which, &run.concentrator)?;
+            let wanted = Wanted {
+                links,
+                path,
+                rules: *rules,
+                which,
+                times,
+            };
+            explain_input(rt, &wanted, screen, run)
         }
-        Source::Words { words, .. } => take_words(rt, words.as_slice(), run),
+        Source::Words { words, .. } => {
+            take_words(rt, words.as_slice(), run)?;
+            run.end()
+        }
     }
 }
 
@@ -292,7 +170,7 @@ where
     R: Files + Input + Eprint + AllocGlobal,
 {
     match &asked.source {
-        Source::Script { links, .. } | Source::Text { links, .. } => {
+        Source::Input { links, .. } | Source::Text { links, .. } => {
             Ok((concentrator_from(rt, links, asked.state)?, None))
         }
         Source::Words { large, .. } => {
@@ -319,13 +197,13 @@ where
         alloc: rt.alloc(),
         concentrator,
         assumed,
-        which: asked.which,
+        narrow: Narrow::new(asked.which, asked.times, false),
+        falls: Falls::new(rt.alloc()),
         telling: asked.telling,
         out,
-        given: !matches!(&asked.source, Source::Script { .. }),
+        unit: Unit::Packet,
         found: false,
         seen: Seen::default(),
     };
-    take_packets(rt, asked, screen, &mut run)?;
-    run.end()
+    take_packets(rt, asked, screen, &mut run)
 }

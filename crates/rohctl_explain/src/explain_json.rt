@@ -5,40 +5,22 @@ use crate::element::{ToldElement, meaning_of};
 use crate::element_text::write_element_json;
 use crate::expected::{Ahead, Expected, expected_of, failures};
 use crate::explain_text::{answer_name, format_name, profile_name, state_word, write_flow};
-use crate::field_text::write_number;
+use crate::field_text::{write_comma, write_field_object};
 use crate::held::{profile_in, sn_in, state_in};
 use crate::packet::{Explained, Got};
+use crate::place::Place;
 use crate::rebuilt_text::write_rebuilt_json;
 use rohc_context::{Settings, StateView, Try, View};
-use rohc_explain::{Field, PacketFields, cause_of};
+use rohc_explain::{PacketFields, cause_of};
 use std::io;
 use std::io::Write;
-
-/// Writes a comma, unless it is the first place.
-fn write_comma<W: Write>(out: &mut W, place: usize) -> io::Result<()> {
-    if place > 0 { write!(out, ",") } else { Ok(()) }
-}
-
-/// Writes a field.
-fn write_field<W: Write>(out: &mut W, field: &Field) -> io::Result<()> {
-    write!(
-        out,
-        "{{\"name\":\"{}\",\"first\":{},\"bits\":{},\"value\":{},\"text\":\"",
-        field.name.name(),
-        field.first,
-        field.count,
-        field.value
-    )?;
-    write_number(out, field)?;
-    write!(out, "\"}}")
-}
 
 /// Writes the fields.
 fn write_fields<W: Write>(out: &mut W, told: &PacketFields) -> io::Result<()> {
     write!(out, ",\"fields\":[")?;
     for (place, field) in told.fields.iter().enumerate() {
         write_comma(out, place)?;
-        write_field(out, field)?;
+        write_field_object(out, field, None)?;
     }
     write!(
         out,
@@ -171,6 +153,21 @@ fn write_answer<W: Write>(out: &mut W, explained: &Explained) -> io::Result<()> 
     write_element_json(out, element.as_slice(), &meaning)
 }
 
+/// Writes where the context fell to the state for which the packet is refused, if that is known.
+fn write_fall<W: Write>(out: &mut W, at: Place, explained: &Explained) -> io::Result<()> {
+    match &explained.fall {
+        Some(fall) => write!(
+            out,
+            ",\"fell\":{{\"{}\":{},\"to\":\"{}\",\"refusal\":\"{}\"}}",
+            at.unit.key(),
+            fall.number,
+            state_word(fall.to),
+            fall.refusal
+        ),
+        None => Ok(()),
+    }
+}
+
 /// Writes the feedback elements of a packet.
 fn write_elements<W: Write>(out: &mut W, elements: &[ToldElement]) -> io::Result<()> {
     if elements.is_empty() {
@@ -185,11 +182,14 @@ fn write_elements<W: Write>(out: &mut W, elements: &[ToldElement]) -> io::Result
 }
 
 /// Writes where a packet stands, and its format.
-fn write_head<W: Write>(out: &mut W, line: u64, explained: &Explained) -> io::Result<()> {
+fn write_head<W: Write>(out: &mut W, at: Place, explained: &Explained) -> io::Result<()> {
     write!(
         out,
-        "{{\"line\":{line},\"link\":{},\"moment\":{},\"cid\":",
-        explained.link, explained.moment
+        "{{\"{}\":{},\"link\":{},\"moment\":{},\"cid\":",
+        at.unit.key(),
+        at.number,
+        explained.link,
+        explained.moment
     )?;
     match explained.cid {
         Some(cid) => write!(out, "{cid}")?,
@@ -206,10 +206,10 @@ fn write_head<W: Write>(out: &mut W, line: u64, explained: &Explained) -> io::Re
 /// Writes a packet as an object.
 pub(crate) fn write_object<W: Write>(
     out: &mut W,
-    line: u64,
+    at: Place,
     explained: &Explained,
 ) -> io::Result<()> {
-    write_head(out, line, explained)?;
+    write_head(out, at, explained)?;
     if let Some(told) = &explained.told {
         write_fields(out, told)?;
     }
@@ -217,6 +217,7 @@ pub(crate) fn write_object<W: Write>(
     write_view(out, "before", explained, explained.before.as_ref())?;
     write_expected(out, explained)?;
     write_answer(out, explained)?;
+    write_fall(out, at, explained)?;
     write_view(out, "after", explained, explained.after.as_ref())?;
     if let Some(size) = explained.better {
         write!(out, ",\"note\":\"{}\"", advice(size))?;

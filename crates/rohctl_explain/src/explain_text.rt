@@ -6,6 +6,7 @@ use crate::expected::{Ahead, Expected, expected_of, failures};
 use crate::field_text::write_field;
 use crate::held::{profile_in, sn_in, state_in};
 use crate::packet::{Explained, Got, counts_after};
+use crate::place::Place;
 use crate::rebuilt_text::write_rebuilt;
 use rohc_context::{
     Against, ContextState, NotMade, Profile, Settings, StateView, Try, View, Window,
@@ -17,7 +18,7 @@ use std::io;
 use std::io::Write;
 
 /// The name of a packet's format.
-pub(crate) fn format_name(explained: &Explained) -> &'static str {
+pub fn format_name(explained: &Explained) -> &'static str {
     let Some(told) = &explained.told else {
         return "-";
     };
@@ -46,7 +47,7 @@ fn kind_name(kind: PacketKind) -> &'static str {
 }
 
 /// The name of a state.
-pub(crate) fn state_name(state: ContextState) -> &'static str {
+pub fn state_name(state: ContextState) -> &'static str {
     match state {
         ContextState::NoContext => "No Context",
         ContextState::StaticContext => "Static Context",
@@ -55,7 +56,7 @@ pub(crate) fn state_name(state: ContextState) -> &'static str {
 }
 
 /// The word for a state in JSON.
-pub(crate) fn state_word(state: ContextState) -> &'static str {
+pub fn state_word(state: ContextState) -> &'static str {
     match state {
         ContextState::NoContext => "no",
         ContextState::StaticContext => "static",
@@ -90,13 +91,13 @@ fn write_windows<W: Write>(out: &mut W, view: &View, settings: &Settings) -> io:
 }
 
 /// Writes the state and the profile of a context, its last accepted packet's time, and the SN of its reference.
-fn write_standing<W: Write>(out: &mut W, title: &str, view: &View) -> io::Result<()> {
+fn write_standing<W: Write>(out: &mut W, at: Place, title: &str, view: &View) -> io::Result<()> {
     write!(
         out,
         "{title}: {}, profile {}, last accepted at {}",
         state_name(state_in(view)),
         profile_name(profile_in(view)),
-        view.accepted
+        at.time(view.accepted)
     )?;
     match sn_in(view) {
         Some(sn) => write!(out, ", SN {sn}"),
@@ -107,6 +108,7 @@ fn write_standing<W: Write>(out: &mut W, title: &str, view: &View) -> io::Result
 /// Writes what is told of a context.
 fn write_view<W: Write>(
     out: &mut W,
+    at: Place,
     title: &str,
     explained: &Explained,
     view: Option<&View>,
@@ -114,7 +116,7 @@ fn write_view<W: Write>(
     let Some(view) = view else {
         return writeln!(out, "{title}: no context");
     };
-    write_standing(out, title, view)?;
+    write_standing(out, at, title, view)?;
     if let Some(settings) = &explained.settings {
         write_windows(out, view, settings)?;
     }
@@ -253,6 +255,21 @@ fn write_answer<W: Write>(out: &mut W, explained: &Explained) -> io::Result<()> 
     write_feedback(out, explained)
 }
 
+/// Writes where the context fell to the state for which the packet is refused, if that is known.
+fn write_fall<W: Write>(out: &mut W, at: Place, explained: &Explained) -> io::Result<()> {
+    match &explained.fall {
+        Some(fall) => writeln!(
+            out,
+            "fell: to {} at {} {}, refused {}",
+            state_name(fall.to),
+            at.unit.name(),
+            fall.number,
+            fall.refusal
+        ),
+        None => Ok(()),
+    }
+}
+
 /// Writes the feedback that a packet made due.
 fn write_feedback<W: Write>(out: &mut W, explained: &Explained) -> io::Result<()> {
     match (&explained.feedback, &explained.settings) {
@@ -261,33 +278,16 @@ fn write_feedback<W: Write>(out: &mut W, explained: &Explained) -> io::Result<()
     }
 }
 
-/// Where a packet stands.
-#[derive(Clone, Copy, PartialEq, Eq)]
-pub enum Place {
-    /// In this line of a script.
-    Line(u64),
-    /// In this frame of a capture.
-    Frame(u64),
-    /// At this place among the packets of the command line, from 1 on.
-    Packet(u64),
-}
-
-/// Writes where a packet stands.
-fn write_place<W: Write>(out: &mut W, at: Place) -> io::Result<()> {
-    match at {
-        Place::Line(number) => write!(out, "line {number}"),
-        Place::Frame(number) => write!(out, "frame {number}"),
-        Place::Packet(number) => write!(out, "packet {number}"),
-    }
-}
-
 /// Writes where a packet stands, and what it is.
 fn write_head<W: Write>(out: &mut W, at: Place, explained: &Explained) -> io::Result<()> {
-    write_place(out, at)?;
     write!(
         out,
-        ": link {} at {}, {} octets",
-        explained.link, explained.moment, explained.octets
+        "{} {}: link {} at {}, {} octets",
+        at.unit.name(),
+        at.number,
+        explained.link,
+        at.time(explained.moment),
+        explained.octets
     )?;
     if let Some(cid) = explained.cid {
         write!(out, ", CID {cid}")?;
@@ -316,12 +316,12 @@ fn write_tries<W: Write>(out: &mut W, tries: &[Try]) -> io::Result<()> {
 }
 
 /// Writes what a packet has and what its context was before it.
-fn write_before<W: Write>(out: &mut W, explained: &Explained) -> io::Result<()> {
+fn write_before<W: Write>(out: &mut W, at: Place, explained: &Explained) -> io::Result<()> {
     if let Some(told) = &explained.told {
         write_fields(out, told)?;
     }
     write_elements(out, explained.elements.as_slice())?;
-    write_view(out, "before", explained, explained.before.as_ref())?;
+    write_view(out, at, "before", explained, explained.before.as_ref())?;
     write_expected(out, explained)
 }
 
@@ -332,7 +332,7 @@ fn write_endpoint<W: Write>(out: &mut W, address: [u8; 4], port: u16) -> io::Res
 }
 
 /// Writes who sends to whom in a call of RTP, and its SSRC, if the context keeps them.
-pub(crate) fn write_flow<W: Write>(out: &mut W, fixed: &Static) -> io::Result<()> {
+pub fn write_flow<W: Write>(out: &mut W, fixed: &Static) -> io::Result<()> {
     write_endpoint(out, fixed.source, fixed.source_port)?;
     write!(out, " to ")?;
     write_endpoint(out, fixed.destination, fixed.destination_port)?;
@@ -350,12 +350,13 @@ fn write_call<W: Write>(out: &mut W, explained: &Explained) -> io::Result<()> {
 }
 
 /// Writes what became of a packet, and what its context is after it.
-fn write_after<W: Write>(out: &mut W, explained: &Explained) -> io::Result<()> {
+fn write_after<W: Write>(out: &mut W, at: Place, explained: &Explained) -> io::Result<()> {
     if let Some(tries) = &explained.tries {
         write_tries(out, tries.as_slice())?;
     }
     write_answer(out, explained)?;
-    write_view(out, "after", explained, explained.after.as_ref())?;
+    write_fall(out, at, explained)?;
+    write_view(out, at, "after", explained, explained.after.as_ref())?;
     write_call(out, explained)?;
     writeln!(out, "accepted next: {}", taken_next(explained))?;
     match explained.better {
@@ -367,8 +368,8 @@ fn write_after<W: Write>(out: &mut W, explained: &Explained) -> io::Result<()> {
 /// Writes all that is known of a packet.
 pub fn write_whole<W: Write>(out: &mut W, at: Place, explained: &Explained) -> io::Result<()> {
     write_head(out, at, explained)?;
-    write_before(out, explained)?;
-    write_after(out, explained)?;
+    write_before(out, at, explained)?;
+    write_after(out, at, explained)?;
     writeln!(out, "")
 }
 
@@ -382,13 +383,13 @@ pub(crate) fn answer_name(got: Got) -> &'static str {
     }
 }
 
-/// Writes a line of a packet: the line of the script, the link, the CID, the format, and the answer.
+/// Writes a line of a packet: its line or frame, the link, the CID, the format, and the answer.
 pub(crate) fn write_brief<W: Write>(
     out: &mut W,
-    line: u64,
+    at: Place,
     explained: &Explained,
 ) -> io::Result<()> {
-    write!(out, "{line} {} ", explained.link)?;
+    write!(out, "{} {} ", at.number, explained.link)?;
     match explained.cid {
         Some(cid) => write!(out, "{cid} ")?,
         None => write!(out, "- ")?,

@@ -96,3 +96,30 @@ pub(crate) fn write_changed<W: Write>(
     }
     writeln!(out, "")
 }
+
+/// Writes a comma, unless it is the first place.
+pub(crate) fn write_comma<W: Write>(out: &mut W, place: usize) -> io::Result<()> {
+    if place > 0 { write!(out, ",") } else { Ok(()) }
+}
+
+/// Writes a field as an object, with what was in its place.
+pub(crate) fn write_field_object<W: Write>(
+    out: &mut W,
+    field: &Field,
+    was: Option<&Field>,
+) -> io::Result<()> {
+    write!(
+        out,
+        "{{\"name\":\"{}\",\"first\":{},\"bits\":{},\"value\":{},\"text\":\"",
+        field.name.name(),
+        field.first,
+        field.count,
+        field.value
+    )?;
+    write_number(out, field)?;
+    write!(out, "\"")?;
+    if let Some(was) = was {
+        write!(out, ",\"was\":{}", was.value)?;
+    }
+    write!(out, "}}")
+}

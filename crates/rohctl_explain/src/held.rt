@@ -1,10 +1,15 @@
 //! What is shown of a context: its profile, its state, its reference and the static part, in its view.
 
+ghost use Rattle.std.specs.Prelude.{◌≡◌, option_map};
+ghost use Rattle.rohctl_explain.specs.Held.{profile_of, state_of, fixed_of};
+
 use rohc_context::{ContextState, Profile, ReferenceView, StateView, View};
 use rohc_header::Static;
 
 /// The profile.
-pub(crate) fn profile_in(view: &View) -> Profile {
+pub(crate) fn profile_in(view: &View) -> Profile
+    ensures { result ≡ profile_of view.now.state }
+{
     match &view.state {
         StateView::Plain => Profile::Uncompressed,
         StateView::NoContext { .. } | StateView::Static { .. } | StateView::Full { .. } => {
@@ -14,7 +19,9 @@ pub(crate) fn profile_in(view: &View) -> Profile {
 }
 
 /// The state. A context of profile 0x0000 is always in Full Context (RFC 3095 5.10.3).
-pub fn state_in(view: &View) -> ContextState {
+pub fn state_in(view: &View) -> ContextState
+    ensures { result ≡ state_of view.now.state }
+{
     match &view.state {
         StateView::NoContext { .. } => ContextState::NoContext,
         StateView::Static { .. } => ContextState::StaticContext,
@@ -37,7 +44,9 @@ pub(crate) fn sn_in(view: &View) -> Option<u16> {
 }
 
 /// The addresses, the ports and the SSRC of the call, if the context keeps them.
-pub(crate) fn fixed_in(view: &View) -> Option<&Static> {
+pub fn fixed_in(view: &View) -> Option<&Static>
+    ensures { option_map (λ r. r.now) result ≡ fixed_of view.now.state }
+{
     match &view.state {
         StateView::Plain | StateView::NoContext { .. } => None,
         StateView::Static { fixed, .. } | StateView::Full { fixed, .. } => Some(fixed),

@@ -1,6 +1,8 @@
-//! The subcommand `explain` of `rohctl`: each packet of a script, with why it got its answer.
+//! The subcommand `explain` of `rohctl`: each packet of a script or a capture, with why it got its answer; and what
+//! `decompress --pcapng` says of each.
 #![tactic(auto)]
 
+mod annotate;
 mod asked;
 mod assumed;
 mod element;
@@ -9,16 +11,27 @@ mod expected;
 mod explain;
 mod explain_json;
 mod explain_text;
+mod falls;
 mod field_text;
 mod held;
+mod input;
+mod narrow;
 mod packet;
+mod place;
 mod rebuilt;
 mod rebuilt_text;
+mod run;
+mod time_text;
 
+pub use annotate::Explainer;
 pub use asked::{Asked, Source, Telling, Which};
+pub use assumed::size_word;
 pub use element::{Meaning, ToldElement};
 pub use explain::run_explain;
-pub use explain_text::{Place, write_whole};
-pub use held::state_in;
+pub use explain_text::{format_name, state_name, state_word, write_flow, write_whole};
+pub use falls::{Fall, Falls, is_fall};
+pub use held::{fixed_in, state_in};
+pub use narrow::{Narrow, Time, Times, no_packet_between, time_of};
 pub use packet::{Explained, Got, explain_packet};
+pub use place::{Place, Span, Unit, numbers_of};
 pub use rebuilt::Rebuilt;

@@ -1,6 +1,7 @@
 //! One packet, explained: its fields, what its context held and makes of it, and the answer of the step.
 
 use crate::element::{ToldElement, elements_in};
+use crate::falls::Fall;
 use crate::held::{fixed_in, reference_in, sn_in};
 use crate::rebuilt::Rebuilt;
 use rohc_concentrator::{Answer, Concentrator, LinkRecords};
@@ -12,6 +13,8 @@ use rohc_frame::{CidKind, Elements, Forward, HeadKind, cut};
 use rohc_header::Static;
 use rohctl_ground::Stop;
 use std::alloc::Global;
+use std::io;
+use std::io::Write;
 
 /// The answer to a packet, in a word.
 #[derive(Clone, Copy, PartialEq, Eq)]
@@ -39,6 +42,8 @@ pub struct Explained {
     /// The tries that its context makes of it, if it makes some.
     pub tries: Option<[Try; 3]>,
     pub got: Got,
+    /// The fall of the context for which the packet is refused, if it is known.
+    pub fall: Option<Fall>,
     /// The packet that was delivered, if one was.
     pub packet: Option<Rebuilt>,
     /// The SN of the header that was delivered, if it is one of RTP.
@@ -134,14 +139,26 @@ impl Explained {
         }
     }
 
-    /// Adds the packet that was delivered.
-    fn take_delivered(&mut self, alloc: Global, packet: &Delivered<'_>) {
+    /// Adds the packet that was delivered, and writes its octets.
+    fn take_delivered<W: Write>(
+        &mut self,
+        alloc: Global,
+        packet: &Delivered<'_>,
+        out: &mut W,
+    ) -> io::Result<()> {
         self.sn = sn_of(packet);
         self.packet = Some(Rebuilt::of(alloc, packet, self.counted()));
+        out.write_all(packet.head.as_slice())?;
+        out.write_all(packet.payload)
     }
 
-    /// Adds the answer.
-    fn take_answer(&mut self, alloc: Global, answer: Answer<'_>) {
+    /// Adds the answer, and writes the octets of the packet that it delivers.
+    fn take_answer<W: Write>(
+        &mut self,
+        alloc: Global,
+        answer: Answer<'_>,
+        out: &mut W,
+    ) -> io::Result<()> {
         match answer {
             Answer::Refused(refusal) => self.got = Got::Refused(refusal),
             Answer::OnlyFront { relayed } => self.relayed = count_of(relayed),
@@ -149,11 +166,12 @@ impl Explained {
                 self.relayed = count_of(relayed);
                 self.got = got_of(&reply);
                 if let Some(packet) = &reply.packet {
-                    self.take_delivered(alloc, packet);
+                    self.take_delivered(alloc, packet, out)?;
                 }
                 self.feedback = reply.feedback;
             }
         }
+        Ok(())
     }
 }
 
@@ -229,6 +247,49 @@ impl Explained {
     }
 }
 
+/// A packet of which nothing is known yet.
+fn unexplained(alloc: Global, link: u16, moment: u64, octets: usize) -> Explained {
+    Explained {
+        link,
+        cid: None,
+        moment,
+        octets,
+        told: None,
+        settings: None,
+        before: None,
+        tries: None,
+        got: Got::OnlyFront,
+        fall: None,
+        packet: None,
+        sn: None,
+        feedback: None,
+        elements: Vec::new(alloc),
+        relayed: 0,
+        after: None,
+        better: None,
+    }
+}
+
+/// Runs a packet, tells what there is of it, and writes the octets of the packet that it delivers. The error is that there is
+/// no memory, also for a write that failed.
+pub(crate) fn explain_into<W: Write>(
+    alloc: Global,
+    concentrator: &mut Concentrator,
+    link: u16,
+    moment: u64,
+    octets: &[u8],
+    out: &mut W,
+) -> Result<Explained, Stop> {
+    let mut explained = unexplained(alloc, link, moment, octets.len());
+    explained.take_packet(alloc, concentrator, octets)?;
+    let answer = concentrator.arrive(link, moment, octets);
+    if explained.take_answer(alloc, answer, out).is_err() {
+        return Err(Stop::Memory);
+    }
+    explained.take_after(concentrator);
+    Ok(explained)
+}
+
 /// Runs a packet, and tells what there is of it. The error is that there is no memory.
 pub fn explain_packet(
     alloc: Global,
@@ -237,26 +298,5 @@ pub fn explain_packet(
     moment: u64,
     octets: &[u8],
 ) -> Result<Explained, Stop> {
-    let mut explained = Explained {
-        link,
-        cid: None,
-        moment,
-        octets: octets.len(),
-        told: None,
-        settings: None,
-        before: None,
-        tries: None,
-        got: Got::OnlyFront,
-        packet: None,
-        sn: None,
-        feedback: None,
-        elements: Vec::new(alloc),
-        relayed: 0,
-        after: None,
-        better: None,
-    };
-    explained.take_packet(alloc, concentrator, octets)?;
-    explained.take_answer(alloc, concentrator.arrive(link, moment, octets));
-    explained.take_after(concentrator);
-    Ok(explained)
+    explain_into(alloc, concentrator, link, moment, octets, &mut io::sink())
 }

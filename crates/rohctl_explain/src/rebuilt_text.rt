@@ -1,7 +1,7 @@
 //! A packet that was delivered, told to a reader and as members of a JSON object.
 
 use crate::element_text::write_hex;
-use crate::field_text::{write_changed, write_number};
+use crate::field_text::{write_changed, write_comma, write_field_object};
 use crate::rebuilt::{Rebuilt, RebuiltField};
 use std::io;
 use std::io::Write;
@@ -37,25 +37,6 @@ pub(crate) fn write_rebuilt<W: Write>(out: &mut W, packet: &Rebuilt) -> io::Resu
     Ok(())
 }
 
-/// Writes a field of a rebuilt header as an object.
-fn write_field_json<W: Write>(out: &mut W, told: &RebuiltField) -> io::Result<()> {
-    let field = &told.field;
-    write!(
-        out,
-        "{{\"name\":\"{}\",\"first\":{},\"bits\":{},\"value\":{},\"text\":\"",
-        field.name.name(),
-        field.first,
-        field.count,
-        field.value
-    )?;
-    write_number(out, field)?;
-    write!(out, "\"")?;
-    if let Some(was) = &told.was {
-        write!(out, ",\"was\":{}", was.value)?;
-    }
-    write!(out, "}}")
-}
-
 /// Writes a packet that was delivered as a member.
 pub(crate) fn write_rebuilt_json<W: Write>(out: &mut W, packet: &Rebuilt) -> io::Result<()> {
     write!(out, ",\"packet\":{{\"head\":\"")?;
@@ -64,10 +45,8 @@ pub(crate) fn write_rebuilt_json<W: Write>(out: &mut W, packet: &Rebuilt) -> io:
     write_hex(out, packet.front.as_slice())?;
     write!(out, "\",\"more\":{},\"fields\":[", packet.more)?;
     for (place, told) in fields_of(packet)?.iter().enumerate() {
-        if place > 0 {
-            write!(out, ",")?;
-        }
-        write_field_json(out, told)?;
+        write_comma(out, place)?;
+        write_field_object(out, &told.field, told.was.as_ref())?;
     }
     write!(out, "]}}")
 }

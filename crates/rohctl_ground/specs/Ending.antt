@@ -1,7 +1,7 @@
 -- The exit statuses of the program.
 use Rattle.std.specs.Prelude.{ℕ}
 use Rattle.rohctl_ground.specs.declared.ending.Ending.{Ending}
-use Rattle.rohctl_ground.specs.declared.ending.Ending.TheVariants.{Good, Findings, Closed, CommandLine, Misuse, LinksFile, LinksUnread, Differs, Capture, State, NoGateway, Read, Write, Memory, Nothing, NoFrame}
+use Rattle.rohctl_ground.specs.declared.ending.Ending.TheVariants.{Good, Findings, Closed, CommandLine, Misuse, LinksFile, LinksUnread, Differs, Capture, State, NoGateway, Read, Write, Memory, Nothing, NoFrame, Dropped}
 
 -- the statuses that the program ends with
 abbrev pub status_of : Ending → ℕ
@@ -21,3 +21,4 @@ status_of (Write path reason) = 4
 status_of Memory = 5
 status_of (Nothing path nothing) = 6
 status_of NoFrame = 6
+status_of Dropped = 7

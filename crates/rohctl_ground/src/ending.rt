@@ -53,13 +53,27 @@ pub enum Nothing {
     /// The input is a capture, which this command doesn't read.
     Capture,
     /// None of the lines is an event. `carriage` is whether they end with a carriage return.
-    NoEvent { lines: u64, carriage: bool },
-    /// The script has fewer lines.
-    NoLine { line: u64, lines: u64 },
-    /// This line is no arrival.
-    NoArrival(u64),
+    NoEvent {
+        lines: u64,
+        carriage: bool,
+    },
+    /// The script has fewer lines, or the capture fewer frames.
+    NoNumber {
+        is_capture: bool,
+        number: u64,
+        last: u64,
+    },
+    /// None of these lines is an arrival, or none of these frames carries a packet.
+    NotWithin {
+        is_capture: bool,
+        first: u64,
+        last: u64,
+    },
     /// No packet is of this call.
-    NoCall { link: u16, cid: u16 },
+    NoCall {
+        link: u16,
+        cid: u16,
+    },
     /// The script has only resets.
     NoPacket,
     /// A capture can hold none of the packets.
@@ -94,7 +108,7 @@ pub enum Ending<'a> {
     Capture(&'a str, CaptureFault),
     /// The state file is refused.
     State(&'a str, SavedFault),
-    /// No gateway answers at the control socket. What is wrong was printed.
+    /// No gateway answers at the control socket, or takes datagrams. What is wrong was printed.
     NoGateway,
     /// A read failed.
     Read(&'a str, Reason),
@@ -106,6 +120,8 @@ pub enum Ending<'a> {
     Nothing(&'a str, Nothing),
     /// There is nothing to show. What there was instead was printed.
     NoFrame,
+    /// The gateway's socket dropped datagrams. How many was printed.
+    Dropped,
 }
 
 /// The ending for a read that failed for this reason.
@@ -163,6 +179,7 @@ impl Ending<'_> {
             | Ending::Write(..) => 4,
             Ending::Memory => 5,
             Ending::Nothing(..) | Ending::NoFrame => 6,
+            Ending::Dropped => 7,
         }
     }
 }
@@ -221,7 +238,7 @@ impl fmt::Display for Misuse<'_> {
             Misuse::Packet(fault) => write_packet(f, *fault),
             Misuse::Script(path) => write!(
                 f,
-                "{}: a script needs --links; without it packets in hexadecimal digits are expected, as fc00b745aa",
+                "{}: a script or a capture needs --links; without it packets in hexadecimal digits are expected, as fc00b745aa",
                 input_name(path)
             ),
             Misuse::NotUtf8 => f.write_str(
@@ -269,19 +286,45 @@ fn write_no_event<W: fmt::Write>(
     }
 }
 
+/// Writes that no line of a script is an arrival, or that no frame of a capture carries a packet, from the first to the last.
+fn write_not_within<W: fmt::Write>(
+    f: &mut fmt::Formatter<W>,
+    is_capture: bool,
+    first: u64,
+    last: u64,
+) -> fmt::Result {
+    match (is_capture, first == last) {
+        (false, true) => write!(f, "line {first} is not an arrival; ")?,
+        (false, false) => write!(f, "lines {first} to {last} are not arrivals; ")?,
+        (true, true) => write!(f, "frame {first} has no packet of a link; ")?,
+        (true, false) => write!(f, "frames {first} to {last} have no packet of a link; ")?,
+    }
+    if is_capture {
+        f.write_str("expected a frame that --link, --vlan or --port matches")
+    } else {
+        write!(f, "expected the number of a line such as '{ARRIVAL}'")
+    }
+}
+
 impl fmt::Display for Nothing {
     fn fmt<W: fmt::Write>(&self, f: &mut fmt::Formatter<W>) -> fmt::Result {
         match self {
             Nothing::Empty => write!(f, "it is empty; expected {EVENTS}"),
             Nothing::Capture => write!(f, "{CAPTURE}"),
             Nothing::NoEvent { lines, carriage } => write_no_event(f, *lines, *carriage),
-            Nothing::NoLine { line, lines } => {
-                write!(f, "there is no line {line}; the last line is {lines}")
+            Nothing::NoNumber {
+                is_capture,
+                number,
+                last,
+            } => {
+                let unit = if *is_capture { "frame" } else { "line" };
+                write!(f, "there is no {unit} {number}; the last {unit} is {last}")
             }
-            Nothing::NoArrival(line) => write!(
-                f,
-                "line {line} is not an arrival; expected the number of a line such as '{ARRIVAL}'"
-            ),
+            Nothing::NotWithin {
+                is_capture,
+                first,
+                last,
+            } => write_not_within(f, *is_capture, *first, *last),
             Nothing::NoCall { link, cid } => write!(
                 f,
                 "no packet of link {link}, CID {cid}; without --call all packets are shown"
@@ -369,7 +412,8 @@ impl fmt::Display for Ending<'_> {
             | Ending::CommandLine
             | Ending::LinksFile
             | Ending::NoGateway
-            | Ending::NoFrame => Ok(()),
+            | Ending::NoFrame
+            | Ending::Dropped => Ok(()),
             Ending::Misuse(misuse) => write!(f, "rohctl: {misuse}\n"),
             Ending::LinksUnread(path, reason) => write!(
                 f,

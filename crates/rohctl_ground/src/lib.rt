@@ -18,7 +18,7 @@ pub use ending::{
 pub use lines::{Line, Stop, Taker, read_packets, read_script};
 pub use links::{concentrator_of, good_links, links_text, text_at};
 pub use rohc_text::{Reason, nearest_name, shown_word, write_octets, write_quoted, write_value};
-pub use state::concentrator_from;
+pub use state::{concentrator_from, restored};
 pub use streams::{
     Screen, Source, Target, Told, Written, is_capture_front, make_target, open_file, open_source,
     target_of,

@@ -40,6 +40,26 @@ fn tell_left_out<R: Eprint>(rt: &R, path: &str, restored: &Restored) {
     }
 }
 
+/// A concentrator with these links and the contexts of the octets of a state file, which messages call by this name.
+pub fn restored<'a, R>(
+    rt: &R,
+    links: &Links,
+    name: &'a str,
+    octets: &[u8],
+) -> Result<Concentrator, Ending<'a>>
+where
+    R: Eprint + AllocGlobal,
+{
+    match restore(rt.alloc(), links.settings(), octets) {
+        Ok((concentrator, restored)) => {
+            tell_left_out(rt, name, &restored);
+            Ok(concentrator)
+        }
+        Err(SavedFault::NoMemory) => Err(Ending::Memory),
+        Err(fault) => Err(Ending::State(name, fault)),
+    }
+}
+
 /// A concentrator with these links and the contexts of a state file.
 fn restored_from<'a, R>(rt: &R, links: &Links, path: &'a str) -> Result<Concentrator, Ending<'a>>
 where
@@ -47,14 +67,7 @@ where
 {
     let file = open_file(rt, path)?;
     let octets = octets_of(rt.alloc(), file).map_err(|reason| unread(path, reason))?;
-    match restore(rt.alloc(), links.settings(), octets.as_slice()) {
-        Ok((concentrator, restored)) => {
-            tell_left_out(rt, path, &restored);
-            Ok(concentrator)
-        }
-        Err(SavedFault::NoMemory) => Err(Ending::Memory),
-        Err(fault) => Err(Ending::State(path, fault)),
-    }
+    restored(rt, links, path, octets.as_slice())
 }
 
 /// A concentrator with the links of a file and, if a state file is given, its contexts.

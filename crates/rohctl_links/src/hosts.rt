@@ -112,7 +112,7 @@ fn is_name(text: &str) -> bool {
 }
 
 /// Whether the text is four numbers below 256 with points between.
-fn is_address(text: &str) -> bool {
+pub(crate) fn is_address(text: &str) -> bool {
     let mut count = 0usize;
     for part in text.split(".") {
         let fits = match part.parse::<u8>() {

@@ -2,6 +2,7 @@
 #![tactic(auto)]
 
 mod faults;
+mod feedback;
 mod hosts;
 mod new_file;
 mod plan;
@@ -9,6 +10,6 @@ mod settings;
 mod spread;
 
 pub use faults::run_links;
-pub use new_file::run_new;
+pub use new_file::{run_new, write_found};
 pub use plan::{AskedWindow, Plan, run_plan};
 pub use spread::{Spread, run_spread};

@@ -3,6 +3,7 @@
 use crate::settings::write_entry;
 use arrayvec::ArrayVec;
 use rohc_concentrator::LinkSetting;
+use rohc_context::Settings;
 use rohc_frame::CidKind;
 use rohc_links::Ports;
 use rohctl_ground::{Ending, unprinted, usual_settings};
@@ -35,28 +36,43 @@ idle_ms = 600000       # 0 to 86400000: after this pause a context expires; 0 is
 /// The first port of the first link.
 const FIRST_PORT: u16 = 6001;
 
-/// The link behind so many others, with usual settings.
-fn link_after(others: u16) -> (LinkSetting, Ports) {
-    let setting = LinkSetting {
-        link: others.saturating_add(1),
-        settings: usual_settings(CidKind::Small),
-        ranges: ArrayVec::new(),
-    };
+/// The ports of the link behind so many others.
+fn ports_after(others: u16) -> Ports {
     let deliver = others.saturating_mul(3).saturating_add(FIRST_PORT);
-    let ports = Ports {
+    Ports {
         deliver,
         feedback: deliver.saturating_add(1),
         relay: deliver.saturating_add(2),
+    }
+}
+
+/// Writes the entry of the link with this number and these settings, behind so many others.
+fn write_link<W: Write>(out: &mut W, others: u16, link: u16, settings: Settings) -> io::Result<()> {
+    let setting = LinkSetting {
+        link,
+        settings,
+        ranges: ArrayVec::new(),
     };
-    (setting, ports)
+    write_entry(out, &setting, &ports_after(others))
 }
 
 /// Writes a links file of so many links, whose numbers and ports follow one another.
 fn write_new<W: Write>(out: &mut W, count: u16) -> io::Result<()> {
     out.write_all(NEW_FILE.as_bytes())?;
     for others in 1..count {
-        let (setting, ports) = link_after(others);
-        write_entry(out, &setting, &ports)?;
+        let link = others.saturating_add(1);
+        write_link(out, others, link, usual_settings(CidKind::Small))?;
+    }
+    out.flush()
+}
+
+/// Writes a links file of these links, whose ports follow one another.
+pub fn write_found<W: Write>(out: &mut W, links: &[(u16, Settings)]) -> io::Result<()> {
+    out.write_all(
+        b"# The links that 'rohctl survey' found. 'rohctl links --new' explains each key.\nversion = 2\n",
+    )?;
+    for (others, (link, settings)) in (0u16..).zip(links) {
+        write_link(out, others, *link, *settings)?;
     }
     out.flush()
 }

@@ -53,6 +53,9 @@ const LONGEST: u8 = 8;
 /// The share of damaged headers, and of headers against a lost context, that a check of 3 bits finds.
 const FOUND: f64 = 0.875;
 
+/// How many octets a gateway's counts of a call take at most (docs/OPERATING.md).
+const COUNTS: u64 = 314;
+
 /// A good call may fall once in so many milliseconds with a window that is proposed: an hour.
 const SELDOM: f64 = 3_600_000.0;
 
@@ -247,12 +250,13 @@ fn write_rows<W: Write>(
     )
 }
 
-/// Writes the memory that so many calls take.
+/// Writes the memory that so many calls take, and what they take in a gateway, which counts for each.
 fn write_memory<W: Write>(out: &mut W, calls: u64) -> Result<Ending<'static>, Ending<'static>> {
     match writeln!(
         out,
-        "calls {calls} memory at most {} octets",
-        calls.saturating_mul(CALL)
+        "calls {calls} memory at most {} octets, with the counts of rohc-gateway {} octets",
+        calls.saturating_mul(CALL),
+        calls.saturating_mul(CALL + COUNTS)
     ) {
         Ok(()) => Ok(Ending::Good),
         Err(error) => Err(unprinted(&error)),

@@ -1,5 +1,6 @@
 //! The subcommand `spread`: the rules that bring each datagram to the process of its link, and a links file for each.
 
+use crate::feedback::{Target, target_in, write_feedback};
 use crate::hosts::{Hosts, HostsFault, Process, hosts_in, keys_at, line_of, table_at, unknown_in};
 use crate::settings::write_entry;
 use rohc_faults::{no_toml, write_sentence};
@@ -25,6 +26,8 @@ pub struct Spread<'a> {
     pub nginx: bool,
     /// The folder for the links files of the processes.
     pub out: Option<&'a str>,
+    /// Where the feedback of all links goes: HOST:PORT.
+    pub feedback: Option<&'a str>,
 }
 
 /// The process of a link: its place among them.
@@ -305,12 +308,28 @@ fn write_rule<W: Write>(
     writeln!(out, " }}")
 }
 
+/// Where the feedback of all links goes, if it is asked.
+fn target_of<'a>(asked: Spread<'a>) -> Result<Option<Target<'a>>, Ending<'a>> {
+    match asked.feedback {
+        None => Ok(None),
+        Some(text) => match target_in(text) {
+            Some(target) => Ok(Some(target)),
+            None => Err(Ending::Misuse(Misuse::Value {
+                word: "--feedback",
+                given: text,
+                expected: "an IPv4 address and a port, as 10.0.0.1:5002",
+            })),
+        },
+    }
+}
+
 /// Writes the table of nftables.
 fn write_table<W: Write>(
     out: &mut W,
     hosts: &Hosts<'_>,
     links: &Links,
     owners: &[usize],
+    target: Option<Target<'_>>,
 ) -> io::Result<()> {
     out.write_all(TABLE_HEAD.as_bytes())?;
     write_known(out, hosts, links, owners)?;
@@ -318,7 +337,11 @@ fn write_table<W: Write>(
         write_rule(out, hosts, links, owners, "ip daddr", Behind::Address)?;
     }
     write_rule(out, hosts, links, owners, "udp dport", Behind::Port)?;
-    writeln!(out, "    }}\n}}")
+    writeln!(out, "    }}")?;
+    if let Some(target) = target {
+        write_feedback(out, links, target)?;
+    }
+    writeln!(out, "}}")
 }
 
 /// What stands before the lines of the links in nginx's configuration.
@@ -528,6 +551,7 @@ where
     R: Files + AllocGlobal,
     W: Write,
 {
+    let target = target_of(asked)?;
     let processes = hosts.processes.as_slice();
     let Some(owners) = owners(out, rt.alloc(), asked.hosts, text, processes, links)? else {
         return Ok(Ending::Findings);
@@ -538,7 +562,7 @@ where
     let written = if asked.nginx {
         write_nginx(out, hosts, links, &owners)
     } else {
-        write_table(out, hosts, links, &owners)
+        write_table(out, hosts, links, &owners, target)
     };
     written.map_err(|error| unprinted(&error))?;
     if let Some(folder) = asked.out {

@@ -1,17 +1,20 @@
-//! What is asked of `decompress` and `script`.
+//! What is asked of `decompress`, `script` and `feed`.
 
-use crate::words_in::{input_of, keep_streams_apart, value_of};
+use crate::words_in::{input_of, keep_streams_apart, value_of, wrong_value};
 use clap::ArgMatches;
 use rohc_capture::Format;
-use rohctl_captures::{Decompress, RuleWords, Script};
+use rohctl_captures::{Decompress, Feed, RuleWords, Script};
 use rohctl_ground::Ending;
 
-/// The options that say which link a frame belongs to.
+/// The options that say which link a frame belongs to, and how packets lie in frames.
 pub(crate) fn rules_of<'a>(options: &ArgMatches<'a>) -> RuleWords<'a> {
     RuleWords {
         link: options.get_str("link"),
         vlan: options.get_str("vlan"),
         port: options.get_str("port"),
+        ethertype: options.get_str("ethertype"),
+        linktype: options.get_str("linktype"),
+        offset: options.get_str("offset"),
     }
 }
 
@@ -58,5 +61,33 @@ pub(crate) fn script_of<'a>(
         lines: options.get_str("lines"),
         back: options.get_flag("back"),
         format: format_of(options),
+    })
+}
+
+/// The port of a gateway on this host.
+fn port_of<'a>(options: &ArgMatches<'a>) -> Result<u16, Ending<'a>> {
+    let text = value_of(options, "to")?;
+    match text.parse::<u16>() {
+        Ok(port) if port > 0 => Ok(port),
+        _ => Err(wrong_value(
+            "--to",
+            text,
+            "the timed_port of a gateway on this host, 1 to 65535",
+        )),
+    }
+}
+
+/// What is asked of `feed`.
+pub(crate) fn feed_of<'a>(
+    options: &ArgMatches<'a>,
+    is_terminal: bool,
+) -> Result<Feed<'a>, Ending<'a>> {
+    Ok(Feed {
+        to: port_of(options)?,
+        input: input_of(options, "IN", is_terminal)?,
+        rules: rules_of(options),
+        from: options.get_str("from"),
+        pace: options.get_str("pace"),
+        now: options.get_flag("now"),
     })
 }

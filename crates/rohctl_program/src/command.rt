@@ -1,22 +1,24 @@
 //! The command line.
 
-use crate::capture_words::{decompress_of, script_of};
+use crate::capture_words::{decompress_of, feed_of, script_of};
 use crate::control::Wish;
 use crate::explain_words::explain_of;
 use crate::gateway::{Gateway, gateway_of};
 use crate::replaying::{Replayed, replayed_of};
 use crate::report_words::report_of;
+use crate::seeking_words::{find_of, survey_of};
 use crate::words_in::{
     call_in, input_of, keep_streams_apart, link_number, number_of, value_of, wrong_value,
 };
 use clap::ArgMatches;
 use clap::error::ErrorKind;
 use rohctl_answers::{Asked as Totals, Compared, Form};
-use rohctl_captures::{Decompress, Script};
+use rohctl_captures::{Decompress, Feed, Script};
 use rohctl_explain::Asked;
 use rohctl_ground::{Ending, Misuse, Screen, unprinted};
 use rohctl_links::{AskedWindow, Plan, Spread};
 use rohctl_report::Asked as Report;
+use rohctl_survey::{Sought, Survey};
 use rohctl_words::command;
 use std::alloc::Global;
 
@@ -32,7 +34,10 @@ pub(crate) enum Request<'a> {
     /// Count answer lines.
     Totals(Totals<'a>),
     /// List all faults of these links files, or show what one sets.
-    Links { links: Vec<&'a str>, json: bool },
+    Links {
+        links: Vec<&'a str>,
+        json: bool,
+    },
     /// Write a links file of so many links to start from.
     NewLinks(u16),
     /// Compare two answers, or traces.
@@ -43,20 +48,38 @@ pub(crate) enum Request<'a> {
     Decompress(Decompress<'a>),
     /// Turn a capture into a script, or back.
     Script(Script<'a>),
+    /// Send the arrivals of a capture or a script to a gateway.
+    Feed(Feed<'a>),
     /// Explain packets.
     Explain(Asked<'a>),
     /// Write a page that shows what became of each call.
     Report(Report<'a>),
+    /// Show what an input has.
+    Survey(Survey<'a>),
+    /// Find a call by its addresses, in the contexts of a gateway if one is named.
+    Find {
+        sought: Sought<'a>,
+        gateway: Option<Gateway<'a>>,
+    },
     /// Write the rules that bring each datagram to the process of its link.
     Spread(Spread<'a>),
     /// Compare files with a list of their digests.
-    Verify { list: &'a str, root: &'a str },
+    Verify {
+        list: &'a str,
+        root: &'a str,
+    },
     /// Ask a gateway.
-    Control { gateway: Gateway<'a>, wish: Wish },
+    Control {
+        gateway: Gateway<'a>,
+        wish: Wish,
+    },
     /// Run a script as rohcd does.
     Replay(Replayed<'a>),
     /// Trace the script of this file, with the links of another; `-` is standard input.
-    Trace { links: &'a str, script: &'a str },
+    Trace {
+        links: &'a str,
+        script: &'a str,
+    },
 }
 
 /// The window of a word, K/N, if it is one.
@@ -137,10 +160,14 @@ fn form_of(options: &ArgMatches<'_>) -> Form {
     }
 }
 
-/// The CID that is asked for, if one is.
-fn cid_in<'a>(options: &ArgMatches<'a>) -> Result<Option<u16>, Ending<'a>> {
-    match options.get_str("cid") {
-        Some(text) => Ok(Some(link_number("--cid", text)?)),
+/// The number of a link or a CID that may be missing.
+fn number_at<'a>(
+    options: &ArgMatches<'a>,
+    name: &'static str,
+    word: &'static str,
+) -> Result<Option<u16>, Ending<'a>> {
+    match options.get_str(name) {
+        Some(text) => Ok(Some(link_number(word, text)?)),
         None => Ok(None),
     }
 }
@@ -150,7 +177,7 @@ fn link_in<'a>(options: &ArgMatches<'a>) -> Result<u16, Ending<'a>> {
     link_number("--link", value_of(options, "link")?)
 }
 
-/// What is asked of a gateway about one link or call.
+/// What is asked of a gateway about links or a call.
 fn link_wish<'a>(name: &str, options: &ArgMatches<'a>) -> Result<Wish, Ending<'a>> {
     match name {
         "watch" => {
@@ -159,13 +186,14 @@ fn link_wish<'a>(name: &str, options: &ArgMatches<'a>) -> Result<Wish, Ending<'a
         }
         "reset" => Ok(Wish::Reset {
             link: link_in(options)?,
-            cid: cid_in(options)?,
+            cid: number_at(options, "cid", "--cid")?,
         }),
         "contexts" => Ok(Wish::Contexts {
             link: link_in(options)?,
         }),
         _ => Ok(Wish::Calls {
-            link: link_in(options)?,
+            link: number_at(options, "link", "--link")?,
+            json: options.get_flag("json"),
         }),
     }
 }
@@ -178,6 +206,7 @@ fn wish_of<'a>(name: &str, options: &ArgMatches<'a>) -> Result<Wish, Ending<'a>>
         "save" => Ok(Wish::Save),
         "reload" => Ok(Wish::Reload),
         "drain" => Ok(Wish::Drain),
+        "top" => Ok(Wish::Top),
         name => link_wish(name, options),
     }
 }
@@ -236,6 +265,7 @@ fn spread_of<'a>(options: &ArgMatches<'a>) -> Result<Request<'a>, Ending<'a>> {
         hosts,
         nginx: options.get_flag("nginx"),
         out: options.get_str("out"),
+        feedback: options.get_str("feedback"),
     }))
 }
 
@@ -273,6 +303,9 @@ fn named<'a>(
             decompress_of(options, is_terminal).map(|asked| Request::Decompress(asked))
         }
         "report" => report_of(options, is_terminal).map(|asked| Request::Report(asked)),
+        "feed" => feed_of(options, is_terminal).map(|asked| Request::Feed(asked)),
+        "survey" => survey_of(options, is_terminal).map(|asked| Request::Survey(asked)),
+        "find" => find_of(options).map(|(sought, gateway)| Request::Find { sought, gateway }),
         "trace" => trace_of(options, is_terminal),
         "run" => replayed_of(options, is_terminal).map(|asked| Request::Replay(asked)),
         "spread" => spread_of(options),

@@ -1,15 +1,16 @@
 //! What is asked of a running gateway, at its control socket.
 
 use rohc_text::Reason;
-use rohctl_ground::{Ending, shown_word, unprinted};
+use rohctl_answers::clear;
+use rohctl_ground::{Ending, Screen, shown_word, unprinted};
 use std::alloc::Global;
 use std::io::{self, Read, Write};
 use std::net::Net;
 use std::os::unix::fs::FileTypeExt;
 use std::os::unix::net::UnixStream;
 use std::rt::Files;
-use std::time::Duration;
-use std::{fmt, fs};
+use std::time::{Clock, Duration};
+use std::{fmt, fs, thread};
 
 /// How long an answer may take, in seconds.
 const WAIT_SECONDS: u64 = 60;
@@ -22,6 +23,12 @@ const LONGEST_HEAD: usize = 8192;
 
 /// The longest path of a socket, in octets.
 const LONGEST_PATH: usize = 107;
+
+/// The longest answer that is held, in octets: a state file, as rohc-gateway has it, and its head.
+const LONGEST_STATE: u64 = 1_073_741_824 + 8192;
+
+/// How often `top` is redrawn on a terminal, in seconds.
+const REDRAW_SECONDS: u64 = 2;
 
 /// How an answer begins.
 const ANSWER: &[u8] = b"HTTP/1.1 ";
@@ -121,8 +128,22 @@ pub(crate) enum Wish {
     Watch { link: u16, cid: u16 },
     /// List the contexts of a link.
     Contexts { link: u16 },
-    /// List the calls of a link, the longest silent first.
-    Calls { link: u16 },
+    /// List the calls of one link or of all, the longest silent first: as a table, or as JSON.
+    Calls { link: Option<u16>, json: bool },
+    /// Show the links and the worst calls, on a terminal again and again.
+    Top,
+    /// Give the contexts as they are saved.
+    State,
+}
+
+/// Writes the method and the path of a request for calls.
+fn write_calls_path<W: Write>(out: &mut W, link: Option<u16>, json: bool) -> io::Result<()> {
+    match (link, json) {
+        (None, true) => out.write_all(b"GET /calls"),
+        (None, false) => out.write_all(b"GET /calls?as=text"),
+        (Some(link), true) => write!(out, "GET /calls?link={link}"),
+        (Some(link), false) => write!(out, "GET /calls?link={link}&as=text"),
+    }
 }
 
 impl Wish {
@@ -141,7 +162,9 @@ impl Wish {
             } => write!(out, "POST /reset?link={link}&cid={cid}"),
             Wish::Watch { link, cid } => write!(out, "POST /watch?link={link}&cid={cid}"),
             Wish::Contexts { link } => write!(out, "GET /contexts?link={link}"),
-            Wish::Calls { link } => write!(out, "GET /calls?link={link}"),
+            Wish::Calls { link, json } => write_calls_path(out, link, json),
+            Wish::Top => out.write_all(b"GET /top"),
+            Wish::State => out.write_all(b"GET /state"),
         }
     }
 
@@ -272,26 +295,92 @@ fn asked<R: Files + Net + AllocGlobal>(
     }
 }
 
-/// Asks a gateway, and writes what it answers. Returns whether the request was done.
-fn answered<R>(rt: &R, control: &str, wish: Wish) -> Result<bool, Fault>
+/// Asks a gateway, and writes at most so many octets of its answer. Returns whether the request was done.
+fn answered<R, W>(rt: &R, control: &str, wish: Wish, most: u64, out: &mut W) -> Result<bool, Fault>
+where
+    R: Files + Net + AllocGlobal,
+    W: Write,
+{
+    let mut stream = asked(rt, control, wish)?.take(most);
+    pass_answer(rt.alloc(), &mut stream, out)
+}
+
+/// Asks a gateway, and holds what it answers, up to a limit. Returns also whether the request was done.
+fn held<R>(rt: &R, control: &str, wish: Wish) -> Result<(bool, Vec<u8>), Fault>
+where
+    R: Files + Net + AllocGlobal,
+{
+    let mut octets = Vec::new(rt.alloc());
+    match answered(rt, control, wish, LONGEST_STATE, &mut octets) {
+        Ok(done) => Ok((done, octets)),
+        Err(Fault::Output(_)) => Err(Fault::Memory),
+        Err(fault) => Err(fault),
+    }
+}
+
+/// Writes what a gateway answered.
+fn write_held<R: Print>(rt: &R, octets: &[u8]) -> Result<(), Fault> {
+    let mut out = io::writer(rt);
+    write_body(&mut out, octets)
+}
+
+/// The contexts of a gateway as they are saved. An answer that has none is written.
+pub(crate) fn state_of<R>(rt: &R, control: &str) -> Result<Vec<u8>, Ending<'static>>
+where
+    R: Files + Net + Print + Eprint + AllocGlobal,
+{
+    match held(rt, control, Wish::State) {
+        Ok((true, octets)) => Ok(octets),
+        Ok((false, octets)) => match write_held(rt, octets.as_slice()) {
+            Ok(()) => Err(Ending::Findings),
+            Err(fault) => Err(fault.ending(rt, control)),
+        },
+        Err(fault) => Err(fault.ending(rt, control)),
+    }
+}
+
+/// Clears the terminal, and writes what a gateway answers. Returns whether the request was done.
+fn redrawn<R>(rt: &R, control: &str, wish: Wish) -> Result<bool, Fault>
 where
     R: Files + Net + Print + AllocGlobal,
 {
-    let mut stream = asked(rt, control, wish)?;
-    let mut out = io::writer(rt);
-    pass_answer(rt.alloc(), &mut stream, &mut out)
+    let (done, octets) = held(rt, control, wish)?;
+    clear(&mut io::writer(rt)).map_err(Fault::Output)?;
+    write_held(rt, octets.as_slice())?;
+    Ok(done)
 }
 
-/// Asks a gateway, and writes what it answers, or why there is no answer.
+/// Asks a gateway again and again, and redraws what it answers, until a request isn't done or the program is interrupted.
+fn follow<R>(rt: &R, control: &str, wish: Wish) -> Result<bool, Fault>
+where
+    R: Files + Net + Print + Clock + AllocGlobal,
+{
+    for _ in 0..u64::MAX {
+        if !redrawn(rt, control, wish)? {
+            break;
+        }
+        thread::sleep(rt, Duration::from_secs(REDRAW_SECONDS));
+    }
+    Ok(false)
+}
+
+/// Asks a gateway, and writes what it answers, or why there is no answer. On a terminal `top` is redrawn until it is
+/// interrupted.
 pub(crate) fn run_control<R>(
     rt: &R,
     control: &str,
     wish: Wish,
+    screen: Screen,
 ) -> Result<Ending<'static>, Ending<'static>>
 where
-    R: Files + Net + Print + Eprint + AllocGlobal,
+    R: Files + Net + Print + Eprint + Clock + AllocGlobal,
 {
-    match answered(rt, control, wish) {
+    let done = if wish == Wish::Top && screen.output {
+        follow(rt, control, wish)
+    } else {
+        answered(rt, control, wish, u64::MAX, &mut io::writer(rt))
+    };
+    match done {
         Ok(true) => Ok(Ending::Good),
         Ok(false) => Ok(Ending::Findings),
         Err(fault) => Err(fault.ending(rt, control)),

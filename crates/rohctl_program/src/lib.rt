@@ -8,9 +8,11 @@ mod command;
 mod control;
 mod explain_words;
 mod gateway;
+mod narrow_words;
 mod program;
 mod replaying;
 mod report_words;
+mod seeking_words;
 mod verify;
 mod words_in;
 

@@ -1,16 +1,18 @@
 //! The program, from the words after its name to how it ends.
 
 use crate::command::{Request, read_request};
-use crate::control::run_control;
+use crate::control::{run_control, state_of};
 use crate::gateway::socket_of;
 use crate::replaying::run_replay;
+use crate::seeking_words::searched_socket;
 use crate::verify::run_verify;
 use rohctl_answers::{run_diff, run_totals, run_trace};
-use rohctl_captures::{run_decompress, run_script};
-use rohctl_explain::run_explain;
+use rohctl_captures::{run_decompress, run_feed, run_script};
+use rohctl_explain::{Explainer, run_explain};
 use rohctl_ground::{Ending, Screen};
 use rohctl_links::{run_links, run_new, run_plan, run_spread};
 use rohctl_report::run_report;
+use rohctl_survey::{run_find, run_survey};
 use std::net::Net;
 use std::rt::{Env, Files};
 use std::time::Clock;
@@ -38,14 +40,29 @@ where
         Request::NewLinks(count) => run_new(rt, count),
         Request::Diff(asked) => run_diff(rt, &asked, screen),
         Request::Plan(plan) => run_plan(rt, &plan),
-        Request::Decompress(asked) => run_decompress(rt, &asked, screen),
+        Request::Decompress(asked) => {
+            run_decompress(rt, &asked, &Explainer { alloc: rt.alloc() }, screen)
+        }
         Request::Script(asked) => run_script(rt, &asked, screen),
+        Request::Feed(asked) => run_feed(rt, &asked, screen),
         Request::Explain(asked) => run_explain(rt, &asked, screen),
         Request::Report(asked) => run_report(rt, &asked, screen),
+        Request::Survey(asked) => run_survey(rt, &asked, screen),
+        Request::Find {
+            sought,
+            gateway: None,
+        } => run_find(rt, &sought, None, screen),
+        Request::Find {
+            sought,
+            gateway: Some(gateway),
+        } => {
+            let state = state_of(rt, searched_socket(rt, gateway)?.as_str())?;
+            run_find(rt, &sought, Some(state.as_slice()), screen)
+        }
         Request::Spread(spread) => run_spread(rt, spread),
         Request::Verify { list, root } => run_verify(rt, list, root),
         Request::Control { gateway, wish } => {
-            run_control(rt, socket_of(rt, gateway)?.as_str(), wish)
+            run_control(rt, socket_of(rt, gateway)?.as_str(), wish, screen)
         }
         Request::Replay(asked) => run_replay(rt, asked, screen),
         Request::Trace { links, script } => run_trace(rt, links, script, screen),

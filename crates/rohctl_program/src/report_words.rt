@@ -1,6 +1,7 @@
 //! What is asked of `report`.
 
 use crate::capture_words::rules_of;
+use crate::narrow_words::{times_of, which_call};
 use crate::words_in::{input_of, keep_streams_apart, value_of};
 use clap::ArgMatches;
 use rohctl_ground::Ending;
@@ -19,5 +20,7 @@ pub(crate) fn report_of<'a>(
         input,
         output: value_of(options, "output")?,
         rules: rules_of(options),
+        which: which_call(options)?,
+        times: times_of(options)?,
     })
 }

@@ -1,6 +1,7 @@
 //! What is asked of `report`.
 
 use rohctl_captures::RuleWords;
+use rohctl_explain::{Times, Which};
 
 /// What is asked of `report`.
 #[derive(Clone, Copy)]
@@ -13,4 +14,8 @@ pub struct Asked<'a> {
     pub output: &'a str,
     /// Which link a frame of a capture belongs to.
     pub rules: RuleWords<'a>,
+    /// Which packets are shown. Those before them lead to their contexts.
+    pub which: Which,
+    /// Between which times packets are shown.
+    pub times: Times,
 }

@@ -2,8 +2,6 @@
 #![tactic(auto)]
 
 mod asked;
-mod frames;
-mod held;
 mod passes;
 mod report;
 mod seen;

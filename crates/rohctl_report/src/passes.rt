@@ -4,7 +4,7 @@ use crate::seen::{became_of, feedback_of, state_of};
 use indexmap::IndexMap;
 use rohc_concentrator::Concentrator;
 use rohc_report::{Axis, CallRow, Calls, Drawn, key_of};
-use rohctl_explain::{Explained, Place, explain_packet, write_whole};
+use rohctl_explain::{Explained, Falls, Narrow, Place, Unit, explain_packet, write_whole};
 use rohctl_ground::{Line, Stop, Taker};
 use std::alloc::{AllocError, Global};
 
@@ -16,6 +16,8 @@ pub(crate) struct Counting {
     pub(crate) calls: Calls,
     /// The lines or frames that are events.
     pub(crate) events: u64,
+    /// Which packets are shown.
+    pub(crate) narrow: Narrow,
 }
 
 impl Counting {
@@ -58,7 +60,9 @@ impl Taker for Counting {
                     moment,
                     packet,
                 )?;
-                self.count(number, &explained).map_err(|_| Stop::Memory)?;
+                if self.narrow.shows(number, &explained) {
+                    self.count(number, &explained).map_err(|_| Stop::Memory)?;
+                }
             }
             Line::Reset { link } => {
                 if self.concentrator.reset(link).is_err() {
@@ -126,7 +130,9 @@ impl DrawnCalls {
 pub(crate) struct Drawing {
     pub(crate) alloc: Global,
     pub(crate) concentrator: Concentrator,
-    pub(crate) is_capture: bool,
+    pub(crate) unit: Unit,
+    pub(crate) narrow: Narrow,
+    pub(crate) falls: Falls,
     pub(crate) calls: DrawnCalls,
 }
 
@@ -162,10 +168,9 @@ fn draw(
 impl Drawing {
     /// Draws a packet, if its call is drawn.
     fn draw(&mut self, number: u64, explained: &Explained) -> Result<(), Stop> {
-        let at = if self.is_capture {
-            Place::Frame(number)
-        } else {
-            Place::Line(number)
+        let at = Place {
+            unit: self.unit,
+            number,
         };
         match self.calls.call_of(explained) {
             Some(drawn) => draw(self.alloc, drawn, number, at, explained),
@@ -182,14 +187,19 @@ impl Taker for Drawing {
                 moment,
                 packet,
             } => {
-                let explained = explain_packet(
+                let mut explained = explain_packet(
                     self.alloc,
                     &mut self.concentrator,
                     link,
                     moment,
                     packet,
                 )?;
-                self.draw(number, &explained)?;
+                if self.falls.take(number, &mut explained).is_err() {
+                    return Err(Stop::Memory);
+                }
+                if self.narrow.shows(number, &explained) {
+                    self.draw(number, &explained)?;
+                }
             }
             Line::Reset { link } => {
                 let _ = self.concentrator.reset(link);

@@ -1,26 +1,21 @@
 //! The subcommand `report`.
 
 use crate::asked::Asked;
-use crate::frames::{Rest, take_all};
-use crate::held::{Held, hold};
 use crate::passes::{Counting, Drawing, DrawnCalls};
 use rohc_capture::Rule;
 use rohc_concentrator::Concentrator;
 use rohc_links::Links;
 use rohc_report::{CallRow, Calls, Report, worst_first, write_page};
-use rohctl_captures::{capture_end, check_links, no_frame, rules_of};
-use rohctl_ground::{
-    Ending, Nothing, Reason, Screen, good_links, keep_apart, make_target, open_file, unread,
-};
+use rohctl_captures::{capture_end, check_links, framing_of, rules_of};
+use rohctl_explain::{Falls, Narrow, Unit, Which, no_packet_between};
+use rohctl_ground::{Ending, Nothing, Reason, Screen, good_links, keep_apart, make_target, unread};
+use rohctl_input::{Carriage, Held, Rest, hold, nothing_end, take_all};
 use std::alloc::Global;
-use std::io::{Read, Write};
+use std::io::Write;
 use std::rt::Files;
 
 /// How many calls are drawn at most.
 const MOST_DRAWN: usize = 100;
-
-/// How many octets of an input are looked at if there is nothing to report.
-const FRONT: usize = 4096;
 
 /// A concentrator with these links, without a record.
 fn fresh(alloc: Global, links: &Links) -> Result<Concentrator, Ending<'static>> {
@@ -82,16 +77,18 @@ fn end_of<'a>(
     Ok(Ending::Good)
 }
 
-/// An input, and how it is read.
+/// An input, how it is read, and which packets are shown.
 #[derive(Clone, Copy)]
 struct Source<'a, 'p> {
     held: &'a Held<'p>,
-    /// The rules for a capture; a script has none.
-    rules: Option<&'a [Rule]>,
+    /// Only a capture has one.
+    carriage: Option<Carriage<'a>>,
+    /// Which packets are shown, before the first one.
+    narrow: Narrow,
     screen: Screen,
 }
 
-/// Counts all packets of an input.
+/// Counts the packets of an input that are shown.
 fn count_all<'p, R>(
     rt: &R,
     links: &Links,
@@ -105,8 +102,15 @@ where
         concentrator: fresh(rt.alloc(), links)?,
         calls: Calls::new(rt.alloc()),
         events: 0,
+        narrow: source.narrow,
     };
-    let rest = take_all(rt, source.held, source.rules, source.screen, &mut counting)?;
+    let rest = take_all(
+        rt,
+        source.held,
+        source.carriage,
+        source.screen,
+        &mut counting,
+    )?;
     Ok((counting, rest))
 }
 
@@ -114,7 +118,7 @@ where
 fn drawing_of(
     alloc: Global,
     links: &Links,
-    is_capture: bool,
+    source: Source<'_, '_>,
     rows: &[CallRow],
 ) -> Result<Drawing, Ending<'static>> {
     let concentrator = fresh(alloc, links)?;
@@ -122,7 +126,13 @@ fn drawing_of(
         Ok(calls) => Ok(Drawing {
             alloc,
             concentrator,
-            is_capture,
+            unit: if source.carriage.is_some() {
+                Unit::Frame
+            } else {
+                Unit::Line
+            },
+            narrow: source.narrow,
+            falls: Falls::new(alloc),
             calls,
         }),
         Err(_) => Err(Ending::Memory),
@@ -140,8 +150,14 @@ fn draw_all<'p, R>(
 where
     R: Files + Eprint + AllocGlobal,
 {
-    let mut drawing = drawing_of(rt.alloc(), links, source.rules.is_some(), rows)?;
-    let again = take_all(rt, source.held, source.rules, source.screen, &mut drawing)?;
+    let mut drawing = drawing_of(rt.alloc(), links, source, rows)?;
+    let again = take_all(
+        rt,
+        source.held,
+        source.carriage,
+        source.screen,
+        &mut drawing,
+    )?;
     if again == rest {
         Ok(drawing)
     } else {
@@ -166,7 +182,7 @@ where
     let report = Report {
         input: asked.input,
         links: asked.links,
-        is_capture: source.rules.is_some(),
+        is_capture: source.carriage.is_some(),
         frames_left_out: rest.left_out,
         calls,
         rows,
@@ -194,57 +210,20 @@ where
     }
 }
 
-/// The first octets of an input.
-fn front_octets<'p, R>(rt: &R, held: &Held<'p>) -> Result<Vec<u8>, Ending<'p>>
-where
-    R: Files + AllocGlobal,
-{
-    let mut front = Vec::new(rt.alloc());
-    match held {
-        Held::File(path) => {
-            let mut limited = open_file(rt, path)?.take(FRONT as u64);
-            match limited.read_to_end(&mut front) {
-                Ok(_) => Ok(front),
-                Err(error) => Err(unread(path, Reason::of(&error))),
-            }
-        }
-        Held::Input(octets) => {
-            let kept = octets.get(..FRONT).unwrap_or(octets.as_slice());
-            match front.extend_from_slice(kept) {
-                Ok(()) => Ok(front),
-                Err(_) => Err(Ending::Memory),
-            }
-        }
+/// The ending for an input with events, none of which is a packet that is shown.
+fn unmatched_end<'p, R: Eprint>(
+    rt: &R,
+    asked: &Asked<'p>,
+    source: Source<'_, 'p>,
+    narrow: &Narrow,
+) -> Ending<'p> {
+    if let Some(span) = narrow.missed() {
+        return no_packet_between(rt, asked.input, span, source.carriage.is_some());
     }
-}
-
-/// The ending for an input without an event.
-fn nothing_end<'p, R>(rt: &R, source: Source<'_, 'p>, counting: &Counting) -> Ending<'p>
-where
-    R: Files + Eprint + AllocGlobal,
-{
-    let front = match front_octets(rt, source.held) {
-        Ok(front) => front,
-        Err(ending) => return ending,
-    };
-    let path = source.held.path();
-    if source.rules.is_some() {
-        return no_frame(rt, path, front.as_slice());
+    match asked.which {
+        Which::Call { link, cid } => Ending::Nothing(asked.input, Nothing::NoCall { link, cid }),
+        Which::Within(_) | Which::All => Ending::Nothing(asked.input, Nothing::NoPacket),
     }
-    if front.is_empty() {
-        return Ending::Nothing(path, Nothing::Empty);
-    }
-    let carriage = front
-        .as_slice()
-        .windows(2)
-        .any(|pair| pair == b"\r\n".as_slice());
-    Ending::Nothing(
-        path,
-        Nothing::NoEvent {
-            lines: counting.calls.bad,
-            carriage,
-        },
-    )
 }
 
 /// Writes the report on an input. It is read twice: to count, and to draw the calls that are the worst.
@@ -259,7 +238,11 @@ where
 {
     let (counting, rest) = count_all(rt, links, source)?;
     if rest.fault.is_none() && counting.events == 0 {
-        return Err(nothing_end(rt, source, &counting));
+        let lines = counting.calls.bad;
+        return Err(nothing_end(rt, source.held, source.carriage, lines));
+    }
+    if rest.fault.is_none() && counting.narrow.shown() == 0 {
+        return Err(unmatched_end(rt, asked, source, &counting.narrow));
     }
     report_calls(rt, asked, links, source, &counting.calls, rest)
 }
@@ -278,7 +261,8 @@ where
     let rules = rules_for(rt, &held, asked, links)?;
     let source = Source {
         held: &held,
-        rules: rules.as_ref().map(|rules| rules.as_slice()),
+        carriage: Carriage::of(&rules, framing_of(&asked.rules)?),
+        narrow: Narrow::new(asked.which, asked.times, rules.is_some()),
         screen,
     };
     report_on(rt, asked, links, source)

@@ -1,14 +1,27 @@
-//! The subcommands that read packets: `decompress`, `script`, `report` and `explain`.
+//! The subcommands that read packets: `decompress`, `script`, `feed`, `report` and `explain`.
 
 use crate::options::{Given, Word, argument, arguments, flag, subcommand, valued, with_words};
 use clap::Command;
 use std::alloc::AllocError;
 
-/// A subcommand with these words, and before them the options that say which link a frame belongs to.
-fn with_rules<'a>(
+/// A subcommand with these words, and before them the options that say which link a frame belongs to, and how packets
+/// lie in frames.
+pub(crate) fn with_rules<'a>(
     given: Given<'_>,
     name: &'static str,
     about: &'static str,
+    words: &[Word],
+) -> Result<Command<'a>, AllocError> {
+    let link = "The link of ROHC packets in Ethernet, Linux cooked or PPP frames";
+    with_link(given, name, about, link, words)
+}
+
+/// The same, with this help of `--link`.
+fn with_link<'a>(
+    given: Given<'_>,
+    name: &'static str,
+    about: &'static str,
+    link: &'static str,
     words: &[Word],
 ) -> Result<Command<'a>, AllocError> {
     let rules = subcommand(
@@ -16,16 +29,27 @@ fn with_rules<'a>(
         name,
         about,
         &[
-            valued(
-                "link",
-                "LINK",
-                "The link of ROHC packets in Ethernet, Linux cooked or PPP frames",
-            ),
+            valued("link", "LINK", link),
             valued("vlan", "VLAN=LINK,..", "Map a VLAN to a link, as 5=1"),
             valued(
                 "port",
                 "PORT=LINK,..",
                 "Map a UDP port to a link, as 5000=1; without =LINK each datagram starts with the link number",
+            ),
+            valued(
+                "ethertype",
+                "TYPE",
+                "Also find ROHC packets behind this EtherType, as 0x88b5",
+            ),
+            valued(
+                "linktype",
+                "TYPE",
+                "Take each frame of this link type, as 147, for a ROHC packet",
+            ),
+            valued(
+                "offset",
+                "OCTETS",
+                "Skip this many octets before each packet, such as a header of PDCP or of a modem",
             ),
         ],
     )?;
@@ -42,7 +66,10 @@ pub(crate) fn decompress_words<'a>(given: Given<'_>) -> Result<Command<'a>, Allo
             valued("links", "FILE", "The links file").required(),
             flag("padded", "Cut each packet at its IPv4 total length"),
             valued("feedback", "FILE", "Also write the feedback to a capture"),
-            flag("pcapng", "Write pcapng instead of pcap"),
+            flag(
+                "pcapng",
+                "Write pcapng instead of pcap, also with the frames and what became of each",
+            ),
             flag("stats", "Print counts on standard error"),
             argument(
                 "IN",
@@ -90,6 +117,59 @@ pub(crate) fn script_words<'a>(given: Given<'_>) -> Result<Command<'a>, AllocErr
     )
 }
 
+/// The subcommand `feed`.
+pub(crate) fn feed_words<'a>(given: Given<'_>) -> Result<Command<'a>, AllocError> {
+    with_rules(
+        given,
+        "feed",
+        "Send the packets of a capture or a script to a gateway on this host",
+        &[
+            valued("to", "PORT", "The timed_port of the gateway, on 127.0.0.1").required(),
+            valued(
+                "from",
+                "ADDRESS",
+                "Send only the packets of this sender of a capture, an Ethernet or IPv4 address",
+            ),
+            valued(
+                "pace",
+                "FACTOR",
+                "Keep the time between packets, divided by this factor; without it send as fast as the gateway reads",
+            ),
+            flag(
+                "now",
+                "Send the present time with each packet instead of its own",
+            ),
+            argument(
+                "IN",
+                "The capture, pcap or pcapng, or the script; - or none is standard input",
+            ),
+        ],
+    )
+}
+
+/// The option that shows only the packets from a time on.
+fn since() -> Word {
+    valued(
+        "since",
+        "TIME",
+        "Show only packets from this time on: milliseconds of a script, seconds of a capture, or HH:MM:SS.mmm (UTC)",
+    )
+}
+
+/// The option that shows only the packets up to a time.
+fn until() -> Word {
+    valued(
+        "until",
+        "TIME",
+        "Show only packets up to this time, itself included",
+    )
+}
+
+/// The option that shows only the packets of a call.
+fn call() -> Word {
+    valued("call", "L/C", "Show only the packets of this link and CID")
+}
+
 /// The subcommand `report`.
 pub(crate) fn report_words<'a>(given: Given<'_>) -> Result<Command<'a>, AllocError> {
     with_rules(
@@ -101,6 +181,9 @@ pub(crate) fn report_words<'a>(given: Given<'_>) -> Result<Command<'a>, AllocErr
             valued("output", "FILE", "The page to write; - is standard output")
                 .or_letter('o')
                 .otherwise("-"),
+            call(),
+            since(),
+            until(),
             argument(
                 "INPUT",
                 "The script or the capture, pcap or pcapng; - or none is standard input",
@@ -111,10 +194,11 @@ pub(crate) fn report_words<'a>(given: Given<'_>) -> Result<Command<'a>, AllocErr
 
 /// The subcommand `explain`.
 pub(crate) fn explain_words<'a>(given: Given<'_>) -> Result<Command<'a>, AllocError> {
-    subcommand(
+    with_link(
         given,
         "explain",
         "Decode each packet: its fields, context, attempts, result and likely cause",
+        "The link of ROHC packets in Ethernet, Linux cooked or PPP frames, or of packets in hexadecimal digits",
         &[
             valued(
                 "links",
@@ -122,23 +206,26 @@ pub(crate) fn explain_words<'a>(given: Given<'_>) -> Result<Command<'a>, AllocEr
                 "The links file; without it the words are packets on a link with usual settings",
             ),
             arguments(
-                "SCRIPT",
-                "The script; - or none is standard input; with --link, or without --links, packets in hexadecimal digits, as fc00b745aa or fc 00 b7 45 aa, with commas between them",
+                "INPUT",
+                "The script or the capture, pcap or pcapng; - or none is standard input; with --link, or without --links, packets in hexadecimal digits, as fc00b745aa or fc 00 b7 45 aa, with commas between them",
             ),
-            valued("line", "N", "Show only the packet in this line").without("call"),
-            valued("call", "L/C", "Show only the packets of this link and CID"),
+            valued("line", "N", "Show only the packet in this line of a script"),
+            valued("lines", "A-B", "Show only the packets in these lines"),
+            valued(
+                "frame",
+                "N",
+                "Show only the packet in this frame of a capture",
+            ),
+            valued("frames", "A-B", "Show only the packets in these frames"),
+            call(),
+            since().with("links"),
+            until().with("links"),
             valued(
                 "state",
                 "FILE",
                 "Begin with the contexts of this state file of rohc-gateway",
             )
             .with("links"),
-            valued(
-                "link",
-                "L",
-                "The link of packets given in hexadecimal digits",
-            )
-            .without("line"),
             flag(
                 "large",
                 "Without --links: the link has large CIDs, and not small ones",

@@ -1,11 +1,11 @@
 //! The subcommands that ask a running gateway.
 
-use crate::options::{Given, Word, argument, subcommand, valued, with_words};
+use crate::options::{Given, Word, argument, flag, subcommand, valued, with_words};
 use clap::Command;
 use std::alloc::AllocError;
 
 /// The option that names the gateway by its socket.
-fn control() -> Word {
+pub(crate) fn control() -> Word {
     valued(
         "control",
         "SOCKET",
@@ -14,7 +14,7 @@ fn control() -> Word {
 }
 
 /// The option that names the gateway by its unit.
-fn named() -> Word {
+pub(crate) fn named() -> Word {
     valued(
         "name",
         "NAME",
@@ -48,6 +48,10 @@ fn with_whole<'a>(given: Given<'_>, command: Command<'a>) -> Result<Command<'a>,
         ("save", "Save the calls of a gateway"),
         ("reload", "Make a gateway read its links file again"),
         ("drain", "Stop accepting new calls; existing calls continue"),
+        (
+            "top",
+            "Show the links and the worst calls of a gateway, on a terminal every two seconds",
+        ),
     ] {
         command = asking(given, command, name, about, &[])?;
     }
@@ -88,7 +92,10 @@ pub(crate) fn with_gateway<'a>(
         given,
         command,
         "calls",
-        "List the calls of a link, those silent longest first",
-        &[link()],
+        "List the calls of all links or of one, those silent longest first",
+        &[
+            valued("link", "NUMBER", "List only the calls of this link"),
+            flag("json", "Write JSON, one object per line"),
+        ],
     )
 }

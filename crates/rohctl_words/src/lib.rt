@@ -6,6 +6,7 @@
 mod captures;
 mod gateway;
 mod options;
+mod seeking;
 mod words;
 
 pub use words::command;

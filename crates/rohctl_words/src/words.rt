@@ -1,8 +1,9 @@
 //! The command line as a whole, and the subcommands that read answers and links files.
 
-use crate::captures::{decompress_words, explain_words, report_words, script_words};
+use crate::captures::{decompress_words, explain_words, feed_words, report_words, script_words};
 use crate::gateway::with_gateway;
 use crate::options::{Given, argument, arguments, color, flag, subcommand, valued};
+use crate::seeking::{find_words, survey_words};
 use clap::Command;
 use std::alloc::{AllocError, Global};
 
@@ -142,6 +143,12 @@ fn spread_words<'a>(given: Given<'_>) -> Result<Command<'a>, AllocError> {
                 "DIR",
                 "Also write a links file for each process into this directory",
             ),
+            valued(
+                "feedback",
+                "HOST:PORT",
+                "Also send the feedback of all links here (rohc-gateway, numbered_feedback)",
+            )
+            .without("nginx"),
         ],
     )
 }
@@ -176,13 +183,16 @@ enum Name {
     Plan,
     Decompress,
     Script,
+    Feed,
     Report,
+    Survey,
+    Find,
     Spread,
     Verify,
 }
 
 /// Their order in the help text.
-const NAMES: [Name; 12] = [
+const NAMES: [Name; 15] = [
     Name::Totals,
     Name::Run,
     Name::Trace,
@@ -192,7 +202,10 @@ const NAMES: [Name; 12] = [
     Name::Plan,
     Name::Decompress,
     Name::Script,
+    Name::Feed,
     Name::Report,
+    Name::Survey,
+    Name::Find,
     Name::Spread,
     Name::Verify,
 ];
@@ -209,7 +222,10 @@ fn words_of<'a>(given: Given<'_>, name: Name) -> Result<Command<'a>, AllocError>
         Name::Plan => plan_words(given),
         Name::Decompress => decompress_words(given),
         Name::Script => script_words(given),
+        Name::Feed => feed_words(given),
         Name::Report => report_words(given),
+        Name::Survey => survey_words(given),
+        Name::Find => find_words(given),
         Name::Spread => spread_words(given),
         Name::Verify => verify(given),
     }

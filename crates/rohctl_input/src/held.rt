@@ -1,5 +1,6 @@
-//! What is read twice: a file, or standard input, which is kept.
+//! An input that can be read twice: a file, or standard input, which is kept.
 
+use rohctl_captures::Front;
 use rohctl_ground::{Ending, Reason, STREAM, is_capture_front, open_file, unread};
 use std::alloc::Global;
 use std::io::Read;
@@ -10,7 +11,7 @@ const LONGEST: u64 = 67_108_864;
 
 /// An input that can be read twice.
 #[derive(Drop)]
-pub(crate) enum Held<'a> {
+pub enum Held<'a> {
     /// The file of this name.
     File(&'a str),
     /// All of standard input.
@@ -29,7 +30,7 @@ fn kept<S: Read + Drop>(alloc: Global, source: S) -> Result<Vec<u8>, Ending<'sta
 }
 
 /// The input of this name.
-pub(crate) fn hold<'a, R>(rt: &R, path: &'a str) -> Result<Held<'a>, Ending<'a>>
+pub fn hold<'a, R>(rt: &R, path: &'a str) -> Result<Held<'a>, Ending<'a>>
 where
     R: Files + Input + AllocGlobal,
 {
@@ -40,26 +41,9 @@ where
     }
 }
 
-/// Whether a reader begins as a capture does.
-fn begins_as_capture<S: Read>(source: &mut S) -> Result<bool, Reason> {
-    let mut front = [0u8; 4];
-    let mut count = 0usize;
-    for _ in 0..4 {
-        let Some(room) = front.get_mut(count..) else {
-            break;
-        };
-        match source.read(room) {
-            Ok(0) => break,
-            Ok(more) => count = count.saturating_add(more),
-            Err(error) => return Err(Reason::of(&error)),
-        }
-    }
-    Ok(count >= 4 && is_capture_front(front.as_slice()))
-}
-
 impl<'a> Held<'a> {
     /// The path of the input.
-    pub(crate) fn path(&self) -> &'a str {
+    pub fn path(&self) -> &'a str {
         match self {
             Held::File(path) => path,
             Held::Input(_) => STREAM,
@@ -67,11 +51,12 @@ impl<'a> Held<'a> {
     }
 
     /// Whether the input is a capture, by its first octets.
-    pub(crate) fn is_capture<R: Files>(&self, rt: &R) -> Result<bool, Ending<'a>> {
+    pub fn is_capture<R: Files>(&self, rt: &R) -> Result<bool, Ending<'a>> {
         match self {
             Held::File(path) => {
                 let mut file = open_file(rt, path)?;
-                begins_as_capture(&mut file).map_err(|reason| unread(path, reason))
+                let front = Front::read(&mut file).map_err(|reason| unread(path, reason))?;
+                Ok(front.is_capture())
             }
             Held::Input(octets) => Ok(is_capture_front(octets.as_slice())),
         }
