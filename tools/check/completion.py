@@ -1,6 +1,6 @@
-"""What bash, zsh and fish complete: each shell loads its file of completion/, and must offer the same words of rohctl.
+"""What bash, zsh and fish complete: each shell loads its files of completion/, and must offer the same words.
 
-A shell that isn't installed is left out.
+A shell that isn't installed is left out. The files are made from the help texts of the programs.
 """
 
 import re
@@ -9,6 +9,7 @@ from collections.abc import Callable
 from concurrent.futures import ThreadPoolExecutor
 from pathlib import Path
 
+import make_completion
 from program import Call, Ended, Word, run
 from trial import Trial
 
@@ -19,41 +20,44 @@ MARKED = re.compile(r"<mark>\r?\n(.*?)<mark>", re.DOTALL)
 BASH = '. "$0" && COMP_WORDS=("$@") COMP_CWORD=$(($# - 1)) && "_${1/-/_}" && printf "%s\\n" "${COMPREPLY[@]}"'
 FISH = "source $argv[1]; complete -C $argv[2]"
 COMMANDS = (
-    "calls contexts decompress diff drain explain links plan reload report reset run save script spread status stop totals trace verify"
-    " watch"
+    "calls contexts decompress diff drain explain feed find links plan reload report reset run save script spread status stop survey top totals trace"
+    " verify watch"
 )
 
 # What each shell completes of rohctl, and behind which words. The folder has the files links.toml and answers.
 ROHCTL: tuple[Row, ...] = (
     (COMMANDS, ("",)),
-    ("totals", ("to",)),
-    ("--color --json --new", ("links", "--")),
-    ("--calls --color --damage --json --links --packet-ms --split --window", ("plan", "--")),
-    ("--color --follow --json --prometheus", ("totals", "--")),
-    ("--back --color --from --lines --link --other --pcapng --port --vlan", ("script", "--")),
-    ("--color --feedback --link --links --padded --pcapng --port --stats --vlan", ("decompress", "--")),
-    ("--color --link --links --output --port --vlan", ("report", "--")),
-    ("--brief --call --color --json --large --line --link --links --state", ("explain", "--")),
-    ("--color --json", ("diff", "--")),
-    ("--color --links", ("trace", "--")),
-    ("--color --links --state", ("run", "--")),
-    ("--color --hosts --nginx --out", ("spread", "--")),
-    ("--color --root", ("verify", "--")),
-    ("--color --control --name", ("drain", "--")),
-    ("--color --control --name", ("watch", "--")),
-    ("--cid --color --control --link --name", ("reset", "--")),
-    ("--color --control --link --name", ("calls", "--")),
+    ("top totals", ("to",)),
+    ("--color --help --json --new", ("links", "--")),
+    ("--calls --color --damage --help --json --links --packet-ms --split --window", ("plan", "--")),
+    ("--color --follow --help --json --prometheus", ("totals", "--")),
+    ("--back --color --ethertype --from --help --lines --link --linktype --offset --other --pcapng --port --vlan", ("script", "--")),
+    ("--color --ethertype --feedback --help --link --links --linktype --offset --padded --pcapng --port --stats --vlan", ("decompress", "--")),
+    ("--call --color --ethertype --help --link --links --linktype --offset --output --port --since --until --vlan", ("report", "--")),
+    ("--color --ethertype --from --help --link --linktype --now --offset --pace --port --to --vlan", ("feed", "--")),
+    ("--color --ethertype --help --json --link --links --linktype --offset --port --vlan", ("survey", "--")),
+    ("--color --control --ethertype --help --input --json --link --links --linktype --name --offset --port --state --vlan", ("find", "--")),
+    ("--brief --call --color --ethertype --frame --frames --help --json --large --line --lines --link --links --linktype --offset --port --since --state --until --vlan", ("explain", "--")),
+    ("--color --help --json", ("diff", "--")),
+    ("--color --help --links", ("trace", "--")),
+    ("--color --help --links --state", ("run", "--")),
+    ("--color --feedback --help --hosts --nginx --out", ("spread", "--")),
+    ("--color --help --root", ("verify", "--")),
+    ("--color --control --help --name", ("drain", "--")),
+    ("--color --control --help --name", ("watch", "--")),
+    ("--cid --color --control --help --link --name", ("reset", "--")),
+    ("--color --control --help --json --link --name", ("calls", "--")),
     ("always auto never", ("status", "--color", "")),
     ("always auto never", ("--color", "")),
-    ("--color", ("--",)),
-    ("totals", ("--color", "never", "to")),
-    ("--color --json --new", ("--color", "never", "links", "--")),
+    ("--color --help --version", ("--",)),
+    ("top totals", ("--color", "never", "to")),
+    ("--color --help --json --new", ("--color", "never", "links", "--")),
     ("--links", ("trace", "--l")),
-    ("--line --link --links", ("explain", "--li")),
+    ("--line --lines --link --links --linktype", ("explain", "--li")),
     ("links.toml", ("trace", "--links", "li")),
     ("answers links.toml", ("totals", "")),
 )
-# What bash completes of rohc-gateway.
+# What each shell completes of rohc-gateway.
 GATEWAY: tuple[Row, ...] = (
     ("check run", ("",)),
     ("run", ("r",)),
@@ -78,7 +82,7 @@ def in_zsh(folder: Path, words: tuple[str, ...]) -> tuple[Word, ...]:
 
 def in_fish(folder: Path, words: tuple[str, ...]) -> tuple[Word, ...]:
     """The call of fish that prints a match per line, with what is said of it behind a tab."""
-    return ("fish", "--no-config", "-c", FISH, folder / "rohctl.fish", " ".join(words))
+    return ("fish", "--no-config", "-c", FISH, folder / f"{words[0]}.fish", " ".join(words))
 
 
 Asks = Callable[[Path, tuple[str, ...]], tuple[Word, ...]]
@@ -86,7 +90,9 @@ SHELLS: tuple[tuple[str, Asks, str, tuple[Row, ...]], ...] = (
     ("bash", in_bash, "rohctl", ROHCTL),
     ("bash", in_bash, "rohc-gateway", GATEWAY),
     ("zsh", in_zsh, "rohctl", ROHCTL),
+    ("zsh", in_zsh, "rohc-gateway", GATEWAY),
     ("fish", in_fish, "rohctl", ROHCTL),
+    ("fish", in_fish, "rohc-gateway", GATEWAY),
 )
 
 
@@ -95,6 +101,12 @@ def matches(ended: Ended) -> str:
     marked = MARKED.search(ended.text)
     lines = (marked[1] if marked else ended.text).splitlines()
     return " ".join(sorted(line.split("\t")[0] for line in lines)).strip()
+
+
+def check_made(trial: Trial, program: Path) -> None:
+    """The files of a program in completion/ are what tools/make_completion.py makes of its help texts."""
+    for name, text in make_completion.made(program).items():
+        trial.same(f"completion/{name}", text, (trial.top / "completion" / name).read_text())
 
 
 def check(trial: Trial) -> None:
