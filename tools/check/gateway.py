@@ -11,6 +11,7 @@ import resource
 import shutil
 import socket
 import struct
+import sys
 import time
 from collections import Counter
 from collections.abc import Iterator
@@ -19,19 +20,25 @@ from dataclasses import dataclass, field
 from datetime import UTC, datetime
 from pathlib import Path
 
-from cluster import Arrival, made_arrivals
+import browser
+import completion
+import gateway_calls
+import gateway_limits
 import gateway_wrong
-from gateway_run import BATCH, LOOPBACK, PROGRAM, Gateway, Receivers, dated, replayed, samples
+from cluster import Arrival, made_arrivals
+from gateway_limits import first_ir
+from gateway_run import BATCH, LOOPBACK, PROGRAM, WAIT_SECONDS, Gateway, Receivers, dated, free_port, numbered, replayed, samples
 from program import Ended
-from random_script import check8
 from trial import Trial
 
 ROHCTL = "crates/rohctl/out/rohctl"
-PARTS = ("words", "wrong", "heads", "whole", "killed", "reloaded", "asked", "watched", "logged", "named", "hostile", "flood", "poor", "files")
+PARTS = ("words", "wrong", "heads", "whole", "numbered", "ported", "killed", "reloaded", "asked", "calls", "watched", "logged", "named", "limited", "hostile", "flood", "poor", "files")
 LINKS = range(1, 21)
 KILLS = 20
 SLOW = 40
 WATCHED = 100
+# How many CIDs of a link that only got NoContext are kept.
+UNKNOWN = 64
 FLOOD = 200_000
 
 # What is no good request, and the status of its answer; 0 if the connection ends without one.
@@ -70,6 +77,7 @@ TEXTS = {
 def check_words(trial: Trial) -> None:
     """Words, statuses, and what is wrong with a gateway file."""
     program = trial.top / PROGRAM
+    completion.check_made(trial, program)
     version = (trial.top / "VERSION").read_text().strip()
     for words, status, text in (
         (("--version",), 0, version),
@@ -98,8 +106,18 @@ def check_wrong(trial: Trial) -> None:
     gateway_wrong.check(trial)
 
 
+def check_limited(trial: Trial) -> None:
+    """Limits of new contexts and of feedback."""
+    gateway_limits.check(trial)
+
+
+def check_calls(trial: Trial) -> None:
+    """What is shown of calls."""
+    gateway_calls.check(trial)
+
+
 # What is shown at both sockets, and only at the control socket.
-SHOWN, KEPT = ("/ready", "/metrics"), ("/status", "/contexts?link=1", "/calls?link=1", "/contexts?link=999", "/nothing", "/stop")
+SHOWN, KEPT = ("/ready", "/metrics"), ("/status", "/contexts?link=1", "/calls", "/calls?link=1", "/calls?as=text", "/state", "/top", "/contexts?link=999", "/nothing", "/stop")
 
 
 def check_heads(trial: Trial) -> None:
@@ -129,7 +147,8 @@ def check_heads(trial: Trial) -> None:
                 told = gateway.at_metrics(method, path)
                 trial.demand(told.status in (404, 405), f"{method} {path} at the metrics port: {told}")
         told = gateway.ask("GET", "/status")
-        trial.demand((told.json["contexts"], told.json["saved"]) == (1, 0), f"asked at the metrics port: {told}")
+        never = (told.json["contexts"], told.json["saved"], told.json["saved_text"])
+        trial.demand(never == (1, 0, None), f"asked at the metrics port: {told}")
 
 
 def counted(lines: list[list[str]], arrivals: list[Arrival]) -> Counter[tuple[str, str]]:
@@ -190,14 +209,16 @@ class Counted:
 
     since: int
     delivered: int = 0
+    repaired: int = 0
     lost: int = 0
     late: int = 0
     newest: int | None = None
     refused: Counter[str] = field(default_factory=Counter)
 
-    def see(self, packet: bytes) -> None:
+    def see(self, packet: bytes, is_repaired: bool) -> None:
         """A delivered packet. One of profile 0x0001 has an SN behind the headers of IPv4 and UDP."""
         self.delivered += 1
+        self.repaired += is_repaired
         if len(packet) < 40:
             return
         sn = int.from_bytes(packet[30:32], "big")
@@ -212,14 +233,22 @@ class Counted:
 
     def row(self) -> dict[str, object]:
         """As GET /calls shows it."""
-        counts = {"since": self.since, "delivered": self.delivered, "lost": self.lost, "late": self.late}
+        counts = {name: getattr(self, name) for name in ("since", "delivered", "repaired", "lost", "late")}
         return {**counts, "refused": dict(self.refused)}
 
 
-def by_call(lines: list[list[str]], arrivals: list[Arrival]) -> dict[tuple[int, int], Counted]:
+def repaired_in(trial: Trial, links: Path, arrivals: list[Arrival]) -> set[int]:
+    """The numbers of the arrivals that are delivered by the second or the third try, by the model."""
+    script = "".join(f"{arrival.line()}\n" for arrival in arrivals)
+    ended = trial.ran(sys.executable, "-B", trial.top / "tools/model", "repaired", "--links", links, given=trial.write("repaired.script", script))
+    trial.demand(ended.is_good, f"model: {ended.all}", ended.call)
+    return {int(number) for number in ended.text.split()}
+
+
+def by_call(lines: list[list[str]], arrivals: list[Arrival], repaired: set[int]) -> dict[tuple[int, int], Counted]:
     """The counts of each call whose context stands at the end, by one replay: a reset removes those of its link."""
     found: dict[tuple[int, int], Counted] = {}
-    for arrival, answers in zip(arrivals, lines, strict=True):
+    for number, (arrival, answers) in enumerate(zip(arrivals, lines, strict=True), 1):
         if arrival.octets is None:
             found = {key: counts for key, counts in found.items() if key[0] != arrival.link}
             continue
@@ -228,7 +257,7 @@ def by_call(lines: list[list[str]], arrivals: list[Arrival]) -> dict[tuple[int, 
             if words[2] in ("ip", "stored"):
                 found.setdefault(key, Counted(arrival.moment))
             if words[2] == "ip":
-                found[key].see(bytes.fromhex(words[3]))
+                found[key].see(bytes.fromhex(words[3]), number in repaired)
             if words[2] == "refused" and key in found:
                 found[key].refused[words[3]] += 1
     return found
@@ -236,23 +265,51 @@ def by_call(lines: list[list[str]], arrivals: list[Arrival]) -> dict[tuple[int, 
 
 def check_by_call(trial: Trial, gateway: Gateway, wanted: dict[tuple[int, int], Counted]) -> None:
     """GET /calls shows the counts of each call."""
-    rows = [row for link in LINKS for row in gateway.ask("GET", f"/calls?link={link}").rows]
+    rows = [row for link in LINKS for row in gateway.ask("GET", f"/calls?link={link}").rows if row["state"]]
     found = {(row["link"], row["cid"]): {key: row.get(key) for key in wanted[1, 0].row()} for row in rows}
     differ = {key: (found.get(key), counts.row()) for key, counts in wanted.items() if found.get(key) != counts.row()}
     trial.demand(not differ and len(found) == len(wanted), f"calls: counts differ: {list(differ.items())[:3]}")
-    lost, late = (sum(getattr(counts, name) for counts in wanted.values()) for name in ("lost", "late"))
-    trial.say(f"calls: the counts of {len(wanted)} calls, of which {lost} packets are lost and {late} late, as by one replay")
+    repaired, lost, late = (sum(getattr(counts, name) for counts in wanted.values()) for name in ("repaired", "lost", "late"))
+    told = f"{repaired} packets are repaired, {lost} lost and {late} late"
+    trial.demand(repaired > 0, f"calls: {told}")
+    trial.say(f"calls: the counts of {len(wanted)} calls, of which {told}, as by one replay and the model")
+
+
+def unknown_cids(lines: list[list[str]], arrivals: list[Arrival]) -> dict[int, list[tuple[int, int]]]:
+    """The CIDs of each link that only got NoContext, the newest last, with their packets, by one replay."""
+    found: dict[int, dict[int, int]] = {link: {} for link in LINKS}
+    for arrival, answers in zip(arrivals, lines, strict=True):
+        for words in (line.split(" ") for line in answers if arrival.octets is not None and arrival.link in found):
+            own = found[arrival.link]
+            if words[2] in ("ip", "stored"):
+                own.pop(int(words[1]), None)
+            if words[2:] == ["refused", "NoContext"]:
+                own[int(words[1])] = own.pop(int(words[1]), 0) + 1
+                if len(own) > UNKNOWN:
+                    del own[next(iter(own))]
+    return {link: list(own.items()) for link, own in found.items()}
+
+
+def check_unknown(trial: Trial, gateway: Gateway, wanted: dict[int, list[tuple[int, int]]]) -> None:
+    """GET /calls shows the CIDs that only got NoContext, behind the calls."""
+    for link in LINKS:
+        rows = gateway.ask("GET", f"/calls?link={link}").rows
+        found = [(row["cid"], row["refused"]["NoContext"]) for row in rows if not row["state"]]
+        trial.demand(found == wanted[link], f"calls: link {link}: without a context {found}; wanted {wanted[link]}")
+        trial.demand(not any(row["state"] for row in rows[len(rows) - len(found) :]), "calls: CIDs without a context between calls")
+    trial.say(f"calls: {sum(map(len, wanted.values()))} CIDs that only got NoContext, as by one replay")
 
 
 def check_page(trial: Trial, gateway: Gateway, wanted: Counter[tuple[str, str]]) -> None:
     """The page has a row for each link and for each refusal, with the counts, and nothing from elsewhere."""
     told = gateway.ask("GET", "/")
     page = told.body.decode()
-    rows = {row[0]: row[1:] for row in re.findall(r'<tr><th scope="row">(\d+)</th>((?:<td>[^<]*</td>)+)</tr>', page)}
+    table = page.partition('<section id="links"')[2].partition("</section>")[0]
+    rows = {row[0]: row[1:] for row in re.findall(r'<tr><th scope="row">(\d+)</th>((?:<td>[^<]*</td>)+)</tr>', table)}
     for link in map(str, LINKS):
         cells = re.findall(r"<td>([^<]*)</td>", rows.get(link, ("",))[0])
         refused = sum(count for (of, name), count in wanted.items() if of == link and name not in ("delivered", "stored", "front"))
-        counts = [int(cell.replace(",", "")) for cell in cells[3:5]]
+        counts = [int(cell.replace(",", "")) for cell in cells[4:6]]
         trial.demand(counts == [wanted[link, "delivered"], refused], f"page: link {link}: {cells}")
     shown = {
         (link, name): int(count.replace(",", ""))
@@ -269,6 +326,17 @@ def check_page(trial: Trial, gateway: Gateway, wanted: Counter[tuple[str, str]])
         trial.demand(ended.status == 0, f"page: tidy: {ended.all}", ended.call)
     else:
         trial.leave_out("tidy is not installed, the page of the gateway was not checked by it")
+    browser.check(trial, page, "the page of the gateway")
+
+
+def check_times(trial: Trial, gateway: Gateway) -> None:
+    """The status has the times of the start and of the last save, which the run before made, as numbers and as texts."""
+    told = gateway.ask("GET", "/status").json
+    for name in ("started", "saved"):
+        seconds = int(str(told[name])) // 1000
+        text = datetime.fromtimestamp(seconds, UTC).strftime("%Y-%m-%dT%H:%M:%SZ")
+        is_now = abs(time.time() - seconds) < WAIT_SECONDS
+        trial.demand(is_now and told[f"{name}_text"] == text, f"status: {name} {told[name]}, {told[f'{name}_text']}")
 
 
 def check_whole(trial: Trial) -> None:
@@ -281,14 +349,57 @@ def check_whole(trial: Trial) -> None:
         check_counts(trial, gateway, counted(wanted, arrivals))
         check_octets(trial, gateway, wanted, arrivals)
         check_page(trial, gateway, counted(wanted, arrivals))
-        check_by_call(trial, gateway, by_call(wanted, arrivals))
+        repaired = repaired_in(trial, gateway.folder / "links.toml", arrivals)
+        check_by_call(trial, gateway, by_call(wanted, arrivals, repaired))
+        check_unknown(trial, gateway, unknown_cids(wanted, arrivals))
         contexts = [gateway.ask("GET", f"/contexts?link={link}").body for link in LINKS]
         trial.demand(any(contexts), "calls: no context is shown")
         trial.demand(gateway.stop() == 0, f"calls: the stop: {gateway.said}")
         gateway.start()
+        check_times(trial, gateway)
         again = [gateway.ask("GET", f"/contexts?link={link}").body for link in LINKS]
         trial.demand(again == contexts, "calls: other contexts after a restart")
         trial.say(f"calls: {len(arrivals)} arrivals as one replay answers, {sum(map(len, contexts))} octets of contexts")
+
+
+def check_numbered(trial: Trial) -> None:
+    """With numbered_feedback all feedback has its link's number first, and packets have none."""
+    arrivals = [one for one in made_arrivals(4_000, 8) if one.octets is not None and one.link in LINKS]
+    folder = trial.scratch / "numbered"
+    with Receivers() as receivers, Gateway(trial, folder, receivers.links(LINKS), is_numbered=True) as gateway:
+        fits = gateway.takes(receivers, arrivals, replayed(trial, folder / "links.toml", arrivals))
+        trial.demand(fits and all(receivers.found.values()), "numbered: the gateway doesn't send what one replay answers")
+
+
+def told_at_ports(trial: Trial, arrivals: list[Arrival], ports: dict[int, int]) -> tuple[object, ...]:
+    """What a gateway sends and counts for arrivals at the ports of their links; without any, at the port of all links."""
+    folder = trial.scratch / f"ported-{len(ports)}"
+    with Receivers() as receivers, Gateway(trial, folder, receivers.links(LINKS), link_ports=ports, is_numbered=True) as gateway:
+        for at in range(0, len(arrivals), BATCH):
+            for arrival in arrivals[at : at + BATCH]:
+                octets = arrival.octets or b""
+                datagram, port = (octets, ports[arrival.link]) if ports else (numbered(arrival.link, octets), gateway.port)
+                gateway.sender.sendto(datagram, (LOOPBACK, port))
+                gateway.count += 1
+            gateway.wait_taken()
+            receivers.take()
+        counts = [one for one in samples(gateway.metrics()) if re.search("_packets_|_refused_|_bytes_|_relayed_|_datagrams_", one[0])]
+        return Counter(receivers.found["deliver"]), Counter(receivers.found["relay"]), counts
+
+
+def timeless_arrivals() -> list[Arrival]:
+    """Packets of profile 0x0000, whose answers don't depend on the time: good ones, refused ones, one behind feedback."""
+    good, damaged, next_one = (bytes.fromhex(octets) for octets in ("fc00b745aa", "fc00b845aa", "45ab"))
+    first, unknown, behind_feedback = first_ir(1), b"\xe5" + next_one, bytes.fromhex("f2e100") + good
+    packets = (b"", good, next_one, first, b"\xe1" + next_one, damaged, unknown, behind_feedback)
+    return [Arrival(link, 0, octets) for _ in range(20) for link in LINKS for octets in packets]
+
+
+def check_ported(trial: Trial) -> None:
+    """A packet at its link's own port is answered and counted as behind its link's number at the port of all links."""
+    arrivals = timeless_arrivals()
+    one, all_alike = (told_at_ports(trial, arrivals, ports) for ports in ({link: free_port() for link in LINKS}, {}))
+    trial.demand(one == all_alike and all(one), f"ported: {one[2]} at the links' own ports, {all_alike[2]} at one port")
 
 
 def check_killed(trial: Trial) -> None:
@@ -359,10 +470,8 @@ def check_asked(trial: Trial) -> None:
         gateway.send(Arrival(1, 5, first))
         trial.demand(receivers.wait({"deliver": 1, "feedback": 1}), "asked: the first packet isn't delivered")
         row = {"link": 1, "cid": 0, "profile": "0x0000", "state": "full", "accepted": 5}
-        counts = {"since": 5, "delivered": 1, "lost": 0, "late": 0, "refused": {}}
-        for word, wanted_row in (("contexts", row), ("calls", row | counts)):
-            told = asked(trial, gateway, word, "--link", "1")
-            trial.demand(told.is_good and json.loads(told.text) == wanted_row, f"rohctl {word}: {told.all}", told.call)
+        told = asked(trial, gateway, "contexts", "--link", "1")
+        trial.demand(told.is_good and json.loads(told.text) == row, f"rohctl contexts: {told.all}", told.call)
         for words, status, wanted in (
             (("reload",), 0, {"added": 0, "changed": 0, "removed": 0, "contexts_gone": 0}),
             (("drain",), 0, {"draining": True}),
@@ -579,12 +688,6 @@ def check_flood(trial: Trial) -> None:
         trial.demand(receivers.found["deliver"] == [b"\x45\xaa", *packets], "flood: the call is answered otherwise")
         beside = "all the while" if running else "for a part of it"
         trial.say(f"flood: {len(packets)} packets of a call answered, {FLOOD} of another link beside them {beside}")
-
-
-def first_ir(cid: int) -> bytes:
-    """An IR of profile 0x0000 for a small CID from 1 on."""
-    front = bytes((0xE0 | cid, 0xFC, 0))
-    return front + bytes([check8(front)]) + b"\x45\xaa"
 
 
 def check_full(trial: Trial) -> None:

@@ -99,6 +99,11 @@ def sends_of(lines: Iterable[str]) -> Iterator[tuple[str, bytes]]:
             yield KIND_OF_WORD[words[2]], bytes.fromhex(words[3].strip("-"))
 
 
+def numbered(link: int, octets: bytes) -> bytes:
+    """Octets behind the number of a link."""
+    return struct.pack(">H", link) + octets
+
+
 def replayed(trial: Trial, links: Path, arrivals: Sequence[Arrival]) -> list[list[str]]:
     """The answer lines of each arrival, by one replay. A bad line behind each marks where its answers end."""
     script = "".join(f"{arrival.line()}\n-\n" for arrival in arrivals)
@@ -166,6 +171,10 @@ class Gateway:
     save_seconds: int = 86_400
     limits: dict[int, int] = field(default_factory=dict)
     environment: dict[str, str] = field(default_factory=dict)
+    # The ports of links that have one of their own.
+    link_ports: dict[int, int] = field(default_factory=dict)
+    # Whether feedback and relayed feedback have the link's number first.
+    is_numbered: bool = False
     # Whether the journal of systemd reads its log.
     is_journal: bool = True
     process: subprocess.Popen[bytes] | None = None
@@ -176,6 +185,8 @@ class Gateway:
         self.write_links(self.links)
         text = f'links = "links.toml"\nport = {self.port}\ntimed_port = {self.timed_port}\nstate = "calls"\n'
         text += f'save_seconds = {self.save_seconds}\ncontrol = "control"\nmetrics_port = {self.metrics_port}\n'
+        text += "numbered_feedback = true\n" if self.is_numbered else ""
+        text += "".join(f"[[link]]\nnumber = {link}\nport = {port}\n" for link, port in self.link_ports.items())
         self.file.write_text(text)
         self.sender = socket.socket(socket.AF_INET, socket.SOCK_DGRAM)
 
@@ -305,7 +316,7 @@ class Gateway:
                 self.send(arrival)
                 for kind, octets in sends_of(lines):
                     due[kind] += 1
-                    all_sends[kind].append(octets)
+                    all_sends[kind].append(numbered(arrival.link, octets) if self.is_numbered and kind != "deliver" else octets)
             if not receivers.wait(due):
                 return False
         return all(receivers.found[kind][before[kind] :] == all_sends[kind] for kind in KINDS)

@@ -47,12 +47,13 @@ GOOD = 'links = "links.toml"\nport = 4000\n'
 PORT = "expected a number from 1 to 65535"
 NUMBER = "expected a number from 0 to 65535"
 NAME = "expected a text of 1 to 64 characters, without control characters"
+LIMIT = "expected a number from 0 to 4294967295 (0 is no limit)"
 READABLE = "expected a links file that this user can read (rohctl links --new writes one)"
 MISSING = "no such file or directory"
 NO_DIRECTORY = "a part of the path is not a directory"
 NO_LINKS_FILE = f"{MISSING}; {READABLE}"
 A_GATEWAY_FILE = "expected a gateway file that this user can read (man rohc-gateway)"
-KEYS = "links, port, timed_port, state, save_seconds, control, metrics_port, log_format, link"
+KEYS = "links, port, timed_port, state, save_seconds, control, metrics_port, log_format, numbered_feedback, link"
 OWN = "expected a path of its own"
 WRITABLE = "expected a path in a directory that this user may write"
 WHOLE = "expected a complete state file of this version (run --fresh starts without it)"
@@ -82,13 +83,30 @@ GATEWAY_FILES: tuple[tuple[bytes | str, tuple[str, ...]], ...] = (
     (GOOD + "control = 5\n", ("FILE:3: control is 5; expected a path in quotes",)),
     (GOOD + 'log_format = "xml"\n', ('FILE:3: log_format is "xml"; expected "text" or "json"',)),
     (GOOD + "log_format = 1\n", ('FILE:3: log_format is 1; expected "text" or "json"',)),
+    (GOOD + "numbered_feedback = 1\n", ("FILE:3: numbered_feedback is 1; expected true or false",)),
     (GOOD + 'log_fromat = "json"\n', ('FILE:3: unknown key "log_fromat"; did you mean log_format?',)),
     (GOOD + "[[link]]\n", (f"FILE:3: link table 1: number is missing; {NUMBER}",)),
     (GOOD + '[[link]]\nnumber = 65536\n', (f"FILE:4: link table 1: number is 65536; {NUMBER}",)),
     (GOOD + '[[link]]\nnumber = 0\n[[ link ]] # two\nname = "a"\nnumber = "1"\n', (f'FILE:7: link table 2: number is "1"; {NUMBER}',)),
     (GOOD + '[[link]]\nnumber = 1\nnam = "a"\n', ('FILE:5: link table 1: unknown key "nam"; did you mean name?',)),
-    (GOOD + "[[link]]\nnumber = 1\ncolour = 1\n", ('FILE:5: link table 1: unknown key "colour"; expected one of number, name',)),
+    (GOOD + "[[link]]\nnumber = 1\ncolour = 1\n", ('FILE:5: link table 1: unknown key "colour"; expected one of number, name, port, new_contexts_per_second, feedback_per_second',)),
+    (GOOD + "[[link]]\nnumber = 1\nport = 0\n", (f"FILE:5: link table 1: port is 0; {PORT}",)),
+    (GOOD + "[[link]]\nnumber = 1\nport = 4000\n", ("FILE:5: link table 1: port is the same as port; expected another port",)),
+    (GOOD + "[[link]]\nnumber = 1\nport = 4001\n[[link]]\nnumber = 2\nport = 4001\n", (
+        "FILE:8: link table 2: port 4001 is already used by link table 1; expected another number",
+    )),
+    ('links = "links.toml"\n[[link]]\nnumber = 1\nport = 4000\n', (
+        f"FILE: port is missing; expected port or timed_port, {PORT.removeprefix('expected ')}",
+    )),
     (GOOD + '[[link]]\nnumber = 1\nname = ""\n', (f'FILE:5: link table 1: name is ""; {NAME}',)),
+    (GOOD + "[[link]]\nnumber = 1\nnew_contexts_per_second = -1\n", (f"FILE:5: link table 1: new_contexts_per_second is -1; {LIMIT}",)),
+    (GOOD + '[[link]]\nnumber = 1\nfeedback_per_second = "9"\n', (f'FILE:5: link table 1: feedback_per_second is "9"; {LIMIT}',)),
+    (GOOD + "[[link]]\nnumber = 1\nfeedback_per_second = 4294967296\n", (
+        f"FILE:5: link table 1: feedback_per_second is 4294967296; {LIMIT}",
+    )),
+    (GOOD + "[[link]]\nnumber = 1\nfedback_per_second = 1\n", (
+        'FILE:5: link table 1: unknown key "fedback_per_second"; did you mean feedback_per_second?',
+    )),
     (GOOD + '[[link]]\nnumber = 1\nname = 7\n', (f"FILE:5: link table 1: name is 7; {NAME}",)),
     (GOOD + '[[link]]\nnumber = 1\nname = "a\\u0007"\n', (f'FILE:5: link table 1: name is "a\\u0007"; {NAME}',)),
     (GOOD + f'[[link]]\nnumber = 1\nname = "{"a" * 65}"\n', (f'FILE:5: link table 1: name is "{"a" * 60}.."; {NAME}',)),
