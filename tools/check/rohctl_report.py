@@ -12,6 +12,7 @@ from dataclasses import dataclass, field
 from html.parser import HTMLParser
 from pathlib import Path
 
+import browser
 import rohctl_explain
 from program import Call, Ended, run
 from trial import Trial
@@ -33,6 +34,8 @@ GOOD_IR, BAD_IR = "fc00b745aa", "fc00b845aa"
 # What one call may take more than another that is ten times shorter, in kilobytes.
 SLACK = 8192
 HOSTILE = b"\x1b[2J\n<script>alert(1)</script>\narrive 1 0 <b>\narrive 1 0 fc00b745aa\narrive 1 20 45ab\n\"'&\xff\xfe\n"
+# A time of a capture: seconds, milliseconds, and a clock with the same milliseconds.
+CLOCK = re.compile(r"(\d+)\.(\d{3}) \(00:0\d:\d\d\.\2\)")
 HOSTILE_NAME = "\"><script>alert('x')</script>&amp;\x1b[31m\u00e9.script"
 
 
@@ -232,10 +235,16 @@ def check_hostile(trial: Trial) -> None:
     trial.demand("<script>alert('x')<_script>" in page.words and "<b>links<" in page.words, "the names aren't shown", ended.call)
     trial.demand("\\x1b[31m\\xc3\\xa9" in page.words, "octets of a name aren't shown as digits", ended.call)
     check_valid(trial, ended)
+    browser.check(trial, ended.text, "the page of rohctl report")
+
+
+def in_millis(text: str) -> str:
+    """A text of a capture with the times of a script: seconds and a clock, of the first day of 1970, as milliseconds."""
+    return CLOCK.sub(lambda time: str(int(time[1] + time[2])), text)
 
 
 def check_capture(trial: Trial) -> None:
-    """A capture of a script gives the page of that script, but for the names and where a packet stands."""
+    """A capture of a script gives the page of that script, but for the names, the times and where a packet stands."""
     capture = trial.scratch / "call.pcap"
     script = trial.write("call.script", "".join(f"arrive 1 {20 * at} {GOOD_IR if at % 7 else BAD_IR}\n" for at in range(30)))
     run(Call((trial.top / PROGRAM, "script", "--back", "--port", "7000", script, capture), b"", {}, trial.top))
@@ -243,7 +252,7 @@ def check_capture(trial: Trial) -> None:
     ended = report(trial, "--links", PLAIN_LINKS, "--port", "7000", capture)
     other = page_in(trial, ended)
     trial.demand(one.rows == other.rows, "a capture has other rows than its script", ended.call)
-    texts = {name: text.replace("frame ", "line ", 1) for name, text in other.texts.items()}
+    texts = {name: in_millis(text.replace("frame ", "line ", 1)) for name, text in other.texts.items()}
     trial.demand(one.texts == texts, "a capture has other texts than its script", ended.call)
     cut = capture.read_bytes()[:-5]
     ended = report(trial, "--links", PLAIN_LINKS, "--port", "7000", given=cut)
