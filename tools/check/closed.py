@@ -26,6 +26,7 @@ from trial import Trial
 # The modules of definitions that the crates above may use: some of their names, or all.
 OPEN: dict[str, tuple[str, ...] | None] = {
     "specs.Step": ("LoneStep", "HasMissed"),
+    "specs.Repaired": ("Repairs",),
     "specs.Record": ("Record", "record_of"),
     "specs.SavedText": ("saved_text",),
     "specs.SavedReading": ("saved_at",),
@@ -37,6 +38,7 @@ OPEN: dict[str, tuple[str, ...] | None] = {
 MUST_BE_CLOSED = {
     "LoneStep": "Step",
     "HasMissed": "Step",
+    "Repairs": "Repaired",
     "record_of": "Record",
     "saved_text": "SavedText",
     "saved_at": "SavedReading",

@@ -119,6 +119,7 @@ CHANGES = (
     ("rohc_context/specs/Step.antt", "unfoldable pub LoneStep :", "abbrev pub LoneStep :"),
     ("rohc_context/specs/Record.antt", "unfoldable pub record_of :", "abbrev pub record_of :"),
     ("rohc_context/specs/Step.antt", "unfoldable pub HasMissed :", "abbrev pub HasMissed :"),
+    ("rohc_context/specs/Repaired.antt", "unfoldable pub Repairs :", "abbrev pub Repairs :"),
 )
 
 ACCEPTED = (

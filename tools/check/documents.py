@@ -42,6 +42,8 @@ from refusals import refusal_names
 from trial import Trial
 
 README_WORDS = 900
+# The longest line of a definition.
+DEFINITION_WIDTH = 110
 # Documents in which each name between back quotes must stand in the sources, except paths and octets.
 NAMING = [f"docs/{name}.md" for name in "PROOFS PROMISES THREATS DEFINITIONS ARCHITECTURE DECISIONS".split()]
 EDITS = ("must-fail*/*.edit", "statements/*.edit")
@@ -330,8 +332,32 @@ def check_tested(top: Path) -> Iterator[str]:
         yield "docs/TESTED.md isn't what bin/check --table writes"
 
 
+def check_definitions(top: Path) -> Iterator[str]:
+    """Finds lines of definitions that are too long to be read aloud. Imports may be longer."""
+    for file in sorted(top.glob("crates/*/specs/**/*.antt")):
+        for number, line in enumerate(file.read_text().splitlines(), 1):
+            if len(line) > DEFINITION_WIDTH and not line.startswith("use "):
+                yield f"{file.relative_to(top)}:{number}: has {len(line)} characters, more than {DEFINITION_WIDTH}"
+
+
+def check_tasks(top: Path) -> Iterator[str]:
+    """Finds commands of rohctl in docs/TASKS.md that don't exist, and options that they don't have."""
+    completed = (top / "completion/rohctl.bash").read_text()
+    options = {name: words.split() for name, words in re.findall(r"^    (\w+)\)\n        options='([^']*)'", completed, re.MULTILINE)}
+    for call in re.findall(r"`rohctl ([^`]*)`", documents(top)["docs/TASKS.md"]):
+        name, *words = call.split()
+        if name not in options:
+            yield f"docs/TASKS.md: there is no rohctl {name}"
+            continue
+        for word in words:
+            if word.startswith("--") and word not in options[name]:
+                yield f"docs/TASKS.md: rohctl {name} has no {word}"
+
+
 CHECKS = (
     check_readme,
+    check_definitions,
+    check_tasks,
     check_speed,
     check_help,
     check_links,

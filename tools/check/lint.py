@@ -10,7 +10,7 @@ from pathlib import Path
 from trial import Trial
 
 FOLDERS = ("bin", "bench", "tools", "python", "examples")
-BASH_FOLDERS = ("bin", "bench", "tools", "tools/fuzz", "tests", ".ci", "completion", "cluster")
+BASH_FOLDERS = ("bin", "bench", "tools", "tools/fuzz", "tests", ".ci", "completion", "cluster", "deploy", "examples/call")
 
 
 def scripts(top: Path) -> Iterator[Path]:

@@ -34,6 +34,7 @@ import proving
 import random_scripts
 import rohctl
 import spreading
+import standby
 from trial import Trial
 
 TOP = Path(__file__).resolve().parent.parent.parent
@@ -150,7 +151,7 @@ CHECKS = (
         "bites",
         TOOLCHAIN,
         bites.check,
-        "at most 60 wrong bodies and wrong definitions are refused for their meaning, and their twins proved",
+        "at most 40 wrong bodies and wrong definitions are refused for their meaning, and their twins proved",
         knows=bodies.is_crate,
     ),
     Check(
@@ -218,7 +219,7 @@ CHECKS = (
         "gateway",
         ON_PROGRAM,
         gateway.check,
-        "rohc-gateway: wrong calls, whole calls, twenty kills, reloads under load, hostile requests, its metrics and units",
+        "rohc-gateway: wrong calls, whole calls, twenty kills, reloads under load, hostile requests, its metrics, page and units",
         knows=gateway.is_part,
     ),
     Check(
@@ -235,6 +236,7 @@ CHECKS = (
         knows=cluster.is_part,
     ),
     Check("call", ON_PROGRAM, call.check, "sipp's calls over ROHC between two namespaces, with a reload, a restart and a kill"),
+    Check("standby", ON_PROGRAM, standby.check, "a standby takes over ten times from a killed gateway, under 1,000 packets per second"),
     Check(
         "packages",
         ON_PROGRAM,
@@ -301,12 +303,13 @@ TESTED = (
     Tested("Refusal", "NoMemory", "gate library poverty"),
     Tested("Command", "replay", "gate program examples lines random limits poverty"),
     Tested("Command", "serve", "gate program launcher"),
-    Tested("Command", "rohctl totals, links, run, trace, diff, plan, script, decompress, report", "gate rohctl"),
+    Tested("Command", "rohctl totals, links, run, trace, diff, plan, script, decompress, report, survey, find", "gate rohctl"),
     Tested("Command", "rohctl explain", "gate rohctl evidence"),
     Tested("Command", "rohctl spread", "gate rohctl spread"),
-    Tested("Command", "rohctl status, stop, save, reload, drain, reset, contexts, calls, watch", "gate gateway"),
+    Tested("Command", "rohctl status, stop, save, reload, drain, top, reset, contexts, calls, watch", "gate gateway"),
     Tested("Command", "rohc-gateway run, check", "gate gateway call"),
     Tested("Command", "bin/rohcd, bin/rohctl, bin/rohc-gateway", "launcher"),
+    Tested("Command", "deploy/standby", "standby"),
     Tested("Command", "bin/lib", "library callers"),
     Tested("Command", "cluster/up, cluster/down", "cluster"),
     Tested("Command", "bin/install, completion", "library install completion"),

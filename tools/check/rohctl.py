@@ -10,13 +10,16 @@ from collections.abc import Sequence
 from pathlib import Path
 
 import rohctl_capture
+import completion
 import rohctl_diff
 import rohctl_explain
+import rohctl_feed
 import rohctl_links
 import rohctl_plan
 import rohctl_report
 import rohctl_run
 import rohctl_spread
+import rohctl_survey
 import rohctl_wrong
 from completion import COMMANDS
 from program import Call, Ended, run
@@ -295,7 +298,7 @@ def check_site(trial: Trial) -> None:
 
 def check_ends(trial: Trial) -> None:
     """The statuses of wrong words and files; help and version."""
-    for words in (("--help",), ("--version",), ("totals", "--help"), ("trace", "--help"), ("links", "--help"), ("diff", "--help"), ("plan", "--help"), ("spread", "--help"), ("explain", "--help"), ("decompress", "--help"), ("report", "--help"),
+    for words in (("--help",), ("--version",), ("totals", "--help"), ("trace", "--help"), ("links", "--help"), ("diff", "--help"), ("plan", "--help"), ("spread", "--help"), ("explain", "--help"), ("decompress", "--help"), ("report", "--help"), ("survey", "--help"), ("find", "--help"),
                   ("status", "--help"), ("reset", "--help")):
         ended = call(trial, *words)
         trial.demand(ended.status == 0 and ended.text != "", f"rohctl {words}: {ended.end()}", ended.call)
@@ -312,7 +315,8 @@ def check_ends(trial: Trial) -> None:
 
 def check(trial: Trial) -> None:
     """All of it, on the program that the gate left."""
+    completion.check_made(trial, trial.top / PROGRAM)
     for part in (check_totals, check_json, check_metrics, check_hostile, check_trace, check_whole, check_colour, check_follow, check_progress, check_site, check_ends,
                  rohctl_explain.check, rohctl_links.check, rohctl_diff.check, rohctl_plan.check, rohctl_spread.check,
-                 rohctl_capture.check, rohctl_report.check, rohctl_run.check, rohctl_wrong.check):
+                 rohctl_capture.check, rohctl_feed.check, rohctl_report.check, rohctl_survey.check, rohctl_run.check, rohctl_wrong.check):
         part(trial)

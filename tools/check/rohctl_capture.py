@@ -6,6 +6,7 @@ import shutil
 import struct
 import subprocess
 from collections.abc import Callable, Iterator, Sequence
+from dataclasses import dataclass
 from pathlib import Path
 
 from program import Call, Ended, run
@@ -132,6 +133,20 @@ def carriers() -> Iterator[tuple[str, int, Callable[[bytes], bytes], tuple[str, 
     yield "padded UDP", ETHERNET, lambda p: ethernet(0x0800, datagram(5000, p) + bytes(9)), ("--port", "5000=1")
 
 
+def framings() -> Iterator[tuple[str, int, Callable[[bytes], bytes], tuple[str, ...]]]:
+    """Ways to carry a packet of link 1 that an option has to name, likewise."""
+    yield "another EtherType", ETHERNET, lambda p: ethernet(0x88B5, p), ("--link", "1", "--ethertype", "0x88b5")
+    yield "the known one too", ETHERNET, lambda p: ethernet(0x22F1, p), ("--link", "1", "--ethertype", "0x88b5")
+    yield "a tag before it", ETHERNET, lambda p: ethernet(0x88B5, p, (7,)), ("--vlan", "7=1", "--ethertype", "34997")
+    yield "it, cooked", COOKED, lambda p: bytes(14) + b"\x88\xb5" + p, ("--link", "1", "--ethertype", "0x88b5")
+    yield "a user link type", 147, lambda p: p, ("--link", "1", "--linktype", "147")
+    yield "IP as ROHC", RAW, lambda p: p, ("--link", "1", "--linktype", "0x65")
+    yield "an offset", ETHERNET, lambda p: ethernet(0x22F1, b"\xab\xcd\xef" + p), ("--link", "1", "--offset", "3")
+    yield "an offset, UDP", RAW, lambda p: datagram(5000, b"\xab" + p), ("--port", "5000=1", "--offset", "0x1")
+    yield "behind a number", RAW, lambda p: datagram(5000, b"\0\x01\xab" + p), ("--port", "5000", "--offset", "1")
+    yield "PDCP", 155, lambda p: b"\x80\x01" + p, ("--link", "1", "--linktype", "155", "--offset", "2")
+
+
 def three_links(trial: Trial) -> Path:
     """A links file with links 1, 2 and 3, since each link that a rule names must be there."""
     head, link = (trial.top / LINKS).read_text().split("[[link]]")
@@ -145,7 +160,7 @@ def check_carriers(trial: Trial) -> None:
     """Each way to carry a packet, in each form of capture."""
     wanted = frames_of(REBUILT)
     links = three_links(trial)
-    for name, link, carry, words in carriers():
+    for name, link, carry, words in (*carriers(), *framings()):
         frames = frames_of([carry(packet) for packet in ROHC])
         for order in "<>":
             good(trial, decompress(trial, pcap(frames, link, order), *words, links=links), wanted, f"{name}, pcap {order}")
@@ -178,7 +193,7 @@ CAPTURE_FAULT = "rohctl: standard input: "
 BEFORE = "; the frames before it were read"
 NO_CAPTURE = f"{CAPTURE_FAULT}not a capture; expected pcap or pcapng"
 NOTHING = "rohctl: standard input: nothing to show: "
-NO_FRAME = f"{NOTHING}no frame matches; the first has link type "
+NO_FRAME = f"{NOTHING}no frame matches; its first frames have "
 
 
 def check_lost(trial: Trial) -> None:
@@ -189,6 +204,10 @@ def check_lost(trial: Trial) -> None:
         trial.same(f"a frame with {name}", f"{counts} {name} 1", ended.said.split("\n")[0], ended.call)
         trial.demand(NO_FRAME in ended.said, f"{name}: {ended.said}", ended.call)
         trial.demand(ended.status == 6 and len(ended.output) == 24, f"{name}: {ended.end()}", ended.call)
+    short = pcap(frames_of([datagram(5000, b"\0\x01\xfc")]), RAW)
+    for words, count in (("1", "refused 1 no rule 0"), ("2", "refused 0 no rule 0 Offset 1")):
+        ended = decompress(trial, short, "--port", "5000", "--offset", words, "--stats")
+        trial.demand(f"{count}\n" in f"{ended.said}\n", f"an offset of {words}: {ended.said}", ended.call)
     cut = pcap(frames_of([ethernet(0x22F1, ROHC[0])]))
     ended = decompress(trial, cut[:36] + struct.pack(">I", 99) + cut[40:], "--link", "1", "--stats")
     trial.demand("no rule 0 NotWhole 1\n" in ended.said, f"a frame that was cut: {ended.said}", ended.call)
@@ -276,8 +295,8 @@ def check_outputs(trial: Trial) -> None:
     trial.same("the file", repr(frames_of(REBUILT)), repr(list(records(packets.read_bytes()))), ended.call)
     element = bytes.fromhex("020000000000" "020000000001" "22f1" "f100")
     trial.same("the feedback", pcap([(moments(1)[0], element)]).hex(), feedback.read_bytes().hex(), ended.call)
-    again = decompress(trial, decompress(trial, pcap(frames), "--link", "1", "--pcapng").output, "--port", "1", "--stats")
-    trial.demand(again.status == 6 and again.said.startswith("frames 3 "), f"pcapng read again: {again.end()}", again.call)
+    again = decompress(trial, decompress(trial, pcap(frames), "--link", "1", "--pcapng").output, "--link", "1")
+    good(trial, again, frames_of(REBUILT), "pcapng read again")
     # An IPv4 packet of 21 octets, as it is: profile 0x0000. Behind it are five octets of padding.
     packet = struct.pack(">BBHHHBBH", 0x45, 0, 21, 1, 0, 64, 17, 0) + bytes((127, 0, 0, 1)) * 2 + b"x"
     padded = frames_of([ethernet(0x22F1, ROHC[0]), ethernet(0x22F1, packet + bytes(5))])
@@ -289,6 +308,104 @@ def check_outputs(trial: Trial) -> None:
         trial.demand(ended.status == 2, f"decompress {words}: {ended.end()}; wanted 2", ended.call)
     ended = decompress(trial, b"", "--link", "1", "nothing")
     trial.demand((ended.status, ended.said) == (4, "rohctl: nothing: cannot read it: no such file or directory"), f"no file: {ended.end()} {ended.said}", ended.call)
+
+
+@dataclass(frozen=True)
+class Shown:
+    """A frame of a pcapng that rohctl wrote: its interface by name and link type, its time, its octets and its comment."""
+
+    interface: tuple[str, int]
+    at: int
+    octets: bytes
+    comment: str
+
+
+def options_in(text: bytes) -> dict[int, bytes]:
+    """The options of a block. Nothing may stand behind their end."""
+    found: dict[int, bytes] = {}
+    while text:
+        code, size = struct.unpack(">HH", text[:4])
+        if code == 0:
+            assert text[4:] == b"", "octets behind the end of the options"
+            return found
+        found[code] = text[4 : 4 + size]
+        assert text[4 + size : 4 + size + -size % 4] == bytes(-size % 4), "padding that isn't zero"
+        text = text[4 + size + -size % 4 :]
+    return found
+
+
+def shown_in(text: bytes) -> Iterator[Shown]:
+    """The frames of a pcapng that rohctl wrote."""
+    interfaces: list[tuple[str, int]] = []
+    while text:
+        kind, size = struct.unpack(">II", text[:8])
+        assert text[size - 4 : size] == text[4:8], "two lengths of a block"
+        body, text = text[8 : size - 4], text[size:]
+        if kind == SECTION:
+            assert body == struct.pack(">IHHq", 0x1A2B3C4D, 1, 0, -1), "another section"
+        elif kind == INTERFACE:
+            options = options_in(body[8:])
+            assert options[9] == b"\x09", "times in another unit"
+            interfaces.append((options[2].decode(), struct.unpack(">H", body[:2])[0]))
+        else:
+            number, high, low, size, whole = struct.unpack(">IIIII", body[:20])
+            assert kind == ENHANCED and size == whole, "another block"
+            comment = options_in(body[20 + size + -size % 4 :]).get(1, b"").decode("ascii")
+            yield Shown(interfaces[number], high << 32 | low, body[20 : 20 + size], comment)
+
+
+# A call with a damaged IR between, and another whose last packet only the third attempt decodes; what is said of each, and
+# what is delivered.
+DAMAGED = "IR, link 1, CID 0: refused Check: the rebuilt header doesn't have the packet's CRC; usual cause: damage, or more losses in a row than the compressor expects (RFC 3095 5.3.2.2)"
+ANNOTATED = (
+    ("fc00b745aa", "IR, link 1, CID 0: delivered", "45aa"),
+    ("f100", "no header, link 1: only padding and feedback", ""),
+    ("fc00b845aa", DAMAGED, ""),
+    ("45ab", "Normal, link 1, CID 0: delivered", "45ab"),
+)
+REPAIRED = (
+    ("fd012b40110a0000010a0000021388138a00000001004000012000000090000001000000a0000980a0ab", "IR, link 1, CID 0: delivered"),
+    ("10ac", "UO-0, link 1, CID 0: delivered"),
+    ("6cad", "UO-0, link 1, CID 0: delivered"),
+    ("20ae", "UO-0, link 1, CID 0: delivered, repaired by the third attempt"),
+)
+
+
+def annotated_by(trial: Trial, given: bytes, *words: str | Path, links: str | Path = LINKS) -> list[Shown]:
+    """What `rohctl decompress --pcapng` writes. It must end well."""
+    ended = decompress(trial, given, "--pcapng", *words, links=links)
+    trial.demand((ended.status, ended.said) == (0, ""), f"annotated: {ended.end()} {ended.said}", ended.call)
+    return list(shown_in(ended.output))
+
+
+def check_annotated(trial: Trial) -> None:
+    """In pcapng each frame stands with what became of it, and behind it the packet that pcap has alone."""
+    links = three_links(trial)
+    for name, link, carry, words in (*carriers(), *framings()):
+        frames = frames_of([carry(packet) for packet in ROHC])
+        shown = annotated_by(trial, pcap(frames, link), *words, links=links)
+        wanted = [pair for frame, packet in zip(frames, frames_of(REBUILT), strict=True) for pair in ((("ROHC", link), *frame), (("IP", RAW), *packet))]
+        trial.same(f"annotated, {name}", repr(wanted), repr([(one.interface, one.at, one.octets) for one in shown]))
+    whole = [ethernet(0x22F1, bytes.fromhex(packet)) for packet, _, _ in ANNOTATED]
+    frames = frames_of([whole[0], ethernet(0x0806, bytes(28)), *whole[1:]])
+    told = [(one.interface[0], one.octets.hex(), one.comment) for one in annotated_by(trial, pcap(frames), "--link", "1")]
+    rows = [row for frame, (_, comment, packet) in zip(whole, ANNOTATED) for row in (("ROHC", frame.hex(), comment), ("IP", packet, "")) if row[1]]
+    trial.same("what is said", "\n".join(map(repr, rows)), "\n".join(map(repr, told)))
+    usual = trial.write("usual.toml", run(Call((trial.top / PROGRAM, "links", "--new"), b"", {}, trial.top)).output)
+    frames = frames_of([ethernet(0x22F1, bytes.fromhex(packet)) for packet, _ in REPAIRED])
+    shown = annotated_by(trial, pcap(frames), "--link", "1", links=usual)
+    trial.same("what is said of a repair", repr([comment for _, comment in REPAIRED]), repr([one.comment for one in shown if one.interface[0] == "ROHC"]))
+    alone = records(decompress(trial, pcap(frames), "--link", "1", links=usual).output)
+    trial.same("the packets of pcap", repr(list(alone)), repr([(one.at, one.octets) for one in shown if one.interface[0] == "IP"]))
+    both = pcapng(frames_of([ethernet(0x22F1, ROHC[0])])) + pcapng(frames_of([b"\x05" + ROHC[1]]), PPP, "<")
+    found = [one.interface for one in annotated_by(trial, both, "--link", "1")]
+    trial.same("two link types", repr([("ROHC", ETHERNET), ("IP", RAW), ("ROHC", PPP), ("IP", RAW)]), repr(found))
+    nothing = decompress(trial, pcap(frames_of([whole[0]])), "--vlan", "7=1", "--pcapng")
+    trial.demand(nothing.status == 6 and not list(shown_in(nothing.output)), f"annotated, no frame: {nothing.end()}", nothing.call)
+    feedback = trial.scratch / "feedback.pcapng"
+    ended = decompress(trial, pcap(frames_of([whole[0]])), "--link", "1", "--pcapng", "--stats", "--feedback", feedback)
+    counts = "frames 1 arrivals 1 delivered 1 feedback 1 relayed 0 refused 0 no rule 0"
+    trial.demand(ended.said == counts and feedback.read_bytes().endswith(b"\xf1\0" + struct.pack(">I", 48)), f"annotated: {ended.said}", ended.call)
 
 
 def arrivals(script: Path) -> list[tuple[int, int, bytes]]:
@@ -353,18 +470,19 @@ def check_many(trial: Trial) -> None:
 
 
 def check_live(trial: Trial) -> None:
-    """What came through a pipe is written before more comes."""
-    words = (trial.top / PROGRAM, "decompress", "--links", LINKS, "--link", "1")
+    """What came through a pipe is written before more comes, in each form."""
     text = pcap(frames_of([ethernet(0x22F1, packet) for packet in ROHC]))
-    wanted = pcap(frames_of(REBUILT), RAW)
-    with subprocess.Popen(words, stdin=subprocess.PIPE, stdout=subprocess.PIPE, cwd=trial.top, bufsize=0) as program:
-        assert program.stdin and program.stdout
-        program.stdin.write(text)
-        seen = b""
-        while len(seen) < len(wanted) and select.select([program.stdout], [], [], 20)[0]:
-            seen += program.stdout.read(len(wanted) - len(seen)) or b""
-        program.stdin.close()
-        trial.same("what a pipe shows while it is open", wanted.hex(), seen.hex(), Call(words, text, {}, trial.top))
+    for form in ((), ("--pcapng",)):
+        words: tuple[str | Path, ...] = (trial.top / PROGRAM, "decompress", "--links", LINKS, "--link", "1", *form)
+        wanted = decompress(trial, text, "--link", "1", *form).output
+        with subprocess.Popen(words, stdin=subprocess.PIPE, stdout=subprocess.PIPE, cwd=trial.top, bufsize=0) as program:
+            assert program.stdin and program.stdout
+            program.stdin.write(text)
+            seen = b""
+            while len(seen) < len(wanted) and select.select([program.stdout], [], [], 20)[0]:
+                seen += program.stdout.read(len(wanted) - len(seen)) or b""
+            program.stdin.close()
+            trial.same(f"what a pipe shows while it is open {form}", wanted.hex(), seen.hex(), Call(words, text, {}, trial.top))
 
 
 def sum_of(head: bytes) -> int:
@@ -449,15 +567,20 @@ def check_tools(trial: Trial) -> None:
     run(Call((mergecap, "-a", "-w", both, other, given), b"", {}, trial.top))
     ended = decompress(trial, b"", "--link", "1", "--stats", both)
     trial.demand(ended.said.startswith("frames 6 arrivals 6 delivered 6"), f"mergecap: {ended.said}", ended.call)
-    for words in ((), ("--pcapng",)):
-        written = trial.scratch / "written"
-        decompress(trial, b"", "--link", "1", *words, given, written)
-        read = run(Call((tshark, "-r", written, "-T", "fields", "-e", "frame.time_epoch", "-e", "frame.len"), b"", {}, trial.top))
-        wanted = "".join(f"{at // 10**9}.{at % 10**9:09d}\t2\n" for at in moments(3))
-        trial.same(f"what tshark reads {words}", wanted, read.text, read.call)
+    written = trial.scratch / "written"
+    decompress(trial, b"", "--link", "1", given, written)
+    read = run(Call((tshark, "-r", written, "-T", "fields", "-e", "frame.time_epoch", "-e", "frame.len"), b"", {}, trial.top))
+    times = [f"{at // 10**9}.{at % 10**9:09d}" for at in moments(3)]
+    trial.same("what tshark reads", "".join(f"{time}\t2\n" for time in times), read.text, read.call)
+    decompress(trial, b"", "--link", "1", "--pcapng", given, written)
+    fields = ("frame.time_epoch", "frame.len", "frame.interface_name", "frame.comment")
+    read = run(Call((tshark, "-r", written, "-T", "fields", *(word for name in fields for word in ("-e", name))), b"", {}, trial.top))
+    rows = [(time, 14 + len(packet), kind) for time, packet, kind in zip(times, ROHC, ("IR", "Normal", "Normal"), strict=True)]
+    wanted = "".join(f"{time}\t{size}\tROHC\t{kind}, link 1, CID 0: delivered\n{time}\t2\tIP\t\n" for time, size, kind in rows)
+    trial.same("what tshark reads of pcapng", wanted, read.text, read.call)
 
 
 def check(trial: Trial) -> None:
     """All of it."""
-    for part in (check_carriers, check_lost, check_cuts, check_changes, check_blocks, check_outputs, check_scripts, check_long, check_many, check_live, check_back, check_sides, check_tools):
+    for part in (check_carriers, check_lost, check_cuts, check_changes, check_blocks, check_outputs, check_annotated, check_scripts, check_long, check_many, check_live, check_back, check_sides, check_tools):
         part(trial)

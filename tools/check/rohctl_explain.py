@@ -107,6 +107,10 @@ ELEMENTS = (
 )
 # A context of profile 0x0000 that has expired as its second packet comes, by the link's idle_ms of 5,000.
 EXPIRED = b"arrive 4 0 fc00b745aa\narrive 4 5000 45aa\n"
+# A time of a capture of the first day of 1970, an arrival, and how many captures are told.
+CLOCK = re.compile(r"(\d+)\.(\d{3}) \(\d\d:\d\d:\d\d\.\2\)")
+ARRIVAL = re.compile(r"arrive \d+ \d{1,7} (?:[0-9a-f]{2})+")
+CAPTURES = 12
 HOSTILE = b"\x1b[2J\narrive 1 0 \x1b[31m\narrive 1 0 fc00b745aa\x07\narrive 1 0 fc00b745aa\n\xff\n"
 
 
@@ -379,8 +383,55 @@ def check_elements(trial: Trial) -> None:
     trial.same("an element that is cut off", f"3 octets, {UNKNOWN}: f42001", "\n".join(re.findall(r"^feedback in the packet: (.*)$", cut.text, re.MULTILINE)), cut.call)
 
 
+def in_lines(text: str) -> str:
+    """What is told of a capture with the words and the times of its script, whose moments are of the first day of 1970."""
+    return CLOCK.sub(lambda time: str(int(time[1] + time[2])), text).replace("frame ", "line ").replace('"frame":', '"line":')
+
+
+def captured(trial: Trial) -> Iterator[tuple[Path, Path, Path]]:
+    """The first scripts of the examples whose lines are all arrivals, their links, and a capture of each."""
+    count = 0
+    for script, links in scripts(trial):
+        lines = script.read_text(encoding="ascii", errors="replace").splitlines()
+        if lines and all(ARRIVAL.fullmatch(line) for line in lines) and count < CAPTURES:
+            count += 1
+            capture = trial.scratch / f"{count}.pcap"
+            run(Call((trial.top / PROGRAM, "script", "--back", "--port", "7000", script, capture), folder=trial.top))
+            yield script, links, capture
+
+
+def check_captures(trial: Trial) -> None:
+    """A capture of a script is told as the script is, whole and in parts, but for the times and where a packet stands."""
+    told = 0
+    for script, links, capture in captured(trial):
+        parts = (((), ()), (("--line", "2"), ("--frame", "2")), (("--lines", "2-4"), ("--frames", "2-4")), (("--call", "1/0"),) * 2, (("--brief",),) * 2, (("--json",),) * 2)
+        for ours, theirs in parts:
+            one = explain(trial, *ours, "--links", links, script)
+            other = explain(trial, *theirs, "--links", links, "--port", "7000", capture)
+            trial.same(f"{script.name}: a capture {theirs}", one.text, in_lines(other.text), other.call)
+            trial.demand(one.status == other.status, f"{script.name}: {other.end()}; wanted {one.status}", other.call)
+            told += other.text.count("\n")
+    trial.demand(told > 1000, f"of captures {told} lines are told")
+    given = explain(trial, "--brief", "--links", links, "--port", "7000", given=capture.read_bytes())
+    trial.same("a capture on standard input", explain(trial, "--brief", "--links", links, script).text, given.text, given.call)
+    cut = explain(trial, "--brief", "--links", links, "--port", "7000", given=capture.read_bytes()[:-1])
+    trial.demand(cut.status == 4 and given.text.startswith(cut.text) and cut.text != "", f"a cut capture: {cut.end()}", cut.call)
+
+
+def check_linked(trial: Trial) -> None:
+    """With --link a word is a packet if it has only digits, and else a file, if there is one."""
+    folder = trial.scratch / "linked"
+    folder.mkdir(exist_ok=True)
+    script = trial.top / "examples/worked/fall-to-no-context.script"
+    words = ("--brief", "--links", trial.top / "examples/worked/links-1.toml", "--link", "1")
+    for name, wanted in (("cafe", "1 1 0 unknown refused NoContext\n"), ("./cafe", ""), ("capture", ""), ("call.script", "")):
+        (folder / name).write_bytes(script.read_bytes())
+        ended = run(Call((trial.top / PROGRAM, "explain", *words, name), b"", {}, folder))
+        trial.same(f"the word {name}", wanted or explain(trial, *words, script).text, ended.text, ended.call)
+
+
 def check(trial: Trial) -> None:
-    """All scripts, a brief telling, one line, one call, given packets, and hostile lines."""
+    """All scripts and captures, a brief telling, one line, one call, given packets, and hostile lines."""
     check_scripts(trial)
     check_expected(trial)
     check_sentences(trial)
@@ -401,6 +452,8 @@ def check(trial: Trial) -> None:
     check_elements(trial)
     check_rebuilt(trial)
     check_changes(trial)
+    check_captures(trial)
+    check_linked(trial)
     for form in ((), ("--json",), ("--brief",)):
         hostile = explain(trial, *form, "--links", LINKS, given=HOSTILE)
         trial.demand(hostile.output.isascii() and b"\x1b" not in hostile.output and b"\x07" not in hostile.output, "an octet of the script is shown", hostile.call)

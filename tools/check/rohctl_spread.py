@@ -38,6 +38,16 @@ table ip polorowan {
     }
 }
 """
+FEEDBACK = """    chain feedback {
+        type nat hook output priority -100;
+        ip daddr 127.0.0.1 udp dport { 6002, 6005 } dnat to 10.0.0.9:5002
+    }
+    chain feedback_source {
+        type nat hook postrouting priority 100;
+        ip daddr 10.0.0.9 udp dport 5002 masquerade
+    }
+}
+"""
 ADDRESSES = "        udp dport 7000 ip daddr set @th,64,16 map {{ 1 : 127.0.0.1, 2 : {address} }}\n"
 
 PORT = "expected a number from 1 to 65535"
@@ -167,6 +177,12 @@ def check(trial: Trial) -> None:
         other = spread(trial, HOSTS.replace('name = "b"', f'name = "b"\naddress = "{address}"'))
         wanted = TABLE.replace(" drop\n", f" drop\n{ADDRESSES.format(address=address)}")
         trial.same(f"the table with the address {address}", wanted, other.text, other.call)
+    told = spread(trial, HOSTS, "--feedback", "10.0.0.9:5002")
+    trial.same("the table with --feedback", TABLE.removesuffix("}\n") + FEEDBACK, told.text, told.call)
+    for given in ("10.0.0.9", "10.0.0.9:0", "10.0.0.9:65536", "10.0.0.256:5002", ":5002", "example.org:5002"):
+        told = spread(trial, HOSTS, "--feedback", given)
+        wanted = f"rohctl: --feedback {given}: expected an IPv4 address and a port, as 10.0.0.1:5002"
+        trial.demand((told.status, told.said) == (2, wanted), f"spread --feedback {given}: {told.end()}", told.call)
     for old, new, wanted in FAULTS:
         told = spread(trial, HOSTS.replace(old, new))
         fits = told.status == 1 and told.text == f"{wanted}\n"

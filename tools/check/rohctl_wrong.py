@@ -35,8 +35,11 @@ NEW_WORD = "expected a number of links, 1 to 256"
 WINDOW_WORD = "expected K/N, with K from 1 to N and N from 1 to 16"
 MISSING = "no such file or directory"
 CARRIAGE = "none of 7 lines is an event; they end with a carriage return (remove it: tr -d '\\r')"
-NO_FRAME = "nothing to show: no frame matches; the first has link type 1"
+ETHER_TYPE = "expected a number from 0x0600 to 0xffff, as 0x88b5, and not that of IPv4 or of a VLAN tag"
+OWN_LINK = "expected the link of the packets that --ethertype or --linktype finds, as --link 1"
+NO_FRAME = "nothing to show: no frame matches; the capture has"
 EXPLAIN = ("explain", "--links", "links.toml")
+FIND = ("find", "--links", "links.toml", "--input", "call.script")
 DECOMPRESS = ("decompress", "--links", "links.toml")
 LINK_1 = ("--link", "1")
 OVER_LINKS = "refusing to overwrite the input links.toml; choose another output"
@@ -49,9 +52,14 @@ BEYOND = "a packet is too long for a capture, or its time too late (try --pcapng
 A_CAPTURE = "it is a capture; expected a script ('rohctl script' converts a capture into one)"
 NO_CAPTURE = "not a capture; expected pcap or pcapng"
 NO_LINK = "; 'rohctl links' lists those it has"
-NEEDS_LINKS = "a script needs --links; without it packets in hexadecimal digits are expected, as fc00b745aa"
-SCRIPT_LINKS = "the links file of a script"
-SINCE_LINKS = "expected the links file, since --link, --line or --call is given"
+NEEDS_LINKS = "a script or a capture needs --links; without it packets in hexadecimal digits are expected, as fc00b745aa"
+SCRIPT_LINKS = "the links file of a script or a capture"
+SINCE_LINKS = "expected the links file, since --link, --line, --frame or --call is given"
+ONLY_ONE = "expected only one of --line, --lines, --frame, --frames and --call"
+OF_A_LINK = "expected a frame that --link, --vlan or --port matches"
+TIME_WORD = "expected milliseconds of a script, seconds of a capture, or a time of day, as 1200, 1700000000.25 or 22:13:20.25"
+TIMELESS = "nothing to show: no packet matches --since and --until; its packets are at"
+ADDRESS_WORD = "expected an IPv4 address, with or without a port, as 10.0.0.1 or 10.0.0.1:5000"
 NO_DIGEST = "not a digest and a path; expected a line as sha256sum writes it"
 BOTH_INPUTS = "expected a file, since the links file is standard input"
 A_GATEWAY = "expected the control socket of the gateway, or --name NAME, or the variable ROHC_CONTROL"
@@ -74,6 +82,7 @@ WRONG: tuple[tuple[tuple[str | bytes, ...], int, str], ...] = (
     (("stop",), 2, f"rohctl: --control is missing; {A_GATEWAY}"),
     (("reset",), 2, f"{ABSENT}--link <NUMBER>"),
     (("watch", "1/0"), 2, f"rohctl: --control is missing; {A_GATEWAY}"),
+    (("top",), 2, f"rohctl: --control is missing; {A_GATEWAY}"),
     (("calls", "--link", "1", "--name", ""), 2, f"rohctl: --name '': {A_NAME}"),
     (("status", "--name", "a/b"), 2, f"rohctl: --name a/b: {A_NAME}"),
     (("status", "--name", ".."), 2, f"rohctl: --name ..: {A_NAME}"),
@@ -172,19 +181,29 @@ WRONG: tuple[tuple[tuple[str | bytes, ...], int, str], ...] = (
     (("diff", "-", "-"), 2, "rohctl: B -: expected a file, since A is standard input"),
     ((*EXPLAIN, "--line", "x", "call.script"), 2, "rohctl: --line x: expected the number of a line, from 1"),
     ((*EXPLAIN, "--line", "0", "call.script"), 2, "rohctl: --line 0: expected the number of a line, from 1"),
-    ((*EXPLAIN, "--line", "1", "--call", "1/0", "call.script"), 2, "error: the argument '--line <N>' cannot be used with '--call <L/C>'"),
+    ((*EXPLAIN, "--lines", "3", "call.script", "--frame", "1"), 2, f"rohctl: --frame 1: {ONLY_ONE}"),
+    ((*EXPLAIN, "--line", "1", "--call", "1/0", "call.script"), 2, f"rohctl: --line 1: {ONLY_ONE}"),
+    ((*EXPLAIN, "--lines", "3-2", "call.script"), 2, "rohctl: --lines 3-2: expected the first and the last line, as 3-7"),
+    ((*EXPLAIN, "--lines", "0-2", "call.script"), 2, "rohctl: --lines 0-2: expected the first and the last line, as 3-7"),
+    ((*EXPLAIN, *LINK_1, "--frame", "1-2", "rohc.pcap"), 2, "rohctl: --frame 1-2: expected the number of a frame, from 1"),
+    ((*EXPLAIN, *LINK_1, "--frames", "x", "rohc.pcap"), 2, "rohctl: --frames x: expected the first and the last frame, as 3-7"),
+    ((*EXPLAIN, *LINK_1, "--line", "1", "rohc.pcap"), 2, "rohctl: --frame or --frames is missing; expected frames, since the input is a capture"),
+    ((*EXPLAIN, "--frame", "1", "call.script"), 2, "rohctl: --line or --lines is missing; expected lines, since the input is a script"),
+    ((*EXPLAIN, *LINK_1, "--line", "1", "45"), 2, "rohctl: INPUT is missing; expected a script or a capture, since lines or frames of it are asked for"),
     ((*EXPLAIN, "--brief", "--json", "call.script"), 2, "error: the argument '--brief' cannot be used with '--json'"),
     ((*EXPLAIN, "nothing"), 4, f"rohctl: nothing: cannot read it: {MISSING}"),
-    (("explain", "--links", "-"), 2, f"rohctl: SCRIPT -: {BOTH_INPUTS}"),
+    (("explain", "--links", "-"), 2, f"rohctl: INPUT -: {BOTH_INPUTS}"),
+    (("explain", "--links", "-", *LINK_1, "-"), 2, f"rohctl: INPUT -: {BOTH_INPUTS}"),
     ((*EXPLAIN, "--call", "7", "call.script"), 2, f"rohctl: --call 7: {CALL_WORD}"),
     ((*EXPLAIN, "--call", "70000/0", "call.script"), 2, f"rohctl: --call 70000/0: {CALL_WORD}"),
     ((*EXPLAIN, "--link", "x", "45"), 2, "rohctl: --link x: expected a number from 0 to 65535"),
-    ((*EXPLAIN, *LINK_1), 2, "rohctl: packet is missing; expected with --link hexadecimal digits, as fc00b745aa"),
+    ((*EXPLAIN, *LINK_1), 6, f"rohctl: standard input: nothing to show: it is empty; {EVENTS}"),
+    ((*EXPLAIN, *LINK_1, "nothing.pcap"), 4, f"rohctl: nothing.pcap: cannot read it: {MISSING}"),
     ((*EXPLAIN, *LINK_1, "fc0"), 2, f"rohctl: the packet has 3 digits; {PACKET}"),
     ((*EXPLAIN, *LINK_1, "hello"), 2, f"rohctl: the packet has 'h'; {PACKET}"),
     ((*EXPLAIN, *LINK_1, "fc", "00", "b"), 2, f"rohctl: the packet has 5 digits; {PACKET}"),
     ((*EXPLAIN, *LINK_1, "fc", "00", "call.script"), 2, f"rohctl: the packet has 'l'; {PACKET}"),
-    ((*EXPLAIN, "fc", "00"), 2, "rohctl: SCRIPT 00: expected one script; packets in hexadecimal digits need --link"),
+    ((*EXPLAIN, "fc", "00"), 2, "rohctl: INPUT 00: expected one script or capture; packets in hexadecimal digits need --link"),
     (("explain",), 2, f"rohctl: --links is missing; expected {SCRIPT_LINKS}, or a packet in hexadecimal digits, as fc00b745aa"),
     (("explain", "-"), 2, f"rohctl: standard input: {NEEDS_LINKS}"),
     (("explain", "call.script"), 2, f"rohctl: call.script: {NEEDS_LINKS}"),
@@ -207,7 +226,19 @@ WRONG: tuple[tuple[tuple[str | bytes, ...], int, str], ...] = (
     ((*EXPLAIN, "--line", "5", "call.script"), 6,
      "rohctl: call.script: nothing to show: line 5 is not an arrival; expected the number of a line such as 'arrive 1 0 fc00b745aa'"),
     ((*EXPLAIN, "links.toml"), 6, f"rohctl: links.toml: nothing to show: none of 15 lines is an event; {EVENTS}"),
-    ((*EXPLAIN, "rohc.pcap"), 6, f"rohctl: rohc.pcap: nothing to show: {A_CAPTURE}"),
+    ((*EXPLAIN, "rohc.pcap"), 2, RULES),
+    ((*EXPLAIN, "--link", "7", "rohc.pcap"), 6, f"rohctl: links.toml: nothing to show: it has no link 7{NO_LINK}"),
+    ((*EXPLAIN, *LINK_1, "--frame", "2", "rohc.pcap"), 6, "rohctl: rohc.pcap: nothing to show: there is no frame 2; the last frame is 1"),
+    ((*EXPLAIN, *LINK_1, "--frame", "2", "mixed.pcap"), 6, f"rohctl: mixed.pcap: nothing to show: frame 2 has no packet of a link; {OF_A_LINK}"),
+    ((*EXPLAIN, *LINK_1, "--frames", "2-3", "mixed.pcap"), 6, f"rohctl: mixed.pcap: nothing to show: frames 2 to 3 have no packet of a link; {OF_A_LINK}"),
+    ((*EXPLAIN, "--lines", "4-5", "call.script"), 6,
+     "rohctl: call.script: nothing to show: lines 4 to 5 are not arrivals; expected the number of a line such as 'arrive 1 0 fc00b745aa'"),
+    ((*EXPLAIN, *LINK_1, "--call", "1/9", "rohc.pcap"), 6,
+     "rohctl: rohc.pcap: nothing to show: no packet of link 1, CID 9; without --call all packets are shown"),
+    ((*EXPLAIN, *LINK_1, "--since", "2", "rohc.pcap"), 6, f"rohctl: rohc.pcap: {TIMELESS} 1.000 (00:00:01.000) to 1.000 (00:00:01.000)"),
+    ((*EXPLAIN, *LINK_1, "arp.pcap"), 6, f"rohctl: arp.pcap: {NO_FRAME} EtherType 0x0806 in 1 frame (pass --ethertype 0x0806 --link LINK if it carries ROHC)"),
+    ((*EXPLAIN, *LINK_1, "none.pcap"), 6, "rohctl: none.pcap: nothing to show: the capture has no frame"),
+    ((*EXPLAIN, *LINK_1, "cut.pcap"), 4, "rohctl: cut.pcap: the capture is cut off in the record at octet 24; the frames before it were read"),
     ((*EXPLAIN, "empty"), 6, f"rohctl: empty: nothing to show: it is empty; {EVENTS}"),
     (EXPLAIN, 6, f"rohctl: standard input: nothing to show: it is empty; {EVENTS}"),
     ((*EXPLAIN, "resets.script"), 6, f"rohctl: resets.script: {NO_ARRIVAL}"),
@@ -224,6 +255,42 @@ WRONG: tuple[tuple[tuple[str | bytes, ...], int, str], ...] = (
     (("report", "--links", "links.toml", "-o", "links.toml", "call.script"), 2, f"rohctl: links.toml: {OVER_LINKS}"),
     (("report", "--links", "links.toml", "-o", "hard", "call.script"), 2, f"rohctl: hard: {OVER_SCRIPT}"),
     (("report", "--links", "links.toml", "-o", "nothing/page", "call.script"), 4, f"rohctl: nothing/page: cannot write to it: {MISSING}"),
+    (("report", "--links", "links.toml", "--call", "1", "call.script"), 2, f"rohctl: --call 1: {CALL_WORD}"),
+    (("report", "--links", "links.toml", "--since", "noon", "call.script"), 2, f"rohctl: --since noon: {TIME_WORD}"),
+    ((*EXPLAIN, "--until", "24:00:00", "call.script"), 2, f"rohctl: --until 24:00:00: {TIME_WORD}"),
+    ((*EXPLAIN, "--since", "1.2345", "call.script"), 2, f"rohctl: --since 1.2345: {TIME_WORD}"),
+    (("explain", "--since", "1", "45"), 2, f"{ABSENT}--links <FILE>"),
+    ((*EXPLAIN, "--since", "81", "call.script"), 6, f"rohctl: call.script: {TIMELESS} 0 to 80"),
+    (("report", "--links", "links.toml", "-o", "new", "--since", "61", "--until", "79", "call.script"), 6, f"rohctl: call.script: {TIMELESS} 0 to 80"),
+    (("survey", "--links", "-", "call.script"), 2, "rohctl: --links -: expected a file, since the survey goes to standard output"),
+    (("survey", "--links", "call.script", "call.script"), 2, f"rohctl: call.script: {OVER_SCRIPT}"),
+    (("survey", "--links", "nothing/new", "call.script"), 4, f"rohctl: nothing/new: cannot write to it: {MISSING}"),
+    (("survey", "nothing"), 4, f"rohctl: nothing: cannot read it: {MISSING}"),
+    (("survey", "empty"), 6, f"rohctl: empty: nothing to show: it is empty; {EVENTS}"),
+    (("survey",), 6, f"rohctl: standard input: nothing to show: it is empty; {EVENTS}"),
+    (("survey", "resets.script"), 6, f"rohctl: resets.script: {NO_ARRIVAL}"),
+    (("survey", "links.toml"), 6, f"rohctl: links.toml: nothing to show: none of 15 lines is an event; {EVENTS}"),
+    (("survey", "--vlan", "5", "rohc.pcap"), 2, f"rohctl: --vlan 5: {VLAN_WORD}"),
+    (("survey", "udp.pcap"), 6, f"rohctl: udp.pcap: {NO_FRAME} UDP to port 5000 in 1 frame (pass --port 5000=LINK if it carries ROHC)"),
+    (("survey", "cut.pcap"), 4, "rohctl: cut.pcap: the capture is cut off in the record at octet 24; the frames before it were read"),
+    (("find", "10.0.0.1"), 2, f"{ABSENT}--links <FILE>"),
+    (("find", "--links", "links.toml"), 2, f"{ABSENT}<ADDRESS>"),
+    ((*FIND, "host"), 2, f"rohctl: ADDRESS host: {ADDRESS_WORD}"),
+    ((*FIND, "10.0.0.1:70000"), 2, f"rohctl: ADDRESS 10.0.0.1:70000: {ADDRESS_WORD}"),
+    ((*FIND, "10.0.0.1", "10.0.0"), 2, f"rohctl: ADDRESS 10.0.0: {ADDRESS_WORD}"),
+    ((*FIND, "10.0.0.1", "10.0.0.2", "call.script"), 2,
+     "rohctl: ADDRESS call.script: expected at most the two ends of a call; --input names the file to search"),
+    (("find", "--links", "links.toml", "10.0.0.1"), 2, "rohctl: --input is missing; expected the script or the capture to search, --state FILE or --control SOCKET"),
+    (("find", "--links", "links.toml", "--control", "nothing", "10.0.0.1"), 4, f"rohctl: nothing: {MISSING}; {RUNNING}"),
+    (("find", "--links", "links.toml", "--name", "a/b", "10.0.0.1"), 2, f"rohctl: --name a/b: {A_NAME}"),
+    (("find", "--links", "links.toml", "--control", "x", "--state", "y", "10.0.0.1"), 2, "error: the argument '--control <SOCKET>' cannot be used with '--state <FILE>'"),
+    (("find", "--links", "links.toml", "--state", "-", "10.0.0.1"), 2, "rohctl: --state -: expected a file, as rohc-gateway writes it"),
+    (("find", "--links", "-", "--input", "-", "10.0.0.1"), 2, f"rohctl: --input -: {BOTH_INPUTS}"),
+    (("find", "--links", "links.toml", "--input", "nothing", "10.0.0.1"), 4, f"rohctl: nothing: cannot read it: {MISSING}"),
+    (("find", "--links", "links.toml", "--input", "rohc.pcap", "10.0.0.1"), 2, RULES),
+    (("find", "--links", "links.toml", "--input", "rohc.pcap", "--link", "9", "10.0.0.1"), 6, f"rohctl: links.toml: nothing to show: it has no link 9{NO_LINK}"),
+    (("find", "--links", "links.toml", "--input", "empty", "10.0.0.1"), 6, f"rohctl: empty: nothing to show: it is empty; {EVENTS}"),
+    ((*FIND, "10.0.0.1"), 6, "rohctl: call.script: nothing to show: no call has these addresses; expected those of its IP packets, as 'rohctl explain' shows them"),
     (("script",), 2, RULES),
     (("script", "--port", "x", "rohc.pcap"), 2, f"rohctl: --port x: {PORT_WORD}"),
     (("script", "--back", "call.script", "new"), 2, "rohctl: --port is missing; expected with --back the port of the datagrams, 0 to 65535"),
@@ -257,6 +324,12 @@ WRONG: tuple[tuple[tuple[str | bytes, ...], int, str], ...] = (
     ((*DECOMPRESS, *LINK_1, "--feedback", "./rohc.pcap", "rohc.pcap", "new"), 2, f"rohctl: ./rohc.pcap: {OVER_CAPTURE}"),
     ((*DECOMPRESS, "--link", "65536"), 2, "rohctl: --link 65536: expected the number of a link, 0 to 65535"),
     ((*DECOMPRESS, "--vlan", "4096=1"), 2, f"rohctl: --vlan 4096=1: {VLAN_WORD}"),
+    ((*DECOMPRESS, *LINK_1, "--ethertype", "0x0800"), 2, f"rohctl: --ethertype 0x0800: {ETHER_TYPE}"),
+    ((*DECOMPRESS, *LINK_1, "--ethertype", "1535"), 2, f"rohctl: --ethertype 1535: {ETHER_TYPE}"),
+    ((*DECOMPRESS, *LINK_1, "--ethertype", "0x"), 2, f"rohctl: --ethertype 0x: {ETHER_TYPE}"),
+    ((*DECOMPRESS, "--port", "5000", "--ethertype", "0x88b5"), 2, f"rohctl: --link or --vlan is missing; {OWN_LINK}"),
+    ((*DECOMPRESS, *LINK_1, "--linktype", "65536"), 2, "rohctl: --linktype 65536: expected the number of a link type, 0 to 65535, as 147"),
+    ((*DECOMPRESS, *LINK_1, "--offset", "two"), 2, "rohctl: --offset two: expected a number of octets, 0 to 65535"),
     (("decompress", "--links", "-", *LINK_1), 2, f"rohctl: IN -: {BOTH_INPUTS}"),
     ((*DECOMPRESS, *LINK_1, "nothing", "new"), 4, f"rohctl: nothing: cannot read it: {MISSING}"),
     ((*DECOMPRESS, *LINK_1, ".", "new"), 4, "rohctl: .: cannot read it: it is a directory"),
@@ -272,14 +345,14 @@ WRONG: tuple[tuple[tuple[str | bytes, ...], int, str], ...] = (
     ((*DECOMPRESS, *LINK_1, "late.pcapng", "new"), 4, f"rohctl: new: cannot write to it: {BEYOND}"),
     ((*DECOMPRESS, *LINK_1, "none.pcap", "new"), 6, "rohctl: none.pcap: nothing to show: the capture has no frame"),
     ((*DECOMPRESS, "--vlan", "6=1", "vlan.pcap", "new"), 6,
-     f"rohctl: vlan.pcap: {NO_FRAME}, EtherType 0x22f1, VLAN 5, ROHC; pass --vlan 5=LINK, or --link LINK"),
+     f"rohctl: vlan.pcap: {NO_FRAME} ROHC under VLAN 5 in 1 frame (pass --vlan 5=LINK, or --link LINK)"),
     ((*DECOMPRESS, *LINK_1, "tcp.pcap", "new"), 6,
-     f"rohctl: tcp.pcap: {NO_FRAME}, EtherType 0x0800, IPv4 without a whole UDP datagram; expected EtherType 0x22f1, or UDP over IPv4 with --port"),
-    ((*DECOMPRESS, "--vlan", "5=1", "rohc.pcap", "new"), 6, f"rohctl: rohc.pcap: {NO_FRAME}, EtherType 0x22f1, ROHC; pass --link LINK"),
+     f"rohctl: tcp.pcap: {NO_FRAME} neither ROHC nor UDP over IPv4 in 1 frame"),
+    ((*DECOMPRESS, "--vlan", "5=1", "rohc.pcap", "new"), 6, f"rohctl: rohc.pcap: {NO_FRAME} ROHC in 1 frame (pass --link LINK)"),
     ((*DECOMPRESS, *LINK_1, "arp.pcap", "new"), 6,
-     f"rohctl: arp.pcap: {NO_FRAME}, EtherType 0x0806, neither ROHC nor IPv4; expected EtherType 0x22f1, or UDP over IPv4 with --port"),
+     f"rohctl: arp.pcap: {NO_FRAME} EtherType 0x0806 in 1 frame (pass --ethertype 0x0806 --link LINK if it carries ROHC)"),
     ((*DECOMPRESS, *LINK_1, "udp.pcap", "new"), 6,
-     f"rohctl: udp.pcap: {NO_FRAME}, EtherType 0x0800, UDP to port 5000; pass --port 5000=LINK if it carries ROHC"),
+     f"rohctl: udp.pcap: {NO_FRAME} UDP to port 5000 in 1 frame (pass --port 5000=LINK if it carries ROHC)"),
 )
 FEWEST = 150
 # How many octets of standard input `report` keeps.
@@ -332,8 +405,9 @@ WAITING = (
     (("totals",), "ANSWERS"),
     (("trace", "--links", "links.toml"), "SCRIPT"),
     (("run", "--links", "links.toml"), "SCRIPT"),
-    (("explain", "--links", "links.toml"), "SCRIPT"),
+    (("explain", "--links", "links.toml"), "INPUT"),
     (("report", "--links", "links.toml"), "INPUT"),
+    (("survey",), "INPUT"),
     (("script", *LINK_1), "IN"),
     ((*DECOMPRESS, *LINK_1), "IN"),
 )
@@ -370,6 +444,7 @@ def prepared(trial: Trial) -> Path:
         ("udp.pcap", capture(DATAGRAM)),
         ("tcp.pcap", capture(DATAGRAM[:23] + b"\x06" + DATAGRAM[24:])),
         ("vlan.pcap", capture(ROHC_FRAME[:12] + bytes.fromhex("81000005") + ROHC_FRAME[12:])),
+        ("mixed.pcap", capture(ROHC_FRAME) + 2 * capture(ARP_FRAME)[len(HEAD) :]),
         ("none.pcap", HEAD),
         ("cut.pcap", capture(ROHC_FRAME)[:-1]),
         ("late.pcapng", pcapng([(2**32 * 10**9, ROHC_FRAME)])),
@@ -494,7 +569,7 @@ def check_reader(trial: Trial, folder: Path) -> None:
     """A reader that goes away ends the program silently; a full device does not."""
     lines = "".join(f"arrive 1 {20 * place} fc00b745aa\n" for place in range(2_000))
     trial.write("wrong/many.script", lines)
-    for words in (("trace", "--links", "links.toml", "many.script"), ("explain", "--links", "links.toml", "many.script"), ("run", "--links", "links.toml", "many.script"), ("report", "--links", "links.toml", "many.script"),
+    for words in (("trace", "--links", "links.toml", "many.script"), ("explain", "--links", "links.toml", "many.script"), ("run", "--links", "links.toml", "many.script"), ("report", "--links", "links.toml", "many.script"), ("survey", "many.script"),
                   ("script", "--back", "--port", "1", "many.script"), ("--help",)):
         shut, out = os.pipe()
         os.close(shut)

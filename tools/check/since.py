@@ -56,6 +56,7 @@ NOTICES = {
     "spread": Notices("deploy examples", "rohc_gateway rohctl"),
     "cluster": Notices("cluster", "rohc_c"),
     "call": Notices("examples/call tools/compressor", "rohc_gateway rohctl"),
+    "standby": Notices("deploy tools/compressor", "rohc_gateway"),
     "packages": Notices("bin/package bin/install bin/wheel library man python completion", "rohctl"),
     "poverty": Notices("tools/refuse_request.c", "rohcd rohctl rohc_gateway"),
     "launcher": Notices("bin tools/check/launcher_tools.py"),

@@ -101,8 +101,8 @@ def nginx(trial: Trial, folder: Path) -> Iterator[subprocess.Popen[bytes]]:
         process.wait(30)
 
 
-def on_one_host(trial: Trial, folder: Path, way: str) -> int:
-    """Four processes in this network. How many arrivals there were."""
+def on_one_host(trial: Trial, folder: Path, way: str) -> str:
+    """Four processes in this network. Says what was tried."""
     subprocess.run(["ip", "link", "set", "lo", "up"], check=True)
     arrivals = some_arrivals()
     with contextlib.ExitStack() as stack:
@@ -123,7 +123,7 @@ def on_one_host(trial: Trial, folder: Path, way: str) -> int:
             stack.enter_context(Gateway(trial, folder / name, links, timed_port=PORT + 1 + place))
         wanted = replayed(trial, folder / "links.toml", arrivals)
         trial.demand(sent(arrivals, wanted, receivers, LOOPBACK), f"spread by {way}: not what one replay answers")
-    return len(arrivals)
+    return f"{len(arrivals)} arrivals over {len(NAMES)} processes as one replay answers"
 
 
 def join(before: Network, places: Sequence[Network]) -> None:
@@ -200,8 +200,8 @@ def dropped(before: Network) -> int:
     return int(found[1]) if found else -1
 
 
-def over_hosts(trial: Trial, folder: Path, way: str) -> int:
-    """Four hosts behind a fifth, with one process each. How many arrivals there were."""
+def over_hosts(trial: Trial, folder: Path, way: str) -> str:
+    """Four hosts behind a fifth, with one process each. Says what was tried."""
     arrivals = some_arrivals()
     with contextlib.ExitStack() as stack:
         before, *places = stack.enter_context(networks.made(1 + len(NAMES)))
@@ -225,13 +225,38 @@ def over_hosts(trial: Trial, folder: Path, way: str) -> int:
         found = dropped(before)
         trial.demand(found == NOBODYS, f"spread by {way}: {found} datagrams of unknown links, {NOBODYS} wanted")
         check_loopback(trial, before, places[0], gateways[0], arrivals)
-    return len(arrivals)
+    return f"{len(arrivals)} arrivals over {len(NAMES)} processes as one replay answers"
 
 
-WAYS: dict[str, tuple[str, Callable[[Trial, Path, str], int]]] = {
+def feedback_elsewhere(trial: Trial, folder: Path, way: str) -> str:
+    """The numbered feedback of all links reaches one port of another host. Says what was tried."""
+    subprocess.run(["ip", "link", "set", "lo", "up"], check=True)
+    arrivals = some_arrivals()
+    with contextlib.ExitStack() as stack:
+        other = stack.enter_context(networks.made(1))[0]
+        Network.here().join("line", address(0, 1) + "/24", other, address(0, 2) + "/24")
+        Network.here().set("ipv4/conf/line/route_localnet", 1)
+        receivers = stack.enter_context(Receivers())
+        links = receivers.links(range(1, LINKS + 1))
+        (folder / "links.toml").write_text(links)
+        text = f'[[process]]\nname = "a"\nport = {PORT + 1}\nlinks = ["1-{LINKS}"]\n'
+        subprocess.run(["nft", "-f", rules(trial, folder, text, "--feedback", f"{address(0, 2)}:{PORT}")], check=True)
+        receivers.sockets["feedback"].close()
+        with other.inside():
+            receivers.sockets["feedback"] = socket.socket(socket.AF_INET, socket.SOCK_DGRAM)
+        receivers.sockets["feedback"].setblocking(False)
+        receivers.sockets["feedback"].bind((address(0, 2), PORT))
+        gateway = stack.enter_context(Gateway(trial, folder / "a", links, timed_port=PORT + 1, is_numbered=True))
+        fits = gateway.takes(receivers, arrivals, replayed(trial, folder / "links.toml", arrivals))
+        trial.demand(fits and bool(receivers.found["feedback"]), f"spread by {way}: not what one replay answers")
+    return f"{len(receivers.found['feedback'])} elements of {LINKS} links, each behind its link's number, at one port"
+
+
+WAYS: dict[str, tuple[str, Callable[[Trial, Path, str], str]]] = {
     "nftables": ("nft", on_one_host),
     "nginx": ("nginx", on_one_host),
     "nftables on four hosts": ("nft", over_hosts),
+    "nftables, feedback": ("nft", feedback_elsewhere),
 }
 
 
@@ -242,10 +267,9 @@ def in_own_network(trial: Trial, way: str, pipe: Connection) -> None:
             trial.leave_out(f"no network of its own can be made here, links were not spread by {way}")
         else:
             own_network[0].enter()
-            folder = trial.scratch / way.replace(" ", "-")
+            folder = trial.scratch / way.replace(",", "").replace(" ", "-")
             folder.mkdir(parents=True)
-            count = WAYS[way][1](trial, folder, way)
-            trial.say(f"spread by {way}: {count} arrivals over {len(NAMES)} processes as one replay answers")
+            trial.say(f"spread by {way}: {WAYS[way][1](trial, folder, way)}")
     pipe.send((trial.lines, trial.rights, trial.wrongs))
 
 
