@@ -26,3 +26,4 @@ pub mod EventCalls
 pub mod OutcomeLemmas
 pub mod ByNumber
 pub mod ArrivedLemmas
+pub mod TrimmedLemmas

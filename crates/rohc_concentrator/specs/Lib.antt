@@ -14,6 +14,7 @@ pub mod Honest
 pub mod Laws
 pub mod Cut
 pub mod Ahead
+pub mod Trimmed
 pub mod Seen
 pub mod Calls
 pub mod Owns

@@ -8,6 +8,7 @@ ghost use Rattle.rohc_concentrator.specs.CallLaws.{SameAnswers, CutCalls, NoTrac
 ghost use Rattle.rohc_concentrator.specs.Sound.{CallsKeepSound};
 ghost use Rattle.rohc_concentrator.specs.LinkCalls.{IsolatedLinks, SameLinks};
 ghost use Rattle.rohc_concentrator.specs.Honest.{DeliversWhatWasSent, AsksOrdinaryAlone, IsHonestEitherWay, HasHonestRun, HasHonestSender};
+ghost use Rattle.rohc_concentrator.specs.Trimmed.{TrimmedIsRead};
 
 /// For good values, an arrival has exactly one answer, and exactly one record after it, or none.
 pub fn one_answer()
@@ -95,8 +96,8 @@ pub fn honest_runs()
 {}
 
 /// Whatever calls change a concentrator one after another, each CID of each link gets the answers that one context alone
-/// would give to its own calls, and each link the answers of that link alone. Calls that are refused because of what others
-/// hold are left out: there is no memory, or there are too many links.
+/// would give to its own calls, and each link the answers of that link alone. Calls that are refused for lack of memory, or
+/// since there are too many links, are left out: what others hold decides that.
 pub fn isolated_calls()
     ensures cids { IsolatedCalls }
     ensures links { IsolatedLinks }
@@ -123,4 +124,10 @@ pub fn no_trace_of_calls()
 /// Calls keep a concentrator sound: its settings are in order, and so are the CIDs of each link.
 pub fn calls_keep_sound()
     ensures { CallsKeepSound }
+{}
+
+/// A trimmed packet has the feedback elements and the header of the packet, and bears the same CID. So isolation speaks of a run
+/// of trimmed packets, each of which its own context alone trims.
+pub fn trimmed_is_read()
+    ensures { TrimmedIsRead }
 {}

@@ -17,6 +17,7 @@ pub mod setting;
 pub mod setup;
 pub mod sink;
 mod standing;
+mod trimming;
 
 pub use answer::{Answer, NoLink};
 pub use concentrator::Concentrator;

@@ -23,6 +23,7 @@ pub mod Outcomes
 pub mod Renewal
 pub mod Refresh
 pub mod Update
+pub mod Excess
 pub mod View
 pub mod Lent
 pub mod Step

@@ -36,7 +36,7 @@ pub(crate) fn plain_refusal(forward: &Forward<'_>) -> ChainRefusal
 
 /// RTP's X and the stride, which stay if an IR-DYN doesn't give them: those of the reference, or `false`
 /// and none without a reference.
-fn kept(reference: Option<Reference>) -> (bool, Option<u32>)
+pub(crate) fn kept(reference: Option<Reference>) -> (bool, Option<u32>)
     ensures { result ≡ kept_by (option_map reference_of reference) }
 {
     match reference {

@@ -5,6 +5,7 @@
 
 pub mod context_fault;
 mod due;
+pub mod excess;
 mod explain;
 mod failures;
 mod fault;
@@ -31,6 +32,7 @@ pub mod view;
 pub mod window;
 
 pub use context_fault::ContextFault;
+pub use excess::first_excess;
 pub use record::Context;
 pub use refusal::Refusal;
 pub use reply::{Delivered, Outcome, Reply};
