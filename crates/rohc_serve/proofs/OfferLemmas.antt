@@ -1,13 +1,15 @@
 -- What is offered one after the other.
 use Rattle.std.proofs.Common.{◌≡◌, ℕ, ◌+◌, ◌<◌, ◌^◌, List, [], ◌∷◌, ◌++◌, Bool, true, false, not, cond, map, append_assoc, append-nil, refl, sym, ◌∙◌, ap, subst, arith}
 use Rattle.std.specs.Prelude.{Option, Some, None}
+use Rattle.std.specs.List.{flat_map, sum_by}
 use Rattle.std.proofs.lemmas.List.{map-append}
+use Rattle.std.proofs.lemmas.Grind.{flat_map-append}
 use Rattle.std.proofs.lemmas.List.Sums.{sum_by-append}
 use Rattle.rohc_links.specs.Limits.{counted}
 use Rattle.rohc_serve.specs.Acts.{Attempt, Act, Sent, AddsActs}
 use Rattle.rohc_links.specs.declared.ports.Ports.{Ports}
 use Rattle.rohc_serve.specs.Outgoing.{Outgoing}
-use Rattle.rohc_serve.specs.Sending.{Send, send, packet_sends, feedback_sends, too_long, sends_in, unsent, OffersSends, offered, failures}
+use Rattle.rohc_serve.specs.Sending.{Send, send, packet_sends, too_long, element_sends, unsent_element, feedback_sends, unsent_feedback, sends_in, unsent, OffersSends, offered, failures}
 use Rattle.rohc_serve.specs.Tally.{one_if}
 
 -- nothing was asked
@@ -65,44 +67,54 @@ offers_more a b m n before mid after x y z ha hb total = record {
   failed_sends = omega (arith, total, ha.failed_sends, hb.failed_sends, failures_append ha.attempts hb.attempts);
 }
 
-offers_lost : (sends : List Send) (m n : ℕ) (before after : Option (List Act)) (x : ℕ) → m ≡ n →
-    OffersSends sends m before after x → OffersSends sends n before after x
-offers_lost sends m n before after x e h = subst (λ (k : ℕ). OffersSends sends k before after x) e h
+-- the sends of elements, and of one behind them
+sends_more : (number : Option ℕ) (port : ℕ) (done : List (List ℕ)) (octets : List ℕ) →
+    flat_map (element_sends number port) (done ++ octets ∷ []) ≡ flat_map (element_sends number port) done ++ element_sends number port octets
+sends_more number port done octets =
+    flat_map-append (element_sends number port) done (octets ∷ [])
+    ∙ ap (λ (l : List Send). flat_map (element_sends number port) done ++ l) (append-nil (element_sends number port octets))
+
+unsent_more : (number : Option ℕ) (done : List (List ℕ)) (octets : List ℕ) →
+    sum_by (unsent_element number) (done ++ octets ∷ []) ≡ sum_by (unsent_element number) done + unsent_element number octets
+unsent_more number done octets = omega (arith, sum_by-append (unsent_element number) done (octets ∷ []))
 
 -- Relayed data is offered for a port, and this is what is left.
-pub record OffersFront (port : ℕ) (all left : List (List ℕ)) (before after : Option (List Act)) (failed : ℕ) : Type 0 where
+pub record OffersFront (number : Option ℕ) (port : ℕ) (all left : List (List ℕ)) (before after : Option (List Act)) (failed : ℕ) : Type 0 where
   pub done : List (List ℕ)
   pub whole : done ++ left ≡ all
-  pub offers : OffersSends (map (send port) done) 0 before after failed
+  pub offers : OffersSends (flat_map (element_sends number port) done) (sum_by (unsent_element number) done) before after failed
 
 -- nothing is offered yet
-pub front_none : (port : ℕ) (all : List (List ℕ)) (acts : Option (List Act)) → OffersFront port all all acts acts 0
-front_none port all acts = record { done = []; whole = refl; offers = offers_none 0 acts (omega arith) }
+pub front_none : (number : Option ℕ) (port : ℕ) (all : List (List ℕ)) (acts : Option (List Act)) → OffersFront number port all all acts acts 0
+front_none number port all acts = record { done = []; whole = refl; offers = offers_none 0 acts (omega arith) }
 
 -- the next data is offered
-pub front_more : (port : ℕ) (all left rest : List (List ℕ)) (octets : List ℕ) (gone : Bool) (before mid after : Option (List Act)) (x y : ℕ) →
-    OffersFront port all left before mid x → left ≡ octets ∷ rest →
-    AddsActs mid after (Sent (record { port = port; octets = octets; gone = gone }) ∷ []) → y ≡ counted x (one_if (not gone)) →
-    OffersFront port all rest before after y
-front_more port all left rest octets gone before mid after x y h cut told total = record {
+pub front_more : (number : Option ℕ) (port : ℕ) (all left rest : List (List ℕ)) (octets : List ℕ) (before mid after : Option (List Act)) (x y z : ℕ) →
+    OffersFront number port all left before mid x → left ≡ octets ∷ rest →
+    OffersSends (element_sends number port octets) (unsent_element number octets) mid after y → z ≡ counted x y →
+    OffersFront number port all rest before after z
+front_more number port all left rest octets before mid after x y z h cut offers total = record {
   done = h.done ++ octets ∷ [];
   whole = append_assoc h.done (octets ∷ []) rest ∙ ap (λ (l : List (List ℕ)). h.done ++ l) (sym cut) ∙ h.whole;
-  offers = rw map-append (offers_more _ _ 0 0 before mid after x _ y h.offers (offers_one port octets gone mid after (counted 0 (one_if (not gone))) told refl) (omega (arith, total)));
+  offers = rw (sends_more number port h.done octets, unsent_more number h.done octets)
+      (offers_more _ _ (sum_by (unsent_element number) h.done) (unsent_element number octets) before mid after x y z h.offers offers total);
 }
 
 -- all is offered
-pub front_all : (port : ℕ) (all left : List (List ℕ)) (before after : Option (List Act)) (x : ℕ) →
-    OffersFront port all left before after x → left ≡ [] → OffersSends (map (send port) all) 0 before after x
-front_all port all left before after x h none =
-    subst (λ (l : List (List ℕ)). OffersSends (map (send port) l) 0 before after x)
+pub front_all : (number : Option ℕ) (port : ℕ) (all left : List (List ℕ)) (before after : Option (List Act)) (x : ℕ) →
+    OffersFront number port all left before after x → left ≡ [] →
+    OffersSends (flat_map (element_sends number port) all) (sum_by (unsent_element number) all) before after x
+front_all number port all left before after x h none =
+    subst (λ (l : List (List ℕ)). OffersSends (flat_map (element_sends number port) l) (sum_by (unsent_element number) l) before after x)
     (sym (append-nil h.done) ∙ ap (λ (l : List (List ℕ)). h.done ++ l) (sym none) ∙ h.whole) h.offers
 
 -- the three kinds of sends for a datagram, one behind the other
-pub offers_all : (outgoing : Outgoing) (ports : Ports) (first second third fourth : Option (List Act)) (x y z w v : ℕ) →
-    outgoing.ports ≡ Some ports → OffersSends (map (send ports.relay) outgoing.relayed) 0 first second x →
+pub offers_all : (number : Option ℕ) (outgoing : Outgoing) (ports : Ports) (first second third fourth : Option (List Act)) (x y z w v : ℕ) →
+    outgoing.ports ≡ Some ports →
+    OffersSends (flat_map (element_sends number ports.relay) outgoing.relayed) (sum_by (unsent_element number) outgoing.relayed) first second x →
     OffersSends (packet_sends ports.deliver outgoing.packet) (too_long outgoing.packet) second third y →
-    OffersSends (feedback_sends ports.feedback outgoing.feedback) 0 third fourth z →
-    w ≡ counted x y → v ≡ counted w z → OffersSends (sends_in outgoing) (unsent outgoing) first fourth v
-offers_all outgoing ports first second third fourth x y z w v known a b c one all =
-    let two = offers_more _ _ 0 (too_long outgoing.packet) first second third x y w a b one in
-    rw known (offers_lost _ (0 + too_long outgoing.packet + 0) _ _ _ _ (omega arith) (offers_more _ _ (0 + too_long outgoing.packet) 0 first third fourth w z v two c all))
+    OffersSends (feedback_sends number ports.feedback outgoing.feedback) (unsent_feedback number outgoing.feedback) third fourth z →
+    w ≡ counted x y → v ≡ counted w z → OffersSends (sends_in number outgoing) (unsent number outgoing) first fourth v
+offers_all number outgoing ports first second third fourth x y z w v known a b c one all =
+    let two = offers_more _ _ (sum_by (unsent_element number) outgoing.relayed) (too_long outgoing.packet) first second third x y w a b one in
+    rw known (offers_more _ _ _ (unsent_feedback number outgoing.feedback) first third fourth w z v two c all)

@@ -1,6 +1,6 @@
 -- Turns, one after the other.
 use Rattle.std.proofs.Common.{◌≡◌, ℕ, ◌+◌, List, [], ◌∷◌, ◌++◌, refl, ◌∙◌, ap, subst, arith, length-append, append-nil}
-use Rattle.std.specs.Prelude.{Option, Some}
+use Rattle.std.specs.Prelude.{Option, Some, None}
 use Rattle.std.specs.List.{flat_map, sum_by}
 use Rattle.std.proofs.lemmas.List.Sums.{sum_by-append}
 use Rattle.std.proofs.lemmas.Grind.{flat_map-append}
@@ -27,13 +27,13 @@ added_failures t outgoing lost some failed e =
 pub one_turn : (links : Lists) (old new : Concentrator) (moment : ℕ) (octets : List ℕ) (outgoing : Outgoing)
     (before mid after : Option (List Act)) (t next : ServeTally) (failed : ℕ) →
     Answers links old moment octets outgoing new → AddsActs before mid (Received (Some (moment, octets)) ∷ []) →
-    OffersSends (sends_in outgoing) (unsent outgoing) mid after failed → next ≡ added t (counts_of outgoing failed) →
+    OffersSends (sends_in None outgoing) (unsent None outgoing) mid after failed → next ≡ added t (counts_of outgoing failed) →
     TakesOne links (service old new before after) t next
 one_turn links old new moment octets outgoing before mid after t next failed answers got offers tally = record {
   turn = Answered moment octets outgoing offers.attempts;
   taken = (answers, offers.in_order);
   acts = adds_more before mid after _ _ got offers.acts;
-  tally = tally ∙ added_failures t outgoing (unsent outgoing) (failures offers.attempts) failed offers.failed_sends;
+  tally = tally ∙ added_failures t outgoing (unsent None outgoing) (failures offers.attempts) failed offers.failed_sends;
 }
 
 -- turns, and one behind them

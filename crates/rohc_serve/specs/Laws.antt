@@ -1,5 +1,6 @@
--- A server's turns as calls of its concentrator. Words: IsCall, AreCalls; ServedRuns, ServedIsRun.
-use Rattle.std.specs.Prelude.{◌≡◌, ℕ, List, [], ◌∷◌, ◌++◌, Option, Some, None}
+-- Laws of a server: its turns are calls of its concentrator, and numbered elements name their link.
+-- Words: IsCall, AreCalls; ServedRuns, ServedIsRun; NumberedNamesLink.
+use Rattle.std.specs.Prelude.{◌≡◌, ◌<◌, ◌^◌, ℕ, List, [], ◌∷◌, ◌++◌, Option, Some, None}
 use Rattle.rohc_concentrator.specs.declared.concentrator.Concentrator.{Concentrator}
 use Rattle.rohc_concentrator.specs.Report.{Report}
 use Rattle.rohc_concentrator.specs.Calls.{Arrive, Reported}
@@ -7,6 +8,7 @@ use Rattle.rohc_concentrator.specs.RunsCall.{Turn, Runs}
 use Rattle.rohc_concentrator.specs.OwnCalls.{IsIsolated}
 use Rattle.rohc_links.specs.Links.{Lists}
 use Rattle.rohc_serve.specs.Datagram.{named_link, datagram_packet}
+use Rattle.rohc_serve.specs.Sending.{packet_octets, numbered}
 use Rattle.rohc_serve.specs.Turns.{ServeTurn, Missed, Answered, ServesTurns}
 
 -- a datagram that names a link is one call, the arrival of its packet; any other is none
@@ -35,3 +37,10 @@ pub record ServedRuns (old new : Concentrator) (turns : List ServeTurn) : Type 0
 abbrev pub ServedIsRun : Type 0
 ServedIsRun = (links : Lists) (old new : Concentrator) (turns : List ServeTurn) →
     ServesTurns links old turns new → ServedRuns old new turns
+
+-- An element behind the number of its link reads as a datagram of this link, with the element in place of a
+-- packet.
+abbrev pub NumberedNamesLink : Type 0
+NumberedNamesLink = (link : ℕ) (element : List ℕ) → link < 2 ^ 16 →
+    (named_link (packet_octets (numbered link element)) ≡ Some link)
+    × (datagram_packet (packet_octets (numbered link element)) ≡ element)

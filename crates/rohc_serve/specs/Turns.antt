@@ -34,14 +34,14 @@ counts_in Missed = record {
   failed = 1;
 }
 counts_in (Answered moment octets outgoing attempts) =
-    counts_of outgoing (unsent outgoing + failures attempts)
+    counts_of outgoing (unsent None outgoing + failures attempts)
 
 -- One turn. After a failed receive the concentrator is the same. A datagram is answered, and what is to be
 -- sent is offered in its order.
 abbrev pub ServesTurn : Lists → Concentrator → ServeTurn → Concentrator → Type 0
 ServesTurn links old Missed new = new ≡ old
 ServesTurn links old (Answered moment octets outgoing attempts) new =
-    Answers links old moment octets outgoing new × (map offered attempts ≡ sends_in outgoing)
+    Answers links old moment octets outgoing new × (map offered attempts ≡ sends_in None outgoing)
 
 -- the turns, one after the other
 abbrev pub ServesTurns : Lists → Concentrator → List ServeTurn → Concentrator → Type 0
@@ -81,7 +81,7 @@ pub record Serves (links : Lists) (s : Service) (count : ℕ) (t : ServeTally) :
 abbrev pub with_turn : ServeTally → ServeTurn → ServeTally
 with_turn t Missed = record t { failed = counted t.failed 1 }
 with_turn t (Answered moment octets outgoing attempts) =
-    added t (counts_of outgoing (unsent outgoing + failures attempts))
+    added t (counts_of outgoing (unsent None outgoing + failures attempts))
 
 -- one more turn
 pub record TakesOne (links : Lists) (s : Service) (t next : ServeTally) : Type 0 where

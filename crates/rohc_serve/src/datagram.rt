@@ -18,7 +18,7 @@ fn place_of(settings: &[LinkSetting], link: u16) -> Option<usize>
 }
 
 /// The ports of a link, if it is there.
-fn ports_of(links: &Links, link: u16) -> Option<Ports>
+pub fn ports_of(links: &Links, link: u16) -> Option<Ports>
     ensures ports { result ≡ ports_of link links.now }
     ensures absent { IfNone result (entry_of link links.now.settings ≡ None) }
 {
@@ -30,7 +30,7 @@ fn ports_of(links: &Links, link: u16) -> Option<Ports>
 
 /// The link that a datagram names, and the packet after its number; `None` if the datagram has fewer than two
 /// octets.
-fn named_link(octets: &[u8]) -> Option<(u16, &[u8])>
+pub fn named_link(octets: &[u8]) -> Option<(u16, &[u8])>
     ensures named { IfSome result (λ named. (named_link octets.now ≡ Some named.0) × (datagram_packet octets.now ≡ named.1.now)) }
     ensures short { IfNone result (named_link octets.now ≡ None) }
 {
@@ -59,5 +59,5 @@ pub fn answer_datagram<'a>(
     let Some(ports) = ports_of(links, link) else {
         return Sends::refused(None);
     };
-    Sends::answering(ports, concentrator.arrive(link, moment, packet))
+    Sends::answering(Some(ports), concentrator.arrive(link, moment, packet))
 }

@@ -41,7 +41,7 @@ impl<'a> Sends<'a> {
     ghost use Rattle.rohc_serve.specs.Outgoing.{outgoing_of, refused_for, sends_of};
 
     /// What is to be sent for a refused datagram: nothing.
-    pub(crate) fn refused(ports: Option<Ports>) -> Self
+    pub fn refused(ports: Option<Ports>) -> Self
         ensures { outgoing_of result ≡ refused_for ports }
     {
         Sends {
@@ -54,12 +54,12 @@ impl<'a> Sends<'a> {
     }
 
     /// What is to be sent for an answer, to the ports of its link.
-    pub(crate) fn answering(ports: Ports, answer: Answer<'a>) -> Self
-        ensures { outgoing_of result ≡ sends_of (Some ports) (report_of answer.entry) }
+    pub fn answering(ports: Option<Ports>, answer: Answer<'a>) -> Self
+        ensures { outgoing_of result ≡ sends_of ports (report_of answer.entry) }
     {
         match answer {
             Answer::Arrived { reply, relayed, .. } => Sends {
-                ports: Some(ports),
+                ports,
                 relayed,
                 packet: reply.packet,
                 feedback: reply.feedback,
@@ -68,9 +68,9 @@ impl<'a> Sends<'a> {
             Answer::OnlyFront { relayed } => Sends {
                 relayed,
                 refused: false,
-                ..Sends::refused(Some(ports))
+                ..Sends::refused(ports)
             },
-            Answer::Refused(_) => Sends::refused(Some(ports)),
+            Answer::Refused(_) => Sends::refused(ports),
         }
     }
 }

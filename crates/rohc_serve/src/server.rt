@@ -1,16 +1,16 @@
 //! The loop of a server: a concentrator behind a front.
 
-ghost use Rattle.std.specs.Prelude.{◌≡◌, length, IfOk, OnErr};
+ghost use Rattle.std.specs.Prelude.{◌≡◌, IfOk, OnErr};
 ghost use Rattle.rohc_serve.specs.Datagram.{AreSettingsOf};
-ghost use Rattle.rohc_links.specs.Limits.{longest_packet};
 ghost use Rattle.rohc_serve.specs.Turns.{service, Serves, TakesOne};
 
+use crate::buffer::PacketBuffer;
 use crate::datagram::answer_datagram;
 use crate::front::Front;
 use crate::sending::send_all;
 use crate::tally::ServeTally;
 use rohc_concentrator::Concentrator;
-use rohc_links::{LONGEST_PACKET, Links, zeros};
+use rohc_links::{Links, zeros};
 use std::alloc::{AllocError, Global};
 
 /// The longest datagram, in octets: a link's number and a packet.
@@ -36,13 +36,13 @@ pub fn serve<F: Front>(
     ensures poor { OnErr result ((concentrator.new ≡ concentrator.old) × (front.new ≡ front.old)) }
 {
     let mut datagram = zeros(alloc, LONGEST_DATAGRAM)?;
-    let mut packet = zeros(alloc, LONGEST_PACKET)?;
+    let mut buffer = PacketBuffer::new(alloc)?;
     Ok(take_turns(
         concentrator,
         links,
         front,
         datagram.as_mut_slice(),
-        packet.as_mut_slice(),
+        &mut buffer,
         count,
     ))
 }
@@ -53,17 +53,16 @@ fn take_turns<F: Front>(
     links: &Links,
     front: &mut F,
     datagram: &mut [u8],
-    packet: &mut [u8],
+    buffer: &mut PacketBuffer,
     count: u32,
 ) -> ServeTally
-    requires settings { AreSettingsOf concentrator.old links.now.settings }
-    requires room { length packet.old ≡ longest_packet }
+    requires { AreSettingsOf concentrator.old links.now.settings }
     ensures served { Serves links.now (service concentrator.old concentrator.new (F.acts front.old) (F.acts front.new)) count result }
     ensures settings { AreSettingsOf concentrator.new links.now.settings }
 {
     let mut tally = ServeTally::default();
     for _ in 0..count {
-        take_turn(concentrator, links, front, datagram, packet, &mut tally);
+        take_turn(concentrator, links, front, datagram, buffer, &mut tally);
     }
     tally
 }
@@ -74,11 +73,10 @@ fn take_turn<F: Front>(
     links: &Links,
     front: &mut F,
     datagram: &mut [u8],
-    packet: &mut [u8],
+    buffer: &mut PacketBuffer,
     tally: &mut ServeTally,
 )
-    requires settings { AreSettingsOf concentrator.old links.now.settings }
-    requires room { length packet.old ≡ longest_packet }
+    requires { AreSettingsOf concentrator.old links.now.settings }
     ensures turn { TakesOne links.now (service concentrator.old concentrator.new (F.acts front.old) (F.acts front.new)) tally.old tally.new }
     ensures settings { AreSettingsOf concentrator.new links.now.settings }
 {
@@ -87,6 +85,6 @@ fn take_turn<F: Front>(
         return;
     };
     let sends = answer_datagram(concentrator, links, moment, &datagram[..size]);
-    let failed = send_all(front, packet, &sends);
+    let failed = send_all(front, buffer, None, &sends);
     tally.add(&sends, failed);
 }

@@ -1,12 +1,10 @@
 use Rattle.std.proofs.Common.{rules}
-use Rattle.std.proofs.Common.{◌∙◌}
 use Rattle.rohc_serve.proofs.TurnLemmas.{serves_more}
 use Rattle.rohc_serve.proofs.server.take_turns.Goals as goal
 
 pub loop-preserved : goal.loop-preserved
 loop-preserved g c = record {
   settings = c.take_turn.ensures.settings;
-  room = c.take_turn.auto.packet ∙ c.loop.invariant.room;
   served = serves_more _ _ _ _ _ _ _ _ _ _ c.loop.invariant.served c.take_turn.ensures.turn;
 }
 

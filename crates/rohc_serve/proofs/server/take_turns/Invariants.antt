@@ -1,6 +1,4 @@
-use Rattle.std.proofs.Common.{◌≡◌, length}
 use Rattle.rohc_serve.specs.Datagram.{AreSettingsOf}
-use Rattle.rohc_links.specs.Limits.{longest_packet}
 use Rattle.rohc_serve.specs.Turns.{service, Serves}
 use Rattle.rohc_serve.proofs.server.take_turns.Given as goal
 
@@ -8,6 +6,5 @@ use Rattle.rohc_serve.proofs.server.take_turns.Given as goal
 abbrev pub invariant-loop : goal.invariant-loop
 invariant-loop g l = record {
   settings : AreSettingsOf l.concentrator l.links.settings;
-  room : length l.packet ≡ longest_packet;
   served : Serves l.links (service l.initial.concentrator l.concentrator (g.F.Front.acts l.initial.front) (g.F.Front.acts l.front)) l.counter l.tally;
 }
