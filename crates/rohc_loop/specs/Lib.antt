@@ -1,0 +1,5 @@
+pub mod Paths
+pub mod Moments
+pub mod Saving
+pub mod Reading
+pub mod Laws
