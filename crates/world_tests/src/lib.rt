@@ -1,0 +1,9 @@
+//! The tests of saves over a simulated disk, and of dates.
+//!
+//! They stand apart from these crates, so that each of those is proved once, and not again with its tests.
+#![tactic(auto)]
+
+#[cfg(test)]
+mod dates;
+#[cfg(test)]
+mod kills;
