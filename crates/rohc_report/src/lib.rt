@@ -11,6 +11,7 @@ mod drawn;
 mod escape;
 mod lanes;
 pub mod laws;
+mod moment;
 mod page;
 mod picture;
 mod section;

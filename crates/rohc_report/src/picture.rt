@@ -4,6 +4,7 @@ use crate::axis::{CELLS, HIT_WIDTH, hit_of, width_of, x_of};
 use crate::became::Became;
 use crate::drawn::{Cell, Drawn, Told};
 use crate::lanes::Lane;
+use crate::moment::write_moment;
 use rohc_context::ContextState;
 use std::io;
 use std::io::Write;
@@ -89,13 +90,9 @@ fn band_of(became: Became) -> (u32, u32) {
 
 /// Writes what a packet is called: its line, its time, and what became of it.
 pub(crate) fn write_name<W: Write>(out: &mut W, unit: &str, told: &Told) -> io::Result<()> {
-    write!(
-        out,
-        "{unit} {}, {} ms: {}",
-        told.number,
-        told.moment,
-        told.became.name()
-    )?;
+    write!(out, "{unit} {}, ", told.number)?;
+    write_moment(out, unit, told.moment)?;
+    write!(out, ": {}", told.became.name())?;
     match told.became {
         Became::Refused(refusal) => write!(out, " {refusal}"),
         _ => Ok(()),

@@ -4,6 +4,7 @@ use crate::call::CallTotals;
 use crate::drawn::{Drawn, Told};
 use crate::escape::write_escaped;
 use crate::lanes::Lane;
+use crate::moment::write_moment;
 use crate::picture::{write_name, write_picture};
 use crate::table::write_number;
 use crate::worst::CallRow;
@@ -77,16 +78,20 @@ fn write_facts<W: Write>(out: &mut W, unit: &str, totals: &CallTotals) -> io::Re
     writeln!(out, ".</p>")
 }
 
-/// Writes how long a call takes, in seconds.
-fn write_times<W: Write>(out: &mut W, drawn: &Drawn) -> io::Result<()> {
+/// Writes when a call begins and ends, and how long it takes, in seconds.
+fn write_times<W: Write>(out: &mut W, unit: &str, drawn: &Drawn) -> io::Result<()> {
     let (first, last) = (drawn.axis.first, drawn.axis.last);
     let span = last.saturating_sub(first);
-    writeln!(
+    write!(out, "<div class=\"times\"><span>")?;
+    write_moment(out, unit, first)?;
+    write!(
         out,
-        "<div class=\"times\"><span>{first} ms</span><span>{}.{:03} s</span><span>{last} ms</span></div>",
+        "</span><span>{}.{:03} s</span><span>",
         span / 1000,
         span % 1000
-    )
+    )?;
+    write_moment(out, unit, last)?;
+    writeln!(out, "</span></div>")
 }
 
 /// Writes what is told of a packet.
@@ -152,7 +157,7 @@ fn write_body<W: Write>(
     write_facts(out, unit, &row.totals)?;
     write_names(out, row)?;
     write_picture(out, unit, drawn, told)?;
-    write_times(out, drawn)?;
+    write_times(out, unit, drawn)?;
     writeln!(out, "</div>")?;
     write_packets(alloc, out, unit, row, drawn, told)
 }
