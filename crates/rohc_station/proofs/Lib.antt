@@ -1,4 +1,3 @@
-pub mod PlaceLemmas
 pub mod NumberLemmas
 pub mod SameLemmas
 pub mod CallLemmas
@@ -6,5 +5,10 @@ pub mod RemoveLemmas
 pub mod ChangeLemmas
 pub mod AddLemmas
 pub mod ReloadLemmas
+pub mod PreviewLemmas
+pub mod AnsweringLemmas
 pub mod LifeLemmas
 pub mod ShownLemmas
+pub mod HeldLemmas
+pub mod ServiceLemmas
+pub mod MovingLemmas

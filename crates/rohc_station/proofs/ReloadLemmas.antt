@@ -35,7 +35,7 @@ as_many (s ∷ ss) a b (mid, call, rest) = omega (arith, way_length (setting_at 
 
 -- ---- Numbers that are left, and settings that are known
 
-distinct_filter : (p : ℕ → Bool) (xs : List ℕ) → IsDistinct nat_eq xs → IsDistinct nat_eq (filter p xs)
+pub distinct_filter : (p : ℕ → Bool) (xs : List ℕ) → IsDistinct nat_eq xs → IsDistinct nat_eq (filter p xs)
 unfolding IsDistinct
 distinct_filter p [] h = tt
 distinct_filter p (x ∷ xs) h = by (p x) (distinct_filter p xs h.1)
@@ -55,7 +55,7 @@ passes_in p q (x ∷ xs) among = by (p x) (nat_eq q x) refl refl (passes_in p q 
     by false true is here further found = ((further found).0, refl)
     by false false is here further found = further found
 
-or_true : (a b : Bool) → b ≡ true → (a || b) ≡ true
+pub or_true : (a b : Bool) → b ≡ true → (a || b) ≡ true
 or_true true b e = refl
 or_true false b e = e
 
@@ -92,7 +92,7 @@ few_enough numbers file distinct =
       length-filter_both (λ (s : LinkSetting). is_among s.link numbers) (λ (s : LinkSetting). not (is_among s.link numbers)) (λ s. refl) file,
     )
 
-agree_on : {X : Type 0} (p q : X → Bool) (xs : List X) → AllByRecursion (λ (x : X). p x ≡ q x) xs → filter p xs ≡ filter q xs
+pub agree_on : {X : Type 0} (p q : X → Bool) (xs : List X) → AllByRecursion (λ (x : X). p x ≡ q x) xs → filter p xs ≡ filter q xs
 agree_on p q [] same = refl
 agree_on p q (x ∷ xs) same = (λ i. cond (same.0 i) (x ∷ agree_on p q xs same.1 i) (agree_on p q xs same.1 i))
 
@@ -114,11 +114,11 @@ stopped_after a b c xs ys first (calls, (front, behind, split, stops), run) =
 module _ (a b c : Concentrator) (numbers : List ℕ) (file : List LinkSetting) (links : AreLinks a numbers) (fine : AreFine file)
     (removes : Runs a (map removing (removed file numbers)) b) where
   -- a link of the file isn't removed
-  named_stays : (l : ℕ) → names_link l file ≡ true → view_at b l ≡ view_at a l
+  pub named_stays : (l : ℕ) → names_link l file ≡ true → view_at b l ≡ view_at a l
   named_stays l named = others_stay l (map removing (removed file numbers)) a b removes
       (unconcerned removing (λ n. not (names_link n file)) l numbers (all_if (λ (n : ℕ). n ≡ l → not (names_link n file) ≡ false) numbers (λ n e. ap (λ m. not (names_link m file)) e ∙ ap not named)))
 
-  named : AllByRecursion (λ (s : LinkSetting). names_link s.link file ≡ true) file
+  pub named : AllByRecursion (λ (s : LinkSetting). names_link s.link file ≡ true) file
   named = each_of (λ (s : LinkSetting). names_link s.link file ≡ true) file (λ j d within.
       let s : LinkSetting = get_or file j d in list_any_at (λ (t : LinkSetting). t.link == s.link) file j d within (eq-eqb s.link s.link refl))
 
@@ -175,18 +175,21 @@ module _ (a b c : Concentrator) (numbers : List ℕ) (file : List LinkSetting) (
         all_run = runs_append (map removing (removed file numbers)) (map changing (changed a file) ++ map adding (added numbers file)) a b d removes
             (runs_append (map changing (changed a file)) (map adding (added numbers file)) b c d (subst (λ ss. Runs b (map changing ss) c) same_changed changes) adds)
 
+        -- a link that was changed isn't added
+        pub last_stays : (s : LinkSetting) → names_link s.link file ≡ true → differs (setting_at b s.link) s ≡ true → view_at d s.link ≡ view_at c s.link
+        last_stays s is other = others_stay s.link (map adding (added numbers file)) c d adds
+            (unconcerned adding (λ (t : LinkSetting). not (is_among t.link numbers)) s.link file
+            (all_if (λ (t : LinkSetting). t.link ≡ s.link → not (is_among t.link numbers) ≡ false) file (λ t e. ap (λ l. not (is_among l numbers)) e ∙ ap not (known (is_among s.link numbers) refl))))
+          where
+            known : (among : Bool) → is_among s.link numbers ≡ among → is_among s.link numbers ≡ true
+            known true e = e
+            known false e = absurd (let bad : false ≡ true = sym (ap (λ set. differs set s) (ap (λ (v : View). v.setting) (named_stays s.link is) ∙ links.whole s.link e)) ∙ other in cc)
+
         still_gone : (s : LinkSetting) → names_link s.link file ≡ true → differs (setting_at b s.link) s ≡ true → gone_on b c s ≡ gone_on a d s
         still_gone s is other =
             let kept : view_at b s.link ≡ view_at a s.link = named_stays s.link is in
-            let last : view_at d s.link ≡ view_at c s.link = others_stay s.link (map adding (added numbers file)) c d adds
-            (unconcerned adding (λ (t : LinkSetting). not (is_among t.link numbers)) s.link file
-            (all_if (λ (t : LinkSetting). t.link ≡ s.link → not (is_among t.link numbers) ≡ false) file (λ t e. ap (λ l. not (is_among l numbers)) e ∙ ap not (known (is_among s.link numbers) refl kept)))) in
-            let first : view_at c s.link ≡ view_at d s.link = sym last in
+            let first : view_at c s.link ≡ view_at d s.link = sym (last_stays s is other) in
             (λ i. length (kept i).cids - length (first i).cids)
-          where
-            known : (among : Bool) → is_among s.link numbers ≡ among → view_at b s.link ≡ view_at a s.link → is_among s.link numbers ≡ true
-            known true e kept = e
-            known false e kept = absurd (let bad : false ≡ true = sym (ap (λ set. differs set s) (ap (λ (v : View). v.setting) kept ∙ links.whole s.link e)) ∙ other in cc)
 
         same_gone : sum_by (gone_on b c) (changed b file) ≡ sum_by (gone_on a d) (changed a file)
         same_gone =

@@ -17,7 +17,7 @@ use Rattle.rohc_station.specs.Reload.{AreLinks, removed, removing, contexts_on}
 use Rattle.rohc_station.proofs.CallLemmas.{others_stay, unconcerned, earlier, filter_skip, filter_push, filter_short, run_push, counted_push, counted_sum}
 
 -- each of the numbers is of a link that is there
-all_there : (f : ℕ → Option LinkSetting) (xs : List ℕ) (ss : List LinkSetting) → map f xs ≡ map (λ s. Some s) ss → AllByRecursion (λ (x : ℕ). f x ≢ None) xs
+pub all_there : (f : ℕ → Option LinkSetting) (xs : List ℕ) (ss : List LinkSetting) → map f xs ≡ map (λ s. Some s) ss → AllByRecursion (λ (x : ℕ). f x ≢ None) xs
 all_there f [] ss e = tt
 all_there f (x ∷ xs) [] e = absurd (let bad : ◌≡◌ {A = List (Option LinkSetting)} (f x ∷ map f xs) [] = e in cc)
 all_there f (x ∷ xs) (s ∷ ss) e =

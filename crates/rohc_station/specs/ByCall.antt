@@ -1,7 +1,6 @@
 -- What is counted for each call, as long as its context stands. Words: sn_in; order_of, ordered,
 -- with_sn; last_of; HasAnswer; IsBegun; CountsCall, CountsNone, CountsForCall; stands, KeepsStanding.
 use Rattle.std.specs.Prelude.{◌≡◌, ◌≢◌, ℕ, ◌+◌, ◌-◌, ◌*◌, ◌/◌, ◌%◌, ◌^◌, ◌<◌, ◌==◌, length, get_or, min, Bool, true, false, nat_lt, if◌then◌else◌, Option, Some, None, is_some, slice_index}
-use Rattle.indexmap.specs.IndexMap.{get}
 use Rattle.rohc_context.specs.declared.refusal.Refusal.{Refusal}
 use Rattle.rohc_context.specs.declared.reply.Outcome.{Outcome}
 use Rattle.rohc_context.specs.declared.reply.Outcome.TheVariants as outcomes

@@ -1,6 +1,6 @@
 -- What is counted. Words: with_datagram; IsUncounted; rebuilt_octets, with_packet; CountsAnswer;
 -- with_failed_sends; limiter_in, with_limiter; KeepsCounts.
-use Rattle.std.specs.Prelude.{◌≡◌, ℕ, ◌+◌, [], length, Bool, if◌then◌else◌, Option, Some, None, option_map, slice_index}
+use Rattle.std.specs.Prelude.{◌≡◌, ℕ, ◌+◌, [], length, Bool, Option, Some, None, option_map, slice_index}
 use Rattle.rohc_context.specs.Response.{Packet}
 use Rattle.rohc_concentrator.specs.Report.{Report, Arrived, OnlyFront, Refused}
 use Rattle.rohc_concentrator.specs.declared.setting.LinkSetting.{LinkSetting}

@@ -11,6 +11,8 @@ use Rattle.rohc_concentrator.specs.OwnCalls.{calls_to, answers_to, IsIsolated}
 use Rattle.rohc_concentrator.specs.LinkCalls.{calls_on, answers_on, LinkRun}
 use Rattle.rohc_concentrator.specs.Sound.{IsInOrder}
 use Rattle.rohc_links.specs.Links.{Lists}
+use Rattle.rohc_saved.specs.declared.fault.LinkFault.{LinkFault}
+use Rattle.rohc_saved.specs.declared.restored.Restored.{Restored}
 use Rattle.rohc_station.specs.declared.station.Station.{Station}
 use Rattle.rohc_station.specs.declared.reload.ReloadReport.{ReloadReport}
 use Rattle.rohc_station.specs.declared.reload.ReloadFault.{ReloadFault}
@@ -20,6 +22,7 @@ use Rattle.rohc_station.specs.declared.limits.LinkLimits.{LinkLimits}
 use Rattle.rohc_station.specs.Taking.{Takes, TakesKnown, FailsSends, SetsLimits}
 use Rattle.rohc_station.specs.Reload.{Reloads, ReloadStays}
 use Rattle.rohc_station.specs.Reset.{reset_turn, Forgets}
+use Rattle.rohc_station.specs.Importing.{Imports}
 
 -- One call of a station, with what it told. In a second of the gateway's clock a datagram was taken, as it
 -- was read, or was taken while no call is begun; records of a link were forgotten, or that of one CID; the
@@ -31,6 +34,7 @@ pub data StationCall : Type 0 where
   TakeKnown : ℕ → Option TimedPacket → Told → StationCall
   Reset : ℕ → Option ℕ → CallAnswer → StationCall
   Reload : Lists → Result ReloadReport ReloadFault → StationCall
+  Import : ℕ → List ℕ → Result Restored LinkFault → StationCall
   AddFailedSends : Option ℕ → ℕ → StationCall
   SetLimits : ℕ → LinkLimits → StationCall
 
@@ -47,6 +51,7 @@ IsTurn old (Reset link cid answer) calls new =
     Forgets old new link cid answer × (calls ≡ reset_turn link cid answer ∷ [])
 IsTurn old (Reload file (Ok report)) calls new = Reloads old file report calls new
 IsTurn old (Reload file (Err fault)) calls new = ReloadStays old file fault calls new
+IsTurn old (Import link octets result) calls new = Imports old new link octets result calls
 IsTurn old (AddFailedSends link failed) calls new = FailsSends old new link failed × (calls ≡ [])
 IsTurn old (SetLimits link limits) calls new = SetsLimits old new link limits × (calls ≡ [])
 

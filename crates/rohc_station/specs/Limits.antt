@@ -1,6 +1,6 @@
 -- What a link does in a second, and how much it may. Words: one_if; no_limits; second_of, in_second;
 -- is_reached, is_full, is_silent; packets_before; unlimited; with_work, with_turned_away, with_limits.
-use Rattle.std.specs.Prelude.{ℕ, ◌+◌, ◌/◌, ◌==◌, ◌&&◌, not, Bool, nat_lt, nat_le, if◌then◌else◌}
+use Rattle.std.specs.Prelude.{ℕ, ◌+◌, ◌/◌, ◌==◌, ◌&&◌, not, Bool, nat_lt, nat_le, if◌then◌else◌, None}
 use Rattle.rohc_links.specs.Limits.{counted}
 use Rattle.rohc_station.specs.declared.limits.LinkLimits.{LinkLimits}
 use Rattle.rohc_station.specs.declared.limits.Second.{Second}
@@ -10,7 +10,7 @@ abbrev pub one_if : Bool → ℕ
 one_if holds = if holds then 1 else 0
 
 abbrev pub no_limits : LinkLimits
-no_limits = record { new_contexts = 0; feedback = 0 }
+no_limits = record { new_contexts = 0; feedback = 0; payload = None }
 
 -- the second of a moment in milliseconds
 abbrev pub second_of : ℕ → ℕ

@@ -1,7 +1,6 @@
--- What a station does with a datagram. Words: counters_at, limiter_at a link; by_call_at; arrival,
--- TakesPacket; IsRefusedUnread; dated; begins_call; CountsChange; turns_away, TurnsAway; made_on,
--- LimitsFeedback; TakesIf, TakesWithin; Takes, AnswersWithin; call_in, timed_call_in; TakesUnless,
--- TakesKnown; FailsSends, SetsLimits.
+-- What a station does with a datagram. Words: counters_at, limiter_at a link; by_call_at; trimmed_by,
+-- trimmed_at; arrival, TakesPacket; IsRefusedUnread; dated; begins_call; CountsChange; turns_away, TurnsAway;
+-- made_on, LimitsFeedback; TakesIf, TakesWithin; Takes; TakesUnless, TakesKnown; FailsSends, SetsLimits.
 use Rattle.std.specs.Prelude.{◌≡◌, ◌≢◌, ℕ, ◌-◌, ◌&&◌, List, [], ◌∷◌, length, Option, Some, None, nat_eq, not, is_some, Bool, true, false}
 use Rattle.std.specs.Option.{option_map}
 use Rattle.indexmap.specs.IndexMap.{get}
@@ -9,23 +8,22 @@ use Rattle.rohc_context.specs.Record.{Record}
 use Rattle.rohc_concentrator.specs.declared.concentrator.Concentrator.{Concentrator}
 use Rattle.rohc_concentrator.specs.Tables.{setting_at, record_at, identifiers_at}
 use Rattle.rohc_concentrator.specs.Bears.{borne}
+use Rattle.rohc_concentrator.specs.Trimmed.{trimmed}
 use Rattle.rohc_concentrator.specs.Report.{Report}
 use Rattle.rohc_concentrator.specs.Repaired.{IsRepaired}
 use Rattle.rohc_concentrator.specs.Calls.{Arrive, Reported}
 use Rattle.rohc_concentrator.specs.RunsCall.{RunsCall, Turn}
-use Rattle.rohc_serve.specs.Outgoing.{Outgoing, refused_for}
-use Rattle.rohc_serve.specs.Datagram.{named_link, datagram_packet, ports_of, Answers}
-use Rattle.rohc_links.specs.Links.{Lists}
+use Rattle.rohc_serve.specs.Datagram.{named_link, datagram_packet, ports_of}
 use Rattle.rohc_station.specs.declared.limits.LinkLimits.{LinkLimits}
 use Rattle.rohc_station.specs.declared.limits.Limiter.{Limiter}
 use Rattle.rohc_station.specs.declared.counters.LinkCounters.{LinkCounters}
 use Rattle.rohc_station.specs.declared.station.Station.{Station}
 use Rattle.rohc_station.specs.declared.calls.CallCounts.{CallCounts}
-use Rattle.rohc_station.specs.Limits.{second_of, is_full, is_silent, with_work, with_turned_away, with_limits}
+use Rattle.rohc_station.specs.Limits.{is_full, is_silent, with_work, with_turned_away, with_limits}
 use Rattle.rohc_station.specs.Counting.{CountsAnswer, with_datagram, with_failed_sends, limiter_in, with_limiter}
 use Rattle.rohc_station.specs.ByCall.{CountsForCall, stands}
 use Rattle.rohc_station.specs.Timed.{TimedPacket}
-use Rattle.rohc_station.specs.Told.{Told, told_unread, told_for, outgoing_within, told_within}
+use Rattle.rohc_station.specs.Told.{Told, told_unread, told_for, told_within}
 
 -- the counts of a link, if it has some
 abbrev pub counters_at : Station → ℕ → Option LinkCounters
@@ -38,6 +36,15 @@ limiter_at s link = limiter_in (counters_at s link)
 -- the counts of the call of this key, if it has some
 abbrev pub by_call_at : Station → ℕ → Option CallCounts
 by_call_at s key = get nat_eq s.by_call key
+
+-- A packet loses what a layer below added behind it, if it is known how many octets its payload has at most.
+abbrev pub trimmed_by : (payload : Option ℕ) → Concentrator → TimedPacket → TimedPacket
+trimmed_by None k t = t
+trimmed_by (Some n) k t =
+    record t { packet = trimmed n (setting_at k t.link) (record_at k t.link) t.packet }
+
+abbrev pub trimmed_at : Station → TimedPacket → TimedPacket
+trimmed_at s t = trimmed_by (limiter_at s t.link).limits.payload s.concentrator t
 
 -- the call of a packet that arrives, with the report on it
 abbrev pub arrival : (link moment : ℕ) → List ℕ → Report → Turn
@@ -133,48 +140,23 @@ TakesWithin old new second t told calls =
     TakesIf (turns_away old second t.link t.packet) old new second t told calls
 
 -- A datagram is taken in a second of the gateway's clock, as it was read: a packet with its link and its
--- moment, if it could be read.
+-- moment, if it could be read. What a layer below added behind the packet goes first.
 abbrev pub Takes : Station → Station → (second : ℕ) → Option TimedPacket → Told → List Turn → Type 0
 Takes old new second None told calls = IsRefusedUnread old new told calls
-Takes old new second (Some t) told calls = TakesWithin old new second t told calls
-
--- Nothing is sent for a datagram that is turned away. For every other that is sent which answer_datagram
--- sends, but for feedback that is withheld.
-abbrev pub AnswersIf : (is_away is_withheld : Bool) → Lists → Concentrator → ℕ → List ℕ → Outgoing
-    → Concentrator → Type 0
-AnswersIf true is_withheld links old moment octets sent new = (sent ≡ refused_for None) × (new ≡ old)
-AnswersIf false is_withheld links old moment octets sent new = (whole : Outgoing)
-    × Answers links old moment octets whole new × (sent ≡ outgoing_within is_withheld whole)
-
-abbrev pub AnswersOnLink : Station → (moment : ℕ) → Option ℕ → List ℕ → Outgoing → Concentrator → Type 0
-AnswersOnLink s moment None octets sent new =
-    AnswersIf false false s.links s.concentrator moment octets sent new
-AnswersOnLink s moment (Some link) octets sent new =
-    AnswersIf (turns_away s (second_of moment) link (datagram_packet octets))
-    (is_silent (second_of moment) (limiter_at s link)) s.links s.concentrator moment octets sent new
-
-abbrev pub AnswersWithin : Station → (moment : ℕ) → List ℕ → Outgoing → Concentrator → Type 0
-AnswersWithin s moment octets sent new = AnswersOnLink s moment (named_link octets) octets sent new
-
--- the call of a packet on a link: the link, and the CID that the packet bears there
-abbrev pub call_in : Concentrator → Option ℕ → List ℕ → Option (ℕ × ℕ)
-call_in k None packet = None
-call_in k (Some link) packet = option_map (λ cid. (link, cid)) (borne (setting_at k link) packet)
-
--- the call of a timed datagram, if it can be read
-abbrev pub timed_call_in : Concentrator → Option TimedPacket → Option (ℕ × ℕ)
-timed_call_in k None = None
-timed_call_in k (Some t) = call_in k (Some t.link) t.packet
+Takes old new second (Some t) told calls = TakesWithin old new second (trimmed_at old t) told calls
 
 -- while no call is begun, a packet that would begin one is refused, and every other is taken
 abbrev pub TakesUnless : Bool → Station → Station → (second : ℕ) → TimedPacket → Told → List Turn → Type 0
 TakesUnless true old new second t told calls = IsRefusedUnread old new told calls
 TakesUnless false old new second t told calls = TakesWithin old new second t told calls
 
+abbrev pub TakesStanding : Station → Station → (second : ℕ) → TimedPacket → Told → List Turn → Type 0
+TakesStanding old new second t told calls =
+    TakesUnless (begins_call old.concentrator t.link t.packet) old new second t told calls
+
 abbrev pub TakesKnown : Station → Station → (second : ℕ) → Option TimedPacket → Told → List Turn → Type 0
 TakesKnown old new second None told calls = IsRefusedUnread old new told calls
-TakesKnown old new second (Some t) told calls =
-    TakesUnless (begins_call old.concentrator t.link t.packet) old new second t told calls
+TakesKnown old new second (Some t) told calls = TakesStanding old new second (trimmed_at old t) told calls
 
 -- sends failed for a datagram of the link that it names, if it names one
 abbrev pub FailsSends : Station → Station → Option ℕ → ℕ → Type 0

@@ -60,7 +60,7 @@ pub enum Order {
 }
 
 /// The SN of a packet behind a rebuilt header; `None` if it has another head.
-fn sn_in(packet: &Option<Delivered<'_>>) -> Option<u16>
+pub fn sn_in(packet: &Option<Delivered<'_>>) -> Option<u16>
     ensures { result ≡ sn_in (packet_in packet.now) }
 {
     match packet {

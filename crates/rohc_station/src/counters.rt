@@ -12,7 +12,7 @@ ghost use Rattle.rohc_station.specs.Counting.{CountsAnswer, limiter_in, rebuilt_
 use crate::limits::{Limiter, LinkLimits, Work};
 use crate::marked::Marked;
 use crate::sending::refusal_of;
-use crate::unknown::{UnknownCid, copied, notice};
+use crate::unknown::{UnknownCid, copied, is_no_context, notice};
 use arrayvec::ArrayVec;
 use indexmap::IndexMap;
 use rohc_concentrator::{Answer, Concentrator};
@@ -221,8 +221,13 @@ fn notice_unknown(
     ensures { list.new.items ≡ unknown_in (stands concentrator.now link) (report_of answer.now) list.old.items }
 {
     if let Answer::Arrived { cid, reply, .. } = answer {
+        let refusal = refusal_of(reply.outcome);
+        // Nothing leaves an empty list: no look-up of the CID.
+        if list.is_empty() && !is_no_context(refusal) {
+            return;
+        }
         let has_context = concentrator.has_context(link, *cid);
-        notice(list, *cid, has_context, refusal_of(reply.outcome));
+        notice(list, *cid, has_context, refusal);
     }
 }
 

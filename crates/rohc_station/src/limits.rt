@@ -10,6 +10,8 @@ pub struct LinkLimits {
     pub new_contexts: u32,
     /// How many feedback elements for the compressor a link may send in a second.
     pub feedback: u32,
+    /// How many octets the payload of its packets has at most, if that is known. What a layer below added behind them goes.
+    pub payload: Option<u16>,
 }
 
 impl LinkLimits {
@@ -23,6 +25,7 @@ impl LinkLimits {
         LinkLimits {
             new_contexts: 0,
             feedback: 0,
+            payload: None,
         }
     }
 }

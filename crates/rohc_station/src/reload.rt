@@ -110,7 +110,7 @@ ghost use Rattle.rohc_station.specs.Same.{is_same_setting};
 ghost use Rattle.rohc_station.specs.Reload.{is_among, AreLinks, removed, differs, changed, added, removing, changing, adding, refused_add, reload_turns, contexts_on, gone_on, Tells, StopsIn, IsReloadFault};
 
 /// Whether one of the settings is of a link.
-fn names_link(settings: &[LinkSetting], link: u16) -> bool
+pub(crate) fn names_link(settings: &[LinkSetting], link: u16) -> bool
     ensures { result ≡ names_link link settings.now }
 {
     settings.iter().any(|setting| setting.link == link)
@@ -127,7 +127,7 @@ pub(crate) fn setting_of(concentrator: &Concentrator, link: u16) -> Option<&Link
 }
 
 /// Whether a link is there with another setting than this one.
-fn differs(concentrator: &Concentrator, setting: &LinkSetting) -> bool
+pub(crate) fn differs(concentrator: &Concentrator, setting: &LinkSetting) -> bool
     ensures { result ≡ differs (setting_at concentrator.now setting.now.link) setting.now }
 {
     match setting_of(concentrator, setting.link) {
@@ -227,7 +227,7 @@ fn add(
 }
 
 /// Whether a number is among these.
-fn is_among(numbers: &[u16], link: u16) -> bool
+pub(crate) fn is_among(numbers: &[u16], link: u16) -> bool
     ensures { result ≡ is_among link numbers.now }
 {
     numbers.iter().any(|number| link == *number)
@@ -298,7 +298,7 @@ fn keys_of(alloc: Global, tables: &IndexMap<u16, LinkRecords>) -> Result<Vec<u16
 }
 
 /// The numbers of the links that are there, in their order.
-fn numbers_of(alloc: Global, concentrator: &Concentrator) -> Result<Vec<u16>, AllocError>
+pub(crate) fn numbers_of(alloc: Global, concentrator: &Concentrator) -> Result<Vec<u16>, AllocError>
     ensures { IfOk result (λ numbers. AreLinks concentrator.now numbers.items) }
 {
     keys_of(alloc, concentrator.tables())
@@ -331,7 +331,7 @@ pub(crate) fn counters_for(
 }
 
 /// Judges the settings as a whole.
-fn judge(alloc: Global, settings: &[LinkSetting]) -> Result<(), ReloadFault>
+pub(crate) fn judge(alloc: Global, settings: &[LinkSetting]) -> Result<(), ReloadFault>
     ensures fine { OnOk result (AreFine settings.now) }
     ensures fault { IfErr result (IsReloadFault settings.now) }
 {

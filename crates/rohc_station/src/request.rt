@@ -1,7 +1,7 @@
 //! What is asked of a gateway over HTTP/1.1 (RFC 9112): a method, a path and a query.
 
 ghost use Rattle.std.specs.Prelude.{◌≡◌, Ok, IfOk, true, codes};
-ghost use Rattle.rohc_station.specs.Requests.{changes, number_in, is_head, IsAskedByPost};
+ghost use Rattle.rohc_station.specs.Requests.{changes, number_in, is_head, IsAskedByPost, IsAnswerTo};
 
 use httparse::Status;
 use httparse::spans::{EMPTY_HEADER_SPAN, HeaderSpan, RequestSpans, parse_request};
@@ -36,15 +36,43 @@ pub enum Request {
     },
     /// `POST /drain`: take no new call.
     Drain,
-    /// `POST /watch?link=L&cid=C`: log each packet of a call for a while.
-    Watch {
+    /// `POST /hold?link=L`: keep the datagrams of a link until its contexts are imported; with `&off`, drop them.
+    Hold {
+        /// The link.
+        link: u16,
+        /// Whether this ends.
+        off: bool,
+    },
+    /// `POST /export?link=L`: show what is saved of a link, and take no packet of it any more; with `&off`, take them again.
+    Export {
+        /// The link.
+        link: u16,
+        /// Whether this ends.
+        off: bool,
+    },
+    /// `POST /import?link=L`, with what was exported as the body: go on with the calls of a link that is held.
+    Import {
+        /// The link.
+        link: u16,
+    },
+    /// `GET /ready`, or `HEAD`, as for each below
+    Ready,
+    /// `GET /reload`: show what a reload would do.
+    Preview,
+    /// `GET /watch?link=L&cid=C`: show each packet of a call until the reader ends.
+    Follow {
         /// The link.
         link: u16,
         /// The CID.
         cid: u16,
     },
-    /// `GET /ready`, or `HEAD`, as for each below
-    Ready,
+    /// `GET /record?seconds=N`, and `&link=L`: give the contexts, and then the packets that arrive in so many seconds.
+    Record {
+        /// The link, if only its packets are meant.
+        link: Option<u16>,
+        /// For how many seconds.
+        seconds: u16,
+    },
     /// `GET /status`
     Status,
     /// `GET /state`: the contexts as a save would write them now.
@@ -78,10 +106,18 @@ impl Request {
         ensures { result ≡ changes self.now }
     {
         match self {
-            Request::Stop | Request::Reload | Request::Reset { .. } | Request::Drain => true,
+            Request::Stop
+            | Request::Reload
+            | Request::Reset { .. }
+            | Request::Drain
+            | Request::Hold { .. }
+            | Request::Export { .. }
+            | Request::Import { .. } => true,
             Request::Save
-            | Request::Watch { .. }
             | Request::Ready
+            | Request::Preview
+            | Request::Follow { .. }
+            | Request::Record { .. }
             | Request::Status
             | Request::State
             | Request::Metrics
@@ -108,7 +144,7 @@ pub enum RequestFault {
 
 impl RequestFault {
     ghost use Rattle.std.specs.Prelude.{◌≡◌};
-    ghost use Rattle.rohc_station.specs.Requests.{status_of};
+    ghost use Rattle.rohc_station.specs.Requests.{status_of, name_of, text_of};
 
     /// The status code (RFC 9110 15.5).
     pub fn status(&self) -> u16
@@ -123,7 +159,9 @@ impl RequestFault {
     }
 
     /// The name.
-    pub fn name(&self) -> &'static str {
+    pub fn name(&self) -> &'static str
+        ensures { result.now ≡ name_of self.now }
+    {
         match self {
             RequestFault::BadRequest => "BadRequest",
             RequestFault::NotFound => "NotFound",
@@ -133,17 +171,19 @@ impl RequestFault {
     }
 
     /// What was wrong and what was expected, for a reader.
-    pub fn text(&self) -> &'static str {
+    pub fn text(&self) -> &'static str
+        ensures { result.now ≡ text_of self.now }
+    {
         match self {
             RequestFault::BadRequest => {
-                "not a request that a gateway knows; expected HTTP/1.1 without a body, with the query of its path"
+                "not a request that a gateway knows; expected HTTP/1.1 with the query of its path, and a body only for import"
             }
             RequestFault::NotFound => "nothing is at this path; man rohctl names each request",
             RequestFault::MethodNotAllowed => {
                 "the path has another method; expected GET or HEAD to show something, POST to change something"
             }
             RequestFault::TooLarge =>
-                "the head of the request is too long; expected at most 8192 octets",
+                "the request is too long; expected a head of at most 8192 octets, and a body of at most 2 MiB",
         }
     }
 }
@@ -274,15 +314,58 @@ fn reset_in(query: Option<&[u8]>) -> Result<Request, RequestFault> {
     }
 }
 
+/// The link in a query `link=L` or `link=L&off`, and whether it is the second.
+fn moved_in(query: Option<&[u8]>) -> Result<(u16, bool), RequestFault> {
+    let (first, second) = split_at_first(query.ok_or(RequestFault::BadRequest)?, b'&');
+    let link = link_in(Some(first))?;
+    match second {
+        None => Ok((link, false)),
+        Some(word) if word == b"off".as_slice() => Ok((link, true)),
+        Some(_) => Err(RequestFault::BadRequest),
+    }
+}
+
+/// What `POST` asks for at a path of those that move a link; `None` if no path of that kind is there.
+fn moved(path: &[u8], query: Option<&[u8]>) -> Option<Result<Request, RequestFault>> {
+    if path == b"/hold".as_slice() {
+        Some(moved_in(query).map(|(link, off)| Request::Hold { link, off }))
+    } else if path == b"/export".as_slice() {
+        Some(moved_in(query).map(|(link, off)| Request::Export { link, off }))
+    } else if path == b"/import".as_slice() {
+        Some(link_in(query).map(|link| Request::Import { link }))
+    } else {
+        None
+    }
+}
+
 /// What a query of `/watch` means.
-fn watch_in(query: Option<&[u8]>) -> Result<Request, RequestFault> {
+fn follow_in(query: Option<&[u8]>) -> Result<Request, RequestFault>
+    ensures { ChangesNothing result }
+{
     match query_in(query.ok_or(RequestFault::BadRequest)?) {
         Some(
             Query {
                 link,
                 cid: Some(cid),
             },
-        ) => Ok(Request::Watch { link, cid }),
+        ) => Ok(Request::Follow { link, cid }),
+        _ => Err(RequestFault::BadRequest),
+    }
+}
+
+/// What a query of `/record` means: `seconds=N`, or `seconds=N&link=L`.
+fn record_in(query: Option<&[u8]>) -> Result<Request, RequestFault>
+    ensures { ChangesNothing result }
+{
+    let (first, second) = split_at_first(query.ok_or(RequestFault::BadRequest)?, b'&');
+    let digits = first.strip_prefix(b"seconds=".as_slice());
+    let seconds = number_in(digits.ok_or(RequestFault::BadRequest)?);
+    let link = match second {
+        Some(part) => Some(link_in(Some(part))?),
+        None => None,
+    };
+    match seconds {
+        Some(seconds @ 1..) => Ok(Request::Record { link, seconds }),
         _ => Err(RequestFault::BadRequest),
     }
 }
@@ -309,10 +392,8 @@ fn posted(path: &[u8], query: Option<&[u8]>) -> Option<Result<Request, RequestFa
         Some(alone(Request::Drain, query))
     } else if path == b"/reset".as_slice() {
         Some(reset_in(query))
-    } else if path == b"/watch".as_slice() {
-        Some(watch_in(query))
     } else {
-        None
+        moved(path, query)
     }
 }
 
@@ -332,6 +413,12 @@ fn got(path: &[u8], query: Option<&[u8]>) -> Option<Result<Request, RequestFault
         Some(alone(Request::Metrics, query))
     } else if path == b"/".as_slice() {
         Some(alone(Request::Page, query))
+    } else if path == b"/reload".as_slice() {
+        Some(alone(Request::Preview, query))
+    } else if path == b"/watch".as_slice() {
+        Some(follow_in(query))
+    } else if path == b"/record".as_slice() {
+        Some(record_in(query))
     } else if path == b"/contexts".as_slice() {
         Some(link_in(query).map(|link| Request::Contexts { link }))
     } else if path == b"/calls".as_slice() {
@@ -378,23 +465,93 @@ fn says_body(head: &[u8], field: &HeaderSpan) -> bool {
     }
 }
 
+ghost use Rattle.httparse.specs.Spans.{span_bytes};
+
 /// The request of a whole head.
 fn request_in(
     head: &[u8],
     spans: &RequestSpans,
     fields: &[HeaderSpan],
-) -> Result<Request, RequestFault> {
+) -> Result<Request, RequestFault>
+    ensures { IfOk result (IsAskedByPost (span_bytes head.now spans.now.method)) }
+{
     let Some(fields) = fields.get(..spans.headers) else {
         return Err(RequestFault::BadRequest);
     };
-    if fields.iter().any(|field| says_body(head, field)) {
-        return Err(RequestFault::BadRequest);
-    }
     let method = head.get(spans.method.start..spans.method.end);
     let target = head.get(spans.path.start..spans.path.end);
-    match (method, target) {
-        (Some(method), Some(target)) => request_of(method, target),
-        _ => Err(RequestFault::BadRequest),
+    let (Some(method), Some(target)) = (method, target) else {
+        return Err(RequestFault::BadRequest);
+    };
+    let says = fields.iter().any(|field| says_body(head, field));
+    match request_of(method, target) {
+        Ok(request) if has_body(request) => Ok(request),
+        _ if says => Err(RequestFault::BadRequest),
+        asked => asked,
+    }
+}
+
+/// Whether a request has a body.
+fn has_body(request: Request) -> bool {
+    matches!(request, Request::Import { .. })
+}
+
+/// Where the body of a request begins, and how many octets it has.
+#[derive(Clone, Copy, PartialEq, Eq)]
+pub struct Body {
+    /// The octets of the head before it.
+    pub start: usize,
+    /// Its octets.
+    pub size: u32,
+}
+
+/// The number that decimal digits spell, if it has 32 bits.
+fn size_in(digits: &[u8]) -> Option<u32> {
+    if digits.is_empty() {
+        return None;
+    }
+    let mut size = 0u32;
+    for octet in digits {
+        let digit = digit_of(*octet)?;
+        size = size.checked_mul(10)?.checked_add(u32::from(digit))?;
+    }
+    Some(size)
+}
+
+/// How many octets a field says that the body has; `None` if it is another field.
+fn size_of(head: &[u8], field: &HeaderSpan) -> Option<u32> {
+    let name = head.get(field.name.start..field.name.end)?;
+    if !name.eq_ignore_ascii_case(b"content-length") {
+        return None;
+    }
+    size_in(head.get(field.value.start..field.value.end)?)
+}
+
+/// How many octets the body has: the first field that says so counts.
+fn size_among(head: &[u8], fields: &[HeaderSpan]) -> Option<u32> {
+    for field in fields {
+        if let Some(size) = size_of(head, field) {
+            return Some(size);
+        }
+    }
+    None
+}
+
+ghost use Rattle.std.specs.Prelude.{◌≤◌, length, drop};
+ghost use Rattle.httparse.specs.Grammar.{ReadsRequest, RequestHead};
+
+/// The body of a request whose head is whole and says the size of a body.
+pub fn body_in(octets: &[u8]) -> Option<Body>
+    ensures within { IfSome result (λ body. body.start ≤ length octets.now) }
+    ensures behind { IfSome result (λ body. (head : RequestHead) × ReadsRequest octets.now head (drop body.start octets.now)) }
+{
+    let mut fields = [EMPTY_HEADER_SPAN; MOST_FIELDS];
+    match parse_request(octets, &mut fields) {
+        Ok(Status::Complete(spans)) => Some(Body {
+            start: spans.len,
+            size: size_among(octets, fields.get(..spans.headers)?)?,
+        }),
+        _ => None,
     }
 }
 
@@ -411,9 +568,11 @@ pub fn is_head(octets: &[u8]) -> bool
     false
 }
 
-/// What has come of a request: it isn't whole yet, or it is a request, or a fault. Whatever the octets are,
-/// there is an answer; which request stands for which octets is shown by tests.
-pub fn read_request(octets: &[u8]) -> Asked {
+/// What has come of a request: it isn't whole yet, or it is a request, or a fault. Whatever the octets are, there is an
+/// answer, and one that changes something came by POST; which request is at which path is shown by tests.
+pub fn read_request(octets: &[u8]) -> Asked
+    ensures { IsAnswerTo octets.now result }
+{
     let mut fields = [EMPTY_HEADER_SPAN; MOST_FIELDS];
     match parse_request(octets, &mut fields) {
         Ok(Status::Complete(spans)) => match request_in(octets, &spans, &fields) {

@@ -1,24 +1,25 @@
 //! A station: a concentrator with its links and its counts.
 
-ghost use Rattle.std.specs.Prelude.{◌≡◌, Some, None, IfSome, IfNone};
-ghost use Rattle.rohc_serve.specs.Datagram.{named_link, datagram_packet};
+ghost use Rattle.std.specs.Prelude.{◌≡◌};
 
 use crate::calls::{CallCounts, count_call, keep_standing};
 use crate::counters::{
     LinkCounters, StationCounters, count_answer, count_failed_sends, count_turned_away, count_work,
     limiter_of, set_limits,
 };
-use crate::limits::{LinkLimits, Work, second_of};
+use crate::limits::{Limiter, LinkLimits, Work, second_of};
 use crate::marked::Marked;
 use crate::reload::{counters_for, setting_of};
-use crate::sending::{Taken, answered, ports_of, unread, withhold_if};
-use crate::timed::timed_datagram;
+use crate::sending::{Taken, answered, unread, withhold_if};
+use crate::timed::Timed;
+use crate::trimming::trimmed_by;
 use indexmap::IndexMap;
 use rohc_concentrator::{Concentrator, LinkSetting, NoLink};
 use rohc_frame::cut;
 use rohc_links::Links;
 use rohc_report::key_of;
 use rohc_saved::{SaveFault, save};
+use rohc_serve::ports_of;
 use std::alloc::{AllocError, Global};
 use std::io::Write;
 
@@ -35,16 +36,6 @@ pub struct Station {
     pub(crate) by_call: IndexMap<u32, CallCounts>,
     /// The counts over all links.
     pub(crate) totals: StationCounters,
-}
-
-/// The link that a datagram names, and the packet after its number; `None` if the datagram has fewer than
-/// two octets.
-fn named_link(octets: &[u8]) -> Option<(u16, &[u8])>
-    ensures named { IfSome result (λ named. (named_link octets.now ≡ Some named.0) × (datagram_packet octets.now ≡ named.1.now)) }
-    ensures short { IfNone result (named_link octets.now ≡ None) }
-{
-    let (link, packet) = octets.split_first_chunk::<2>()?;
-    Some((u16::from_be_bytes(*link), packet))
 }
 
 /// The CID that a packet bears on a link, if the link is there and the packet bears one.
@@ -81,7 +72,7 @@ fn begins_call(concentrator: &Concentrator, link: u16, packet: &[u8]) -> bool
 }
 
 /// How many records a link has.
-fn context_count(concentrator: &Concentrator, link: u16) -> usize
+pub(crate) fn context_count(concentrator: &Concentrator, link: u16) -> usize
     ensures { result ≡ length (identifiers_at concentrator.now link) }
 {
     match concentrator.tables().get(&link) {
@@ -96,7 +87,7 @@ ghost use Rattle.rohc_concentrator.specs.RunsCall.{RunsCall};
 ghost use Rattle.rohc_concentrator.specs.Leaving.{HaveGone};
 ghost use Rattle.rohc_concentrator.specs.Tables.{setting_at, identifiers_at};
 ghost use Rattle.rohc_concentrator.specs.Bears.{borne, cid_in, header_on};
-ghost use Rattle.rohc_station.specs.Taking.{begins_call, call_in};
+ghost use Rattle.rohc_station.specs.Taking.{begins_call};
 
 /// Forgets all records of a link. Returns the number of records removed. The error is `NoLink`.
 fn reset_link(concentrator: &mut Concentrator, link: u16) -> Result<usize, NoLink>
@@ -108,16 +99,6 @@ fn reset_link(concentrator: &mut Concentrator, link: u16) -> Result<usize, NoLin
     Ok(count)
 }
 
-/// The call of a packet: its link, and the CID that it bears there.
-fn call_on(concentrator: &Concentrator, link: u16, packet: &[u8]) -> Option<(u16, u16)>
-    ensures { result ≡ call_in concentrator.now (Some link) packet.now }
-{
-    match borne(concentrator, link, packet) {
-        Some(cid) => Some((link, cid)),
-        None => None,
-    }
-}
-
 impl Station {
     ghost use Rattle.std.specs.Prelude.{◌≡◌, ℕ, List, None, IfOk, IfErr, option_map, false};
     ghost use Rattle.rohc_concentrator.specs.Calls.{plain_answer};
@@ -126,15 +107,13 @@ impl Station {
     ghost use Rattle.rohc_concentrator.specs.Setup.{entry_of};
     ghost use Rattle.rohc_saved.specs.Form.{saved_form};
     ghost use Rattle.rohc_saved.specs.Output.{IsWhole, SaveFails};
-    ghost use Rattle.rohc_serve.specs.Outgoing.{outgoing_of};
-    ghost use Rattle.rohc_serve.specs.Datagram.{named_link, datagram_packet};
-    ghost use Rattle.rohc_station.specs.Limits.{second_of};
-    ghost use Rattle.rohc_station.specs.Timed.{timed_in};
+    ghost use Rattle.rohc_station.specs.Limits.{second_of, is_silent};
+    ghost use Rattle.rohc_station.specs.Timed.{plain_timed};
     ghost use Rattle.rohc_station.specs.Told.{told_of};
     ghost use Rattle.rohc_station.specs.Counting.{KeepsCounts};
     ghost use Rattle.rohc_report.specs.Taken.{key_of};
     ghost use Rattle.rohc_station.specs.Reset.{Forgets};
-    ghost use Rattle.rohc_station.specs.Taking.{counters_at, by_call_at, dated, begins_call, call_in, timed_call_in, turns_away, TakesPacket, TurnsAway, TakesIf, TakesWithin, TakesUnless, Takes, TakesKnown, AnswersWithin, IsRefusedUnread, FailsSends, SetsLimits};
+    ghost use Rattle.rohc_station.specs.Taking.{limiter_at, counters_at, by_call_at, turns_away, TakesPacket, TurnsAway, TakesIf, TakesWithin, Takes, TakesKnown, IsRefusedUnread, FailsSends, SetsLimits};
 
     /// A station of this concentrator and these links, with nothing counted. The error is lack of memory.
     pub fn new(
@@ -213,12 +192,11 @@ impl Station {
         gone
     }
 
-    /// Counts sends that failed, for the link whose number begins a datagram of either form. The count stays at
-    /// the greatest `u64`.
-    pub fn add_failed_sends(&mut self, datagram: &[u8], failed: u64)
-        ensures { FailsSends self.old self.new (named_link datagram.now) failed }
+    /// Counts sends that failed for a datagram of this link, if it names one. The count stays at the greatest `u64`.
+    pub fn add_failed_sends(&mut self, link: Option<u16>, failed: u64)
+        ensures { FailsSends self.old self.new link failed }
     {
-        if let Some((link, _)) = named_link(datagram) {
+        if let Some(link) = link {
             count_failed_sends(&mut self.counters, link, failed);
         }
     }
@@ -230,10 +208,16 @@ impl Station {
         set_limits(&mut self.counters, link, limits);
     }
 
-    /// Takes a packet of a link that arrived at this moment.
-    fn take_packet<'a>(&mut self, link: u16, moment: u64, packet: &'a [u8]) -> Taken<'a>
-        ensures { (calls : List Turn) × TakesPacket self.old self.new link moment packet.entry.now (told_of result) calls }
+    /// Takes a packet of a link that arrived at its moment.
+    fn take_packet<'a>(&mut self, arrival: Timed<'a>) -> Taken<'a>
+        ensures { (calls : List Turn) × TakesPacket self.old self.new arrival.entry.link arrival.entry.moment
+            arrival.entry.packet.now (told_of result) calls }
     {
+        let Timed {
+            link,
+            moment,
+            packet,
+        } = arrival;
         let mut marked = Marked::blank();
         self.concentrator
             .arrive_into(link, moment, packet, &mut marked);
@@ -253,12 +237,13 @@ impl Station {
         unread()
     }
 
-    /// Whether a packet of a link is turned away in a second: it begins a call, and the link makes no more contexts then.
-    fn turns_away(&self, second: u64, link: u16, packet: &[u8]) -> bool
-        ensures { result ≡ turns_away self.now second link packet.now }
+    /// Whether a packet of a link with these limits is turned away in a second: it begins a call, and the link makes no more
+    /// contexts then.
+    fn turns_away(&self, limiter: &Limiter, second: u64, arrival: Timed<'_>) -> bool
+        requires { limiter.now ≡ limiter_at self.now arrival.link }
+        ensures { result ≡ turns_away self.now second arrival.entry.link arrival.entry.packet.now }
     {
-        limiter_of(&self.counters, link).is_full(second)
-            && begins_call(&self.concentrator, link, packet)
+        limiter.is_full(second) && begins_call(&self.concentrator, arrival.link, arrival.packet)
     }
 
     /// Turns a packet of a link away.
@@ -269,20 +254,14 @@ impl Station {
         self.refuse()
     }
 
-    /// Takes a packet of a link, and withholds its feedback if the link sends no more in this second.
-    fn take_allowed<'a>(
-        &mut self,
-        second: u64,
-        link: u16,
-        moment: u64,
-        packet: &'a [u8],
-    ) -> Taken<'a>
-        ensures { (calls : List Turn) × TakesIf false self.old self.new second
-            (record { link = link; moment = moment; packet = packet.entry.now }) (told_of result) calls }
+    /// Takes a packet of a link, and withholds its feedback if the link is silent: it sends no more in this second.
+    fn take_allowed<'a>(&mut self, is_withheld: bool, second: u64, arrival: Timed<'a>) -> Taken<'a>
+        requires { is_withheld ≡ is_silent second (limiter_at self.old arrival.link) }
+        ensures { (calls : List Turn) × TakesIf false self.old self.new second (plain_timed arrival.entry) (told_of result) calls }
     {
-        let is_silent = limiter_of(&self.counters, link).is_silent(second);
+        let link = arrival.link;
         let before = context_count(&self.concentrator, link);
-        let mut taken = self.take_packet(link, moment, packet);
+        let mut taken = self.take_packet(arrival);
         let after = context_count(&self.concentrator, link);
         let work = Work {
             second,
@@ -290,118 +269,58 @@ impl Station {
             has_feedback: taken.sends.feedback.is_some(),
         };
         count_work(&mut self.counters, link, work);
-        withhold_if(&mut taken, is_silent);
+        withhold_if(&mut taken, is_withheld);
         taken
     }
 
     /// Takes a packet of a link within the limits of the link in a second.
-    fn take_within<'a>(
-        &mut self,
-        second: u64,
-        link: u16,
-        moment: u64,
-        packet: &'a [u8],
-    ) -> Taken<'a>
-        ensures { (calls : List Turn) × TakesWithin self.old self.new second
-            (record { link = link; moment = moment; packet = packet.entry.now }) (told_of result) calls }
+    fn take_within<'a>(&mut self, limiter: &Limiter, second: u64, arrival: Timed<'a>) -> Taken<'a>
+        requires { limiter.now ≡ limiter_at self.old arrival.link }
+        ensures { (calls : List Turn) × TakesWithin self.old self.new second (plain_timed arrival.entry) (told_of result) calls }
     {
-        if self.turns_away(second, link, packet) {
-            self.turn_away(link)
+        if self.turns_away(limiter, second, arrival) {
+            self.turn_away(arrival.link)
         } else {
-            self.take_allowed(second, link, moment, packet)
+            self.take_allowed(limiter.is_silent(second), second, arrival)
         }
     }
 
-    /// Takes a packet of a link, unless it would begin a call.
-    fn take_known_packet<'a>(
-        &mut self,
-        second: u64,
-        link: u16,
-        moment: u64,
-        packet: &'a [u8],
-    ) -> Taken<'a>
-        ensures { (calls : List Turn) × TakesUnless (begins_call self.old.concentrator link packet.entry.now) self.old self.new second
-            (record { link = link; moment = moment; packet = packet.entry.now }) (told_of result) calls }
-    {
-        if begins_call(&self.concentrator, link, packet) {
-            self.refuse()
-        } else {
-            self.take_within(second, link, moment, packet)
-        }
-    }
-
-    /// Takes a datagram that arrived at this moment, in milliseconds: a link's number in two octets, most
-    /// significant octet first, and a packet. Returns what came of it.
+    /// Takes a datagram as it was read (`arrival_in`): a packet with its link and the moment of its arrival; `None` is one that
+    /// is too short. Returns what came of it. `now` is the moment that it is by the gateway's own clock, in milliseconds.
     ///
-    /// The payload and the relayed feedback in the result are borrowed from `datagram`. A datagram of fewer
-    /// than two octets, or of a link that isn't there, is refused. One that would begin a call is turned away if
-    /// its link made as many contexts in the second of this moment as it may. Its answer is that of
-    /// `rohc_serve::answer_datagram`, without the feedback for the compressor if the link sent as many elements
-    /// in this second as it may.
-    pub fn take<'a>(&mut self, moment: u64, datagram: &'a [u8]) -> Taken<'a>
-        ensures answer { AnswersWithin self.old moment datagram.entry.now (outgoing_of result.sends) self.new.concentrator }
-        ensures taken { (calls : List Turn) × Takes self.old self.new (second_of moment) (dated moment datagram.entry.now) (told_of result) calls }
+    /// The payload and the relayed feedback in the result are borrowed from the packet. A datagram that is too short, or of a
+    /// link that isn't there, is refused. A packet first loses what a layer below added behind it (`trimmed`). One that would
+    /// begin a call is turned away if its link made as many contexts in the second of `now` as it may. Any other is answered
+    /// as by `rohc_serve::answer_datagram`, without the feedback for the compressor if the link sent as many elements in this
+    /// second as it may.
+    pub fn take<'a>(&mut self, now: u64, read: Option<Timed<'a>>) -> Taken<'a>
+        ensures { (calls : List Turn) × Takes self.old self.new (second_of now) (option_map plain_timed read.entry)
+            (told_of result) calls }
     {
-        match named_link(datagram) {
-            Some((link, packet)) => self.take_within(second_of(moment), link, moment, packet),
-            None => self.refuse(),
-        }
-    }
-
-    /// Takes a timed datagram (`timed_datagram`), as `take` does at the moment that stands in it. One of
-    /// fewer than ten octets is refused. The limits of its link are those of the second of `now`, a moment of the
-    /// gateway's own clock.
-    pub fn take_timed<'a>(&mut self, now: u64, datagram: &'a [u8]) -> Taken<'a>
-        ensures { (calls : List Turn) × Takes self.old self.new (second_of now) (timed_in datagram.entry.now) (told_of result) calls }
-    {
-        match timed_datagram(datagram) {
-            Some(timed) => self.take_within(second_of(now), timed.link, timed.moment, timed.packet),
-            None => self.refuse(),
-        }
+        let Some(arrival) = read else {
+            return self.refuse();
+        };
+        let limiter = limiter_of(&self.counters, arrival.link);
+        let arrival = trimmed_by(&self.concentrator, limiter.limits.payload, arrival);
+        let second = second_of(now);
+        self.take_within(&limiter, second, arrival)
     }
 
     /// Takes a datagram as `take` does, but refuses one that would begin a call: whose packet bears a CID
     /// that has no record. Calls that stand go on.
-    pub fn take_known<'a>(&mut self, moment: u64, datagram: &'a [u8]) -> Taken<'a>
-        ensures { (calls : List Turn) × TakesKnown self.old self.new (second_of moment) (dated moment datagram.entry.now) (told_of result) calls }
+    pub fn take_known<'a>(&mut self, now: u64, read: Option<Timed<'a>>) -> Taken<'a>
+        ensures { (calls : List Turn) × TakesKnown self.old self.new (second_of now) (option_map plain_timed read.entry)
+            (told_of result) calls }
     {
-        match named_link(datagram) {
-            Some((link, packet)) => {
-                self.take_known_packet(second_of(moment), link, moment, packet)
-            }
-            None => self.refuse(),
-        }
-    }
-
-    /// Takes a timed datagram as `take_timed` does, but refuses one that would begin a call.
-    pub fn take_timed_known<'a>(&mut self, now: u64, datagram: &'a [u8]) -> Taken<'a>
-        ensures { (calls : List Turn) × TakesKnown self.old self.new (second_of now) (timed_in datagram.entry.now) (told_of result) calls }
-    {
-        match timed_datagram(datagram) {
-            Some(timed) => {
-                self.take_known_packet(second_of(now), timed.link, timed.moment, timed.packet)
-            }
-            None => self.refuse(),
-        }
-    }
-
-    /// The call of a datagram: the link that it names, and the CID that its packet bears there; `None` if it bears none.
-    pub fn call_of(&self, datagram: &[u8]) -> Option<(u16, u16)>
-        ensures { result ≡ call_in self.now.concentrator (named_link datagram.now) (datagram_packet datagram.now) }
-    {
-        match named_link(datagram) {
-            Some((link, packet)) => call_on(&self.concentrator, link, packet),
-            None => None,
-        }
-    }
-
-    /// The call of a timed datagram, likewise.
-    pub fn timed_call_of(&self, datagram: &[u8]) -> Option<(u16, u16)>
-        ensures { result ≡ timed_call_in self.now.concentrator (timed_in datagram.now) }
-    {
-        match timed_datagram(datagram) {
-            Some(timed) => call_on(&self.concentrator, timed.link, timed.packet),
-            None => None,
+        let Some(arrival) = read else {
+            return self.refuse();
+        };
+        let limiter = limiter_of(&self.counters, arrival.link);
+        let arrival = trimmed_by(&self.concentrator, limiter.limits.payload, arrival);
+        if begins_call(&self.concentrator, arrival.link, arrival.packet) {
+            self.refuse()
+        } else {
+            self.take_within(&limiter, second_of(now), arrival)
         }
     }
 }

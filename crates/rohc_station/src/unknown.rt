@@ -27,7 +27,7 @@ pub(crate) fn copied(list: &ArrayVec<UnknownCid, 64>) -> ArrayVec<UnknownCid, 64
 }
 
 /// Whether a packet was refused since its CID has no context.
-fn is_no_context(refusal: Option<Refusal>) -> bool
+pub(crate) fn is_no_context(refusal: Option<Refusal>) -> bool
     ensures { result ≡ is_no_context refusal }
 {
     refusal == Some(Refusal::NoContext)

@@ -8,4 +8,6 @@ mod examples;
 #[cfg(test)]
 mod saved;
 #[cfg(test)]
+mod service;
+#[cfg(test)]
 mod station;

@@ -5,9 +5,10 @@ use rohc_concentrator::Concentrator;
 use rohc_context::Refusal;
 use rohc_links::{Links, read_links};
 use rohc_saved::restore;
+use rohc_serve::{Front, PacketBuffer};
 use rohc_station::{
-    Asked, CallCounts, CallList, Form, GatewayFigures, LinkName, Page, ReloadReport, Request,
-    RequestFault, Station, read_request, timed_datagram, write_calls, write_calls_text,
+    Asked, CallCounts, CallList, Duty, Form, GatewayFigures, LinkName, Page, ReloadReport, Request,
+    RequestFault, Station, arrival_in, read_request, timed_datagram, write_calls, write_calls_text,
     write_contexts, write_metrics, write_page,
 };
 use std::alloc::Global;
@@ -42,7 +43,7 @@ fn many_links(rt: &(impl AllocGlobal + Abort), first: u16) -> Links {
 }
 
 // A station with these two links.
-fn station(rt: &(impl AllocGlobal + Abort), first: u16, second: u16) -> Station {
+pub(crate) fn station(rt: &(impl AllocGlobal + Abort), first: u16, second: u16) -> Station {
     let links = links(rt, first, second);
     let concentrator = Concentrator::new(rt.alloc(), links.settings()).expect(rt, "no memory");
     Station::new(rt.alloc(), concentrator, links).expect(rt, "no memory")
@@ -121,6 +122,52 @@ fn list(station: &Station, has_timed: bool) -> CallList<'_> {
     }
 }
 
+// A front that keeps what is sent to it, as ports and octets.
+#[derive(Drop)]
+struct Kept {
+    ports: Vec<u16>,
+    octets: Vec<u8>,
+    fails: bool,
+}
+
+impl Front for Kept {
+    fn receive(&mut self, _buffer: &mut [u8]) -> Option<(usize, u64)> {
+        None
+    }
+
+    fn send(&mut self, port: u16, octets: &[u8]) -> bool {
+        let is_kept = self.ports.push(port).is_ok()
+            && self.octets.extend_from_slice(octets).is_ok();
+        is_kept && !self.fails
+    }
+}
+
+// Example *whole IR* on link 4: the packet, a header of 40 octets and `ab`, and then feedback behind the number of the link.
+#[test]
+fn answers_over_a_front(rt: HostRuntime) {
+    let mut station = station(&rt, 4, 5);
+    let mut buffer = PacketBuffer::new(rt.alloc()).expect(&rt, "no memory");
+    let mut front = Kept {
+        ports: Vec::new(rt.alloc()),
+        octets: Vec::new(rt.alloc()),
+        fails: true,
+    };
+    let duty = Duty {
+        is_draining: false,
+        is_numbered: true,
+    };
+    let read = arrival_in(false, 1000, DATAGRAM);
+    let taken = station.answer(&mut front, &mut buffer, duty, 1000, read);
+    assert!(rt; taken.sends.packet.is_some());
+    assert!(rt; front.ports.as_slice() == [6001, 6002].as_slice());
+    assert!(rt; front.octets.as_slice().get(40..43) == Some([0xab, 0, 4].as_slice()));
+    let failed = match station.counters().get(&4) {
+        Some(counts) => counts.failed_sends,
+        None => 0,
+    };
+    assert!(rt; failed == 2);
+}
+
 // The memory of a call's counts, as docs/OPERATING.md and `rohctl plan --calls` have it.
 #[test]
 fn counts_are_small(rt: HostRuntime) {
@@ -130,7 +177,7 @@ fn counts_are_small(rt: HostRuntime) {
 #[test]
 fn takes_and_reloads(rt: HostRuntime) {
     let mut station = station(&rt, 4, 5);
-    let taken = station.take(1000, DATAGRAM);
+    let taken = station.take(1000, arrival_in(false, 1000, DATAGRAM));
     let sends = taken.sends;
     assert!(rt; sends.ports.is_some() && sends.packet.is_some() && sends.feedback.is_some());
     assert!(rt; taken.refusal.is_none());
@@ -145,10 +192,40 @@ fn takes_and_reloads(rt: HostRuntime) {
     };
     assert!(rt; report == wanted);
     assert!(rt; station.concentrator().has_context(4, 0));
-    assert!(rt; station.take(1000, &[0, 5, 1]).refusal == Some(Refusal::NoLink));
+    assert!(rt;
+        station
+            .take(1000, arrival_in(false, 1000, &[0, 5, 1]))
+            .refusal
+            == Some(Refusal::NoLink)
+    );
     assert!(rt; station.totals().datagrams == 2 && station.totals().bad_datagrams == 1);
-    assert!(rt; station.take_known(1000, &[0, 6, 0xfd, 0x01]).sends.refused);
+    assert!(rt;
+        station
+            .take_known(1000, arrival_in(false, 1000, &[0, 6, 0xfd, 0x01]))
+            .sends
+            .refused
+    );
     assert!(rt; station.reset(4, Some(0)).expect(&rt, "it works") == 1);
+}
+
+#[test]
+fn foresees_a_reload(rt: HostRuntime) {
+    let mut station = station(&rt, 4, 5);
+    let _ = station.take(1000, arrival_in(false, 1000, DATAGRAM));
+    let next = links(&rt, 5, 6);
+    let preview = station.preview(rt.alloc(), &next).expect(&rt, "it works");
+    assert!(rt; preview.added.as_slice() == [6].as_slice());
+    assert!(rt; preview.changed.is_empty());
+    assert!(rt; preview.removed.len() == 1);
+    assert!(rt; preview.removed[0].link == 4 && preview.removed[0].contexts == 1);
+    let report = station.reload(rt.alloc(), next).expect(&rt, "it works");
+    let wanted = ReloadReport {
+        added: 1,
+        changed: 0,
+        removed: 1,
+        contexts_gone: 1,
+    };
+    assert!(rt; report == wanted);
 }
 
 #[test]
@@ -172,7 +249,7 @@ fn replaces_as_many_links_as_there_may_be(rt: HostRuntime) {
 #[test]
 fn saves_and_writes(rt: HostRuntime) {
     let mut station = station(&rt, 4, 5);
-    let _ = station.take(1000, DATAGRAM);
+    let _ = station.take(1000, arrival_in(false, 1000, DATAGRAM));
     let mut saved = Vec::new(rt.alloc());
     station.save(2000, &mut saved).expect(&rt, "it works");
     let (concentrator, told) = restore(
@@ -221,9 +298,9 @@ fn saves_and_writes(rt: HostRuntime) {
 #[test]
 fn lists_calls_for_people(rt: HostRuntime) {
     let mut station = station(&rt, 4, 5);
-    let _ = station.take(1000, DATAGRAM);
-    let _ = station.take(1500, &[0, 4, 0x01]);
-    let _ = station.take(2000, &[0, 5, 0x00]);
+    let _ = station.take(1000, arrival_in(false, 1000, DATAGRAM));
+    let _ = station.take(1500, arrival_in(false, 1500, &[0, 4, 0x01]));
+    let _ = station.take(2000, arrival_in(false, 2000, &[0, 5, 0x00]));
     let unknown = "  5/0         CID without a context; packets refused: 1 NoContext\n";
     for (has_timed, only, first, last, more) in [
         (
@@ -258,8 +335,8 @@ fn lists_calls_for_people(rt: HostRuntime) {
 #[test]
 fn shows_a_page(rt: HostRuntime) {
     let mut station = station(&rt, 4, 5);
-    let _ = station.take(1000, DATAGRAM);
-    let _ = station.take(2000, &[0, 5, 0x00]);
+    let _ = station.take(1000, arrival_in(false, 1000, DATAGRAM));
+    let _ = station.take(2000, arrival_in(false, 2000, &[0, 5, 0x00]));
     let figures = GatewayFigures {
         has_state: true,
         ..GatewayFigures::default()

@@ -6,7 +6,7 @@ pub returns : goal.returns
 returns c =
     let event = c.arrive_into.ensures.event in
     let report = event.0 in (
-      arrival c.args.link c.args.moment c.args.packet.now report ∷ [],
+      arrival c.args.arrival.link c.args.arrival.moment c.args.arrival.packet.now report ∷ [],
       record {
         report = report;
         these = refl;
