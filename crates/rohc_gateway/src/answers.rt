@@ -1,6 +1,6 @@
 //! Answers over HTTP/1.1 (RFC 9112).
 
-use rohc_station::{ReloadReport, RequestFault};
+use rohc_station::{Loss, Preview, ReloadReport, RequestFault};
 use rohc_text::write_json_text;
 use std::alloc::{AllocError, Global};
 use std::io;
@@ -55,6 +55,23 @@ fn phrase(status: u16) -> &'static str {
         413 => "Content Too Large",
         _ => "Internal Server Error",
     }
+}
+
+/// Writes a member of an object that has links with the number of contexts that each would lose. Returns their sum.
+fn write_losses<W: Write>(out: &mut W, name: &str, losses: &[Loss]) -> io::Result<u64> {
+    write!(out, ",\"{name}\":[")?;
+    let mut gone = 0u64;
+    for (place, loss) in losses.iter().enumerate() {
+        let comma = if place == 0 { "" } else { "," };
+        let Loss { link, contexts } = *loss;
+        write!(
+            out,
+            "{comma}{{\"link\":{link},\"contexts_gone\":{contexts}}}"
+        )?;
+        gone = gone.saturating_add(contexts);
+    }
+    write!(out, "]")?;
+    Ok(gone)
 }
 
 /// An answer: its status and its body.
@@ -132,6 +149,26 @@ impl Reply {
             report.added, report.changed, report.removed, report.contexts_gone
         );
         Reply::object(200, text)
+    }
+
+    /// What a reload would do.
+    pub(crate) fn previewed(alloc: Global, preview: &Preview) -> io::Result<Reply> {
+        let mut body = Vec::new(alloc);
+        write!(&mut body, "{{\"added\":[")?;
+        for (place, link) in preview.added.iter().enumerate() {
+            let comma = if place == 0 { "" } else { "," };
+            write!(&mut body, "{comma}{link}")?;
+        }
+        write!(&mut body, "]")?;
+        let changed = write_losses(&mut body, "changed", preview.changed.as_slice())?;
+        let removed = write_losses(&mut body, "removed", preview.removed.as_slice())?;
+        let gone = changed.saturating_add(removed);
+        writeln!(&mut body, ",\"contexts_gone\":{gone}}}")?;
+        Ok(Reply {
+            status: 200,
+            kind: Kind::Object,
+            body,
+        })
     }
 
     /// The octets to be sent; `is_head` leaves out the body.

@@ -1,9 +1,10 @@
 //! A connection: one request, and its answer.
 
 use crate::answers::Reply;
+use crate::stream::{Flow, HEAD};
 use mio::net::{TcpStream, UnixStream};
 use mio::{Interest, Poll, Token};
-use rohc_station::{Asked, RequestFault, is_head, read_request};
+use rohc_station::{Asked, Request, RequestFault, body_in, is_head, read_request};
 use std::alloc::Global;
 use std::io;
 use std::io::{ErrorKind, Read, Write};
@@ -11,8 +12,20 @@ use std::io::{ErrorKind, Read, Write};
 /// The longest head of a request, in octets.
 const LONGEST_HEAD: usize = 8_192;
 
+/// The longest body of a request, in octets: what is saved of 16,384 contexts takes less.
+const LONGEST_BODY: u32 = 2_097_152;
+
+/// How many reads of 1,024 octets bring the longest head and body.
+const MOST_READS: u32 = 4_096;
+
 /// How long a connection may take, in milliseconds.
 const LONGEST_TIME: u64 = 10_000;
+
+/// How many pieces of a stream are written before datagrams are looked at again.
+const MOST_PIECES: u32 = 16;
+
+/// How long a reader may take for what waits at the end of a stream, in milliseconds.
+const LAST_WAIT: u64 = 60_000;
 
 /// A stream to a peer.
 #[derive(Drop)]
@@ -65,6 +78,8 @@ pub(crate) enum Progress {
     Waits,
     /// It asks for something.
     Asks(Asked),
+    /// More can be written at once.
+    Goes,
     /// It has ended.
     Ended,
 }
@@ -73,9 +88,16 @@ pub(crate) enum Progress {
 #[derive(Drop)]
 pub(crate) struct Connection {
     stream: Stream,
+    /// What has come of the request: its head, and its body if it has one.
     head: Vec<u8>,
+    /// The request whose body isn't whole yet, if there is such a one.
+    unfinished: Option<Request>,
+    /// Where the body begins and ends.
+    body: (usize, usize),
     answer: Option<Vec<u8>>,
     sent: usize,
+    /// What is streamed in place of an answer.
+    pub(crate) flow: Option<Flow>,
     end: u64,
 }
 
@@ -85,8 +107,11 @@ impl Connection {
         Connection {
             stream,
             head: Vec::new(alloc),
+            unfinished: None,
+            body: (0, 0),
             answer: None,
             sent: 0,
+            flow: None,
             end: moment.saturating_add(LONGEST_TIME),
         }
     }
@@ -103,7 +128,9 @@ impl Connection {
 
     /// Goes on: reads the request, or writes the rest of the answer.
     pub(crate) fn go_on(&mut self) -> Progress {
-        if self.answer.is_some() {
+        if self.flow.is_some() {
+            self.read_end()
+        } else if self.answer.is_some() {
             self.write_rest()
         } else {
             self.read_more()
@@ -115,17 +142,54 @@ impl Connection {
         if self.head.extend_from_slice(octets).is_err() {
             return Progress::Ended;
         }
+        if self.unfinished.is_some() {
+            return self.take_body();
+        }
         match read_request(self.head.as_slice()) {
+            Asked::Whole(request @ Request::Import { .. }) if self.is_control() => {
+                self.begin_body(request)
+            }
             Asked::Unfinished if self.head.len() < LONGEST_HEAD => Progress::Waits,
             Asked::Unfinished => Progress::Asks(Asked::Faulty(RequestFault::TooLarge)),
             asked => Progress::Asks(asked),
         }
     }
 
+    /// Waits for the body of a request.
+    fn begin_body(&mut self, request: Request) -> Progress {
+        match body_in(self.head.as_slice()) {
+            Some(body) if body.size <= LONGEST_BODY => {
+                self.body = (body.start, body.start.saturating_add(body.size as usize));
+                self.unfinished = Some(request);
+                self.take_body()
+            }
+            Some(_) => Progress::Asks(Asked::Faulty(RequestFault::TooLarge)),
+            None => Progress::Asks(Asked::Faulty(RequestFault::BadRequest)),
+        }
+    }
+
+    /// Returns the request whose body was awaited, once all of the body is here.
+    fn take_body(&mut self) -> Progress {
+        let (_, end) = self.body;
+        match self.unfinished {
+            Some(request) if end <= self.head.len() => {
+                self.unfinished = None;
+                Progress::Asks(Asked::Whole(request))
+            }
+            _ => Progress::Waits,
+        }
+    }
+
+    /// The body of the request, as far as it has come.
+    pub(crate) fn body(&self) -> &[u8] {
+        let (start, end) = self.body;
+        self.head.get(start..end).unwrap_or(&[])
+    }
+
     /// Reads what has come, and tells what it asks for.
     fn read_more(&mut self) -> Progress {
         let mut buffer = [0u8; 1024];
-        for _ in 0..16u8 {
+        for _ in 0..MOST_READS {
             let size = match self.stream.read(&mut buffer) {
                 Ok(0) => return Progress::Ended,
                 Ok(size) => size,
@@ -138,6 +202,60 @@ impl Connection {
             }
         }
         Progress::Ended
+    }
+
+    /// Looks whether the reader of a stream has ended the connection.
+    fn read_end(&mut self) -> Progress {
+        let mut buffer = [0u8; 1024];
+        for _ in 0..16u8 {
+            match self.stream.read(&mut buffer) {
+                Ok(0) => return Progress::Ended,
+                Ok(_) => {}
+                Err(e) if e.kind() == ErrorKind::WouldBlock => return Progress::Waits,
+                Err(_) => return Progress::Ended,
+            }
+        }
+        Progress::Ended
+    }
+
+    /// Streams from now on, until a moment at which the connection ends whatever waits. HEAD only gets the head.
+    pub(crate) fn begin_flow(&mut self, alloc: Global, flow: Flow, end: u64) -> Progress {
+        if !is_head(self.head.as_slice()) {
+            self.flow = Some(flow);
+            self.end = end.saturating_add(LAST_WAIT);
+            return self.pour();
+        }
+        match Vec::from_slice(alloc, HEAD) {
+            Ok(head) => {
+                self.answer = Some(head);
+                self.write_rest()
+            }
+            Err(_) => Progress::Ended,
+        }
+    }
+
+    /// Writes to the stream until its reader takes no more, or until 16 pieces are written.
+    pub(crate) fn pour(&mut self) -> Progress {
+        let Some(flow) = &mut self.flow else {
+            return Progress::Waits;
+        };
+        for _ in 0..MOST_PIECES {
+            let next = flow.next();
+            if next.is_empty() {
+                return if flow.is_over() {
+                    Progress::Ended
+                } else {
+                    Progress::Waits
+                };
+            }
+            match self.stream.write(next) {
+                Ok(0) => return Progress::Ended,
+                Ok(size) => flow.wrote(size),
+                Err(e) if e.kind() == ErrorKind::WouldBlock => return Progress::Waits,
+                Err(_) => return Progress::Ended,
+            }
+        }
+        Progress::Goes
     }
 
     /// Writes as much of the answer as the peer takes now.

@@ -1,48 +1,35 @@
 //! A gateway: a station behind its sockets.
 
 use crate::answers::{Kind, MOST_FAULTS, REFUSED, Reply};
-use crate::clock::Moments;
 use crate::connection::{Connection, Progress};
-use crate::files::{Unwritten, replace_file};
+use crate::front::SocketFront;
 use crate::lines::Lines;
 use crate::links_file::{NoLinks, read_links_file};
+use crate::moving::{Awaited, awaits, forget, waits, write_moves};
 use crate::names::{
     Shown, limits_of, name_of, read_notes, write_link_info, write_names, write_unknown_links,
 };
-use crate::sending::send_all;
+use crate::real::{RealClock, RealDisk};
 use crate::sockets::MOST_CONNECTIONS;
-use crate::watch::{LONGEST, MOST_PACKETS, Watch};
+use crate::streams::Viewers;
 use mio::net::UdpSocket;
 use rohc_concentrator::NoLink;
 use rohc_gateway_file::{Build, Config, Level, LinkNote, Log, Options, VERSION, civil_at};
+use rohc_loop::{Moments, Unwritten, replace_file};
 use rohc_station::{
-    Asked, CallList, Form, GatewayFigures, LinkName, Page, ReloadFault, ReloadReport, Request,
-    RequestFault, Station, name_link, write_calls, write_calls_text, write_contexts, write_metrics,
-    write_page, write_top,
+    Asked, CallList, Duty, Form, GatewayFigures, LinkName, Page, Port, Preview, ReloadFault,
+    ReloadReport, Request, RequestFault, Service, Wish, write_calls, write_calls_text,
+    write_contexts, write_metrics, write_page, write_top,
 };
 use std::alloc::{AllocError, Global};
 use std::fmt::Display;
 use std::io;
-use std::io::{ErrorKind, Write};
+use std::io::Write;
 use std::rt::Files;
 use std::time::Clock;
 
-/// The most datagrams that are taken from a socket before connections are looked at.
-const BATCH: u32 = 256;
-
 /// What follows when a save fails.
 const UNSAVED: &str = "the gateway continues, and the file of the last save stays";
-
-/// Where datagrams come in.
-#[derive(Clone, Copy)]
-pub(crate) enum Port {
-    /// At the port for datagrams of all links.
-    Plain,
-    /// At the port for timed datagrams of all links.
-    Timed,
-    /// At the port of this link, without its number.
-    Link(u16),
-}
 
 /// Writes the members of an object that have a time in milliseconds since 1970, as a number and as a text. The time 0 is
 /// none.
@@ -72,19 +59,17 @@ pub(crate) struct Gateway<'a> {
     pub(crate) frame: Frame<'a>,
     /// What the gateway file says of links.
     pub(crate) notes: Vec<LinkNote>,
-    pub(crate) station: Station,
+    pub(crate) service: Service,
     pub(crate) figures: GatewayFigures,
     pub(crate) moments: Moments,
     /// When the contexts are to be saved next.
     pub(crate) next_save: u64,
-    /// The call that is watched, if one is.
-    pub(crate) watch: Option<Watch>,
+    /// The request to move a link that waits.
+    pub(crate) awaited: Option<Awaited>,
+    /// What the streams want to see.
+    pub(crate) wish: Wish,
     /// Whether it was told to stop.
     pub(crate) is_stopped: bool,
-    /// A buffer for a datagram.
-    pub(crate) datagram: Vec<u8>,
-    /// A buffer for a packet to be sent.
-    pub(crate) packet: Vec<u8>,
     /// The connections, by their tokens.
     pub(crate) connections: Vec<Option<Connection>>,
 }
@@ -124,6 +109,21 @@ impl Gateway<'_> {
         self.frame.log.say(rt, Level::Info, text);
     }
 
+    /// Logs what became of a link.
+    pub(crate) fn note_link<R: Clock + Eprint + AllocGlobal, D: Display + Drop>(
+        &self,
+        rt: &R,
+        level: Level,
+        link: u16,
+        text: D,
+    ) {
+        let name = name_of(self.notes.as_slice(), link);
+        let shown = Shown { link, name };
+        self.frame
+            .log
+            .say(rt, level, format_args!("{shown} {text}"));
+    }
+
     /// Refuses a file at a reload, and says why.
     fn refuse_file<R: Clock + Eprint + AllocGlobal>(
         &self,
@@ -138,7 +138,7 @@ impl Gateway<'_> {
     /// Logs which tables of the gateway file name no link.
     pub(crate) fn log_unknown_links<R: Clock + Eprint + AllocGlobal>(&self, rt: &R) {
         let mut lines = Lines::new(rt.alloc());
-        let (file, concentrator) = (self.frame.file, self.station.concentrator());
+        let (file, concentrator) = (self.frame.file, self.service.station.concentrator());
         // Without memory for all lines those are logged that are whole.
         let _ = write_unknown_links(&mut lines, file, self.notes.as_slice(), concentrator);
         for line in lines.as_str().lines() {
@@ -161,90 +161,32 @@ impl Gateway<'_> {
         Reply::fault(rt.alloc(), 500, "NoMemory", text)
     }
 
-    /// Receives a datagram into the buffer. One at the port of a link becomes one that names the link.
-    fn receive(&mut self, socket: &UdpSocket, port: Port) -> io::Result<usize> {
-        let start: usize = match port {
-            Port::Plain | Port::Timed => 0,
-            Port::Link(_) => 2,
-        };
-        let Some(room) = self.datagram.as_mut_slice().get_mut(start..) else {
-            return Err(io::Error::from(ErrorKind::OutOfMemory));
-        };
-        let (size, _) = socket.recv_from(room)?;
-        if let Port::Link(link) = port {
-            name_link(self.datagram.as_mut_slice(), link);
+    /// How datagrams are answered now.
+    pub(crate) fn duty(&self) -> Duty {
+        Duty {
+            is_draining: self.figures.draining,
+            is_numbered: self.frame.config.numbered_feedback,
         }
-        Ok(size.saturating_add(start))
     }
 
-    /// Takes datagrams from a socket until none waits, but at most so many. Returns whether more may wait.
-    pub(crate) fn take_datagrams<R: Clock + Eprint + AllocGlobal>(
-        &mut self,
-        rt: &R,
-        socket: &UdpSocket,
-        port: Port,
-    ) -> bool {
-        let is_timed = match port {
-            Port::Timed => true,
-            Port::Plain | Port::Link(_) => false,
+    /// Serves the datagrams that wait at a socket, but at most so many. Returns whether more may wait.
+    pub(crate) fn serve<R: Clock>(&mut self, rt: &R, socket: &UdpSocket, port: Port) -> bool {
+        let duty = self.duty();
+        let mut front = SocketFront::new(rt, Some(socket), &mut self.moments);
+        let mut viewers = Viewers {
+            connections: self.connections.as_mut_slice(),
+            wish: self.wish,
         };
-        for _ in 0..BATCH {
-            match self.receive(socket, port) {
-                Ok(size) => self.take_datagram(rt, socket, is_timed, size),
-                Err(e) if e.kind() == ErrorKind::WouldBlock => return false,
-                Err(_) => {
-                    self.figures.failed_receives = self.figures.failed_receives.saturating_add(1);
-                }
-            }
-        }
-        true
-    }
-
-    /// Takes the datagram of this size that was received, and sends what is due.
-    #[inline(always)]
-    fn take_datagram<R: Clock + Eprint + AllocGlobal>(
-        &mut self,
-        rt: &R,
-        socket: &UdpSocket,
-        is_timed: bool,
-        size: usize,
-    ) {
-        let octets = self.datagram.get(..size).unwrap_or(&[]);
-        let is_watched = match &self.watch {
-            Some(watch) if is_timed => watch.sees(self.station.timed_call_of(octets)),
-            Some(watch) => watch.sees(self.station.call_of(octets)),
-            None => false,
-        };
-        let now = self.moments.now(rt);
-        let taken = match (is_timed, self.figures.draining) {
-            (true, false) => self.station.take_timed(now, octets),
-            (true, true) => self.station.take_timed_known(now, octets),
-            (false, false) => self.station.take(now, octets),
-            (false, true) => self.station.take_known(now, octets),
-        };
-        if is_watched && let Some(watch) = &mut self.watch {
-            let name = name_of(self.notes.as_slice(), watch.link());
-            let head: usize = if is_timed { 10 } else { 2 };
-            watch.log(
-                rt,
-                self.frame.log,
-                name,
-                octets.len().saturating_sub(head),
-                &taken,
-            );
-        }
-        let is_numbered = self.frame.config.numbered_feedback;
-        let buffer = self.packet.as_mut_slice();
-        let failed = send_all(socket, buffer, is_numbered, octets, &taken.sends);
-        if failed > 0 {
-            self.station.add_failed_sends(octets, failed);
-        }
+        let left = self.service.serve(&mut front, &mut viewers, duty, port);
+        let failed = self.figures.failed_receives;
+        self.figures.failed_receives = failed.saturating_add(front.failed);
+        left
     }
 
     /// The contexts as they are saved at this moment.
-    fn state(&self, alloc: Global, moment: u64) -> Result<Vec<u8>, Unwritten> {
+    pub(crate) fn state(&self, alloc: Global, moment: u64) -> Result<Vec<u8>, Unwritten> {
         let mut octets = Vec::new(alloc);
-        match self.station.save(moment, &mut octets) {
+        match self.service.station.save(moment, &mut octets) {
             Ok(_) => Ok(octets),
             Err(_) => Err(Unwritten::Memory),
         }
@@ -258,9 +200,15 @@ impl Gateway<'_> {
         let Some(path) = &self.frame.config.state else {
             return Ok(None);
         };
-        let moment = self.moments.now(rt);
+        let moment = self.moments.now(&mut RealClock::of(rt));
         let saved = match self.state(rt.alloc(), moment) {
-            Ok(octets) => replace_file(rt, path.as_str(), octets.as_slice()).map(|_| octets.len()),
+            Ok(octets) => replace_file(
+                &mut RealDisk::of(rt),
+                rt.alloc(),
+                path.as_str(),
+                octets.as_slice(),
+            )
+            .map(|_| octets.len()),
             Err(unwritten) => Err(unwritten),
         };
         match saved {
@@ -323,6 +271,7 @@ impl Gateway<'_> {
             Ok(report) => {
                 self.notes = notes;
                 self.set_limits();
+                self.end_records(rt.alloc(), "reload");
                 self.log_reloaded(rt, &report);
                 Reply::reloaded(rt.alloc(), &report)
             }
@@ -336,11 +285,12 @@ impl Gateway<'_> {
 
     /// Gives each link the limits of its table in the gateway file, or none.
     pub(crate) fn set_limits(&mut self) {
-        for place in 0..self.station.counters().len() {
-            if let Some((link, _)) = self.station.counters().get_index(place) {
+        let service = &mut self.service;
+        for place in 0..service.station.counters().len() {
+            if let Some((link, _)) = service.station.counters().get_index(place) {
                 let link = *link;
-                self.station
-                    .set_limits(link, limits_of(self.notes.as_slice(), link));
+                let limits = limits_of(self.notes.as_slice(), link);
+                service.station.set_limits(link, limits);
             }
         }
     }
@@ -363,12 +313,48 @@ impl Gateway<'_> {
     ) -> Result<ReloadReport, NoLinks> {
         let alloc = rt.alloc();
         let (text, links) = read_links_file(rt, path)?;
-        match self.station.reload(alloc, links) {
+        self.note_withheld();
+        let service = &mut self.service;
+        match service.station.reload(alloc, links) {
             Ok(report) => Ok(report),
             Err(ReloadFault::Settings(fault)) => {
                 Err(NoLinks::refused(alloc, path, text.as_str(), fault.name()))
             }
             Err(ReloadFault::NoMemory) => Err(NoLinks::Memory),
+        }
+    }
+
+    /// What the station would do with the links of the file at this path.
+    fn preview_of<R: Files + AllocGlobal>(&self, rt: &R, path: &str) -> Result<Preview, NoLinks> {
+        let alloc = rt.alloc();
+        let (text, links) = read_links_file(rt, path)?;
+        match self.service.station.preview(alloc, &links) {
+            Ok(preview) => Ok(preview),
+            Err(ReloadFault::Settings(fault)) => {
+                Err(NoLinks::refused(alloc, path, text.as_str(), fault.name()))
+            }
+            Err(ReloadFault::NoMemory) => Err(NoLinks::Memory),
+        }
+    }
+
+    /// Shows what a reload would do. Neither file changes anything.
+    fn preview<R: Files + AllocGlobal>(&self, rt: &R) -> io::Result<Reply> {
+        let alloc = rt.alloc();
+        let Frame { file, options, .. } = self.frame;
+        let links = match &self.frame.config.links {
+            Some(path) => path.as_str(),
+            None => "",
+        };
+        let (path, found) = match read_notes(rt, file, &options) {
+            Ok(_) => (links, self.preview_of(rt, links)),
+            Err(fault) => (file, Err(fault)),
+        };
+        match found {
+            Ok(preview) => Reply::previewed(alloc, &preview),
+            Err(NoLinks::Refused(name, lines)) => {
+                Reply::links_refused(alloc, name, path, lines.as_str())
+            }
+            Err(NoLinks::Memory) => Reply::fault(alloc, 500, "NoMemory", "out of memory"),
         }
     }
 
@@ -388,6 +374,9 @@ impl Gateway<'_> {
             }
         };
         self.is_stopped = stops;
+        if stops {
+            self.end_records(alloc, "stop");
+        }
         let text = match (saved, stops) {
             (Some(octets), true) => {
                 format!(in alloc; "{{\"stopped\":true,\"saved\":{octets}}}\n")
@@ -405,8 +394,12 @@ impl Gateway<'_> {
     /// Forgets the records of a link, or that of one CID.
     fn reset<R: AllocGlobal>(&mut self, rt: &R, link: u16, cid: Option<u16>) -> io::Result<Reply> {
         let alloc = rt.alloc();
-        match self.station.reset(link, cid) {
-            Ok(gone) => Reply::object(200, format!(in alloc; "{{\"gone\":{gone}}}\n")),
+        let service = &mut self.service;
+        match service.station.reset(link, cid) {
+            Ok(gone) => {
+                self.end_records(alloc, "reset");
+                Reply::object(200, format!(in alloc; "{{\"gone\":{gone}}}\n"))
+            }
             Err(NoLink) => Reply::no_link(alloc, link),
         }
     }
@@ -418,39 +411,10 @@ impl Gateway<'_> {
         Reply::object(200, format!(in rt.alloc(); "{{\"draining\":true}}\n"))
     }
 
-    /// Logs the packets of a call from now on, for a while.
-    fn watch_call<R: Clock + Eprint + AllocGlobal>(
-        &mut self,
-        rt: &R,
-        link: u16,
-        cid: u16,
-    ) -> io::Result<Reply> {
-        let alloc = rt.alloc();
-        if !self.has_link(link) {
-            return Reply::no_link(alloc, link);
-        }
-        self.watch = Some(Watch::new(link, cid, self.moments.now(rt)));
-        let name = name_of(self.notes.as_slice(), link);
-        let call = Shown { link, cid, name };
-        self.note(rt, format_args!("watch {call} begins"));
-        let text = format!(in alloc; "{{\"packets\":{MOST_PACKETS},\"milliseconds\":{LONGEST}}}\n");
-        Reply::object(200, text)
-    }
-
-    /// Ends the watch if it is over.
-    pub(crate) fn end_watch<R: Clock + Eprint + AllocGlobal>(&mut self, rt: &R, moment: u64) {
-        if let Some(watch) = &self.watch
-            && watch.is_over(moment)
-        {
-            self.watch = None;
-            self.note(rt, "watch ends");
-        }
-    }
-
     /// How many contexts there are.
     fn context_count(&self) -> u64 {
         let mut contexts = 0u64;
-        for (_, records) in self.station.concentrator().tables() {
+        for (_, records) in self.service.station.concentrator().tables() {
             contexts = contexts.saturating_add(records.contexts.len() as u64);
         }
         contexts
@@ -459,7 +423,7 @@ impl Gateway<'_> {
     /// Writes what the limits of all links did.
     fn write_limited<W: Write>(&self, out: &mut W) -> io::Result<()> {
         let (mut contexts, mut feedback) = (0u64, 0u64);
-        for (_, of_link) in self.station.counters() {
+        for (_, of_link) in self.service.station.counters() {
             contexts = contexts.saturating_add(of_link.limiter.contexts_limited);
             feedback = feedback.saturating_add(of_link.limiter.feedback_limited);
         }
@@ -473,14 +437,16 @@ impl Gateway<'_> {
     fn write_status<W: Write>(&self, out: &mut W) -> io::Result<()> {
         write!(
             out,
-            "{{\"version\":\"{VERSION}\",\"links\":{},\"contexts\":{},\"draining\":{}",
-            self.station.concentrator().tables().len(),
+            "{{\"version\":\"{VERSION}\",\"links\":{},\"contexts\":{},\"draining\":{},\"streams\":{}",
+            self.service.station.concentrator().tables().len(),
             self.context_count(),
-            self.figures.draining
+            self.figures.draining,
+            self.stream_count()
         )?;
         write_time(out, "started", self.figures.started)?;
         write_time(out, "saved", self.figures.last_save)?;
         self.write_limited(out)?;
+        write_moves(out, &self.service.moves)?;
         let Build { sources, logic } = self.frame.build;
         write!(
             out,
@@ -502,8 +468,12 @@ impl Gateway<'_> {
     }
 
     /// Whether the links file has a link.
-    fn has_link(&self, link: u16) -> bool {
-        self.station.concentrator().tables().contains_key(&link)
+    pub(crate) fn has_link(&self, link: u16) -> bool {
+        self.service
+            .station
+            .concentrator()
+            .tables()
+            .contains_key(&link)
     }
 
     /// The contexts of a link, in the order of their first IRs.
@@ -513,7 +483,7 @@ impl Gateway<'_> {
             return Reply::no_link(alloc, link);
         }
         let mut body = Vec::new(alloc);
-        write_contexts(&mut body, &self.station, link)?;
+        write_contexts(&mut body, &self.service.station, link)?;
         Ok(Reply {
             status: 200,
             kind: Kind::Lines,
@@ -524,7 +494,7 @@ impl Gateway<'_> {
     /// The calls, as they are at this moment.
     fn call_list(&self, now: u64) -> CallList<'_> {
         CallList {
-            station: &self.station,
+            station: &self.service.station,
             now,
             has_timed: self.frame.config.timed_port.is_some(),
         }
@@ -543,7 +513,7 @@ impl Gateway<'_> {
         {
             return Reply::no_link(alloc, link);
         }
-        let now = self.moments.now(rt);
+        let now = self.moments.now(&mut RealClock::of(rt));
         let calls = self.call_list(now);
         let mut body = Vec::new(alloc);
         let kind = match form {
@@ -565,7 +535,7 @@ impl Gateway<'_> {
 
     /// Shows the contexts as a save would write them now.
     fn show_state<R: Clock + AllocGlobal>(&mut self, rt: &R) -> io::Result<Reply> {
-        let moment = self.moments.now(rt);
+        let moment = self.moments.now(&mut RealClock::of(rt));
         match self.state(rt.alloc(), moment) {
             Ok(body) => Ok(Reply {
                 status: 200,
@@ -582,8 +552,8 @@ impl Gateway<'_> {
     /// The metrics.
     fn metrics<R: AllocGlobal>(&self, rt: &R) -> io::Result<Reply> {
         let mut body = Vec::new(rt.alloc());
-        write_metrics(&mut body, &self.station, &self.figures, VERSION)?;
-        let concentrator = self.station.concentrator();
+        write_metrics(&mut body, &self.service.station, &self.figures, VERSION)?;
+        let concentrator = self.service.station.concentrator();
         write_link_info(&mut body, self.notes.as_slice(), concentrator)?;
         Ok(Reply {
             status: 200,
@@ -619,7 +589,7 @@ impl Gateway<'_> {
     /// The page for people.
     fn page<R: Clock + AllocGlobal>(&mut self, rt: &R) -> io::Result<Reply> {
         let alloc = rt.alloc();
-        let now = self.moments.now(rt);
+        let now = self.moments.now(&mut RealClock::of(rt));
         let names = self.link_names(alloc)?;
         let mut body = Vec::new(alloc);
         write_page(alloc, &mut body, &self.shown(names.as_slice(), now))?;
@@ -633,7 +603,7 @@ impl Gateway<'_> {
     /// The links and the worst calls of the page, as text.
     fn top<R: Clock + AllocGlobal>(&mut self, rt: &R) -> io::Result<Reply> {
         let alloc = rt.alloc();
-        let now = self.moments.now(rt);
+        let now = self.moments.now(&mut RealClock::of(rt));
         let names = self.link_names(alloc)?;
         let mut body = Vec::new(alloc);
         write_top(alloc, &mut body, &self.shown(names.as_slice(), now))?;
@@ -655,7 +625,10 @@ impl Gateway<'_> {
             Request::Reload => self.reload(rt),
             Request::Reset { link, cid } => self.reset(rt, link, cid),
             Request::Drain => self.drain(rt),
-            Request::Watch { link, cid } => self.watch_call(rt, link, cid),
+            Request::Hold { link, off: false } => self.hold(rt, link),
+            Request::Hold { link, off: true } => self.hold_off(rt, link),
+            Request::Export { link, .. } => self.export_off(rt, link),
+            Request::Import { link } => Reply::no_link(rt.alloc(), link),
             Request::Ready => Reply::object(200, format!(in rt.alloc(); "{{\"ready\":true}}\n")),
             Request::Status => self.status(rt),
             Request::Metrics => self.metrics(rt),
@@ -664,6 +637,10 @@ impl Gateway<'_> {
             Request::Top => self.top(rt),
             Request::Contexts { link } => self.contexts(rt, link),
             Request::Calls { link, form } => self.calls(rt, link, form),
+            Request::Follow { .. } | Request::Record { .. } => {
+                Reply::refused(rt.alloc(), RequestFault::NotFound)
+            }
+            Request::Preview => self.preview(rt),
         }
     }
 
@@ -689,11 +666,20 @@ impl Gateway<'_> {
     where
         R: Files + Clock + Eprint + AllocGlobal,
     {
+        if awaits(self.awaited, place) {
+            return;
+        }
         let Some(Some(connection)) = self.connections.get_mut(place) else {
             return;
         };
         let is_control = connection.is_control();
         let progress = match connection.go_on() {
+            Progress::Asks(Asked::Whole(request)) if is_control && waits(request) => {
+                self.await_datagrams(rt, place, request)
+            }
+            Progress::Asks(
+                Asked::Whole(request @ (Request::Follow { .. } | Request::Record { .. })),
+            ) if is_control => self.begin_stream(rt, place, request),
             Progress::Asks(asked) => match self.reply_to(rt, asked, is_control) {
                 Ok(reply) => self.send_answer(rt.alloc(), place, &reply),
                 Err(_) => Progress::Ended,
@@ -701,14 +687,20 @@ impl Gateway<'_> {
             progress => progress,
         };
         if let Progress::Ended = progress {
-            if let Some(slot) = self.connections.get_mut(place) {
-                *slot = None;
-            }
+            self.free(place);
+        }
+    }
+
+    /// Lets the connection at a place go, and forgets its request if it waits.
+    pub(crate) fn free(&mut self, place: usize) {
+        forget(&mut self.awaited, place);
+        if let Some(slot) = self.connections.get_mut(place) {
+            *slot = None;
         }
     }
 
     /// Sends the answer of the connection at a place.
-    fn send_answer(&mut self, alloc: Global, place: usize, reply: &Reply) -> Progress {
+    pub(crate) fn send_answer(&mut self, alloc: Global, place: usize, reply: &Reply) -> Progress {
         match self.connections.get_mut(place) {
             Some(Some(connection)) => connection.answer(alloc, reply),
             _ => Progress::Ended,
@@ -717,9 +709,10 @@ impl Gateway<'_> {
 
     /// Lets connections go that have taken too long.
     pub(crate) fn drop_late(&mut self, moment: u64) {
-        for slot in self.connections.iter_mut() {
+        for (place, slot) in self.connections.iter_mut().enumerate() {
             if let Some(connection) = slot {
                 if connection.is_late(moment) {
+                    forget(&mut self.awaited, place);
                     *slot = None;
                 }
             }

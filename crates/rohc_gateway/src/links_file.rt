@@ -1,9 +1,10 @@
 //! The links file: its links, or why they aren't accepted.
 
-use crate::files::read_text;
 use crate::lines::Lines;
+use crate::real::RealDisk;
 use rohc_faults::write_faults;
 use rohc_links::{Links, LinksFault, read_links};
+use rohc_loop::read_text;
 use rohc_text::Reason;
 use std::alloc::Global;
 use std::io;
@@ -41,7 +42,7 @@ impl NoLinks {
 
 /// The text of a links file.
 fn links_text<R: Files + AllocGlobal>(rt: &R, path: &str) -> Result<String, NoLinks> {
-    let reason = match read_text(rt, path) {
+    let reason = match read_text(&mut RealDisk::of(rt), rt.alloc(), path) {
         Ok(text) => return Ok(text),
         Err(Reason::Memory) => return Err(NoLinks::Memory),
         Err(reason) => reason,

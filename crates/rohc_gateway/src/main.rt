@@ -3,23 +3,25 @@
 
 mod answers;
 mod check;
-mod clock;
 mod connection;
-mod files;
+mod front;
 mod gateway;
 mod journal;
 mod lines;
 mod links_file;
+mod moving;
 mod names;
 mod outputs;
+mod real;
 mod run;
-mod sending;
 mod setup;
 mod sockets;
-mod watch;
+mod stream;
+mod streams;
 
-use crate::files::{folder_of, read_text};
+use crate::real::RealDisk;
 use rohc_gateway_file::{Build, Ending, Level, Log, LogFormat, Request, VERSION, read_request};
+use rohc_loop::{folder_of, read_text};
 use std::net::Net;
 use std::process::ExitCode;
 use std::rt::{Env, Files};
@@ -59,7 +61,7 @@ fn build_text<R: Files + AllocGlobal>(rt: &R) -> Option<String> {
     let program = env::current_exe(rt).ok()?;
     let folder = folder_of(program.as_str());
     let path = format!(in rt.alloc(); "{folder}/../share/polorowan/build").ok()?;
-    read_text(rt, path.as_str()).ok()
+    read_text(&mut RealDisk::of(rt), rt.alloc(), path.as_str()).ok()
 }
 
 fn main(rt: HostRuntime) -> ExitCode {

@@ -1,11 +1,12 @@
 //! What the gateway file says of links: their names and limits, and numbers that the links file doesn't have.
 
-use crate::files::read_text;
 use crate::lines::Lines;
 use crate::links_file::NoLinks;
+use crate::real::RealDisk;
 use crate::setup::A_FILE;
 use rohc_concentrator::Concentrator;
 use rohc_gateway_file::{LinkNote, Options, Reading, read_config, write_place};
+use rohc_loop::read_text;
 use rohc_station::LinkLimits;
 use rohc_text::{Reason, write_json_text};
 use std::alloc::Global;
@@ -61,7 +62,7 @@ fn notes_of<R: Files + AllocGlobal>(
     options: &Options<'_>,
     lines: &mut Lines,
 ) -> io::Result<Option<Vec<LinkNote>>> {
-    match read_text(rt, file) {
+    match read_text(&mut RealDisk::of(rt), rt.alloc(), file) {
         Ok(text) => notes_in(rt.alloc(), file, text.as_str(), options, lines),
         Err(Reason::Memory) => Err(no_memory()),
         Err(reason) => {
@@ -104,26 +105,26 @@ pub(crate) fn limits_of(notes: &[LinkNote], link: u16) -> LinkLimits {
             return LinkLimits {
                 new_contexts: note.new_contexts_per_second,
                 feedback: note.feedback_per_second,
+                payload: note.payload,
             };
         }
     }
     LinkLimits::none()
 }
 
-/// A call as the log shows it: the link, the CID, and the name of the link if it has one.
+/// A link as the log shows it: its number, and its name if it has one.
 #[derive(Clone, Copy)]
 pub(crate) struct Shown<'a> {
     pub(crate) link: u16,
-    pub(crate) cid: u16,
     pub(crate) name: Option<&'a str>,
 }
 
 impl fmt::Display for Shown<'_> {
     fn fmt<W: fmt::Write>(&self, f: &mut fmt::Formatter<W>) -> fmt::Result {
-        let Shown { link, cid, name } = *self;
+        let Shown { link, name } = *self;
         match name {
-            Some(name) => write!(f, "{link}/{cid} ({name})"),
-            None => write!(f, "{link}/{cid}"),
+            Some(name) => write!(f, "link {link} ({name})"),
+            None => write!(f, "link {link}"),
         }
     }
 }

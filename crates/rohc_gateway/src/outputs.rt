@@ -1,8 +1,8 @@
 //! What a gateway writes must be none of what it reads: the state file, the control socket, and the names beside them under
 //! which both are made first.
 
-use crate::files::folder_of;
 use rohc_gateway_file::{Config, Reading, write_place};
+use rohc_loop::folder_of;
 use std::alloc::{AllocError, Global};
 use std::io::Write;
 use std::os::unix::fs::{FileTypeExt, MetadataExt};

@@ -1,9 +1,9 @@
 //! `run`: from the gateway file to a stop.
 
-use crate::clock::Moments;
 use crate::connection::{Connection, Stream};
-use crate::gateway::{Frame, Gateway, Port};
+use crate::gateway::{Frame, Gateway};
 use crate::lines::Lines;
+use crate::real::RealClock;
 use crate::setup::{NoStart, Start, read_start};
 use crate::sockets::{
     CONTROL, LINKS, METRICS, MOST_CONNECTIONS, PLAIN, Sockets, TIMED, remove_control,
@@ -11,20 +11,15 @@ use crate::sockets::{
 use mio::net::{TcpListener, UnixListener};
 use mio::{Events, Poll, Token};
 use rohc_gateway_file::{Build, Config, Ending, Level, LinkNote, Log, Options};
+use rohc_loop::Moments;
 use rohc_saved::Restored;
-use rohc_station::{GatewayFigures, Station};
+use rohc_station::{GatewayFigures, Port, Service, Station, Wish};
 use rohc_text::Reason;
 use std::alloc::{AllocError, Global};
 use std::net::Net;
 use std::rt::Files;
 use std::time::{Clock, Duration};
 use std::{io, mem};
-
-/// The longest datagram, in octets: a link's number, a moment and a packet.
-const LONGEST_DATAGRAM: usize = 65_545;
-
-/// The longest packet that is sent, in octets.
-const LONGEST_PACKET: usize = 65_535;
 
 /// How many connections are accepted at a wake and socket.
 const MOST_ACCEPTED: u32 = 64;
@@ -37,21 +32,20 @@ struct Waiting {
     links: bool,
     control: bool,
     metrics: bool,
+    /// A reader of a stream takes more.
+    streams: bool,
 }
 
 impl Waiting {
+    /// Whether a datagram may wait.
+    fn is_datagram(self) -> bool {
+        self.plain || self.timed || self.links
+    }
+
     /// Whether something may wait anywhere.
     fn is_any(self) -> bool {
-        self.plain || self.timed || self.links || self.control || self.metrics
+        self.is_datagram() || self.control || self.metrics || self.streams
     }
-}
-
-/// What a gateway keeps for what comes and goes.
-#[derive(Drop)]
-struct Room {
-    datagram: Vec<u8>,
-    packet: Vec<u8>,
-    connections: Vec<Option<Connection>>,
 }
 
 /// The places of connections, of which there are none.
@@ -63,28 +57,17 @@ fn empty_places(alloc: Global) -> Result<Vec<Option<Connection>>, AllocError> {
     Ok(places)
 }
 
-impl Room {
-    /// Room for a datagram, a packet and all connections.
-    fn new(alloc: Global) -> Result<Room, AllocError> {
-        Ok(Room {
-            datagram: vec![in alloc; 0u8; LONGEST_DATAGRAM]?,
-            packet: vec![in alloc; 0u8; LONGEST_PACKET]?,
-            connections: empty_places(alloc)?,
-        })
-    }
-}
-
 /// A gateway over what it starts from.
-fn gateway_of<'a, R: Clock>(
+fn gateway_of<'a, R: Clock + AllocGlobal>(
     rt: &R,
     frame: Frame<'a>,
     notes: Vec<LinkNote>,
     restored: &Restored,
-    station: Station,
-    room: Room,
+    service: Service,
+    connections: Vec<Option<Connection>>,
 ) -> Gateway<'a> {
     let mut moments = Moments::from(restored.moment);
-    let started = moments.now(rt);
+    let started = moments.now(&mut RealClock::of(rt));
     let mut figures = GatewayFigures::default();
     figures.started = started;
     figures.has_state = frame.config.state.is_some();
@@ -92,15 +75,14 @@ fn gateway_of<'a, R: Clock>(
     Gateway {
         frame,
         notes,
-        station,
+        service,
         figures,
         moments,
         next_save: started.saturating_add(u64::from(frame.config.save_seconds.unwrap_or(0)) * 1000),
-        watch: None,
+        awaited: None,
+        wish: Wish::Nothing,
         is_stopped: false,
-        datagram: room.datagram,
-        packet: room.packet,
-        connections: room.connections,
+        connections,
     }
 }
 
@@ -118,7 +100,7 @@ fn take_connection<R: Clock + AllocGlobal>(
     if stream.watch(poll, Token(place)).is_err() {
         return;
     }
-    let moment = gateway.moments.now(rt);
+    let moment = gateway.moments.now(&mut RealClock::of(rt));
     if let Some(slot) = gateway.connections.get_mut(place) {
         *slot = Some(Connection::new(rt.alloc(), stream, moment));
     }
@@ -184,23 +166,19 @@ where
     }
 }
 
-/// Takes the datagrams that wait at the links' own ports, but only so many at a time. Returns whether more may wait.
-fn take_at_links<R: Clock + Eprint + AllocGlobal>(
-    rt: &R,
-    gateway: &mut Gateway<'_>,
-    sockets: &mut Sockets,
-) -> bool {
+/// Takes the datagrams that wait at the links' own ports, a batch from each. Returns whether more may wait.
+fn take_at_links<R: Clock>(rt: &R, gateway: &mut Gateway<'_>, sockets: &mut Sockets) -> bool {
     let mut left = false;
     for one in sockets.links.iter_mut() {
         if one.is_waiting {
-            one.is_waiting = gateway.take_datagrams(rt, &one.socket, Port::Link(one.link));
+            one.is_waiting = gateway.serve(rt, &one.socket, Port::Link(one.link));
             left = left || one.is_waiting;
         }
     }
     left
 }
 
-/// Takes the datagrams and the connections that wait, but only so many at a time.
+/// Takes the datagrams and the connections that wait, a batch from each socket. Returns where more may wait.
 fn take_waiting<R: Clock + Eprint + AllocGlobal>(
     rt: &R,
     gateway: &mut Gateway<'_>,
@@ -209,10 +187,10 @@ fn take_waiting<R: Clock + Eprint + AllocGlobal>(
 ) -> Waiting {
     let mut left = Waiting::default();
     if let Some(socket) = &sockets.plain {
-        left.plain = waiting.plain && gateway.take_datagrams(rt, socket, Port::Plain);
+        left.plain = waiting.plain && gateway.serve(rt, socket, Port::Plain);
     }
     if let Some(socket) = &sockets.timed {
-        left.timed = waiting.timed && gateway.take_datagrams(rt, socket, Port::Timed);
+        left.timed = waiting.timed && gateway.serve(rt, socket, Port::Timed);
     }
     left.links = waiting.links && take_at_links(rt, gateway, sockets);
     if let Some(listener) = &sockets.control {
@@ -222,6 +200,16 @@ fn take_waiting<R: Clock + Eprint + AllocGlobal>(
         left.metrics = waiting.metrics && accept_metrics(rt, gateway, &sockets.poll, listener);
     }
     left
+}
+
+/// Looks for datagrams at all sockets.
+fn look_everywhere(sockets: &mut Sockets, waiting: &mut Waiting) {
+    waiting.plain = true;
+    waiting.timed = true;
+    waiting.links = true;
+    for one in sockets.links.iter_mut() {
+        one.is_waiting = true;
+    }
 }
 
 /// One wake: what came is done, and the contexts are saved when it is time.
@@ -245,9 +233,13 @@ where
     for event in events.iter() {
         handle(rt, gateway, sockets, waiting, event.token());
     }
+    if gateway.awaited.is_some() {
+        look_everywhere(sockets, waiting);
+    }
     *waiting = take_waiting(rt, gateway, sockets, *waiting);
-    let moment = gateway.moments.now(rt);
-    gateway.end_watch(rt, moment);
+    gateway.go_on_moving(rt, sockets, !waiting.is_datagram());
+    let moment = gateway.moments.now(&mut RealClock::of(rt));
+    waiting.streams = gateway.pour_streams(rt.alloc(), moment);
     gateway.drop_late(moment);
     gateway.save_in_time(rt, moment);
     Ok(())
@@ -312,7 +304,7 @@ where
     R: Files + Net + Clock + Eprint + AllocGlobal,
 {
     let Frame { config, log, .. } = gateway.frame;
-    let links = gateway.station.concentrator().tables().len();
+    let links = gateway.service.station.concentrator().tables().len();
     let mut sockets = opened(rt, log, config, gateway.notes.as_slice())?;
     let text = format_args!("started: {links} links, {contexts} contexts restored");
     log.say(rt, Level::Info, text);
@@ -336,7 +328,7 @@ fn run_read<R>(
 where
     R: Files + Net + Clock + Eprint + AllocGlobal,
 {
-    let Ok(room) = Room::new(rt.alloc()) else {
+    let Ok(connections) = empty_places(rt.alloc()) else {
         return Err(Ending::Memory);
     };
     let Start {
@@ -348,6 +340,9 @@ where
     let Ok(station) = Station::new(rt.alloc(), concentrator, links) else {
         return Err(Ending::Memory);
     };
+    let Ok(service) = Service::new(rt.alloc(), station) else {
+        return Err(Ending::Memory);
+    };
     let notes = mem::replace(&mut config.notes, Vec::new(rt.alloc()));
     let frame = Frame {
         log,
@@ -356,7 +351,7 @@ where
         options: *options,
         config: &config,
     };
-    let mut gateway = gateway_of(rt, frame, notes, &restored, station, room);
+    let mut gateway = gateway_of(rt, frame, notes, &restored, service, connections);
     gateway.set_limits();
     run_from(rt, &mut gateway, restored.contexts)
 }

@@ -1,12 +1,13 @@
 //! What a gateway starts from: its file, its links and its saved contexts.
 
-use crate::files::{read_state, read_text};
 use crate::lines::Lines;
 use crate::links_file::{NoLinks, read_links_file};
 use crate::outputs::write_overwritten;
+use crate::real::RealDisk;
 use rohc_concentrator::{Concentrator, SetupFault};
 use rohc_gateway_file::{Config, LogFormat, Options, Reading, read_config};
 use rohc_links::Links;
+use rohc_loop::{read_state, read_text};
 use rohc_saved::{Restored, SavedFault, restore};
 use rohc_text::{Reason, shown_word};
 use std::alloc::Global;
@@ -83,7 +84,7 @@ fn config_of<R: Files + AllocGlobal>(
     options: &Options<'_>,
     lines: &mut Lines,
 ) -> io::Result<Option<Config>> {
-    match read_text(rt, file) {
+    match read_text(&mut RealDisk::of(rt), rt.alloc(), file) {
         Ok(text) => config_in(rt, file, text.as_str(), options, lines),
         Err(Reason::Memory) => Err(no_memory()),
         Err(reason) => {
@@ -173,7 +174,7 @@ fn restored_of<R: Files + AllocGlobal>(
     links: &Links,
     lines: &mut Lines,
 ) -> io::Result<Option<(Concentrator, Restored)>> {
-    match read_state(rt, path) {
+    match read_state(&mut RealDisk::of(rt), rt.alloc(), path) {
         Ok(Some(octets)) => restored_in(rt.alloc(), path, links, octets.as_slice(), lines),
         Ok(None) => Ok(None),
         Err(Reason::Memory) => Err(no_memory()),

@@ -258,6 +258,20 @@ impl Sockets {
         })
     }
 
+    /// A socket for datagrams, if there is one.
+    pub(crate) fn any(&self) -> Option<&UdpSocket> {
+        if self.plain.is_some() {
+            return self.plain.as_ref();
+        }
+        if self.timed.is_some() {
+            return self.timed.as_ref();
+        }
+        match self.links.first() {
+            Some(one) => Some(&one.socket),
+            None => None,
+        }
+    }
+
     /// Notes that something waits at the link's own port of this place.
     pub(crate) fn note_link(&mut self, place: usize) {
         if let Some(one) = self.links.get_mut(place) {

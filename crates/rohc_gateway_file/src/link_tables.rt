@@ -13,7 +13,7 @@ pub(crate) struct LinkKey {
 }
 
 /// The keys of a table, each with an arm of `set`.
-pub(crate) const LINK_KEYS: [LinkKey; 5] = [
+pub(crate) const LINK_KEYS: [LinkKey; 6] = [
     LinkKey {
         name: "number",
         expected: "a number from 0 to 65535",
@@ -25,6 +25,10 @@ pub(crate) const LINK_KEYS: [LinkKey; 5] = [
     LinkKey {
         name: "port",
         expected: A_PORT,
+    },
+    LinkKey {
+        name: "payload",
+        expected: "a number of octets from 1 to 65535",
     },
     LinkKey {
         name: "new_contexts_per_second",
@@ -51,6 +55,8 @@ pub struct LinkNote {
     pub name: Option<String>,
     /// The port for its datagrams without a number, if it has one.
     pub port: Option<u16>,
+    /// How many octets the payload of its packets has at most, if that is known.
+    pub payload: Option<u16>,
     /// How many contexts it may make in a second; 0 is no limit.
     pub new_contexts_per_second: u32,
     /// How many feedback elements for the compressor may be sent in a second; 0 is no limit.
@@ -67,6 +73,7 @@ struct Found {
     number: Option<u16>,
     name: Option<String>,
     port: Option<u16>,
+    payload: Option<u16>,
     new_contexts_per_second: Option<u32>,
     feedback_per_second: Option<u32>,
 }
@@ -88,9 +95,9 @@ fn number_in(value: &Value) -> Option<u16> {
     u16::try_from(value.as_integer()?).ok()
 }
 
-/// A port.
-fn port_in(value: &Value) -> Option<u16> {
-    number_in(value).filter(|port| *port > 0)
+/// A port, or a number of octets: not 0.
+fn positive_in(value: &Value) -> Option<u16> {
+    number_in(value).filter(|number| *number > 0)
 }
 
 /// A limit.
@@ -105,6 +112,7 @@ impl Found {
             number: None,
             name: None,
             port: None,
+            payload: None,
             new_contexts_per_second: None,
             feedback_per_second: None,
         }
@@ -122,8 +130,12 @@ impl Found {
                 Ok(self.name.is_some())
             }
             "port" => {
-                self.port = port_in(value);
+                self.port = positive_in(value);
                 Ok(self.port.is_some())
+            }
+            "payload" => {
+                self.payload = positive_in(value);
+                Ok(self.payload.is_some())
             }
             "new_contexts_per_second" => {
                 self.new_contexts_per_second = limit_in(value);
@@ -247,6 +259,7 @@ impl Reading<'_> {
             number,
             name: found.name,
             port: found.port,
+            payload: found.payload,
             new_contexts_per_second: found.new_contexts_per_second.unwrap_or(0),
             feedback_per_second: found.feedback_per_second.unwrap_or(0),
             table,
