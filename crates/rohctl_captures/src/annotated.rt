@@ -1,12 +1,15 @@
 //! `decompress --pcapng`: each frame with what became of its packet and, directly behind it, the packet that was rebuilt.
+//! And `decompress` of a part of a capture, in either form: in pcap the rebuilt packets alone.
 
+use crate::narrow::{Narrow, Seen};
+use crate::payloads::Payloads;
 use rohc_capture::{
     Capture, CaptureFault, FaultKind, Format, Record, packet_in, write_commented, write_head,
-    write_interface, write_section,
+    write_interface, write_record, write_section,
 };
 use rohc_concentrator::Concentrator;
 use rohc_context::Outcome;
-use rohc_decompress::{Bulk, BulkFault, Tally, put_feedback, shown};
+use rohc_decompress::{Bulk, BulkFault, Tally, begin, put_feedback, shown};
 use std::alloc::{AllocError, Global};
 use std::io::{Read, Write};
 
@@ -22,6 +25,10 @@ const REBUILT: u32 = 1;
 #[derive(Drop)]
 pub struct Arrival {
     pub outcome: Outcome,
+    /// The CID, if it can be read.
+    pub cid: Option<u16>,
+    /// Whether the packet is an IR that was accepted.
+    pub renews: bool,
     /// The packet that was delivered, or nothing.
     pub packet: Vec<u8>,
     /// The feedback that is due, or nothing.
@@ -36,6 +43,9 @@ pub struct Arrival {
 pub trait Annotator {
     /// The memory that is used.
     fn alloc(&self) -> Global;
+
+    /// How long the payloads of links are.
+    fn payloads(&self) -> &Payloads;
 
     /// Has a packet arrive on its link.
     fn arrive(
@@ -110,6 +120,20 @@ fn count(tally: &mut Tally, arrival: &Arrival) {
     }
 }
 
+/// Writes the packet that was delivered to a capture of pcap, if one was.
+fn write_plain<W: Write>(
+    record: &Record,
+    arrival: &Arrival,
+    padded: bool,
+    packets: &mut W,
+) -> Result<(), BulkFault> {
+    if arrival.outcome != Outcome::Delivered {
+        return Ok(());
+    }
+    let packet = shown(padded, &[], arrival.packet.as_slice());
+    write_record(packets, Format::Pcap, record.nanos, &[], packet).map_err(|_| BulkFault::Write)
+}
+
 /// Writes a frame with its comment and, behind it, the packet that was delivered.
 fn write_arrival<W: Write>(
     interface: u32,
@@ -136,58 +160,91 @@ pub(crate) struct Annotated<'r, A> {
     pub(crate) annotator: &'r A,
     pub(crate) bulk: &'r Bulk<'r>,
     pub(crate) interfaces: Interfaces,
+    /// Which packets are written.
+    pub(crate) narrow: Narrow,
     pub(crate) tally: Tally,
 }
 
 impl<A: Annotator> Annotated<'_, A> {
-    /// Has the packet of a frame arrive, and writes what became of it.
+    /// Writes what became of a packet, in the form that is asked for.
+    fn write_packet<W: Write>(
+        &mut self,
+        record: &Record,
+        frame: &[u8],
+        arrival: &Arrival,
+        packets: &mut W,
+    ) -> Result<(), BulkFault> {
+        let padded = self.bulk.padded;
+        if self.bulk.format == Format::Pcap {
+            return write_plain(record, arrival, padded, packets);
+        }
+        let interface = self.interfaces.number_of(record, packets)?;
+        write_arrival(interface, record, frame, arrival, padded, packets)
+    }
+
+    /// Counts a packet that is shown, and writes what became of it, and the feedback that it made due.
+    fn show<W: Write, V: Write>(
+        &mut self,
+        record: &Record,
+        link: u16,
+        frame: &[u8],
+        arrival: &Arrival,
+        outputs: (&mut W, &mut V),
+    ) -> Result<(), BulkFault> {
+        let (packets, feedback) = outputs;
+        count(&mut self.tally, arrival);
+        self.write_packet(record, frame, arrival, packets)?;
+        if arrival.feedback.is_empty() {
+            return Ok(());
+        }
+        let element = arrival.feedback.as_slice();
+        put_feedback(self.bulk.format, link, record.nanos, element, feedback).map_err(
+            |_| BulkFault::Write,
+        )
+    }
+
+    /// Has the packet of a frame arrive, and writes what became of it if it is shown.
     fn take_packet<W: Write, V: Write>(
         &mut self,
         concentrator: &mut Concentrator,
         record: &Record,
         found: (u16, &[u8]),
-        frame: &[u8],
+        frame: (u64, &[u8]),
         outputs: (&mut W, &mut V),
     ) -> Result<(), BulkFault> {
         let (link, packet) = found;
-        let (packets, feedback) = outputs;
+        let (number, octets) = frame;
         let moment = record.nanos / 1_000_000;
+        let packet = self
+            .annotator
+            .payloads()
+            .trimmed(concentrator, link, packet);
         let Ok(arrival) = self.annotator.arrive(concentrator, link, moment, packet) else {
             return Err(no_memory(record.place));
         };
-        count(&mut self.tally, &arrival);
-        let interface = self.interfaces.number_of(record, packets)?;
-        write_arrival(
-            interface,
-            record,
-            frame,
-            &arrival,
-            self.bulk.padded,
-            packets,
-        )?;
-        if arrival.feedback.is_empty() {
-            return Ok(());
+        let seen = Seen {
+            number,
+            link,
+            cid: arrival.cid,
+            moment,
+        };
+        if self.narrow.shows(&seen) {
+            self.show(record, link, octets, &arrival, outputs)?;
         }
-        let element = arrival.feedback.as_slice();
-        put_feedback(Format::Pcapng, link, record.nanos, element, feedback).map_err(
-            |_| BulkFault::Write,
-        )
+        Ok(())
     }
 
-    /// Takes a frame. One that carries nothing, or of which no rule speaks, is counted.
+    /// Takes a frame: its packet, if it has one.
     fn take_frame<W: Write, V: Write>(
         &mut self,
         concentrator: &mut Concentrator,
         record: &Record,
-        frame: &[u8],
-        packets: &mut W,
-        feedback: &mut V,
+        frame: (u64, &[u8]),
+        outputs: (&mut W, &mut V),
     ) -> Result<(), BulkFault> {
         let (rules, framing) = (self.bulk.rules, self.bulk.framing);
-        match packet_in(rules, &framing, record.link_type, record.original, frame) {
-            Ok(Some(found)) => {
-                self.take_packet(concentrator, record, found, frame, (packets, feedback))
-            }
+        match packet_in(rules, &framing, record.link_type, record.original, frame.1) {
+            Ok(Some(found)) => self.take_packet(concentrator, record, found, frame, outputs),
             Ok(None) => {
                 self.tally.no_rule = self.tally.no_rule.saturating_add(1);
                 Ok(())
@@ -199,6 +256,19 @@ impl<A: Annotator> Annotated<'_, A> {
         }
     }
 
+    /// Writes the heads of both captures.
+    fn begin<W: Write, V: Write>(
+        &self,
+        packets: &mut W,
+        feedback: &mut V,
+    ) -> Result<(), BulkFault> {
+        if self.bulk.format == Format::Pcap {
+            return begin(Format::Pcap, packets, feedback);
+        }
+        write_section(packets).map_err(|_| BulkFault::Write)?;
+        write_head(feedback, Format::Pcapng, ETHERNET).map_err(|_| BulkFault::Write)
+    }
+
     /// Runs a capture to its end. Both writers are flushed before a read that may wait.
     pub(crate) fn run<S: Read, W: Write, V: Write>(
         &mut self,
@@ -207,16 +277,16 @@ impl<A: Annotator> Annotated<'_, A> {
         packets: &mut W,
         feedback: &mut V,
     ) -> Result<(), BulkFault> {
-        write_section(packets).map_err(|_| BulkFault::Write)?;
-        write_head(feedback, Format::Pcapng, ETHERNET).map_err(|_| BulkFault::Write)?;
-        for _ in 0..u64::MAX {
+        self.begin(packets, feedback)?;
+        for number in 1..u64::MAX {
             if !capture.is_ahead() && (packets.flush().is_err() || feedback.flush().is_err()) {
                 return Err(BulkFault::Write);
             }
             let Some(record) = capture.next()? else {
                 return Ok(());
             };
-            self.take_frame(concentrator, &record, capture.frame(), packets, feedback)?;
+            let frame = (number, capture.frame());
+            self.take_frame(concentrator, &record, frame, (packets, feedback))?;
         }
         Ok(())
     }

@@ -4,17 +4,19 @@ ghost use Rattle.std.specs.Prelude.{◌≡◌, ◌≢◌};
 
 use crate::annotated::{Annotated, Annotator, Interfaces};
 use crate::framing_words::framing_of;
+use crate::narrow::{Narrow, Times, Which, unshown_end};
 use crate::rules::{RuleWords, check_links, rules_of};
 use crate::unmatched::no_frame;
 use rohc_capture::{Capture, CaptureFault, FaultKind, Format};
 use rohc_concentrator::Concentrator;
 use rohc_decompress::{Bulk, BulkFault, Tally, begin, decompress};
 use rohctl_ground::{
-    Ending, Misuse, STREAM, Screen, Target, Told, concentrator_of, keep_apart, make_target,
-    open_source, target_of,
+    Ending, Misuse, STREAM, Screen, Target, concentrator_of, keep_apart, make_target, open_told,
+    target_of,
 };
 use std::io::{self, Printer, Read, Write};
 use std::rt::Files;
+use std::time::Clock;
 
 /// What is asked of `decompress`.
 #[derive(Clone, Copy)]
@@ -31,10 +33,16 @@ pub struct Decompress<'a> {
     pub rules: RuleWords<'a>,
     /// Whether a rebuilt packet ends at its IPv4 total length.
     pub padded: bool,
+    /// How long the payloads of links are, as LINK=N with commas between them.
+    pub payload: Option<&'a str>,
     /// Whether counts are told.
     pub stats: bool,
     /// The form of what is written.
     pub format: Format,
+    /// Which packets are written. Those before them lead to their contexts.
+    pub which: Which,
+    /// Between which times packets are written.
+    pub times: Times,
 }
 
 /// The ending for a capture of this path that can't be read on. `unread` is the ending for a read that failed.
@@ -149,26 +157,31 @@ fn arrivals(tally: &Tally) -> u64 {
         .saturating_add(tally.silent)
 }
 
-/// Runs a capture into these targets: in pcapng with what the annotator says of each packet.
+/// Runs a capture into these targets: in pcapng with what the annotator says of each packet. What is shown of the packets
+/// is noted in `narrow`.
 fn run_capture<A: Annotator, S: Read, F: Write + Drop, P: Write + Drop>(
     annotator: &A,
     links: &mut Concentrator,
     bulk: &Bulk<'_>,
     capture: &mut Capture<S>,
     outputs: &mut Outputs<F, P>,
-    tally: &mut Tally,
+    counted: (&mut Narrow, &mut Tally),
 ) -> Result<(), BulkFault> {
-    if bulk.format == Format::Pcap {
+    let (narrow, tally) = counted;
+    let is_plain = bulk.format == Format::Pcap && narrow.shows_all();
+    if is_plain && annotator.payloads().are_unknown() {
         return run_to_both(links, bulk, capture, outputs, tally);
     }
     let mut annotated = Annotated {
         annotator,
         bulk,
         interfaces: Interfaces::new(Vec::new(annotator.alloc())),
+        narrow: *narrow,
         tally: *tally,
     };
     let (packets, feedback) = (&mut outputs.packets, &mut outputs.feedback);
     let ran = annotated.run(links, capture, packets, feedback);
+    *narrow = annotated.narrow;
     *tally = annotated.tally;
     ran
 }
@@ -182,14 +195,15 @@ fn run_bulk<'a, R, A>(
     screen: Screen,
 ) -> Result<Ending<'a>, Ending<'a>>
 where
-    R: Files + Input + Print + Eprint + AllocGlobal,
+    R: Files + Input + Print + Eprint + Clock + AllocGlobal,
     A: Annotator,
 {
     let mut links = concentrator_of(rt, asked.links)?;
     check_links(&links, asked.links, bulk.rules)?;
-    let mut input = Told::new(rt, open_source(rt, asked.input)?, screen.error);
+    let mut input = open_told(rt, asked.input, screen.error)?;
     let mut outputs = make_outputs(rt, asked)?;
     let mut tally = Tally::default();
+    let mut narrow = Narrow::new(asked.which, asked.times, true);
     let ran = match Capture::new(rt.alloc(), &mut input) {
         Ok(mut capture) => run_capture(
             annotator,
@@ -197,7 +211,7 @@ where
             bulk,
             &mut capture,
             &mut outputs,
-            &mut tally,
+            (&mut narrow, &mut tally),
         ),
         Err(fault) => Err(BulkFault::Capture(fault)),
     };
@@ -206,6 +220,7 @@ where
         let _ = eprintln!(rt; "{tally}");
     }
     match ran {
+        Ok(()) if flushed && narrow.hid_all() => Err(unshown_end(rt, asked.input, &narrow)),
         Ok(()) if flushed && arrivals(&tally) == 0 => {
             Err(no_frame(rt, asked.input, input.front(), &bulk.framing))
         }
@@ -225,7 +240,7 @@ pub fn run_decompress<'a, R, A>(
     screen: Screen,
 ) -> Result<Ending<'a>, Ending<'a>>
 where
-    R: Files + Input + Print + Eprint + AllocGlobal,
+    R: Files + Input + Print + Eprint + Clock + AllocGlobal,
     A: Annotator,
 {
     let rules = rules_of(rt.alloc(), &asked.rules)?;

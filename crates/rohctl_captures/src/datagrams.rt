@@ -1,4 +1,4 @@
-//! The arrivals of a script as datagrams of a capture.
+//! The arrivals of a script as datagrams or Ethernet frames of a capture.
 
 use rohc_capture::{Format, write_record};
 use rohctl_ground::{Line, Reason, Stop, Taker};
@@ -10,12 +10,31 @@ const BEFORE: u16 = 30;
 /// The last second since 1970 that a capture of pcap can hold.
 const LAST_SECOND: u64 = 4_294_967_295;
 
-/// Who writes arrivals as datagrams to a port.
+/// What stands before each packet in a capture that is written.
+#[derive(Clone, Copy, PartialEq, Eq)]
+pub(crate) enum Before {
+    /// The headers of a datagram to this port, and the link's number.
+    Port(u16),
+    /// An Ethernet header with this EtherType. Its source address ends with the link's number.
+    Ethernet(u16),
+}
+
+impl Before {
+    /// The link type of the capture: raw IP packets, or Ethernet.
+    pub(crate) fn link_type(self) -> u16 {
+        match self {
+            Before::Port(_) => 101,
+            Before::Ethernet(_) => 1,
+        }
+    }
+}
+
+/// Who writes arrivals to a capture.
 #[derive(Drop)]
 pub(crate) struct Datagrams<W: Write + Drop> {
     pub(crate) out: W,
     pub(crate) format: Format,
-    pub(crate) port: u16,
+    pub(crate) before: Before,
     /// The lines without a datagram: no arrivals, or what a capture can't hold.
     pub(crate) left_out: u64,
     /// Whether there is a datagram.
@@ -62,6 +81,15 @@ fn front_of(port: u16, link: u16, size: usize) -> Option<[u8; 30]> {
     Some(front)
 }
 
+/// The header of an Ethernet frame of a link: from 02:00:00:00 and the link's number to 02:00:00:00:00:00, as that of feedback.
+fn ethernet_head(ether_type: u16, link: u16) -> [u8; 14] {
+    let [type_high, type_low] = ether_type.to_be_bytes();
+    let [link_high, link_low] = link.to_be_bytes();
+    [
+        2, 0, 0, 0, 0, 0, 2, 0, 0, 0, link_high, link_low, type_high, type_low,
+    ]
+}
+
 /// The nanosecond of a moment, if a capture of this form can hold it.
 fn nanos_of(format: Format, moment: u64) -> Option<u64> {
     let nanos = moment.checked_mul(1_000_000)?;
@@ -72,17 +100,28 @@ fn nanos_of(format: Format, moment: u64) -> Option<u64> {
 }
 
 impl<W: Write + Drop> Datagrams<W> {
-    /// Writes an arrival. Returns whether there is a datagram for it.
-    fn arrived(&mut self, link: u16, moment: u64, packet: &[u8]) -> Result<bool, Stop> {
-        let (Some(front), Some(nanos)) = (
-            front_of(self.port, link, packet.len()),
-            nanos_of(self.format, moment),
-        ) else {
-            return Ok(false);
-        };
-        match write_record(&mut self.out, self.format, nanos, &front, packet) {
+    /// Writes an arrival behind these octets.
+    fn write(&mut self, nanos: u64, front: &[u8], packet: &[u8]) -> Result<bool, Stop> {
+        match write_record(&mut self.out, self.format, nanos, front, packet) {
             Ok(()) => Ok(true),
             Err(_) => Err(Stop::Write(Reason::Other(0))),
+        }
+    }
+
+    /// Writes an arrival. Returns whether there is a record for it.
+    fn arrived(&mut self, link: u16, moment: u64, packet: &[u8]) -> Result<bool, Stop> {
+        let Some(nanos) = nanos_of(self.format, moment) else {
+            return Ok(false);
+        };
+        match self.before {
+            Before::Ethernet(ether_type) => {
+                let front = ethernet_head(ether_type, link);
+                self.write(nanos, front.as_slice(), packet)
+            }
+            Before::Port(port) => match front_of(port, link, packet.len()) {
+                Some(front) => self.write(nanos, front.as_slice(), packet),
+                None => Ok(false),
+            },
         }
     }
 }

@@ -8,7 +8,7 @@ use crate::rules::{RuleWords, rules_of};
 use crate::source::{Front, take_source};
 use crate::unmatched::no_frame;
 use rohctl_ground::{
-    Ending, Misuse, Nothing, STREAM, Screen, Source, Told, open_source, unprinted, unread,
+    Ending, Misuse, Nothing, Reading, STREAM, Screen, open_told, unprinted, unread,
 };
 use std::io::Read;
 use std::net::Net;
@@ -86,13 +86,10 @@ fn failed<R: Eprint>(rt: &R, port: u16, fault: Fault) -> Ending<'static> {
     Ending::NoGateway
 }
 
-/// An input that is open.
-type Opened<'a, R> = Told<'a, R, Source<<R as Files>::File, <R as Input>::Reader>>;
-
 /// Why a script has no arrival.
-fn nothing_in<R>(input: &Opened<'_, R>, left_out: u64) -> Nothing
+fn nothing_in<R>(input: &Reading<'_, R>, left_out: u64) -> Nothing
 where
-    R: Files + Input + Eprint + AllocGlobal,
+    R: Files + Input + Eprint + Clock + AllocGlobal,
 {
     if left_out == 0 {
         Nothing::Empty
@@ -136,7 +133,7 @@ fn feed_from<'a, R>(
     timing: Timing,
     carriage: Option<Carriage<'_>>,
     front: Front,
-    input: &mut Opened<'_, R>,
+    input: &mut Reading<'_, R>,
 ) -> Result<Ending<'a>, Ending<'a>>
 where
     R: Files + Net + Input + Print + Eprint + Clock + AllocGlobal,
@@ -172,7 +169,7 @@ where
     let timing = timing_of(asked)?;
     let sender = sender_in(asked.from)?;
     let framing = framing_of(&asked.rules)?;
-    let mut input = Told::new(rt, open_source(rt, asked.input)?, screen.error);
+    let mut input = open_told(rt, asked.input, screen.error)?;
     let front = Front::read(&mut input).map_err(|reason| unread(asked.input, reason))?;
     if !front.is_capture() {
         return feed_from(rt, asked, timing, None, front, &mut input);

@@ -25,6 +25,9 @@ const BETWEEN: u64 = 49_152;
 /// What the kernel counts for a datagram beside its octets, at most.
 const BESIDE: u64 = 1024;
 
+/// Up to this size the kernel rounds a datagram up to a power of two.
+const ROUNDED: u64 = 16_384;
+
 /// How many looks come right after one another, before a wait between them.
 const EAGER: u32 = 16;
 
@@ -91,8 +94,8 @@ pub(crate) struct Feeder<'a, R> {
     first: Option<u64>,
     datagram: Vec<u8>,
     list: Vec<u8>,
-    /// Up to how many octets in the queue more is sent.
-    limit: u64,
+    /// The octets that surely fit into the queue.
+    room: u64,
     /// How many octets were sent since the queue was looked at.
     since: u64,
     /// The drops before the first datagram.
@@ -119,16 +122,20 @@ fn read_whole<R: Files>(rt: &R, path: &str, buffer: &mut Vec<u8>) -> Result<(), 
     }
 }
 
-/// The octets of a socket's queue on this host.
+/// What a datagram of so many octets takes in a queue, at most.
+fn cost_of(size: u64) -> u64 {
+    size.saturating_add(size.min(ROUNDED)).saturating_add(BESIDE)
+}
+
+/// The octets of a socket's queue on this host, less the quarter that may have been read and is counted still.
 fn room_of<R: Files + AllocGlobal>(rt: &R) -> u64 {
     let mut text = Vec::new(rt.alloc());
-    if read_whole(rt, ROOM, &mut text).is_err() {
-        return USUAL_ROOM;
-    }
-    match str::from_utf8(text.as_slice()) {
-        Ok(text) => text.trim_end().parse().unwrap_or(USUAL_ROOM),
-        Err(_) => USUAL_ROOM,
-    }
+    let room = match read_whole(rt, ROOM, &mut text) {
+        Ok(()) => str::from_utf8(text.as_slice()).unwrap_or(""),
+        Err(_) => "",
+    };
+    let room: u64 = room.trim_end().parse().unwrap_or(USUAL_ROOM);
+    room / 4 * 3
 }
 
 /// After how many milliseconds an arrival is sent, at a pace in thousandths of its own.
@@ -184,7 +191,7 @@ impl<'a, R: Files + Net + Clock + AllocGlobal> Feeder<'a, R> {
             first: None,
             datagram: Vec::new(rt.alloc()),
             list: Vec::new(rt.alloc()),
-            limit: room_of(rt) / 2,
+            room: room_of(rt),
             since: 0,
             dropped: 0,
             sent: 0,
@@ -226,10 +233,10 @@ impl<'a, R: Files + Net + Clock + AllocGlobal> Feeder<'a, R> {
 
     /// Waits until there is room for a datagram of so many octets.
     fn wait_for_room(&mut self, size: u64) -> Result<(), Fault> {
-        let cost = size.saturating_add(BESIDE);
+        let cost = cost_of(size);
         self.since = self.since.saturating_add(cost);
         if self.since > BETWEEN {
-            let _ = self.wait_until(self.limit)?;
+            let _ = self.wait_until(self.room.saturating_sub(cost.max(BETWEEN)))?;
             self.since = cost;
         }
         Ok(())

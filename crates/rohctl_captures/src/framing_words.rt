@@ -38,7 +38,7 @@ fn wrong_number<'a>(word: &'static str, given: &'a str, expected: &'static str) 
 }
 
 /// The EtherType that is asked for, if one is.
-fn ether_type_of<'a>(asked: &RuleWords<'a>) -> Result<Option<u16>, Ending<'a>>
+pub(crate) fn ether_type_of<'a>(asked: &RuleWords<'a>) -> Result<Option<u16>, Ending<'a>>
     ensures none { asked.now.ethertype ≡ None → result ≡ Ok None }
     ensures free { IfOk result (λ found. IfSome found (λ n. 1536 ≤ n)) }
     ensures misuse { IfErr result (λ ending. status_of ending ≡ 2) }

@@ -47,6 +47,7 @@ fn take_frames<S: Read, T: Taker>(
             moment: record.nanos / 1_000_000,
             packet,
         };
+        taker.place(record.place);
         taker.take(frame, line)?;
     }
     Ok(rest)

@@ -9,6 +9,7 @@ use std::alloc::Global;
 use std::fmt;
 use std::io::Read;
 use std::rt::Files;
+use std::time::Clock;
 
 /// What a frame is of which no rule speaks.
 #[derive(Clone, Copy, PartialEq, Eq)]
@@ -188,7 +189,7 @@ fn tell<R: Eprint>(rt: &R, path: &str, whose: &str, finds: &Finds) {
 
 /// Prints that no frame of a capture carries a packet of a link, and what its frames are: all of a file, and of standard
 /// input those in the octets of its front that are kept. Returns the ending.
-pub fn no_frame<R: Files + Eprint + AllocGlobal>(
+pub fn no_frame<R: Files + Eprint + Clock + AllocGlobal>(
     rt: &R,
     path: &str,
     front: &[u8],
