@@ -1,10 +1,11 @@
 //! The subcommand `diff`: the first difference of each call.
 
 use rohc_diff::{CallDifference, DiffFault, Difference, Differences, Seen, diff};
-use rohctl_ground::{Ending, Misuse, STREAM, Screen, Told, open_source, unprinted, write_octets};
+use rohctl_ground::{Ending, Misuse, STREAM, Screen, open_told, unprinted, write_octets};
 use std::io;
 use std::io::{BufWriter, Write};
 use std::rt::Files;
+use std::time::Clock;
 
 /// How many octets before the first difference are shown.
 const BEFORE: usize = 20;
@@ -32,7 +33,7 @@ fn differences<'a, R>(
     screen: Screen,
 ) -> Result<Differences, Ending<'a>>
 where
-    R: Files + Input + Eprint + AllocGlobal,
+    R: Files + Input + Eprint + Clock + AllocGlobal,
 {
     if asked.first == STREAM && asked.second == STREAM {
         return Err(Ending::Misuse(Misuse::Value {
@@ -42,8 +43,8 @@ where
         }));
     }
     let telling = screen.error && !screen.output;
-    let mut first = Told::new(rt, open_source(rt, asked.first)?, telling);
-    let mut second = Told::new(rt, open_source(rt, asked.second)?, false);
+    let mut first = open_told(rt, asked.first, telling)?;
+    let mut second = open_told(rt, asked.second, false)?;
     match diff(rt.alloc(), &mut first, &mut second) {
         Ok(all) => Ok(all),
         Err(DiffFault::NoMemory) => Err(Ending::Memory),
@@ -246,7 +247,7 @@ pub fn run_diff<'a, R>(
     screen: Screen,
 ) -> Result<Ending<'a>, Ending<'a>>
 where
-    R: Files + Input + Print + Eprint + AllocGlobal,
+    R: Files + Input + Print + Eprint + Clock + AllocGlobal,
 {
     let all = differences(rt, asked, screen)?;
     let Ok(mut out) = BufWriter::new(rt.alloc(), io::writer(rt)) else {

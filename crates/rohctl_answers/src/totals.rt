@@ -5,7 +5,7 @@ use crate::json::write_json;
 use crate::metrics::write_metrics;
 use crate::table::write_table;
 use rohc_totals::{CallRow, LineKind, Totals, TotalsFault, call_rows, read_totals, watch_totals};
-use rohctl_ground::{Ending, Screen, Told, open_source, unprinted};
+use rohctl_ground::{Ending, Screen, open_told, unprinted};
 use std::io;
 use std::io::{BufWriter, Write};
 use std::rt::Files;
@@ -37,8 +37,7 @@ fn totals_of<'a, R>(rt: &R, asked: &Asked<'a>, screen: Screen) -> Result<Totals,
 where
     R: Files + Input + Print + Eprint + Clock + AllocGlobal,
 {
-    let source = open_source(rt, asked.answers)?;
-    let mut lines = Told::new(rt, source, screen.error && !asked.follow);
+    let mut lines = open_told(rt, asked.answers, screen.error && !asked.follow)?;
     let read = if asked.follow && screen.output {
         watch_totals(
             rt.alloc(),

@@ -2,11 +2,12 @@
 
 use rohc_trace::{TraceFault, trace};
 use rohctl_ground::{
-    CAPTURE, Ending, STREAM, Screen, Told, concentrator_of, input_name, is_capture_front,
-    make_target, open_source,
+    CAPTURE, Ending, STREAM, Screen, concentrator_of, input_name, is_capture_front, make_target,
+    open_told,
 };
 use std::io::{self, Write};
 use std::rt::Files;
+use std::time::Clock;
 
 /// The answer to a line that is no event, behind the newline of the line before.
 const BAD: &[u8] = b"\n- - refused ";
@@ -80,10 +81,10 @@ pub fn run_trace<'a, R>(
     screen: Screen,
 ) -> Result<Ending<'a>, Ending<'a>>
 where
-    R: Files + Input + Print + Eprint + AllocGlobal,
+    R: Files + Input + Print + Eprint + Clock + AllocGlobal,
 {
     let mut concentrator = concentrator_of(rt, links)?;
-    let mut lines = Told::new(rt, open_source(rt, script)?, screen.error && !screen.output);
+    let mut lines = open_told(rt, script, screen.error && !screen.output)?;
     let mut out = Noticing {
         writer: make_target(rt, STREAM)?,
         noticed: Noticed {

@@ -1,3 +1,2 @@
 pub mod Falls
 pub mod Held
-pub mod Times

@@ -5,7 +5,7 @@ use crate::packet::{Explained, Got, explain_into};
 use rohc_concentrator::Concentrator;
 use rohc_context::Outcome;
 use rohc_explain::cause_of;
-use rohctl_captures::{Annotator, Arrival};
+use rohctl_captures::{Annotator, Arrival, Payloads};
 use std::alloc::{AllocError, Global};
 use std::io;
 use std::io::Write;
@@ -55,14 +55,20 @@ fn outcome_of(got: Got) -> Outcome {
 }
 
 /// Who explains the packets of a capture in a few words.
-#[derive(Clone, Copy)]
+#[derive(Drop)]
 pub struct Explainer {
     pub alloc: Global,
+    /// How long the payloads of links are.
+    pub payloads: Payloads,
 }
 
 impl Annotator for Explainer {
     fn alloc(&self) -> Global {
         self.alloc
+    }
+
+    fn payloads(&self) -> &Payloads {
+        &self.payloads
     }
 
     fn arrive(
@@ -93,6 +99,8 @@ impl Annotator for Explainer {
         }
         Ok(Arrival {
             outcome: outcome_of(explained.got),
+            cid: explained.cid,
+            renews: explained.is_ir() && !matches!(explained.got, Got::Refused(_)),
             packet,
             feedback,
             relayed: explained.relayed,

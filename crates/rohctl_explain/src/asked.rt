@@ -1,9 +1,6 @@
 //! What is asked of `explain`.
 
-use crate::narrow::Times;
-use crate::packet::Explained;
-use crate::place::{Span, is_within};
-use rohctl_captures::RuleWords;
+use rohctl_captures::{RuleWords, Times, Which};
 
 /// How packets are told.
 #[derive(Clone, Copy, PartialEq, Eq)]
@@ -38,28 +35,6 @@ pub enum Source<'a> {
         words: Vec<&'a str>,
         large: bool,
     },
-}
-
-/// Which packets of an input are told.
-#[derive(Clone, Copy, PartialEq, Eq)]
-pub enum Which {
-    /// All.
-    All,
-    /// Those in these lines or frames.
-    Within(Span),
-    /// Those of this link and CID.
-    Call { link: u16, cid: u16 },
-}
-
-impl Which {
-    /// Whether a packet in this line or frame is told.
-    pub(crate) fn has(self, number: u64, explained: &Explained) -> bool {
-        match self {
-            Which::All => true,
-            Which::Within(span) => is_within(span.first, span.last, number),
-            Which::Call { link, cid } => explained.link == link && explained.cid == Some(cid),
-        }
-    }
 }
 
 /// What is asked of `explain`.

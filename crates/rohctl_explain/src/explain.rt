@@ -1,18 +1,18 @@
 //! The subcommand `explain`: packets of a script or a capture, or given ones, each with why it got its answer.
 
-use crate::asked::{Asked, Source, Which};
+use crate::asked::{Asked, Source};
 use crate::assumed::{Assumed, LINK, assumed_link};
 use crate::falls::Falls;
 use crate::input::{Wanted, explain_input, keep_to_unit};
-use crate::narrow::Narrow;
-use crate::place::Unit;
 use crate::run::{Run, Seen};
 use rohc_concentrator::Concentrator;
+use rohctl_captures::{Narrow, Unit, Which};
 use rohctl_ground::{
     Ending, Misuse, Nothing, STREAM, Screen, Stop, concentrator_from, read_packets,
 };
 use std::io::{BufWriter, Write};
 use std::rt::Files;
+use std::time::Clock;
 use std::{fs, io};
 
 /// How many milliseconds lie between two packets of a call on this link, if there is such a link.
@@ -100,7 +100,7 @@ fn take_linked<'a, R, W>(
     run: &mut Run<W>,
 ) -> Result<Ending<'a>, Ending<'a>>
 where
-    R: Files + Input + Eprint + AllocGlobal,
+    R: Files + Input + Eprint + Clock + AllocGlobal,
     W: Write + Drop,
 {
     if let [word] = words
@@ -125,7 +125,7 @@ fn take_packets<'a, R, W>(
     run: &mut Run<W>,
 ) -> Result<Ending<'a>, Ending<'a>>
 where
-    R: Files + Input + Eprint + AllocGlobal,
+    R: Files + Input + Eprint + Clock + AllocGlobal,
     W: Write + Drop,
 {
     let (which, times) = (asked.which, asked.times);
@@ -167,7 +167,7 @@ where
 /// The concentrator on which the packets run, and what is assumed of its link if no links file is given.
 fn links_of<'a, R>(rt: &R, asked: &Asked<'a>) -> Result<(Concentrator, Option<Assumed>), Ending<'a>>
 where
-    R: Files + Input + Eprint + AllocGlobal,
+    R: Files + Input + Eprint + Clock + AllocGlobal,
 {
     match &asked.source {
         Source::Input { links, .. } | Source::Text { links, .. } => {
@@ -187,7 +187,7 @@ pub fn run_explain<'a, R>(
     screen: Screen,
 ) -> Result<Ending<'a>, Ending<'a>>
 where
-    R: Files + Input + Print + Eprint + AllocGlobal,
+    R: Files + Input + Print + Eprint + Clock + AllocGlobal,
 {
     let (concentrator, assumed) = links_of(rt, asked)?;
     let Ok(out) = BufWriter::new(rt.alloc(), io::writer(rt)) else {

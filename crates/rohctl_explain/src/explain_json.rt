@@ -8,10 +8,10 @@ use crate::explain_text::{answer_name, format_name, profile_name, state_word, wr
 use crate::field_text::{write_comma, write_field_object};
 use crate::held::{profile_in, sn_in, state_in};
 use crate::packet::{Explained, Got};
-use crate::place::Place;
 use crate::rebuilt_text::write_rebuilt_json;
 use rohc_context::{Settings, StateView, Try, View};
 use rohc_explain::{PacketFields, cause_of};
+use rohctl_captures::Place;
 use std::io;
 use std::io::Write;
 

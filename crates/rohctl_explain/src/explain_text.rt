@@ -6,7 +6,6 @@ use crate::expected::{Ahead, Expected, expected_of, failures};
 use crate::field_text::write_field;
 use crate::held::{profile_in, sn_in, state_in};
 use crate::packet::{Explained, Got, counts_after};
-use crate::place::Place;
 use crate::rebuilt_text::write_rebuilt;
 use rohc_context::{
     Against, ContextState, NotMade, Profile, Settings, StateView, Try, View, Window,
@@ -14,6 +13,7 @@ use rohc_context::{
 use rohc_explain::{PacketFields, PacketKind, cause_of};
 use rohc_forms::FormKind;
 use rohc_header::Static;
+use rohctl_captures::Place;
 use std::io;
 use std::io::Write;
 
@@ -400,8 +400,16 @@ pub(crate) fn write_brief<W: Write>(
         format_name(explained),
         answer_name(explained.got)
     )?;
-    if let Got::Refused(refusal) = explained.got {
-        write!(out, " {refusal}")?;
-    }
+    write_more(out, explained)?;
     writeln!(out, "")
+}
+
+/// Writes why a packet was refused, or by which attempt it was repaired.
+fn write_more<W: Write>(out: &mut W, explained: &Explained) -> io::Result<()> {
+    match (explained.got, explained.fitting()) {
+        (Got::Refused(refusal), _) => write!(out, " {refusal}"),
+        (Got::Delivered(_), Some(1)) => write!(out, " repaired by attempt 2"),
+        (Got::Delivered(_), Some(2)) => write!(out, " repaired by attempt 3"),
+        _ => Ok(()),
+    }
 }

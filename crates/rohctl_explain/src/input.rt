@@ -1,19 +1,15 @@
 //! The packets of a script or a capture.
 
-use crate::asked::Which;
-use crate::narrow::{Narrow, Times, no_packet_between};
-use crate::place::{Span, Unit};
 use crate::run::{Run, Seen};
 use rohc_capture::Rule;
 use rohctl_captures::{
-    Carriage, Front, Rest, RuleWords, capture_end, check_links, framing_of, no_frame, rules_of,
-    take_source,
+    Carriage, Front, Narrow, Rest, RuleWords, Span, Times, Unit, Which, capture_end, check_links,
+    framing_of, no_frame, no_packet_between, rules_of, take_source,
 };
-use rohctl_ground::{
-    Ending, Misuse, Nothing, STREAM, Screen, Source as Opened, Told, open_source, unread,
-};
+use rohctl_ground::{Ending, Misuse, Nothing, Reading, STREAM, Screen, open_told, unread};
 use std::io::{Read, Write};
 use std::rt::Files;
+use std::time::Clock;
 
 /// A script or a capture, and which of its packets are told.
 #[derive(Clone, Copy)]
@@ -103,20 +99,17 @@ fn nothing_in_capture(which: Which, frames: u64) -> Nothing {
     }
 }
 
-/// The packets of an input that are taken, and how the source of its octets ends.
-type Source<'s, R> = Told<'s, R, Opened<<R as Files>::File, <R as Input>::Reader>>;
-
 /// How a run ends that told nothing.
 fn nothing_end<'a, R, W>(
     rt: &R,
     wanted: &Wanted<'a>,
-    source: &Source<'_, R>,
+    source: &Reading<'_, R>,
     carriage: Option<Carriage<'_>>,
     rest: Rest,
     run: &Run<W>,
 ) -> Ending<'a>
 where
-    R: Files + Input + Eprint + AllocGlobal,
+    R: Files + Input + Eprint + Clock + AllocGlobal,
     W: Write + Drop,
 {
     if let Some(carriage) = carriage
@@ -141,11 +134,11 @@ fn explain_from<'a, R, W>(
     rt: &R,
     wanted: &Wanted<'a>,
     front: Front,
-    source: &mut Source<'_, R>,
+    source: &mut Reading<'_, R>,
     run: &mut Run<W>,
 ) -> Result<Ending<'a>, Ending<'a>>
 where
-    R: Files + Input + Eprint + AllocGlobal,
+    R: Files + Input + Eprint + Clock + AllocGlobal,
     W: Write + Drop,
 {
     let rules = rules_for(wanted, front.is_capture(), run)?;
@@ -174,11 +167,11 @@ pub(crate) fn explain_input<'a, R, W>(
     run: &mut Run<W>,
 ) -> Result<Ending<'a>, Ending<'a>>
 where
-    R: Files + Input + Eprint + AllocGlobal,
+    R: Files + Input + Eprint + Clock + AllocGlobal,
     W: Write + Drop,
 {
     let is_shown = screen.error && !screen.output;
-    let mut source = Told::new(rt, open_source(rt, wanted.path)?, is_shown);
+    let mut source = open_told(rt, wanted.path, is_shown)?;
     let front = Front::read(&mut source).map_err(|reason| unread(wanted.path, reason))?;
     run.unit = if front.is_capture() {
         Unit::Frame

@@ -11,6 +11,7 @@ use rohc_feedback::Element;
 use rohc_forms::{FormKind, read_form};
 use rohc_frame::{CidKind, Elements, Forward, HeadKind, cut};
 use rohc_header::Static;
+use rohctl_captures::Seen;
 use rohctl_ground::Stop;
 use std::alloc::Global;
 use std::io;
@@ -76,6 +77,16 @@ impl Explained {
             }
         }
         None
+    }
+
+    /// What decides whether it is shown; it stands in this line or frame.
+    pub fn seen(&self, number: u64) -> Seen {
+        Seen {
+            number,
+            link: self.link,
+            cid: self.cid,
+            moment: self.moment,
+        }
     }
 
     /// Whether the packet is an IR.

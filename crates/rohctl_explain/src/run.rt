@@ -5,10 +5,9 @@ use crate::assumed::{Assumed, fits_better, write_assumed, write_assumed_json};
 use crate::explain_json::write_object;
 use crate::explain_text::{write_brief, write_whole};
 use crate::falls::Falls;
-use crate::narrow::Narrow;
 use crate::packet::{Explained, Got, explain_packet};
-use crate::place::{Place, Unit};
 use rohc_concentrator::Concentrator;
+use rohctl_captures::{Narrow, Place, Unit};
 use rohctl_ground::{Ending, Line, Reason, Stop, Taker, unprinted};
 use std::alloc::Global;
 use std::io;
@@ -131,7 +130,7 @@ impl<W: Write + Drop> Taker for Run<W> {
                 packet,
             } => {
                 let explained = self.explain(number, link, moment, packet)?;
-                if self.narrow.shows(number, &explained) {
+                if self.narrow.shows(&explained.seen(number)) {
                     self.tell(number, &explained)?;
                 }
             }

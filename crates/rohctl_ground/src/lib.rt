@@ -7,6 +7,7 @@ mod ending;
 mod hex_word;
 mod lines;
 mod links;
+mod progress;
 mod state;
 mod streams;
 mod usual;
@@ -18,9 +19,9 @@ pub use ending::{
 pub use lines::{Line, Stop, Taker, read_packets, read_script};
 pub use links::{concentrator_of, good_links, links_text, text_at};
 pub use rohc_text::{Reason, nearest_name, shown_word, write_octets, write_quoted, write_value};
-pub use state::{concentrator_from, restored};
+pub use state::{concentrator_from, octets_at, restored};
 pub use streams::{
-    Screen, Source, Target, Told, Written, is_capture_front, make_target, open_file, open_source,
-    target_of,
+    Reading, Screen, Source, Target, Told, Written, is_capture_front, make_target, open_file,
+    open_source, open_told, size_of, target_of,
 };
 pub use usual::usual_settings;

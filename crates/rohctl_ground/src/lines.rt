@@ -68,6 +68,9 @@ impl Stop {
 
 /// Who takes the lines of a script.
 pub trait Taker {
+    /// Says at which octet of a capture the frame of the next line begins.
+    fn place(&mut self, _octet: u64) {}
+
     /// Takes the line with this number. After an error no more lines come.
     fn take(&mut self, number: u64, line: Line<'_>) -> Result<(), Stop>;
 }

@@ -2,7 +2,7 @@
 
 use crate::ending::{Ending, unread};
 use crate::links::{concentrator_of, good_links};
-use crate::streams::open_file;
+use crate::streams::{open_file, open_source};
 use rohc_concentrator::Concentrator;
 use rohc_links::Links;
 use rohc_saved::{Restored, SavedFault, restore};
@@ -25,6 +25,15 @@ fn octets_of<S: Read + Drop>(alloc: Global, source: S) -> Result<Vec<u8>, Reason
         return Err(Reason::TooLong(LONGEST_STATE));
     }
     Ok(octets)
+}
+
+/// The octets of a file, or of standard input for `-`, of at most so many as a state file may have.
+pub fn octets_at<'a, R>(rt: &R, path: &'a str) -> Result<Vec<u8>, Ending<'a>>
+where
+    R: Files + Input + AllocGlobal,
+{
+    let source = open_source(rt, path)?;
+    octets_of(rt.alloc(), source).map_err(|reason| unread(path, reason))
 }
 
 /// Prints how much of a state file is left out, if something is.

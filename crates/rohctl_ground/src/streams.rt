@@ -5,9 +5,11 @@ ghost use Rattle.rohctl_ground.specs.Magic.{is_magic, begins_capture};
 ghost use Rattle.rohctl_ground.specs.Streams.{source_remaining, target_contents};
 
 use crate::ending::{Ending, STREAM, unread, unwritten};
+use crate::progress::Progress;
 use rohc_text::Reason;
 use std::io::{BufWriter, Printer, Read, Write};
 use std::rt::Files;
+use std::time::Clock;
 use std::{fs, io};
 
 /// What the standard streams are.
@@ -186,38 +188,67 @@ pub fn target_of<'a, 'p, R: Files + Print + AllocGlobal>(
     }
 }
 
-/// After how many octets progress is told: 16 MiB.
-const STEP: u64 = 16_777_216;
-
 /// How many octets of the front of a source are kept.
 const FRONT: usize = 4096;
 
-/// A source whose progress is told on standard error, in a line that is written over and goes at the end. It keeps its
-/// first octets, and the reason for which its last read failed.
+/// A source whose progress is shown on standard error if that takes longer than a second, in a line that is written over and
+/// goes at the end. It keeps its first octets, and the reason for which its last read failed.
 #[derive(Drop)]
 pub struct Told<'a, R, S> {
     rt: &'a R,
     source: S,
     front: Vec<u8>,
     reason: Option<Reason>,
-    /// Whether progress is told at all.
-    telling: bool,
-    octets: u64,
-    /// How many octets had been read when it was told last.
-    told: u64,
+    /// How far the read is, if that is shown at all.
+    progress: Option<Progress>,
 }
 
-impl<'a, R: Eprint + AllocGlobal, S: Read> Told<'a, R, S> {
-    /// Reads from this source. `telling` is whether standard error is a terminal.
-    pub fn new(rt: &'a R, source: S, telling: bool) -> Self {
+/// An input that is read by name, with its progress.
+pub type Reading<'a, R> = Told<'a, R, Source<<R as Files>::File, <R as Input>::Reader>>;
+
+/// The length of a file, if it is known.
+pub fn size_of<R: Files>(rt: &R, path: &str) -> Option<u64> {
+    match fs::metadata(rt, path) {
+        Ok(data) if data.is_file() => Some(data.len()),
+        _ => None,
+    }
+}
+
+/// The progress of a read that begins now, if it is shown.
+fn progress_of<R: Clock>(rt: &R, size: Option<u64>, telling: bool) -> Option<Progress> {
+    if !telling {
+        return None;
+    }
+    Some(Progress::new(size, rt.monotonic().ok()?))
+}
+
+/// Opens a file to be read; `-` is standard input. `telling` is whether progress is shown: standard error is a terminal.
+pub fn open_told<'a, 'p, R>(
+    rt: &'a R,
+    path: &'p str,
+    telling: bool,
+) -> Result<Reading<'a, R>, Ending<'p>>
+where
+    R: Files + Input + Clock + AllocGlobal,
+{
+    let source = open_source(rt, path)?;
+    let size = if path == STREAM {
+        None
+    } else {
+        size_of(rt, path)
+    };
+    Ok(Told::new(rt, source, size, telling))
+}
+
+impl<'a, R: Clock + AllocGlobal, S: Read> Told<'a, R, S> {
+    /// Reads from this source, whose length in octets is this one if it is known. `telling` is whether progress is shown.
+    pub fn new(rt: &'a R, source: S, size: Option<u64>, telling: bool) -> Self {
         Told {
             rt,
             source,
             front: Vec::new(rt.alloc()),
             reason: None,
-            telling,
-            octets: 0,
-            told: 0,
+            progress: progress_of(rt, size, telling),
         }
     }
 
@@ -275,7 +306,28 @@ pub fn is_capture_front(octets: &[u8]) -> bool
     }
 }
 
-impl<R: Eprint + AllocGlobal, S: Read> Read for Told<'_, R, S> {
+/// Shows how far the read of a source with this front is, if that is due, and takes it away at the end.
+fn tell<R: Eprint + Clock>(rt: &R, progress: &mut Option<Progress>, front: &[u8], read: &[u8]) {
+    let Some(progress) = progress else {
+        return;
+    };
+    if read.is_empty() {
+        if progress.was_shown() {
+            let _ = eprint!(rt; "\r\x1b[K");
+        }
+        return;
+    }
+    if is_capture_front(front) {
+        progress.without_lines();
+    }
+    if let Ok(now) = rt.monotonic()
+        && progress.take(read, now)
+    {
+        let _ = eprint!(rt; "\r{progress}\x1b[K");
+    }
+}
+
+impl<R: Eprint + Clock + AllocGlobal, S: Read> Read for Told<'_, R, S> {
     ghost remaining = { λ told. S.remaining told.source };
 
     fn read(&mut self, buf: &mut [u8]) -> io::Result<usize> {
@@ -286,16 +338,9 @@ impl<R: Eprint + AllocGlobal, S: Read> Read for Told<'_, R, S> {
                 return Err(error);
             }
         };
-        keep(&mut self.front, buf.get(..count).unwrap_or(&[]));
-        self.octets = self.octets.saturating_add(count as u64);
-        if count == 0 && self.told > 0 {
-            let _ = eprint!(self.rt; "\r\x1b[K");
-        }
-        if self.telling && self.octets.saturating_sub(self.told) >= STEP {
-            self.told = self.octets;
-            let millions = self.octets / 1_000_000;
-            let _ = eprint!(self.rt; "\r{millions} MB read");
-        }
+        let read = buf.get(..count).unwrap_or(&[]);
+        keep(&mut self.front, read);
+        tell(self.rt, &mut self.progress, self.front.as_slice(), read);
         Ok(count)
     }
 }

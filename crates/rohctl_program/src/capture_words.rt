@@ -1,9 +1,10 @@
 //! What is asked of `decompress`, `script` and `feed`.
 
+use crate::narrow_words::{times_of, which_call};
 use crate::words_in::{input_of, keep_streams_apart, value_of, wrong_value};
 use clap::ArgMatches;
 use rohc_capture::Format;
-use rohctl_captures::{Decompress, Feed, RuleWords, Script};
+use rohctl_captures::{Decompress, Feed, Part, RuleWords, Script};
 use rohctl_ground::Ending;
 
 /// The options that say which link a frame belongs to, and how packets lie in frames.
@@ -42,9 +43,33 @@ pub(crate) fn decompress_of<'a>(
         feedback: options.get_str("feedback"),
         rules: rules_of(options),
         padded: options.get_flag("padded"),
+        payload: options.get_str("payload"),
         stats: options.get_flag("stats"),
         format: format_of(options),
+        which: which_call(options)?,
+        times: times_of(options)?,
     })
+}
+
+/// The part of an input that is written as a script, if one is asked for.
+fn part_of<'a>(options: &ArgMatches<'a>, input: &'a str) -> Result<Option<Part<'a>>, Ending<'a>> {
+    let Some(links) = options.get_str("links") else {
+        return Ok(None);
+    };
+    keep_streams_apart(links, "IN", input)?;
+    if let Some(other) = options.get_str("other") {
+        return Err(wrong_value(
+            "--other",
+            other,
+            "no --links, since a part has no packets of other senders",
+        ));
+    }
+    Ok(Some(Part {
+        links,
+        payload: options.get_str("payload"),
+        which: which_call(options)?,
+        times: times_of(options)?,
+    }))
 }
 
 /// What is asked of `script`.
@@ -52,8 +77,9 @@ pub(crate) fn script_of<'a>(
     options: &ArgMatches<'a>,
     is_terminal: bool,
 ) -> Result<Script<'a>, Ending<'a>> {
+    let input = input_of(options, "IN", is_terminal)?;
     Ok(Script {
-        input: input_of(options, "IN", is_terminal)?,
+        input,
         output: value_of(options, "OUT")?,
         rules: rules_of(options),
         from: options.get_str("from"),
@@ -61,6 +87,7 @@ pub(crate) fn script_of<'a>(
         lines: options.get_str("lines"),
         back: options.get_flag("back"),
         format: format_of(options),
+        part: part_of(options, input)?,
     })
 }
 

@@ -4,6 +4,7 @@ use crate::capture_words::{decompress_of, feed_of, script_of};
 use crate::control::Wish;
 use crate::explain_words::explain_of;
 use crate::gateway::{Gateway, gateway_of};
+use crate::recording::{Recorded, recorded_of};
 use crate::replaying::{Replayed, replayed_of};
 use crate::report_words::report_of;
 use crate::seeking_words::{find_of, survey_of};
@@ -72,6 +73,17 @@ pub(crate) enum Request<'a> {
     Control {
         gateway: Gateway<'a>,
         wish: Wish,
+    },
+    /// Have a gateway continue the calls of a link from a file that another one exported.
+    Import {
+        gateway: Gateway<'a>,
+        link: u16,
+        file: &'a str,
+    },
+    /// Record what a gateway gets.
+    Record {
+        gateway: Gateway<'a>,
+        asked: Recorded<'a>,
     },
     /// Run a script as rohcd does.
     Replay(Replayed<'a>),
@@ -191,6 +203,14 @@ fn link_wish<'a>(name: &str, options: &ArgMatches<'a>) -> Result<Wish, Ending<'a
         "contexts" => Ok(Wish::Contexts {
             link: link_in(options)?,
         }),
+        "hold" => Ok(Wish::Hold {
+            link: link_in(options)?,
+            off: options.get_flag("off"),
+        }),
+        "export" => Ok(Wish::Export {
+            link: link_in(options)?,
+            off: options.get_flag("off"),
+        }),
         _ => Ok(Wish::Calls {
             link: number_at(options, "link", "--link")?,
             json: options.get_flag("json"),
@@ -204,7 +224,9 @@ fn wish_of<'a>(name: &str, options: &ArgMatches<'a>) -> Result<Wish, Ending<'a>>
         "status" => Ok(Wish::Status),
         "stop" => Ok(Wish::Stop),
         "save" => Ok(Wish::Save),
-        "reload" => Ok(Wish::Reload),
+        "reload" => Ok(Wish::Reload {
+            dry_run: options.get_flag("dry-run"),
+        }),
         "drain" => Ok(Wish::Drain),
         "top" => Ok(Wish::Top),
         name => link_wish(name, options),
@@ -285,6 +307,23 @@ fn control_of<'a>(name: &str, options: &ArgMatches<'a>) -> Result<Request<'a>, E
     })
 }
 
+/// The request `import`.
+fn import_of<'a>(options: &ArgMatches<'a>) -> Result<Request<'a>, Ending<'a>> {
+    Ok(Request::Import {
+        gateway: gateway_of(options)?,
+        link: link_in(options)?,
+        file: value_of(options, "FILE")?,
+    })
+}
+
+/// The request `record`.
+fn record_of<'a>(options: &ArgMatches<'a>) -> Result<Request<'a>, Ending<'a>> {
+    Ok(Request::Record {
+        gateway: gateway_of(options)?,
+        asked: recorded_of(options)?,
+    })
+}
+
 /// The request of a subcommand. `is_terminal` is whether standard input is one.
 fn named<'a>(
     alloc: Global,
@@ -308,8 +347,10 @@ fn named<'a>(
         "find" => find_of(options).map(|(sought, gateway)| Request::Find { sought, gateway }),
         "trace" => trace_of(options, is_terminal),
         "run" => replayed_of(options, is_terminal).map(|asked| Request::Replay(asked)),
+        "record" => record_of(options),
         "spread" => spread_of(options),
         "verify" => verify_of(options),
+        "import" => import_of(options),
         name => control_of(name, options),
     }
 }

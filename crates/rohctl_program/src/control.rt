@@ -118,14 +118,20 @@ pub(crate) enum Wish {
     Stop,
     /// Save all contexts.
     Save,
-    /// Read the links file again.
-    Reload,
+    /// Read the links file again, or show what that would do.
+    Reload { dry_run: bool },
     /// Accept no new call.
     Drain,
     /// Forget the contexts of a link, or the one of a CID.
     Reset { link: u16, cid: Option<u16> },
-    /// Log each packet of a call for a while.
+    /// Show each packet of a call until the program is interrupted.
     Watch { link: u16, cid: u16 },
+    /// Hold the datagrams of a link, or hold them no longer.
+    Hold { link: u16, off: bool },
+    /// Give what is saved of a link and accept no datagram of it, or accept them again.
+    Export { link: u16, off: bool },
+    /// Continue the calls of a link from a body of so many octets.
+    Import { link: u16, size: usize },
     /// List the contexts of a link.
     Contexts { link: u16 },
     /// List the calls of one link or of all, the longest silent first: as a table, or as JSON.
@@ -134,6 +140,8 @@ pub(crate) enum Wish {
     Top,
     /// Give the contexts as they are saved.
     State,
+    /// Give the contexts, and then the packets that arrive in so many seconds.
+    Record { link: Option<u16>, seconds: u16 },
 }
 
 /// Writes the method and the path of a request for calls.
@@ -146,6 +154,12 @@ fn write_calls_path<W: Write>(out: &mut W, link: Option<u16>, json: bool) -> io:
     }
 }
 
+/// Writes the method and the path of a request that moves a link.
+fn write_moving<W: Write>(out: &mut W, word: &str, link: u16, off: bool) -> io::Result<()> {
+    let behind = if off { "&off" } else { "" };
+    write!(out, "POST /{word}?link={link}{behind}")
+}
+
 impl Wish {
     /// Writes the method and the path of the request.
     fn write_path<W: Write>(self, out: &mut W) -> io::Result<()> {
@@ -153,25 +167,52 @@ impl Wish {
             Wish::Status => out.write_all(b"GET /status"),
             Wish::Stop => out.write_all(b"POST /stop"),
             Wish::Save => out.write_all(b"POST /save"),
-            Wish::Reload => out.write_all(b"POST /reload"),
+            Wish::Reload { dry_run: false } => out.write_all(b"POST /reload"),
+            Wish::Reload { dry_run: true } => out.write_all(b"GET /reload"),
             Wish::Drain => out.write_all(b"POST /drain"),
             Wish::Reset { link, cid: None } => write!(out, "POST /reset?link={link}"),
             Wish::Reset {
                 link,
                 cid: Some(cid),
             } => write!(out, "POST /reset?link={link}&cid={cid}"),
-            Wish::Watch { link, cid } => write!(out, "POST /watch?link={link}&cid={cid}"),
+            Wish::Watch { link, cid } => write!(out, "GET /watch?link={link}&cid={cid}"),
+            Wish::Hold { link, off } => write_moving(out, "hold", link, off),
+            Wish::Export { link, off } => write_moving(out, "export", link, off),
+            Wish::Import { link, .. } => write_moving(out, "import", link, false),
             Wish::Contexts { link } => write!(out, "GET /contexts?link={link}"),
             Wish::Calls { link, json } => write_calls_path(out, link, json),
             Wish::Top => out.write_all(b"GET /top"),
             Wish::State => out.write_all(b"GET /state"),
+            Wish::Record {
+                link: None,
+                seconds,
+            } => write!(out, "GET /record?seconds={seconds}"),
+            Wish::Record {
+                link: Some(link),
+                seconds,
+            } => write!(out, "GET /record?seconds={seconds}&link={link}"),
+        }
+    }
+
+    /// How long the next octets of the answer may take; `None` is forever.
+    fn wait(self) -> Option<Duration> {
+        match self {
+            Wish::Watch { .. } => None,
+            Wish::Record { seconds, .. } => {
+                Some(Duration::from_secs(WAIT_SECONDS + u64::from(seconds)))
+            }
+            _ => Some(Duration::from_secs(WAIT_SECONDS)),
         }
     }
 
     /// Writes the request.
     fn write<W: Write>(self, out: &mut W) -> io::Result<()> {
         self.write_path(out)?;
-        out.write_all(b" HTTP/1.1\r\nHost: rohc-gateway\r\n\r\n")
+        out.write_all(b" HTTP/1.1\r\nHost: rohc-gateway\r\n")?;
+        if let Wish::Import { size, .. } = self {
+            write!(out, "Content-Length: {size}\r\n")?;
+        }
+        out.write_all(b"\r\n")
     }
 }
 
@@ -261,11 +302,10 @@ fn pass_answer<R: Read, W: Write>(
 }
 
 /// A stream to a gateway, at which nothing takes longer than an answer may.
-fn connected<R: Net>(rt: &R, control: &str) -> io::Result<UnixStream> {
+fn connected<R: Net>(rt: &R, control: &str, wish: Wish) -> io::Result<UnixStream> {
     let stream = UnixStream::connect(rt, control)?;
-    let wait = Some(Duration::from_secs(WAIT_SECONDS));
-    stream.set_read_timeout(wait)?;
-    stream.set_write_timeout(wait)?;
+    stream.set_read_timeout(wish.wait())?;
+    stream.set_write_timeout(Some(Duration::from_secs(WAIT_SECONDS)))?;
     Ok(stream)
 }
 
@@ -278,18 +318,22 @@ fn fault_at<R: Files>(rt: &R, control: &str, error: io::Error) -> Fault {
     }
 }
 
-/// A stream on which a gateway was asked.
+/// A stream on which a gateway was asked, with this body.
 fn asked<R: Files + Net + AllocGlobal>(
     rt: &R,
     control: &str,
     wish: Wish,
+    body: &[u8],
 ) -> Result<UnixStream, Fault> {
     if control.len() > LONGEST_PATH {
         return Err(Fault::LongPath);
     }
     let octets = request(rt.alloc(), wish).map_err(|_| Fault::Memory)?;
-    let mut stream = connected(rt, control).map_err(|e| fault_at(rt, control, e))?;
-    match stream.write_all(&octets) {
+    let mut stream = connected(rt, control, wish).map_err(|e| fault_at(rt, control, e))?;
+    if let Err(e) = stream.write_all(&octets) {
+        return Err(Fault::Socket(e));
+    }
+    match stream.write_all(body) {
         Ok(()) => Ok(stream),
         Err(e) => Err(Fault::Socket(e)),
     }
@@ -301,8 +345,34 @@ where
     R: Files + Net + AllocGlobal,
     W: Write,
 {
-    let mut stream = asked(rt, control, wish)?.take(most);
+    let mut stream = asked(rt, control, wish, &[])?.take(most);
     pass_answer(rt.alloc(), &mut stream, out)
+}
+
+/// What came of a record.
+#[derive(Clone, Copy)]
+pub(crate) enum RecordEnd {
+    Done,
+    /// The gateway refused it, and said why.
+    Refused,
+    /// A part of it couldn't be written.
+    Unwritten(io::Error),
+    /// There was no answer. What is wrong was printed.
+    Failed(Ending<'static>),
+}
+
+/// Asks a gateway for a record, and writes it as it comes.
+pub(crate) fn record_answer<R, W>(rt: &R, control: &str, wish: Wish, out: &mut W) -> RecordEnd
+where
+    R: Files + Net + Eprint + AllocGlobal,
+    W: Write,
+{
+    match answered(rt, control, wish, u64::MAX, out) {
+        Ok(true) => RecordEnd::Done,
+        Ok(false) => RecordEnd::Refused,
+        Err(Fault::Output(error)) => RecordEnd::Unwritten(error),
+        Err(fault) => RecordEnd::Failed(fault.ending(rt, control)),
+    }
 }
 
 /// Asks a gateway, and holds what it answers, up to a limit. Returns also whether the request was done.
@@ -362,6 +432,28 @@ where
         thread::sleep(rt, Duration::from_secs(REDRAW_SECONDS));
     }
     Ok(false)
+}
+
+/// Has a gateway continue the calls of a link from these octets, and writes what it answers, or why there is no answer.
+pub(crate) fn run_import<R>(
+    rt: &R,
+    control: &str,
+    link: u16,
+    octets: &[u8],
+) -> Result<Ending<'static>, Ending<'static>>
+where
+    R: Files + Net + Print + Eprint + AllocGlobal,
+{
+    let size = octets.len();
+    let done = match asked(rt, control, Wish::Import { link, size }, octets) {
+        Ok(mut stream) => pass_answer(rt.alloc(), &mut stream, &mut io::writer(rt)),
+        Err(fault) => Err(fault),
+    };
+    match done {
+        Ok(true) => Ok(Ending::Good),
+        Ok(false) => Ok(Ending::Findings),
+        Err(fault) => Err(fault.ending(rt, control)),
+    }
 }
 
 /// Asks a gateway, and writes what it answers, or why there is no answer. On a terminal `top` is redrawn until it is

@@ -5,7 +5,8 @@ use crate::narrow_words::{times_of, which_call};
 use crate::replaying::state_in;
 use crate::words_in::{input_of, keep_streams_apart, link_number, wrong_value};
 use clap::ArgMatches;
-use rohctl_explain::{Asked, Source, Span, Telling, Unit, Which, numbers_of};
+use rohctl_captures::{Span, Unit, Which, numbers_of};
+use rohctl_explain::{Asked, Source, Telling};
 use rohctl_ground::{Ending, Misuse, STREAM};
 use std::alloc::Global;
 

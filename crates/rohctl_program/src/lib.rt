@@ -10,6 +10,7 @@ mod explain_words;
 mod gateway;
 mod narrow_words;
 mod program;
+mod recording;
 mod replaying;
 mod report_words;
 mod seeking_words;

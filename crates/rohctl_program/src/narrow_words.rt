@@ -2,7 +2,7 @@
 
 use crate::words_in::{call_in, wrong_value};
 use clap::ArgMatches;
-use rohctl_explain::{Time, Times, Which, time_of};
+use rohctl_captures::{Time, Times, Which, time_of};
 use rohctl_ground::Ending;
 
 /// The packets of the call that is asked for, or all.

@@ -1,18 +1,20 @@
 //! The program, from the words after its name to how it ends.
 
 use crate::command::{Request, read_request};
-use crate::control::{run_control, state_of};
+use crate::control::{run_control, run_import, state_of};
 use crate::gateway::socket_of;
+use crate::recording::run_record;
 use crate::replaying::run_replay;
 use crate::seeking_words::searched_socket;
 use crate::verify::run_verify;
 use rohctl_answers::{run_diff, run_totals, run_trace};
-use rohctl_captures::{run_decompress, run_feed, run_script};
+use rohctl_captures::{payloads_of, run_decompress, run_feed, run_script};
 use rohctl_explain::{Explainer, run_explain};
-use rohctl_ground::{Ending, Screen};
+use rohctl_ground::{Ending, Screen, octets_at};
 use rohctl_links::{run_links, run_new, run_plan, run_spread};
 use rohctl_report::run_report;
 use rohctl_survey::{run_find, run_survey};
+use std::alloc::Global;
 use std::net::Net;
 use std::rt::{Env, Files};
 use std::time::Clock;
@@ -28,6 +30,14 @@ where
     }
 }
 
+/// Who explains packets, for payloads as they are given.
+fn explainer_of<'a>(alloc: Global, payload: Option<&'a str>) -> Result<Explainer, Ending<'a>> {
+    Ok(Explainer {
+        alloc,
+        payloads: payloads_of(alloc, payload)?,
+    })
+}
+
 /// Does what the words ask for.
 fn requested<'a, R>(rt: &R, words: &'a [String], screen: Screen) -> Result<Ending<'a>, Ending<'a>>
 where
@@ -41,9 +51,16 @@ where
         Request::Diff(asked) => run_diff(rt, &asked, screen),
         Request::Plan(plan) => run_plan(rt, &plan),
         Request::Decompress(asked) => {
-            run_decompress(rt, &asked, &Explainer { alloc: rt.alloc() }, screen)
+            let explainer = explainer_of(rt.alloc(), asked.payload)?;
+            run_decompress(rt, &asked, &explainer, screen)
         }
-        Request::Script(asked) => run_script(rt, &asked, screen),
+        Request::Script(asked) => {
+            let payload = match &asked.part {
+                Some(part) => part.payload,
+                None => None,
+            };
+            run_script(rt, &asked, &explainer_of(rt.alloc(), payload)?, screen)
+        }
         Request::Feed(asked) => run_feed(rt, &asked, screen),
         Request::Explain(asked) => run_explain(rt, &asked, screen),
         Request::Report(asked) => run_report(rt, &asked, screen),
@@ -63,6 +80,22 @@ where
         Request::Verify { list, root } => run_verify(rt, list, root),
         Request::Control { gateway, wish } => {
             run_control(rt, socket_of(rt, gateway)?.as_str(), wish, screen)
+        }
+        Request::Import {
+            gateway,
+            link,
+            file,
+        } => {
+            let octets = octets_at(rt, file)?;
+            run_import(
+                rt,
+                socket_of(rt, gateway)?.as_str(),
+                link,
+                octets.as_slice(),
+            )
+        }
+        Request::Record { gateway, asked } => {
+            run_record(rt, socket_of(rt, gateway)?.as_str(), asked)
         }
         Request::Replay(asked) => run_replay(rt, asked, screen),
         Request::Trace { links, script } => run_trace(rt, links, script, screen),

@@ -4,11 +4,11 @@ use crate::words_in::{input_of, keep_streams_apart, value_of, wrong_value};
 use clap::ArgMatches;
 use rohc_replay::{RunFault, replay};
 use rohctl_ground::{
-    Ending, Nothing, STREAM, Screen, Told, concentrator_from, is_capture_front, make_target,
-    open_source,
+    Ending, Nothing, STREAM, Screen, concentrator_from, is_capture_front, make_target, open_told,
 };
 use std::io::Write;
 use std::rt::Files;
+use std::time::Clock;
 
 /// What is asked of `run`.
 #[derive(Clone, Copy)]
@@ -49,11 +49,10 @@ pub(crate) fn run_replay<'a, R>(
     screen: Screen,
 ) -> Result<Ending<'a>, Ending<'a>>
 where
-    R: Files + Input + Print + Eprint + AllocGlobal,
+    R: Files + Input + Print + Eprint + Clock + AllocGlobal,
 {
     let mut concentrator = concentrator_from(rt, asked.links, asked.state)?;
-    let source = open_source(rt, asked.script)?;
-    let mut lines = Told::new(rt, source, screen.error && !screen.output);
+    let mut lines = open_told(rt, asked.script, screen.error && !screen.output)?;
     let mut out = make_target(rt, STREAM)?;
     let ran = replay(rt.alloc(), &mut concentrator, &mut lines, &mut out);
     let flushed = out.flush();

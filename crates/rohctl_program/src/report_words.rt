@@ -20,6 +20,7 @@ pub(crate) fn report_of<'a>(
         input,
         output: value_of(options, "output")?,
         rules: rules_of(options),
+        payload: options.get_str("payload"),
         which: which_call(options)?,
         times: times_of(options)?,
     })

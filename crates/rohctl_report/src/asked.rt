@@ -1,7 +1,6 @@
 //! What is asked of `report`.
 
-use rohctl_captures::RuleWords;
-use rohctl_explain::{Times, Which};
+use rohctl_captures::{RuleWords, Times, Which};
 
 /// What is asked of `report`.
 #[derive(Clone, Copy)]
@@ -14,6 +13,8 @@ pub struct Asked<'a> {
     pub output: &'a str,
     /// Which link a frame of a capture belongs to.
     pub rules: RuleWords<'a>,
+    /// How long the payloads of links are, as LINK=N with commas between them.
+    pub payload: Option<&'a str>,
     /// Which packets are shown. Those before them lead to their contexts.
     pub which: Which,
     /// Between which times packets are shown.

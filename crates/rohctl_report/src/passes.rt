@@ -4,7 +4,8 @@ use crate::seen::{became_of, feedback_of, state_of};
 use indexmap::IndexMap;
 use rohc_concentrator::Concentrator;
 use rohc_report::{Axis, CallRow, Calls, Drawn, key_of};
-use rohctl_explain::{Explained, Falls, Narrow, Place, Unit, explain_packet, write_whole};
+use rohctl_captures::{Narrow, Payloads, Place, Unit};
+use rohctl_explain::{Explained, Falls, explain_packet, write_whole};
 use rohctl_ground::{Line, Stop, Taker};
 use std::alloc::{AllocError, Global};
 
@@ -13,6 +14,7 @@ use std::alloc::{AllocError, Global};
 pub(crate) struct Counting {
     pub(crate) alloc: Global,
     pub(crate) concentrator: Concentrator,
+    pub(crate) payloads: Payloads,
     pub(crate) calls: Calls,
     /// The lines or frames that are events.
     pub(crate) events: u64,
@@ -53,6 +55,7 @@ impl Taker for Counting {
                 moment,
                 packet,
             } => {
+                let packet = self.payloads.trimmed(&self.concentrator, link, packet);
                 let explained = explain_packet(
                     self.alloc,
                     &mut self.concentrator,
@@ -60,7 +63,7 @@ impl Taker for Counting {
                     moment,
                     packet,
                 )?;
-                if self.narrow.shows(number, &explained) {
+                if self.narrow.shows(&explained.seen(number)) {
                     self.count(number, &explained).map_err(|_| Stop::Memory)?;
                 }
             }
@@ -130,6 +133,7 @@ impl DrawnCalls {
 pub(crate) struct Drawing {
     pub(crate) alloc: Global,
     pub(crate) concentrator: Concentrator,
+    pub(crate) payloads: Payloads,
     pub(crate) unit: Unit,
     pub(crate) narrow: Narrow,
     pub(crate) falls: Falls,
@@ -187,6 +191,7 @@ impl Taker for Drawing {
                 moment,
                 packet,
             } => {
+                let packet = self.payloads.trimmed(&self.concentrator, link, packet);
                 let mut explained = explain_packet(
                     self.alloc,
                     &mut self.concentrator,
@@ -197,7 +202,7 @@ impl Taker for Drawing {
                 if self.falls.take(number, &mut explained).is_err() {
                     return Err(Stop::Memory);
                 }
-                if self.narrow.shows(number, &explained) {
+                if self.narrow.shows(&explained.seen(number)) {
                     self.draw(number, &explained)?;
                 }
             }

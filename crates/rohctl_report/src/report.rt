@@ -6,13 +6,16 @@ use rohc_capture::Rule;
 use rohc_concentrator::Concentrator;
 use rohc_links::Links;
 use rohc_report::{CallRow, Calls, Report, worst_first, write_page};
-use rohctl_captures::{capture_end, check_links, framing_of, rules_of};
-use rohctl_explain::{Falls, Narrow, Unit, Which, no_packet_between};
-use rohctl_ground::{Ending, Nothing, Reason, Screen, good_links, keep_apart, make_target, unread};
-use rohctl_input::{Carriage, Held, Rest, hold, nothing_end, take_all};
+use rohctl_captures::{
+    Carriage, Held, Narrow, Rest, Unit, capture_end, check_links, framing_of, hold, nothing_end,
+    payloads_of, rules_of, take_all, unshown_end,
+};
+use rohctl_explain::Falls;
+use rohctl_ground::{Ending, Reason, Screen, good_links, keep_apart, make_target, unread};
 use std::alloc::Global;
 use std::io::Write;
-use std::rt::Files;
+use std::rt::{Env, Files};
+use std::time::Clock;
 
 /// How many calls are drawn at most.
 const MOST_DRAWN: usize = 100;
@@ -25,7 +28,7 @@ fn fresh(alloc: Global, links: &Links) -> Result<Concentrator, Ending<'static>> 
 /// The rules for a capture; a script has none.
 fn rules_for<'a, R>(
     rt: &R,
-    held: &Held<'a>,
+    held: &Held<'a, R::File>,
     asked: &Asked<'a>,
     links: &Links,
 ) -> Result<Option<Vec<Rule>>, Ending<'a>>
@@ -78,13 +81,15 @@ fn end_of<'a>(
 }
 
 /// An input, how it is read, and which packets are shown.
-#[derive(Clone, Copy)]
-struct Source<'a, 'p> {
-    held: &'a Held<'p>,
+#[derive(Drop)]
+struct Source<'a, 'p, F> {
+    held: &'a Held<'p, F>,
     /// Only a capture has one.
     carriage: Option<Carriage<'a>>,
     /// Which packets are shown, before the first one.
     narrow: Narrow,
+    /// How long the payloads of links are, as it is given.
+    payload: Option<&'p str>,
     screen: Screen,
 }
 
@@ -92,14 +97,15 @@ struct Source<'a, 'p> {
 fn count_all<'p, R>(
     rt: &R,
     links: &Links,
-    source: Source<'_, 'p>,
+    source: &Source<'_, 'p, R::File>,
 ) -> Result<(Counting, Rest), Ending<'p>>
 where
-    R: Files + Eprint + AllocGlobal,
+    R: Files + Eprint + Clock + AllocGlobal,
 {
     let mut counting = Counting {
         alloc: rt.alloc(),
         concentrator: fresh(rt.alloc(), links)?,
+        payloads: payloads_of(rt.alloc(), source.payload)?,
         calls: Calls::new(rt.alloc()),
         events: 0,
         narrow: source.narrow,
@@ -115,17 +121,19 @@ where
 }
 
 /// A run that draws the calls of these rows.
-fn drawing_of(
+fn drawing_of<'p, F>(
     alloc: Global,
     links: &Links,
-    source: Source<'_, '_>,
+    source: &Source<'_, 'p, F>,
     rows: &[CallRow],
-) -> Result<Drawing, Ending<'static>> {
+) -> Result<Drawing, Ending<'p>> {
     let concentrator = fresh(alloc, links)?;
+    let payloads = payloads_of(alloc, source.payload)?;
     match DrawnCalls::new(alloc, rows) {
         Ok(calls) => Ok(Drawing {
             alloc,
             concentrator,
+            payloads,
             unit: if source.carriage.is_some() {
                 Unit::Frame
             } else {
@@ -143,12 +151,12 @@ fn drawing_of(
 fn draw_all<'p, R>(
     rt: &R,
     links: &Links,
-    source: Source<'_, 'p>,
+    source: &Source<'_, 'p, R::File>,
     rows: &[CallRow],
     rest: Rest,
 ) -> Result<Drawing, Ending<'p>>
 where
-    R: Files + Eprint + AllocGlobal,
+    R: Files + Eprint + Clock + AllocGlobal,
 {
     let mut drawing = drawing_of(rt.alloc(), links, source, rows)?;
     let again = take_all(
@@ -170,13 +178,13 @@ fn report_rows<'p, R>(
     rt: &R,
     asked: &Asked<'p>,
     links: &Links,
-    source: Source<'_, 'p>,
+    source: &Source<'_, 'p, R::File>,
     calls: &Calls,
     rows: &[CallRow],
     rest: Rest,
 ) -> Result<Ending<'p>, Ending<'p>>
 where
-    R: Files + Print + Eprint + AllocGlobal,
+    R: Files + Print + Eprint + Clock + AllocGlobal,
 {
     let drawing = draw_all(rt, links, source, front_of(rows), rest)?;
     let report = Report {
@@ -197,32 +205,16 @@ fn report_calls<'p, R>(
     rt: &R,
     asked: &Asked<'p>,
     links: &Links,
-    source: Source<'_, 'p>,
+    source: &Source<'_, 'p, R::File>,
     calls: &Calls,
     rest: Rest,
 ) -> Result<Ending<'p>, Ending<'p>>
 where
-    R: Files + Print + Eprint + AllocGlobal,
+    R: Files + Print + Eprint + Clock + AllocGlobal,
 {
     match worst_first(rt.alloc(), calls) {
         Ok(rows) => report_rows(rt, asked, links, source, calls, &rows, rest),
         Err(_) => Err(Ending::Memory),
-    }
-}
-
-/// The ending for an input with events, none of which is a packet that is shown.
-fn unmatched_end<'p, R: Eprint>(
-    rt: &R,
-    asked: &Asked<'p>,
-    source: Source<'_, 'p>,
-    narrow: &Narrow,
-) -> Ending<'p> {
-    if let Some(span) = narrow.missed() {
-        return no_packet_between(rt, asked.input, span, source.carriage.is_some());
-    }
-    match asked.which {
-        Which::Call { link, cid } => Ending::Nothing(asked.input, Nothing::NoCall { link, cid }),
-        Which::Within(_) | Which::All => Ending::Nothing(asked.input, Nothing::NoPacket),
     }
 }
 
@@ -231,10 +223,10 @@ fn report_on<'p, R>(
     rt: &R,
     asked: &Asked<'p>,
     links: &Links,
-    source: Source<'_, 'p>,
+    source: &Source<'_, 'p, R::File>,
 ) -> Result<Ending<'p>, Ending<'p>>
 where
-    R: Files + Print + Eprint + AllocGlobal,
+    R: Files + Print + Eprint + Clock + AllocGlobal,
 {
     let (counting, rest) = count_all(rt, links, source)?;
     if rest.fault.is_none() && counting.events == 0 {
@@ -242,9 +234,10 @@ where
         return Err(nothing_end(rt, source.held, source.carriage, lines));
     }
     if rest.fault.is_none() && counting.narrow.shown() == 0 {
-        return Err(unmatched_end(rt, asked, source, &counting.narrow));
+        return Err(unshown_end(rt, asked.input, &counting.narrow));
     }
-    report_calls(rt, asked, links, source, &counting.calls, rest)
+    let Counting { calls, .. } = counting;
+    report_calls(rt, asked, links, source, &calls, rest)
 }
 
 /// Writes the report on the input that is asked for.
@@ -255,17 +248,19 @@ fn report_input<'p, R>(
     screen: Screen,
 ) -> Result<Ending<'p>, Ending<'p>>
 where
-    R: Files + Input + Print + Eprint + AllocGlobal,
+    R: Files + Input + Print + Eprint + Env + Clock + AllocGlobal,
 {
-    let held = hold(rt, asked.input)?;
+    let held = hold(rt, asked.input, screen)?;
     let rules = rules_for(rt, &held, asked, links)?;
+    let carriage = Carriage::of(&rules, framing_of(&asked.rules)?);
     let source = Source {
         held: &held,
-        carriage: Carriage::of(&rules, framing_of(&asked.rules)?),
+        carriage,
         narrow: Narrow::new(asked.which, asked.times, rules.is_some()),
+        payload: asked.payload,
         screen,
     };
-    report_on(rt, asked, links, source)
+    report_on(rt, asked, links, &source)
 }
 
 /// Writes the report that is asked for.
@@ -275,7 +270,7 @@ pub fn run_report<'p, R>(
     screen: Screen,
 ) -> Result<Ending<'p>, Ending<'p>>
 where
-    R: Files + Input + Print + Eprint + AllocGlobal,
+    R: Files + Input + Print + Eprint + Env + Clock + AllocGlobal,
 {
     keep_apart(rt, &[asked.links, asked.input], &[Some(asked.output)])?;
     let links = good_links(rt, asked.links)?;

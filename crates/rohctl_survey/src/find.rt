@@ -5,14 +5,17 @@ use crate::find_text::{write_call, write_object};
 use crate::found::Finding;
 use rohc_capture::Rule;
 use rohc_concentrator::Concentrator;
-use rohctl_captures::{capture_end, check_links, framing_of, rules_of};
+use rohctl_captures::{
+    Carriage, Held, Rest, capture_end, check_links, framing_of, hold, nothing_end, rules_of,
+    take_all,
+};
 use rohctl_ground::{
     Ending, Reason, Screen, concentrator_from, good_links, input_name, restored, unprinted, unread,
 };
-use rohctl_input::{Carriage, Held, Rest, hold, nothing_end, take_all};
 use std::io;
 use std::io::{BufWriter, Write};
-use std::rt::Files;
+use std::rt::{Env, Files};
+use std::time::Clock;
 
 /// What messages call the contexts of a running gateway.
 const RUNNING: &str = "the running gateway";
@@ -23,7 +26,7 @@ const SAVED: &str = "the state file";
 /// The rules for a capture; a script has none.
 fn rules_for<'a, R>(
     rt: &R,
-    held: &Held<'a>,
+    held: &Held<'a, R::File>,
     asked: &Sought<'a>,
     concentrator: &Concentrator,
 ) -> Result<Option<Vec<Rule>>, Ending<'a>>
@@ -59,7 +62,7 @@ fn tell_found<'a, R>(
     unit: &str,
 ) -> Result<Ending<'a>, Ending<'a>>
 where
-    R: Print + Eprint + AllocGlobal,
+    R: Print + Eprint + Clock + AllocGlobal,
 {
     if finding.calls.is_empty() {
         let path = input_name(asked.input.or(asked.state).unwrap_or(RUNNING));
@@ -86,9 +89,9 @@ fn find_in<'a, R>(
     finding: &mut Finding,
 ) -> Result<(Rest, &'static str), Ending<'a>>
 where
-    R: Files + Input + Eprint + AllocGlobal,
+    R: Files + Input + Eprint + Env + Clock + AllocGlobal,
 {
-    let held = hold(rt, path)?;
+    let held = hold(rt, path, screen)?;
     let rules = rules_for(rt, &held, asked, &finding.concentrator)?;
     let carriage = Carriage::of(&rules, framing_of(&asked.rules)?);
     let rest = take_all(rt, &held, carriage, screen, finding)?;
@@ -107,7 +110,7 @@ fn find_and_tell<'a, R>(
     finding: &mut Finding,
 ) -> Result<Ending<'a>, Ending<'a>>
 where
-    R: Files + Input + Print + Eprint + AllocGlobal,
+    R: Files + Input + Print + Eprint + Env + Clock + AllocGlobal,
 {
     let (rest, unit) = find_in(rt, asked, path, screen, finding)?;
     let ending = tell_found(rt, asked, finding, unit)?;
@@ -124,7 +127,7 @@ fn concentrator_before<'a, R>(
     running: Option<&[u8]>,
 ) -> Result<Concentrator, Ending<'a>>
 where
-    R: Files + Input + Eprint + AllocGlobal,
+    R: Files + Input + Eprint + Env + Clock + AllocGlobal,
 {
     match running {
         Some(octets) => restored(rt, &good_links(rt, asked.links)?, RUNNING, octets),
@@ -141,7 +144,7 @@ pub fn run_find<'a, R>(
     screen: Screen,
 ) -> Result<Ending<'a>, Ending<'a>>
 where
-    R: Files + Input + Print + Eprint + AllocGlobal,
+    R: Files + Input + Print + Eprint + Env + Clock + AllocGlobal,
 {
     let concentrator = concentrator_before(rt, asked, running)?;
     let origin = if running.is_some() { RUNNING } else { SAVED };

@@ -10,21 +10,23 @@ use indexmap::IndexMap;
 use rohc_capture::Rule;
 use rohc_concentrator::{Concentrator, LinkSetting};
 use rohc_context::Settings;
-use rohctl_captures::{RuleWords, capture_end, framing_of, rules_of};
+use rohctl_captures::{
+    Carriage, Held, Rest, RuleWords, capture_end, framing_of, hold, nothing_end, rules_of, take_all,
+};
 use rohctl_ground::{
     Ending, Nothing, Reason, Screen, keep_apart, make_target, unprinted, unread, usual_settings,
 };
-use rohctl_input::{Carriage, Held, Rest, hold, nothing_end, take_all};
 use rohctl_links::write_found;
 use std::alloc::{AllocError, Global};
 use std::io;
 use std::io::{BufWriter, Write};
-use std::rt::Files;
+use std::rt::{Env, Files};
+use std::time::Clock;
 
 /// An input, and how it is read.
-#[derive(Clone, Copy)]
-struct Source<'a, 'p> {
-    held: &'a Held<'p>,
+#[derive(Drop)]
+struct Source<'a, 'p, F> {
+    held: &'a Held<'p, F>,
     /// Only a capture has one.
     carriage: Option<Carriage<'a>>,
     screen: Screen,
@@ -44,7 +46,7 @@ fn with_default<'a>(rules: RuleWords<'a>) -> RuleWords<'a> {
 /// The rules for a capture; a script has none.
 fn rules_for<'a, R>(
     rt: &R,
-    held: &Held<'a>,
+    held: &Held<'a, R::File>,
     words: &RuleWords<'a>,
 ) -> Result<Option<Vec<Rule>>, Ending<'a>>
 where
@@ -88,9 +90,9 @@ fn counted_of(alloc: Global, gathered: &Gathered) -> Result<Counted, AllocError>
 }
 
 /// Gathers the links of an input.
-fn gather<'p, R>(rt: &R, source: Source<'_, 'p>) -> Result<(Gathered, Rest), Ending<'p>>
+fn gather<'p, R>(rt: &R, source: &Source<'_, 'p, R::File>) -> Result<(Gathered, Rest), Ending<'p>>
 where
-    R: Files + Eprint + AllocGlobal,
+    R: Files + Eprint + Clock + AllocGlobal,
 {
     let mut gathered = Gathered::new(rt.alloc());
     let rest = take_all(
@@ -116,12 +118,12 @@ where
 /// Counts the packets of an input. It has to end as it did when its links were gathered.
 fn count<'p, R>(
     rt: &R,
-    source: Source<'_, 'p>,
+    source: &Source<'_, 'p, R::File>,
     gathered: &Gathered,
     rest: Rest,
 ) -> Result<Counted, Ending<'p>>
 where
-    R: Files + Eprint + AllocGlobal,
+    R: Files + Eprint + Clock + AllocGlobal,
 {
     let Ok(mut counted) = counted_of(rt.alloc(), gathered) else {
         return Err(Ending::Memory);
@@ -245,10 +247,10 @@ fn survey_source<'p, R>(
     rt: &R,
     asked: &Survey<'p>,
     words: &RuleWords<'p>,
-    source: Source<'_, 'p>,
+    source: &Source<'_, 'p, R::File>,
 ) -> Result<Ending<'p>, Ending<'p>>
 where
-    R: Files + Print + Eprint + AllocGlobal,
+    R: Files + Print + Eprint + Clock + AllocGlobal,
 {
     let (gathered, rest) = gather(rt, source)?;
     let counted = count(rt, source, &gathered, rest)?;
@@ -276,16 +278,17 @@ pub fn run_survey<'p, R>(
     screen: Screen,
 ) -> Result<Ending<'p>, Ending<'p>>
 where
-    R: Files + Input + Print + Eprint + AllocGlobal,
+    R: Files + Input + Print + Eprint + Env + Clock + AllocGlobal,
 {
     keep_apart(rt, &[asked.input], &[asked.links])?;
     let words = with_default(asked.rules);
-    let held = hold(rt, asked.input)?;
+    let held = hold(rt, asked.input, screen)?;
     let rules = rules_for(rt, &held, &words)?;
+    let carriage = Carriage::of(&rules, framing_of(&words)?);
     let source = Source {
         held: &held,
-        carriage: Carriage::of(&rules, framing_of(&words)?),
+        carriage,
         screen,
     };
-    survey_source(rt, asked, &words, source)
+    survey_source(rt, asked, &words, &source)
 }

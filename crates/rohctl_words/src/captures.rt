@@ -65,12 +65,16 @@ pub(crate) fn decompress_words<'a>(given: Given<'_>) -> Result<Command<'a>, Allo
         &[
             valued("links", "FILE", "The links file").required(),
             flag("padded", "Cut each packet at its IPv4 total length"),
+            payload(),
             valued("feedback", "FILE", "Also write the feedback to a capture"),
             flag(
                 "pcapng",
                 "Write pcapng instead of pcap, also with the frames and what became of each",
             ),
             flag("stats", "Print counts on standard error"),
+            call(),
+            since(),
+            until(),
             argument(
                 "IN",
                 "The capture, pcap or pcapng; - or none is standard input",
@@ -105,9 +109,19 @@ pub(crate) fn script_words<'a>(given: Given<'_>) -> Result<Command<'a>, AllocErr
             ),
             flag(
                 "back",
-                "Convert a script into a capture of datagrams to --port, each with the link number first",
+                "Convert a script into a capture of datagrams to --port, each with the link number first, or of Ethernet frames with this --ethertype",
             ),
             flag("pcapng", "Write pcapng instead of pcap"),
+            valued(
+                "links",
+                "FILE",
+                "The links file, for --call, --since and --until",
+            )
+            .without("back"),
+            payload().with("links"),
+            call().with("links"),
+            since().with("links"),
+            until().with("links"),
             argument(
                 "IN",
                 "The capture, or the script; - or none is standard input",
@@ -147,27 +161,36 @@ pub(crate) fn feed_words<'a>(given: Given<'_>) -> Result<Command<'a>, AllocError
     )
 }
 
-/// The option that shows only the packets from a time on.
+/// The option that narrows to the packets from a time on.
 fn since() -> Word {
     valued(
         "since",
         "TIME",
-        "Show only packets from this time on: milliseconds of a script, seconds of a capture, or HH:MM:SS.mmm (UTC)",
+        "Narrow to packets from this time on: milliseconds of a script, seconds of a capture, or HH:MM:SS.mmm (UTC)",
     )
 }
 
-/// The option that shows only the packets up to a time.
+/// The option that narrows to the packets up to a time.
 fn until() -> Word {
     valued(
         "until",
         "TIME",
-        "Show only packets up to this time, itself included",
+        "Narrow to packets up to this time, itself included",
     )
 }
 
-/// The option that shows only the packets of a call.
+/// The option that says how long the payloads of links are.
+fn payload() -> Word {
+    valued(
+        "payload",
+        "LINK=N,..",
+        "End each packet of a link behind its header and N octets, as 1=20, where Ethernet pads short frames",
+    )
+}
+
+/// The option that narrows to the packets of a call.
 fn call() -> Word {
-    valued("call", "L/C", "Show only the packets of this link and CID")
+    valued("call", "L/C", "Narrow to the packets of this link and CID")
 }
 
 /// The subcommand `report`.
@@ -181,6 +204,7 @@ pub(crate) fn report_words<'a>(given: Given<'_>) -> Result<Command<'a>, AllocErr
             valued("output", "FILE", "The page to write; - is standard output")
                 .or_letter('o')
                 .otherwise("-"),
+            payload(),
             call(),
             since(),
             until(),

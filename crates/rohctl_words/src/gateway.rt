@@ -46,7 +46,6 @@ fn with_whole<'a>(given: Given<'_>, command: Command<'a>) -> Result<Command<'a>,
         ("status", "Show what a running gateway is doing"),
         ("stop", "Save the calls of a gateway and stop it"),
         ("save", "Save the calls of a gateway"),
-        ("reload", "Make a gateway read its links file again"),
         ("drain", "Stop accepting new calls; existing calls continue"),
         (
             "top",
@@ -58,12 +57,56 @@ fn with_whole<'a>(given: Given<'_>, command: Command<'a>) -> Result<Command<'a>,
     Ok(command)
 }
 
+/// With the subcommands that move a link from one gateway to another.
+fn with_moving<'a>(given: Given<'_>, command: Command<'a>) -> Result<Command<'a>, AllocError> {
+    let command = asking(
+        given,
+        command,
+        "hold",
+        "Hold the datagrams of a link until its contexts are imported",
+        &[
+            link(),
+            flag("off", "Stop holding them, and drop those that are held"),
+        ],
+    )?;
+    let command = asking(
+        given,
+        command,
+        "export",
+        "Write the contexts of a link, and accept none of its datagrams from then on",
+        &[
+            link(),
+            flag("off", "Accept the datagrams of an exported link again"),
+        ],
+    )?;
+    asking(
+        given,
+        command,
+        "import",
+        "Continue the calls of a held link from what export wrote",
+        &[
+            link(),
+            argument("FILE", "What export wrote; - is standard input").required(),
+        ],
+    )
+}
+
 /// The subcommands that ask a running gateway.
 pub(crate) fn with_gateway<'a>(
     given: Given<'_>,
     command: Command<'a>,
 ) -> Result<Command<'a>, AllocError> {
     let command = with_whole(given, command)?;
+    let command = asking(
+        given,
+        command,
+        "reload",
+        "Make a gateway read its links file again",
+        &[flag(
+            "dry-run",
+            "Only show which links that would add, change and remove, and how many contexts of each",
+        )],
+    )?;
     let command = asking(
         given,
         command,
@@ -78,8 +121,25 @@ pub(crate) fn with_gateway<'a>(
         given,
         command,
         "watch",
-        "Log each packet of a call for a while",
+        "Show each packet of a call as it arrives, until interrupted",
         &[argument("CALL", "The link and the CID of the call, as 1/0").required()],
+    )?;
+    let command = asking(
+        given,
+        command,
+        "record",
+        "Record what a gateway gets, so that rohctl run --state gives its answers again",
+        &[
+            valued("seconds", "N", "Record for N seconds").required(),
+            valued("link", "NUMBER", "Record only the packets of this link"),
+            valued(
+                "output",
+                "NAME",
+                "Write the contexts at the start to NAME.state, and the packets to NAME.script",
+            )
+            .or_letter('o')
+            .required(),
+        ],
     )?;
     let command = asking(
         given,
@@ -88,6 +148,7 @@ pub(crate) fn with_gateway<'a>(
         "List the contexts of a link",
         &[link()],
     )?;
+    let command = with_moving(given, command)?;
     asking(
         given,
         command,
