@@ -1,7 +1,7 @@
 //! Each public call of the concentrator once, and idle records.
 
-mod honest;
 mod links;
+mod padded;
 
 use crate::call::SETTINGS;
 use crate::examples::WHOLE_IR;
