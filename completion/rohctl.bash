@@ -14,7 +14,7 @@ _rohctl() {
     # The command comes behind the program's own options.
     while [[ ${COMP_WORDS[at]} == @(--color) && $at -lt $COMP_CWORD ]]; do at=$((at + 2)); done
     if [[ $at -eq $COMP_CWORD && $word != -* ]]; then
-        mapfile -t COMPREPLY < <(compgen -W 'totals run trace links diff explain plan decompress script feed report survey find spread verify status stop save reload drain top reset watch contexts calls' -- "$word")
+        mapfile -t COMPREPLY < <(compgen -W 'totals run trace links diff explain plan decompress script feed report survey find spread verify status stop save drain top reload reset watch record contexts hold export import calls' -- "$word")
         return
     fi
     case ${COMP_WORDS[at]} in
@@ -47,20 +47,20 @@ _rohctl() {
         plain='--damage --packet-ms --window --calls --split' files='--links' takes_files=''
         ;;
     decompress)
-        options='--link --vlan --port --ethertype --linktype --offset --links --padded --feedback --pcapng --stats --color --help'
-        plain='--link --vlan --port --ethertype --linktype --offset' files='--links --feedback' takes_files='yes'
+        options='--link --vlan --port --ethertype --linktype --offset --links --padded --payload --feedback --pcapng --stats --call --since --until --color --help'
+        plain='--link --vlan --port --ethertype --linktype --offset --payload --call --since --until' files='--links --feedback' takes_files='yes'
         ;;
     script)
-        options='--link --vlan --port --ethertype --linktype --offset --from --other --lines --back --pcapng --color --help'
-        plain='--link --vlan --port --ethertype --linktype --offset --from' files='--other --lines' takes_files='yes'
+        options='--link --vlan --port --ethertype --linktype --offset --from --other --lines --back --pcapng --links --payload --call --since --until --color --help'
+        plain='--link --vlan --port --ethertype --linktype --offset --from --payload --call --since --until' files='--other --lines --links' takes_files='yes'
         ;;
     feed)
         options='--link --vlan --port --ethertype --linktype --offset --to --from --pace --now --color --help'
         plain='--link --vlan --port --ethertype --linktype --offset --to --from --pace' files='' takes_files='yes'
         ;;
     report)
-        options='--link --vlan --port --ethertype --linktype --offset --links --output --call --since --until --color --help'
-        plain='--link --vlan --port --ethertype --linktype --offset --call --since --until' files='--links -o --output' takes_files='yes'
+        options='--link --vlan --port --ethertype --linktype --offset --links --output --payload --call --since --until --color --help'
+        plain='--link --vlan --port --ethertype --linktype --offset --payload --call --since --until' files='--links -o --output' takes_files='yes'
         ;;
     survey)
         options='--link --vlan --port --ethertype --linktype --offset --links --json --color --help'
@@ -90,16 +90,16 @@ _rohctl() {
         options='--control --name --color --help'
         plain='--name' files='--control' takes_files=''
         ;;
-    reload)
-        options='--control --name --color --help'
-        plain='--name' files='--control' takes_files=''
-        ;;
     drain)
         options='--control --name --color --help'
         plain='--name' files='--control' takes_files=''
         ;;
     top)
         options='--control --name --color --help'
+        plain='--name' files='--control' takes_files=''
+        ;;
+    reload)
+        options='--control --name --dry-run --color --help'
         plain='--name' files='--control' takes_files=''
         ;;
     reset)
@@ -110,9 +110,25 @@ _rohctl() {
         options='--control --name --color --help'
         plain='--name' files='--control' takes_files=''
         ;;
+    record)
+        options='--control --name --seconds --link --output --color --help'
+        plain='--name --seconds --link -o --output' files='--control' takes_files=''
+        ;;
     contexts)
         options='--control --name --link --color --help'
         plain='--name --link' files='--control' takes_files=''
+        ;;
+    hold)
+        options='--control --name --link --off --color --help'
+        plain='--name --link' files='--control' takes_files=''
+        ;;
+    export)
+        options='--control --name --link --off --color --help'
+        plain='--name --link' files='--control' takes_files=''
+        ;;
+    import)
+        options='--control --name --link --color --help'
+        plain='--name --link' files='--control' takes_files='yes'
         ;;
     calls)
         options='--control --name --link --json --color --help'
