@@ -6,8 +6,8 @@ all say that the prover ended at a limit, the refusal counts only if the same sh
 or, at a limit of `search`, the unchanged crate, for an edit that only changes a value or a condition in place. The prover
 must prove each twin.
 
-At most 40 are tried: half from the crates that changed since the newest commit that is four hours older than HEAD, the
-rest from at most five other crates, drawn by the commit's hash. Each twin is tried with its edit. Right after the gate,
+At most 24 are tried: half from the crates that changed since the newest commit that is four hours older than HEAD, the
+rest from at most four other crates, drawn by the commit's hash. Each twin is tried with its edit. Right after the gate,
 the libraries below these crates are taken as the gate left them. Names of crates behind `bites` try all edits of these.
 """
 
@@ -27,7 +27,7 @@ from trial import Trial
 
 TOP = Path(__file__).resolve().parent.parent.parent
 # How many are tried, how many of these from crates that changed, and from how many other crates the rest are drawn.
-MOST, MOST_CHANGED, MOST_OTHERS = 40, 20, 5
+MOST, MOST_CHANGED, MOST_OTHERS = 24, 12, 4
 HOURS = 4
 
 
@@ -56,10 +56,13 @@ def verdict_on(edit: Edit, answer: Answer) -> Verdict:
 
 
 def answer_to(room: Room, edit: Edit) -> Answer:
-    """What the prover makes of a crate with an edit: of the modules in which it shows, or else of the whole crate."""
+    """What the prover makes of a crate with an edit: of the modules in which it shows, or else of the whole crate.
+
+    Those in which a definition shows may be others than those that are found by its word.
+    """
     answer = room.check(edit.texts(), edit.modules)
-    is_whole = edit.is_twin or not edit.modules or answer.outcome is not Outcome.PROVED
-    return answer if is_whole else room.check(edit.texts())
+    is_shown = answer.outcome is not Outcome.PROVED if not edit.is_statement else answer.outcome is Outcome.REFUSED
+    return answer if edit.is_twin or not edit.modules or is_shown else room.check(edit.texts())
 
 
 def judged(edit: Edit, answer: Answer, of_twin: Answer | None) -> Answer:
@@ -101,8 +104,14 @@ def try_crate(crates: Crates, chosen: Sequence[Edit]) -> list[Verdict]:
         return [verdict for edit in chosen for verdict in try_one(room, edit)]
 
 
+def work_in(some: Sequence[Edit]) -> int:
+    """About how long the edits of a crate take, as a number to sort by: the lines of its code for a proof and each try."""
+    lines = sum(file.read_text().count("\n") for file in some[0].crate.glob("src/**/*.rt"))
+    return lines * (3 + cost_of(some))
+
+
 def try_all(top: Path, chosen: Sequence[Edit], over_gate: bool = False) -> Iterator[Verdict]:
-    """Has the prover try these edits and their twins, those of different crates side by side.
+    """Has the prover try these edits and their twins, those of different crates side by side, the longest first.
 
     The libraries below their crates are built first, unless the gate has just left them.
     """
@@ -112,7 +121,7 @@ def try_all(top: Path, chosen: Sequence[Edit], over_gate: bool = False) -> Itera
     if errors:
         yield from (Verdict(edit, False, f"NOT tried: {errors[0]}") for edit in chosen)
         return
-    by_crate = [[edit for edit in chosen if edit.crate.name == name] for name in names]
+    by_crate = sorted(([edit for edit in chosen if edit.crate.name == name] for name in names), key=work_in, reverse=True)
     with ThreadPoolExecutor(cpu_count() or 1) as pool:
         for found in pool.map(lambda some: try_crate(crates, some), by_crate):
             yield from found

@@ -27,6 +27,7 @@ from trial import Trial
 OPEN: dict[str, tuple[str, ...] | None] = {
     "specs.Step": ("LoneStep", "HasMissed"),
     "specs.Repaired": ("Repairs",),
+    "specs.Excess": ("excess_in",),
     "specs.Record": ("Record", "record_of"),
     "specs.SavedText": ("saved_text",),
     "specs.SavedReading": ("saved_at",),
@@ -39,6 +40,7 @@ MUST_BE_CLOSED = {
     "LoneStep": "Step",
     "HasMissed": "Step",
     "Repairs": "Repaired",
+    "excess_in": "Excess",
     "record_of": "Record",
     "saved_text": "SavedText",
     "saved_at": "SavedReading",

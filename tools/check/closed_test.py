@@ -120,6 +120,7 @@ CHANGES = (
     ("rohc_context/specs/Record.antt", "unfoldable pub record_of :", "abbrev pub record_of :"),
     ("rohc_context/specs/Step.antt", "unfoldable pub HasMissed :", "abbrev pub HasMissed :"),
     ("rohc_context/specs/Repaired.antt", "unfoldable pub Repairs :", "abbrev pub Repairs :"),
+    ("rohc_context/specs/Excess.antt", "unfoldable pub excess_in :", "abbrev pub excess_in :"),
 )
 
 ACCEPTED = (

@@ -20,7 +20,7 @@ MARKED = re.compile(r"<mark>\r?\n(.*?)<mark>", re.DOTALL)
 BASH = '. "$0" && COMP_WORDS=("$@") COMP_CWORD=$(($# - 1)) && "_${1/-/_}" && printf "%s\\n" "${COMPREPLY[@]}"'
 FISH = "source $argv[1]; complete -C $argv[2]"
 COMMANDS = (
-    "calls contexts decompress diff drain explain feed find links plan reload report reset run save script spread status stop survey top totals trace"
+    "calls contexts decompress diff drain explain export feed find hold import links plan record reload report reset run save script spread status stop survey top totals trace"
     " verify watch"
 )
 
@@ -31,9 +31,9 @@ ROHCTL: tuple[Row, ...] = (
     ("--color --help --json --new", ("links", "--")),
     ("--calls --color --damage --help --json --links --packet-ms --split --window", ("plan", "--")),
     ("--color --follow --help --json --prometheus", ("totals", "--")),
-    ("--back --color --ethertype --from --help --lines --link --linktype --offset --other --pcapng --port --vlan", ("script", "--")),
-    ("--color --ethertype --feedback --help --link --links --linktype --offset --padded --pcapng --port --stats --vlan", ("decompress", "--")),
-    ("--call --color --ethertype --help --link --links --linktype --offset --output --port --since --until --vlan", ("report", "--")),
+    ("--back --call --color --ethertype --from --help --lines --link --links --linktype --offset --other --payload --pcapng --port --since --until --vlan", ("script", "--")),
+    ("--call --color --ethertype --feedback --help --link --links --linktype --offset --padded --payload --pcapng --port --since --stats --until --vlan", ("decompress", "--")),
+    ("--call --color --ethertype --help --link --links --linktype --offset --output --payload --port --since --until --vlan", ("report", "--")),
     ("--color --ethertype --from --help --link --linktype --now --offset --pace --port --to --vlan", ("feed", "--")),
     ("--color --ethertype --help --json --link --links --linktype --offset --port --vlan", ("survey", "--")),
     ("--color --control --ethertype --help --input --json --link --links --linktype --name --offset --port --state --vlan", ("find", "--")),
@@ -45,6 +45,8 @@ ROHCTL: tuple[Row, ...] = (
     ("--color --help --root", ("verify", "--")),
     ("--color --control --help --name", ("drain", "--")),
     ("--color --control --help --name", ("watch", "--")),
+    ("--color --control --dry-run --help --name", ("reload", "--")),
+    ("--color --control --help --link --name --output --seconds", ("record", "--")),
     ("--cid --color --control --help --link --name", ("reset", "--")),
     ("--color --control --help --json --link --name", ("calls", "--")),
     ("always auto never", ("status", "--color", "")),

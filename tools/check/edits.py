@@ -23,6 +23,27 @@ NAME = re.compile(r"(\w+)\.[a-z0-9_]+\.edit")
 # What a new statement, branch or function needs. The semicolon of an array, `[0; SIZE]`, isn't one of a statement.
 SHAPE = re.compile(r";(?! \w+\])|\?|=>|\b(?:fn|if|match|for|while|loop|return)\b")
 
+# The word that the first line of a definition defines.
+DEFINES = re.compile(r"^(?:(?:pub|abbrev|data|record|unfoldable)\s+)*(\w+)", re.MULTILINE)
+
+
+def words_of(text: str) -> frozenset[str]:
+    """The words of a text."""
+    return frozenset(re.findall(r"\w+", text))
+
+
+@cache
+def definitions(crate: Path) -> list[tuple[str, frozenset[str]]]:
+    """The definitions of a crate, each with the words of its text. An empty line ends a definition."""
+    found = []
+    for file in sorted(crate.glob("specs/**/*.antt")):
+        for block in file.read_text().split("\n\n"):
+            text = "\n".join(line for line in block.splitlines() if not line.startswith(("--", "use ")))
+            defined = DEFINES.match(text)
+            found += [(defined[1], words_of(text))] if defined else []
+    return found
+
+
 @dataclass(frozen=True)
 class Pair:
     """A text of a file, and what stands in its place after the edit."""
@@ -84,11 +105,18 @@ class Edit:
 
     @property
     def modules(self) -> list[str]:
-        """The modules in which it shows: those that it changes, or those that name its word. No module stands for all."""
+        """The modules in which it shows: those that it changes, or those that name its word. No module stands for all.
+
+        If no module names its word, they are those that name a definition over it, over as few others as may be.
+        """
         files = [self.crate / path for path in self.paths if path.startswith("src/")]
         if self.is_statement:
-            word = self.file.name.partition(".")[0]
-            files = [file for file in self.crate.glob("src/**/*.rt") if re.search(rf"\b{word}\b", file.read_text())]
+            words = {self.file.name.partition(".")[0]}
+            seen = set(words)
+            while words and not files:
+                files = [file for file in self.crate.glob("src/**/*.rt") if words & words_of(file.read_text())]
+                words = {name for name, text in definitions(self.crate) if words & text} - seen
+                seen |= words
         found = sorted({module_of(str(file.relative_to(self.crate))) for file in files})
         return [] if "" in found else found
 

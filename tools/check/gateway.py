@@ -14,7 +14,7 @@ import struct
 import sys
 import time
 from collections import Counter
-from collections.abc import Iterator
+from collections.abc import Iterable, Iterator
 from concurrent.futures import ThreadPoolExecutor
 from dataclasses import dataclass, field
 from datetime import UTC, datetime
@@ -23,20 +23,25 @@ from pathlib import Path
 import browser
 import completion
 import gateway_calls
+import gateway_container
 import gateway_limits
+import gateway_recipe
+import gateway_streams
 import gateway_wrong
 from cluster import Arrival, made_arrivals
 from gateway_limits import first_ir
 from gateway_run import BATCH, LOOPBACK, PROGRAM, WAIT_SECONDS, Gateway, Receivers, dated, free_port, numbered, replayed, samples
 from program import Ended
+from rohctl_survey import WHOLE_IR
 from trial import Trial
 
 ROHCTL = "crates/rohctl/out/rohctl"
-PARTS = ("words", "wrong", "heads", "whole", "numbered", "ported", "killed", "reloaded", "asked", "calls", "watched", "logged", "named", "limited", "hostile", "flood", "poor", "files")
+PARTS = ("words", "wrong", "heads", "whole", "numbered", "ported", "padded", "killed", "reloaded", "asked", "calls", "streamed", "logged", "named", "limited", "hostile", "flood", "poor", "files", "contained", "recipe")
 LINKS = range(1, 21)
+# The octets of the shortest Ethernet frame, without its check, and those of its head.
+SHORTEST_FRAME, ETHERNET_HEAD = 60, 14
 KILLS = 20
 SLOW = 40
-WATCHED = 100
 # How many CIDs of a link that only got NoContext are kept.
 UNKNOWN = 64
 FLOOD = 200_000
@@ -59,18 +64,24 @@ REQUESTS = (
     (b"POST /reset?link=70000 HTTP/1.1\r\n\r\n", 400),
     (b"POST /reset?link=1&link=2 HTTP/1.1\r\n\r\n", 400),
     (b"POST /reset?link=999 HTTP/1.1\r\n\r\n", 404),
-    (b"POST /watch?link=1 HTTP/1.1\r\n\r\n", 400),
-    (b"GET /watch?link=1&cid=0 HTTP/1.1\r\n\r\n", 405),
-    (b"POST /watch?link=999&cid=0 HTTP/1.1\r\n\r\n", 404),
+    (b"POST /watch?link=1&cid=0 HTTP/1.1\r\n\r\n", 405),
+    (b"POST /record?seconds=1 HTTP/1.1\r\n\r\n", 405),
     (b"GET /contexts?link=999 HTTP/1.1\r\n\r\n", 404),
+    (b"POST /hold HTTP/1.1\r\n\r\n", 400),
+    (b"POST /hold?link=999 HTTP/1.1\r\n\r\n", 404),
+    (b"GET /export?link=1 HTTP/1.1\r\n\r\n", 405),
+    (b"POST /export?link=1&of HTTP/1.1\r\n\r\n", 400),
+    (b"POST /import?link=1 HTTP/1.1\r\n\r\n", 400),
+    (b"POST /import?link=1 HTTP/1.1\r\nContent-Length: 2097153\r\n\r\n", 413),
+    (b"POST /save HTTP/1.1\r\nContent-Length: 1\r\n\r\n1", 400),
     (b"GET /ready HTTP/1.1\r\nA: " + b"a" * 9_000 + b"\r\n\r\n", 413),
 )
 # What the answer of each status says.
 TEXTS = {
-    400: "not a request that a gateway knows; expected HTTP/1.1 without a body, with the query of its path",
+    400: "not a request that a gateway knows; expected HTTP/1.1 with the query of its path, and a body only for import",
     404: "nothing is at this path; man rohctl names each request",
     405: "the path has another method; expected GET or HEAD to show something, POST to change something",
-    413: "the head of the request is too long; expected at most 8192 octets",
+    413: "the request is too long; expected a head of at most 8192 octets, and a body of at most 2 MiB",
 }
 
 
@@ -114,6 +125,21 @@ def check_limited(trial: Trial) -> None:
 def check_calls(trial: Trial) -> None:
     """What is shown of calls."""
     gateway_calls.check(trial)
+
+
+def check_streamed(trial: Trial) -> None:
+    """What is streamed, and what a reload would do."""
+    gateway_streams.check(trial)
+
+
+def check_recipe(trial: Trial) -> None:
+    """The recipe of docs/GATEWAY.md."""
+    gateway_recipe.check(trial)
+
+
+def check_contained(trial: Trial) -> None:
+    """deploy/entrypoint, which makes a stop of a signal."""
+    gateway_container.check(trial)
 
 
 # What is shown at both sockets, and only at the control socket.
@@ -402,6 +428,29 @@ def check_ported(trial: Trial) -> None:
     trial.demand(one == all_alike and all(one), f"ported: {one[2]} at the links' own ports, {all_alike[2]} at one port")
 
 
+def delivered(trial: Trial, packets: Iterable[bytes], payloads: dict[int, int]) -> list[bytes]:
+    """The packets that a gateway delivers for these, which come on link 1 in turns at both of its ports."""
+    folder = trial.scratch / f"padded-{len(payloads)}"
+    with Receivers() as receivers, Gateway(trial, folder, receivers.links(LINKS), payloads=payloads) as gateway:
+        for place, octets in enumerate(packets):
+            datagram, port = (struct.pack("!HQ", 1, 1_000) + octets, gateway.timed_port) if place % 2 else (numbered(1, octets), gateway.port)
+            gateway.sender.sendto(datagram, (LOOPBACK, port))
+            gateway.count += 1
+            gateway.wait_taken()
+        receivers.take()
+        return receivers.found["deliver"]
+
+
+def check_padded(trial: Trial) -> None:
+    """Packets of the worked examples come out of frames that Ethernet padded to 60 octets as they would without padding."""
+    short = [bytes.fromhex(octets) for octets in (WHOLE_IR, "10ac", "d4c33ead", WHOLE_IR)]
+    padded = [octets.ljust(SHORTEST_FRAME - ETHERNET_HEAD, b"\0") for octets in short]
+    wanted = delivered(trial, short, {})
+    trial.demand(len(wanted) == len(short), f"padded: {len(wanted)} of {len(short)} packets without padding are delivered")
+    trial.demand(delivered(trial, padded, {1: 1}) == wanted, "padded: what Ethernet pads isn't cut behind one octet of payload")
+    trial.demand(delivered(trial, padded, {2: 1}) != wanted, "padded: a link without a payload is cut")
+
+
 def check_killed(trial: Trial) -> None:
     """Killed at random: what came after the last save is forgotten, and all else goes on."""
     dice = random.Random(5)
@@ -502,37 +551,13 @@ def check_asked(trial: Trial) -> None:
         trial.demand(gateway.process.wait(30) == 0, f"stop: {gateway.said}")
 
 
-def check_watched(trial: Trial) -> None:
-    """Each packet of a watched call has a line, with the refusal's name, no other call has one, and the watch ends by itself."""
-    first, second = bytes.fromhex("fc00b745aa"), bytes.fromhex("e1fc003045aa")
-    log = "<7>rohc-gateway: watch 1/0: "
-    with Receivers() as receivers, Gateway(trial, trial.scratch / "watched", receivers.links(LINKS)) as gateway:
-        told = asked(trial, gateway, "watch", "1/0")
-        trial.demand(told.is_good and json.loads(told.text) == {"packets": WATCHED, "milliseconds": 60_000}, f"watch: {told.all}")
-        gateway.send(Arrival(1, 1, second))
-        for moment in range(WATCHED + 1):
-            gateway.send(Arrival(1, 2 + moment, first if moment != 1 else b"\xfc\x00\xb8\x45\xaa"))
-        gateway.wait_taken()
-        asked(trial, gateway, "stop")
-        lines = [line for line in gateway.said.splitlines() if "watch" in line]
-    # The IR makes a context, and its feedback has four octets (docs/EXAMPLES.md); the second is damaged.
-    trial.demand(lines[0] == "<6>rohc-gateway: watch 1/0 begins", f"watched: {lines[:1]}")
-    trial.demand(lines[1].startswith(f"{log}5 octets: delivered 2, feedback "), f"watched: {lines[1:2]}")
-    trial.demand(lines[2].startswith(f"{log}5 octets: refused Check, feedback "), f"watched: {lines[2:3]}")
-    trial.demand(lines[-1] == "<6>rohc-gateway: watch ends", f"watched: {lines[-1:]}")
-    count = sum(line.startswith(log) for line in lines)
-    trial.demand(count == WATCHED, f"watched: {count} packets have a line; wanted {WATCHED}")
-
-
 def log_objects(trial: Trial, begun: datetime) -> None:
     """With log_format = "json" each line is an object, whoever reads it."""
     with Receivers() as receivers:
         gateway = Gateway(trial, trial.scratch / "objects", receivers.links([1]))
         gateway.file.write_text(gateway.file.read_text() + 'log_format = "json"\n')
         with gateway:
-            gateway.ask("POST", "/watch?link=1&cid=0")
-            gateway.send(Arrival(1, 5, bytes.fromhex("fc00b745aa")))
-            gateway.wait_taken()
+            gateway.ask("POST", "/hold?link=1")
             gateway.write_links(gateway.links.replace("k1 =", '"k\\u001b" ='))
             gateway.ask("POST", "/reload")
             gateway.stop()
@@ -540,14 +565,13 @@ def log_objects(trial: Trial, begun: datetime) -> None:
     found = [(row["level"], row["text"]) for row in rows]
     wanted = [
         ("info", "started: 1 links, 0 contexts restored"),
-        ("info", "watch 1/0 begins"),
-        ("debug", found[2][1]),
+        ("info", "link 1 is held: its datagrams wait for an import"),
         ("warning", f'{gateway.folder}/links.toml:2: link 1: unknown key "k\\u001b"; did you mean k1?'),
         ("warning", f"{gateway.folder}/links.toml:2: link 1: k1 is missing; expected a number from 1 to n1"),
         ("warning", f"reload refused: UnknownKey; {gateway_wrong.CONTINUES}"),
         ("info", "stopped"),
     ]
-    trial.demand(found == wanted and found[2][1].startswith("watch 1/0: 5 octets: delivered 2, "), f"objects: {rows}")
+    trial.demand(found == wanted, f"objects: {rows}; wanted {wanted}")
     for row in rows:
         trial.demand(begun <= datetime.fromisoformat(row["time"]) <= datetime.now(UTC), f"objects: {row} is not of this time")
 
@@ -585,11 +609,10 @@ def check_named(trial: Trial) -> None:
         trial.demand(told.is_good and told.text == f"warning: {stranger}\ngood\n", f"check: {told.end()} {told.text}", told.call)
         with gateway:
             trial.demand(f"<4>rohc-gateway: {stranger}\n" in gateway.said, f"named: {gateway.said}")
-            gateway.ask("POST", "/watch?link=1&cid=0")
-            gateway.send(Arrival(1, 5, bytes.fromhex("fc00b745aa")))
-            gateway.wait_taken()
-            for start in ("<6>rohc-gateway: watch 1/0 ({}) begins\n", "<7>rohc-gateway: watch 1/0 ({}): 5 octets: delivered 2, "):
-                trial.demand(start.format(name) in gateway.said, f"named: {gateway.said}; wanted {start.format(name)}")
+            gateway.ask("POST", "/hold?link=1")
+            wanted = f"<6>rohc-gateway: link 1 ({name}) is held: its datagrams wait for an import\n"
+            trial.demand(wanted in gateway.said, f"named: {gateway.said}; wanted {wanted}")
+            gateway.ask("POST", "/hold?link=1&off")
             # Prometheus has a quote and a backslash behind a backslash.
             shown = name.replace("\\", "\\\\").replace('"', '\\"')
             infos = [row for row in gateway.metrics().splitlines() if row.startswith("polorowan_link_info")]
@@ -770,6 +793,7 @@ def check_files(trial: Trial) -> None:
     json.loads((deploy / "rohc-gateway.dashboard.json").read_text())
     if shutil.which("promtool"):
         trial.must_run("promtool", "check", "rules", deploy / "rohc-gateway.rules.yml")
+        trial.must_run("promtool", "test", "rules", "tests/alerts.yml")
         check_since(trial)
     else:
         trial.leave_out("promtool is not installed, deploy/rohc-gateway.rules.yml and the dashboard were not checked by it")

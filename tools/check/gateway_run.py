@@ -173,6 +173,8 @@ class Gateway:
     environment: dict[str, str] = field(default_factory=dict)
     # The ports of links that have one of their own.
     link_ports: dict[int, int] = field(default_factory=dict)
+    # How many octets the payloads of links have, where that is known.
+    payloads: dict[int, int] = field(default_factory=dict)
     # Whether feedback and relayed feedback have the link's number first.
     is_numbered: bool = False
     # Whether the journal of systemd reads its log.
@@ -186,7 +188,10 @@ class Gateway:
         text = f'links = "links.toml"\nport = {self.port}\ntimed_port = {self.timed_port}\nstate = "calls"\n'
         text += f'save_seconds = {self.save_seconds}\ncontrol = "control"\nmetrics_port = {self.metrics_port}\n'
         text += "numbered_feedback = true\n" if self.is_numbered else ""
-        text += "".join(f"[[link]]\nnumber = {link}\nport = {port}\n" for link, port in self.link_ports.items())
+        for link in sorted({*self.link_ports, *self.payloads}):
+            text += f"[[link]]\nnumber = {link}\n"
+            text += f"port = {self.link_ports[link]}\n" if link in self.link_ports else ""
+            text += f"payload = {self.payloads[link]}\n" if link in self.payloads else ""
         self.file.write_text(text)
         self.sender = socket.socket(socket.AF_INET, socket.SOCK_DGRAM)
 

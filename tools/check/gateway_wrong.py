@@ -89,7 +89,7 @@ GATEWAY_FILES: tuple[tuple[bytes | str, tuple[str, ...]], ...] = (
     (GOOD + '[[link]]\nnumber = 65536\n', (f"FILE:4: link table 1: number is 65536; {NUMBER}",)),
     (GOOD + '[[link]]\nnumber = 0\n[[ link ]] # two\nname = "a"\nnumber = "1"\n', (f'FILE:7: link table 2: number is "1"; {NUMBER}',)),
     (GOOD + '[[link]]\nnumber = 1\nnam = "a"\n', ('FILE:5: link table 1: unknown key "nam"; did you mean name?',)),
-    (GOOD + "[[link]]\nnumber = 1\ncolour = 1\n", ('FILE:5: link table 1: unknown key "colour"; expected one of number, name, port, new_contexts_per_second, feedback_per_second',)),
+    (GOOD + "[[link]]\nnumber = 1\ncolour = 1\n", ('FILE:5: link table 1: unknown key "colour"; expected one of number, name, port, payload, new_contexts_per_second, feedback_per_second',)),
     (GOOD + "[[link]]\nnumber = 1\nport = 0\n", (f"FILE:5: link table 1: port is 0; {PORT}",)),
     (GOOD + "[[link]]\nnumber = 1\nport = 4000\n", ("FILE:5: link table 1: port is the same as port; expected another port",)),
     (GOOD + "[[link]]\nnumber = 1\nport = 4001\n[[link]]\nnumber = 2\nport = 4001\n", (

@@ -1,5 +1,6 @@
 """Runs bin/install with a proved program and without one. Tries the completion, and tools/link_lines.py on faulty files."""
 
+import os
 import re
 import shutil
 from dataclasses import dataclass
@@ -127,7 +128,8 @@ def check_installed(tree: Tree) -> None:
         (trial.top / "completion/rohc-gateway.fish", share / "fish/vendor_completions.d/rohc-gateway.fish"),
         (trial.top / "man/rohc-gateway.1", share / "man/man1/rohc-gateway.1"),
         (trial.top / "deploy/link.js", share / "doc/rohc-gateway/link.js"),
-        *((trial.top / f"deploy/{name}", share / f"doc/rohc-gateway/{name}") for name in ("loopback.nft", "both.nft", "reached.nft", "standby")),
+        *((trial.top / f"deploy/{name}", share / f"doc/rohc-gateway/{name}") for name in ("loopback.nft", "both.nft", "reached.nft", "standby", "move-link")),
+        (trial.top / "deploy/entrypoint", tree.prefix / "lib/rohc-gateway/entrypoint"),
         (trial.top / "deploy/rohc-tun@.service", tree.prefix / "lib/systemd/system/rohc-tun@.service"),
         (trial.file, tree.prefix / "bin/rohcd"),
         (trial.top / "man/rohcd.1", share / "man/man1/rohcd.1"),
@@ -136,6 +138,9 @@ def check_installed(tree: Tree) -> None:
         (trial.top / "completion/rohcd.bash", share / "bash-completion/completions/rohcd"),
         (trial.top / "examples/links.toml", share / "doc/rohcd/examples/links.toml"),
     )
+    scripts = ("share/doc/rohc-gateway/standby", "share/doc/rohc-gateway/move-link", "lib/rohc-gateway/entrypoint")
+    for name in scripts:
+        trial.demand(os.access(tree.prefix / name, os.X_OK), f"bin/install: {name} can't be executed")
     for source, copy in pairs:
         trial.demand(copy.is_file() and copy.read_bytes() == source.read_bytes(), f"bin/install: {copy} isn't {source}")
     examples = share / "doc/rohcd/examples"

@@ -25,6 +25,8 @@ BUILDS = "bin/rohcd: building the program once, without proofs; this takes some 
 PROVING = "bin/rohcd: proving and building the program; this takes some 10 minutes on four processors\n"
 WAITS = "bin/rohcd: waiting for another call that is building the program\n"
 NO_PROOFS = "bin/rohcd: this build has no proofs, and is slow (bin/rohcd --build makes the proved program)"
+# Between these docs/ARCHITECTURE.md shows the ways of packets.
+WALKS, END_OF_WALKS = "<!-- walks: tools/walks.py -->", "<!-- end of walks -->"
 WAIT = 30
 SECONDS = 1200
 LONG_SCRIPT = 2_800_000
@@ -221,6 +223,17 @@ def build_at_once(launcher: Launcher) -> None:
         launcher.trial.demand(said.count(text) == 1, f"two calls at once: {said}; wanted one line {text}")
 
 
+def check_walks(trial: Trial, program: Path) -> None:
+    """docs/ARCHITECTURE.md shows the ways of packets as they are in this build."""
+    if not shutil.which("gdb"):
+        trial.leave_out("gdb is not installed, the ways of packets in docs/ARCHITECTURE.md were not compared")
+        return
+    ended = trial.ran("tools/walks.py", program, seconds=SECONDS)
+    shown = (trial.top / "docs/ARCHITECTURE.md").read_text().partition(WALKS)[2].partition(END_OF_WALKS)[0]
+    if trial.demand(ended.status == 0, f"tools/walks.py: {ended.end()}", ended.call):
+        trial.same(f"docs/ARCHITECTURE.md: tools/walks.py {program} --write", ended.text.strip(), shown.strip())
+
+
 def make_toolchain(launcher: Launcher) -> Path:
     """Puts another toolchain on the path."""
     scratch = launcher.trial.scratch
@@ -287,6 +300,8 @@ def check_unproved(trial: Trial) -> None:
         trial.top / "crates", launcher.tree / "crates", ignore=shutil.ignore_patterns("out"), dirs_exist_ok=True
     )
     build_at_once(launcher)
+    for program in (launcher.tree / "out/unproved").glob("rohcd-*"):
+        check_walks(trial, program)
     launcher.note = NO_PROOFS
     launcher.behaves()
     check_build(launcher)

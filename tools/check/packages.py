@@ -15,6 +15,7 @@ from trial import Trial
 PARTS = ("equal", "unpacked", "clean")
 # rohcd tells no version.
 PROGRAMS = ("rohctl", "rohc-gateway")
+SCRIPTS = ("usr/lib/rohc-gateway/entrypoint", "usr/share/doc/rohc-gateway/standby", "usr/share/doc/rohc-gateway/move-link")
 NAMES = ("polorowan", "libpolorowan1", "libpolorowan-dev")
 
 
@@ -60,6 +61,8 @@ def check_unpacked(trial: Trial, folder: Path) -> None:
     check_build(trial, root / "usr")
     ended = run(Call((root / "usr/bin/rohcd",)))
     trial.demand((ended.status, ended.said) == (2, "rohcd: command line"), f"rohcd: {ended.end()}", ended.call)
+    for name in SCRIPTS:
+        trial.demand(os.access(root / name, os.X_OK), f"{name} can't be executed")
     unit = root / "usr/lib/systemd/system/rohc-gateway@.service"
     trial.demand("ExecStart=/usr/bin/rohc-gateway run" in unit.read_text(), "the unit doesn't name the installed program")
     page = root / "usr/share/man/man1/rohcd.1"

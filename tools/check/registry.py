@@ -1,5 +1,7 @@
 """The table of checks, and the table of what they test."""
 
+import os
+import re
 from collections.abc import Callable
 from dataclasses import dataclass
 from enum import Enum
@@ -28,17 +30,21 @@ import limits
 import lines
 import lint
 import model
+import moving
 import packages
 import poverty
 import proving
 import random_scripts
 import rohctl
+import simulation
 import spreading
 import standby
 from trial import Trial
 
 TOP = Path(__file__).resolve().parent.parent.parent
 PROGRAM = "crates/rohcd/out/rohcd"
+# The most memory that the proof of a crate takes, in KiB.
+MOST_KIB = 5 << 20
 # If proving fails, the gate and what runs after it aren't run.
 PROVING, GATE = "proving", "gate"
 
@@ -56,10 +62,20 @@ def knows_none(top: Path, word: str) -> bool:
     return False
 
 
+def lanes() -> dict[str, str]:
+    """How many proofs of the gate run side by side, for its environment: as many as there are processors and memory for.
+
+    Without it the toolchain reserves about three times the memory that a proof takes, and leaves processors idle.
+    """
+    available = re.search(r"MemAvailable: +(\d+) kB", Path("/proc/meminfo").read_text())
+    room = int(available[1]) // MOST_KIB if available else 1
+    return {"RT_JOBS": str(max(1, min(len(os.sched_getaffinity(0)), room)))}
+
+
 def gate(trial: Trial) -> None:
     """Runs `rt ci`. What it says is shown as it says it, and the programs are recorded as proved from these sources."""
     digest = trial.ran("bin/sources", "digest").text.strip()
-    status = trial.shown_live("rt", "ci")
+    status = trial.shown_live("rt", "ci", environment=lanes())
     if trial.demand(status == 0, f"gate: status {status}"):
         recorded = all(trial.ran("bin/sources", "record", digest, name).status == 0 for name in ("rohcd", "rohctl", "rohc_gateway"))
         trial.demand(recorded, "gate: a source changed during the gate, or it left no program")
@@ -70,7 +86,8 @@ class Check:
     """A check, its function, and what it shows. Words behind its name are names of its parts, which it must know.
 
     Without the tool that it names it is left out. One that can do without the program runs without it if it is asked for.
-    One that isn't in all is run only if it is asked for, since another check shows the same.
+    One that isn't in all is run only if it is asked for, since another check shows the same. One that is timed by what the
+    machine lets through runs apart: alone, behind the others.
     """
 
     name: str
@@ -82,6 +99,7 @@ class Check:
     knows: Callable[[Path, str], bool] = knows_none
     can_do_without: bool = False
     is_in_all: bool = True
+    is_apart: bool = False
 
 
 NOTHING, TOOLCHAIN, ON_PROGRAM = Needs
@@ -151,7 +169,7 @@ CHECKS = (
         "bites",
         TOOLCHAIN,
         bites.check,
-        "at most 40 wrong bodies and wrong definitions are refused for their meaning, and their twins proved",
+        "at most 24 wrong bodies and wrong definitions are refused for their meaning, and their twins proved",
         knows=bodies.is_crate,
     ),
     Check(
@@ -192,6 +210,13 @@ CHECKS = (
         random_scripts.check,
         "random scripts, in pieces of any size, each call by itself, and against tools/model",
         knows=random_scripts.is_number,
+    ),
+    Check(
+        "simulation",
+        ON_PROGRAM,
+        simulation.check,
+        "a gateway's service in a simulated outside: faults, kills, power failures, clocks that jump",
+        knows=simulation.is_number,
     ),
     Check(
         "calls_alike",
@@ -236,7 +261,20 @@ CHECKS = (
         knows=cluster.is_part,
     ),
     Check("call", ON_PROGRAM, call.check, "sipp's calls over ROHC between two namespaces, with a reload, a restart and a kill"),
-    Check("standby", ON_PROGRAM, standby.check, "a standby takes over ten times from a killed gateway, under 1,000 packets per second"),
+    Check(
+        "standby",
+        ON_PROGRAM,
+        standby.check,
+        "a standby takes over ten times from a killed gateway, under 1,000 packets per second",
+        is_apart=True,
+    ),
+    Check(
+        "moving",
+        ON_PROGRAM,
+        moving.check,
+        "a link moves between two gateways under 1,000 packets per second; each step fails",
+        is_apart=True,
+    ),
     Check(
         "packages",
         ON_PROGRAM,
@@ -269,7 +307,7 @@ class Tested:
 
 # The kinds up to Refusal are whole lists of docs/PROMISES.md and the manual pages.
 TESTED = (
-    Tested("Promise", "1. Isolation", "closed calls gate lines random calls_alike limits evidence"),
+    Tested("Promise", "1. Isolation", "closed calls gate simulation lines random calls_alike limits evidence"),
     Tested("Promise", "2. Safe and total", "gate library examples lines random limits poverty evidence"),
     Tested("Promise", "3. Each part is right", "gate proving library examples evidence"),
     Tested("Promise", "4. One event is one step of one context", "closed gate examples lines calls_alike"),
@@ -306,8 +344,10 @@ TESTED = (
     Tested("Command", "rohctl totals, links, run, trace, diff, plan, script, decompress, report, survey, find", "gate rohctl"),
     Tested("Command", "rohctl explain", "gate rohctl evidence"),
     Tested("Command", "rohctl spread", "gate rohctl spread"),
-    Tested("Command", "rohctl status, stop, save, reload, drain, top, reset, contexts, calls, watch", "gate gateway"),
+    Tested("Command", "rohctl status, stop, save, reload, drain, top, reset, contexts, calls, watch, record", "gate gateway"),
+    Tested("Command", "rohctl hold, export, import, deploy/move-link", "moving"),
     Tested("Command", "rohc-gateway run, check", "gate gateway call"),
+    Tested("Command", "deploy/entrypoint", "gateway"),
     Tested("Command", "bin/rohcd, bin/rohctl, bin/rohc-gateway", "launcher"),
     Tested("Command", "deploy/standby", "standby"),
     Tested("Command", "bin/lib", "library callers"),

@@ -3,8 +3,10 @@
 import json
 import os
 import pty
+import re
 import select
 import subprocess
+import time
 from collections import Counter
 from collections.abc import Sequence
 from pathlib import Path
@@ -275,16 +277,22 @@ def check_follow(trial: Trial) -> None:
 
 
 def check_progress(trial: Trial) -> None:
-    """Long input shows on a terminal how far it is, and takes that away at its end. Elsewhere nothing is shown."""
-    lines = b"1 0 stored\n" * 2_000_000
+    """What takes longer than a second shows on a terminal how far it is, and takes that away at its end. Elsewhere nothing is shown."""
+    lines = b"1 0 stored\n" * 20_000
     for words in (["totals"], ["script", "--back", "--port", "1", "-", os.devnull]):
         ours, theirs = pty.openpty()
         with subprocess.Popen([trial.top / PROGRAM, *words], stdin=subprocess.PIPE, stdout=subprocess.DEVNULL, stderr=theirs) as process:
             os.close(theirs)
+            assert process.stdin
+            for _ in range(2):
+                process.stdin.write(lines)
+                process.stdin.flush()
+                time.sleep(1.2)
             process.communicate(lines)
         shown = read_until(ours, b"no such text")
         os.close(ours)
-        trial.demand(b"\r16 MB read" in shown and b"\r\x1b[K" in shown, f"progress of {words[0]}: {shown!r}")
+        told = re.search(rb"\r(\d+) lines, (\d+) lines/s\x1b\[K", shown)
+        trial.demand(bool(told) and b"\r\x1b[K" in shown, f"progress of {words[0]}: {shown!r}")
     ended = call(trial, "totals", given=lines)
     trial.demand(not ended.said, f"progress in a pipe: {ended.said}", ended.call)
 

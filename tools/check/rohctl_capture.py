@@ -526,6 +526,77 @@ def check_back(trial: Trial) -> None:
         trial.same(f"{script.name}: back and forth", "\n".join(wanted), "\n".join(text), again.call)
 
 
+def check_ethernet(trial: Trial) -> None:
+    """A script as a capture of Ethernet frames, whose source address has the link, and read back by its EtherType."""
+    lines = "".join(f"arrive {link} {SECOND * 1000 + 20 * at} {packet.hex()}\n" for at, packet in enumerate(ROHC) for link in (1, 258))
+    capture = trial.scratch / "ethernet.pcap"
+    ended = scripted(trial, lines.encode(), "--back", "--ethertype", "0x88b5", "-", capture)
+    trial.demand(ended.status == 0, f"Ethernet: {ended.end()}", ended.call)
+    wanted = [bytes((2, 0, 0, 0, 0, 0, 2, 0, 0, 0)) + struct.pack(">HH", link, 0x88B5) + packet for packet in ROHC for link in (1, 258)]
+    trial.same("frames of Ethernet", repr(wanted), repr([octets for _, octets in records(capture.read_bytes())]))
+    back = scripted(trial, capture.read_bytes(), "--link", "1", "--ethertype", "0x88b5", "--from", "02:00:00:00:00:01")
+    trial.same("frames of Ethernet, read back", "".join(line + "\n" for line in lines.splitlines() if line.startswith("arrive 1 ")), back.text, back.call)
+
+
+def briefly(trial: Trial, links: Path, script: Path) -> dict[int, list[str]]:
+    """What `explain --brief` says of each packet of a script, by its line."""
+    text = run(Call((trial.top / PROGRAM, "explain", "--brief", "--links", links, script), folder=trial.top)).text
+    return {int(row.split()[0]): row.split()[1:] for row in text.splitlines()}
+
+
+def check_parts(trial: Trial) -> None:
+    """A part of a script has the packets from a time on and those from the newest IR on before them, and each gets the answer that it has in
+    the whole; so does a part of one call. A part of a capture has the packets that are delivered in that time."""
+    count = 0
+    for script in sorted((trial.top / "examples/scripts").glob("small-*.script")):
+        links = script.with_suffix(".toml")
+        moments = [int(match[2]) for match in map(ARRIVAL.fullmatch, script.read_text(errors="replace").splitlines()) if match]
+        since = moments[len(moments) // 2]
+        whole, part, listed = briefly(trial, links, script), trial.scratch / "part.script", trial.scratch / "part.lines"
+        call = next(row for row in whole.values() if row[1] != "-" and row[3] == "delivered")
+        for words in ((), ("--call", f"{call[0]}/{call[1]}")):
+            ended = scripted(trial, b"", "--links", links, "--since", str(since), *words, "--lines", listed, script, part)
+            if ended.status == 6 and words:
+                continue
+            trial.demand(ended.status == 0, f"a part of {script.name}: {ended.end()}", ended.call)
+            own, rows = briefly(trial, links, part), (map(int, row.split()) for row in listed.read_text().splitlines())
+            wrong = [(line, whole[number], own[line]) for line, number in rows if whole[number] != own[line]]
+            trial.demand(not wrong, f"a part of {script.name} has other answers: {wrong[:2]}", ended.call)
+            count += len(own)
+    trial.demand(count > 1000, f"parts have {count} packets")
+    given = pcap(frames_of([ethernet(0x22F1, packet) for packet in ROHC]))
+    packets = list(records(decompress(trial, given, "--link", "1").output))
+    at = packets[0][0] // 10**6
+    first = decompress(trial, given, "--link", "1", "--call", "1/0", "--until", f"{at // 1000}.{at % 1000:03}")
+    trial.same("the first packet", repr(packets[:1]), repr(list(records(first.output))), first.call)
+    rest = decompress(trial, given, "--link", "1", "--since", f"{(at + 1) // 1000}.{(at + 1) % 1000:03}")
+    trial.same("the packets after it", repr(packets[1:]), repr(list(records(rest.output))), rest.call)
+    nothing = decompress(trial, given, "--link", "1", "--call", "1/7")
+    trial.demand(nothing.status == 6 and "no packet of link 1, CID 7" in nothing.said, f"no such call: {nothing.end()}", nothing.call)
+
+
+# A call of profile 0x0001 with one octet of payload: a whole IR, a UO-0 and a UOR-2 of the worked examples.
+CALL = [bytes.fromhex(octets) for octets in ("fd012b40110a0000010a0000021388138a00000001004000012000000090000001000000a0000980a0ab", "10ac", "d4c33ead")]
+
+
+def check_padded(trial: Trial) -> None:
+    """With --payload the packets of frames that Ethernet padded to 60 octets are those of frames without padding."""
+    plain, padded = (pcap(frames_of([ethernet(0x22F1, packet).ljust(size, b"\0") for packet in CALL])) for size in (0, 60))
+    wanted = list(records(decompress(trial, plain, "--link", "1").output))
+    trial.demand(len(wanted) == len(CALL), f"{len(wanted)} of {len(CALL)} packets are delivered without padding")
+    good(trial, decompress(trial, padded, "--link", "1", "--payload", "1=1"), wanted, "padded")
+    longer = decompress(trial, padded, "--link", "1", "--payload", "2=1,1=2")
+    trial.demand(list(records(longer.output)) != wanted, "a payload of two octets is cut behind one", longer.call)
+    script = trial.scratch / "padded.script"
+    ended = scripted(trial, padded, "--link", "1", "--links", LINKS, "--payload", "1=1", "-", script)
+    packets = [bytes.fromhex(line.split()[3]) for line in script.read_text().splitlines()]
+    trial.demand(packets == CALL, f"the script of padded frames: {ended.end()}", ended.call)
+    pages = [run(Call((trial.top / PROGRAM, "report", "--links", LINKS, "--link", "1", *words), given, {}, trial.top)) for given, words in ((plain, ()), (padded, ("--payload", "1=1")))]
+    trial.same("the report of padded frames", pages[0].text, pages[1].text, pages[1].call)
+    wrong = decompress(trial, padded, "--link", "1", "--payload", "1")
+    trial.demand(wrong.status == 2 and "--payload" in wrong.said and "LINK=OCTETS" in wrong.said, f"--payload 1: {wrong.said}", wrong.call)
+
+
 def check_sides(trial: Trial) -> None:
     """A capture of both directions: one sender's packets arrive, the others' make a script of their own, and each line its frame."""
     near, far = b"\2\0\0\0\0\1", b"\2\0\0\0\0\2"
@@ -582,5 +653,5 @@ def check_tools(trial: Trial) -> None:
 
 def check(trial: Trial) -> None:
     """All of it."""
-    for part in (check_carriers, check_lost, check_cuts, check_changes, check_blocks, check_outputs, check_annotated, check_scripts, check_long, check_many, check_live, check_back, check_sides, check_tools):
+    for part in (check_carriers, check_lost, check_cuts, check_changes, check_blocks, check_outputs, check_annotated, check_scripts, check_long, check_many, check_live, check_back, check_ethernet, check_parts, check_padded, check_sides, check_tools):
         part(trial)

@@ -278,6 +278,21 @@ def check_memory(trial: Trial) -> None:
     trial.demand(long < short + SLACK, f"memory: {short} kB, and {long} kB for ten times as many packets")
 
 
+def check_pipe(trial: Trial) -> None:
+    """A pipe that is longer than what is kept in memory gives the page of a file, and its copy is gone at the end."""
+    folder = trial.scratch / "copies"
+    folder.mkdir()
+    lines = "".join(f"arrive 1 {20 * at} 45{'ab' * 9_000}\n" for at in range(100))
+    script = trial.write("long.script", f"arrive 1 0 {GOOD_IR}\n{lines}")
+    wanted = report(trial, "--links", PLAIN_LINKS, script)
+    given = run(Call((trial.top / PROGRAM, "report", "--links", PLAIN_LINKS), script.read_bytes(), {"TMPDIR": str(folder)}, trial.top))
+    trial.same("a long pipe", wanted.output.replace(str(script).encode(), b"-"), given.output, given.call)
+    trial.demand(not list(folder.iterdir()), "the copy of a pipe was left", given.call)
+    (folder / "no").write_bytes(b"")
+    lost = run(Call((trial.top / PROGRAM, "report", "--links", PLAIN_LINKS), script.read_bytes(), {"TMPDIR": str(folder / "no")}, trial.top))
+    trial.demand(lost.status == 4 and "temporary file" in lost.said, f"no room for a copy: {lost.end()}", lost.call)
+
+
 def check_ends(trial: Trial) -> None:
     """Where the page goes, what is read, and the statuses."""
     script = trial.top / PLAIN
@@ -298,5 +313,5 @@ def check_ends(trial: Trial) -> None:
 
 def check(trial: Trial) -> None:
     """All of it."""
-    for part in (check_scripts, check_many, check_hostile, check_capture, check_memory, check_ends):
+    for part in (check_scripts, check_many, check_hostile, check_capture, check_memory, check_pipe, check_ends):
         part(trial)

@@ -293,7 +293,7 @@ WRONG: tuple[tuple[tuple[str | bytes, ...], int, str], ...] = (
     ((*FIND, "10.0.0.1"), 6, "rohctl: call.script: nothing to show: no call has these addresses; expected those of its IP packets, as 'rohctl explain' shows them"),
     (("script",), 2, RULES),
     (("script", "--port", "x", "rohc.pcap"), 2, f"rohctl: --port x: {PORT_WORD}"),
-    (("script", "--back", "call.script", "new"), 2, "rohctl: --port is missing; expected with --back the port of the datagrams, 0 to 65535"),
+    (("script", "--back", "call.script", "new"), 2, "rohctl: --port is missing; expected with --back the port of the datagrams, 0 to 65535, or --ethertype for Ethernet frames"),
     (("script", "--back", "--port", "1", "call.script", "soft"), 2, f"rohctl: soft: {OVER_SCRIPT}"),
     (("script", *LINK_1, "--from", "me", "rohc.pcap", "new"), 2,
      "rohctl: --from me: expected an Ethernet address, as 02:00:00:00:00:01, or an IPv4 address, as 10.0.0.1"),
@@ -306,7 +306,7 @@ WRONG: tuple[tuple[tuple[str | bytes, ...], int, str], ...] = (
     (("script", *LINK_1, "--lines", "-", "rohc.pcap"), 2, f"rohctl: standard output: {TWICE}"),
     (("script", *LINK_1, "--lines", "nothing/new", "rohc.pcap", "new"), 4, f"rohctl: nothing/new: cannot write to it: {MISSING}"),
     (("script", *LINK_1, "rohc.pcap", "."), 4, "rohctl: .: cannot write to it: it is a directory"),
-    (("script", "--back", "--port", "1=1", "call.script", "new"), 2, "rohctl: --port 1=1: expected with --back the port of the datagrams, 0 to 65535"),
+    (("script", "--back", "--port", "1=1", "call.script", "new"), 2, "rohctl: --port 1=1: expected with --back the port of the datagrams, 0 to 65535, or --ethertype for Ethernet frames"),
     (("script", "--back", "--port", "1", "empty", "new"), 6, f"rohctl: empty: nothing to show: it is empty; {EVENTS}"),
     (("script", "--back", "--port", "1", "rohc.pcap", "new"), 6, f"rohctl: rohc.pcap: nothing to show: {A_CAPTURE}"),
     (("script", "--back", "--port", "1", "links.toml", "new"), 6, f"rohctl: links.toml: nothing to show: none of 15 lines is an event; {EVENTS}"),
@@ -355,8 +355,6 @@ WRONG: tuple[tuple[tuple[str | bytes, ...], int, str], ...] = (
      f"rohctl: udp.pcap: {NO_FRAME} UDP to port 5000 in 1 frame (pass --port 5000=LINK if it carries ROHC)"),
 )
 FEWEST = 150
-# How many octets of standard input `report` keeps.
-LONGEST_INPUT = 67_108_864
 
 # The digest of no octets (FIPS 180-4).
 DIGEST = "e3b0c44298fc1c149afbf4c8996fb92427ae41e4649b934ca495991b7852b855"
@@ -511,16 +509,18 @@ def check_named(trial: Trial, folder: Path) -> None:
 
 
 def check_systems(trial: Trial, folder: Path) -> None:
-    """Standard input that is too long to be kept, and a file system that can't be written."""
-    call = Call((trial.top / PROGRAM, "report", "--links", "links.toml"), Path("/dev/zero"), {}, folder)
-    ended = run(call)
-    said = f"rohctl: standard input: cannot read it: it is longer than {LONGEST_INPUT} octets"
-    trial.demand((ended.status, ended.said) == (4, said), f"a long input: {ended.end()}; wanted 4, {said}", call)
+    """No room for a copy of standard input, and a file system that can't be written."""
     (folder / "sealed").mkdir(exist_ok=True)
-    there = ("unshare", "--mount", "sh", "-c", 'mount -t tmpfs -o ro none sealed && exec "$@"', "sh")
+    mounted = "mount -t tmpfs -o {} none sealed && exec "
+    there = ("unshare", "--mount", "sh", "-c", mounted.format("ro") + '"$@"', "sh")
     if run(Call((*there, "true"), b"", {}, folder)).status != 0:
-        trial.leave_out("a read-only file system, since none can be mounted here")
+        trial.leave_out("a full and a read-only file system, since none can be mounted here")
         return
+    small = ("unshare", "--mount", "sh", "-c", mounted.format("size=8m") + 'env TMPDIR=sealed "$@"', "sh")
+    call = Call((*small, trial.top / PROGRAM, "report", "--links", "links.toml"), Path("/dev/zero"), {}, folder)
+    ended = run(call)
+    said = "rohctl: a temporary file in TMPDIR, or else in /tmp: cannot write to it: no space left on the device"
+    trial.demand((ended.status, ended.said) == (4, said), f"a long input: {ended.end()}; wanted 4, {said}", call)
     call = Call((*there, trial.top / PROGRAM, *DECOMPRESS, *LINK_1, "rohc.pcap", "sealed/new"), b"", {}, folder)
     ended = run(call)
     said = "rohctl: sealed/new: cannot write to it: the file system is read-only"

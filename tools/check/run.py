@@ -107,8 +107,10 @@ def run_on_program(checks: list[Check], order: Order) -> Iterator[Result]:
     """
     stands = not checks or order.is_given or subprocess.run(["bin/sources", "stands"], cwd=TOP).returncode == 0
     ready = [check for check in checks if stands or (check.can_do_without and not order.is_all)]
-    if ready:
-        yield from run_side_by_side(ready, order)
+    together = [check for check in ready if not check.is_apart]
+    if together:
+        yield from run_side_by_side(together, order)
+    yield from (tell(run_one(check, order)) for check in ready if check.is_apart)
     for check in checks:
         if check not in ready:
             yield tell(Result(check.name, "NOT run", 0, [f"bin/check: {check.name} {NO_PROGRAM}"]))

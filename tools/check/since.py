@@ -46,24 +46,29 @@ NOTICES = {
     "examples": Notices("examples tools/worked_examples.txt", "rohcd"),
     "lines": Notices("examples tools/short_reads.c", "rohcd"),
     "random": Notices("tools/random_script.py tools/model", "rohcd"),
+    "simulation": Notices("", "simulation"),
     "calls_alike": Notices(f"include library tools/calls.c {CALLS_TOOLS}", "calls rohc_c"),
     "limits": Notices("tools/limit_scripts.py", "rohcd"),
     "rohctl": Notices("examples man completion tools/refuse_request.c tools/failing_calls.c", "rohctl"),
     "evidence": Notices("bench tests tools/compressor tools/dissect tools/fuzz tools/model", "rohcd rohctl rohc_c"),
     "gateway": Notices(
-        "deploy tools/gateway_soak.py tools/udp_gateway_test.py tools/refuse_request.c tools/failing_calls.c", "rohc_gateway rohctl"
+        "deploy tests/alerts.yml docs/GATEWAY.md tools/gateway_soak.py tools/udp_gateway_test.py tools/refuse_request.c tools/failing_calls.c",
+        "rohc_gateway rohctl",
     ),
     "spread": Notices("deploy examples", "rohc_gateway rohctl"),
     "cluster": Notices("cluster", "rohc_c"),
     "call": Notices("examples/call tools/compressor", "rohc_gateway rohctl"),
     "standby": Notices("deploy tools/compressor", "rohc_gateway"),
+    "moving": Notices("deploy tools/compressor", "rohc_gateway rohctl"),
     "packages": Notices("bin/package bin/install bin/wheel library man python completion", "rohctl"),
     "poverty": Notices("tools/refuse_request.c", "rohcd rohctl rohc_gateway"),
-    "launcher": Notices("bin tools/check/launcher_tools.py"),
+    "launcher": Notices("bin tools/check/launcher_tools.py tools/walks.py docs/ARCHITECTURE.md", "rohcd"),
     "install": Notices("bin/install bin/sources completion man tools/link_lines.py"),
     "documents": Notices("docs README.md CONTRIBUTING.md man examples", "rohcd rohctl"),
     "documents_test": Notices("docs README.md man"),
 }
+# A check on a program that stands here under no name would end `since`.
+assert {check.name for check in CHECKS if check.needs is Needs.PROGRAM and check.is_in_all} == set(NOTICES)
 
 
 def stands_on(top: Path) -> dict[str, list[str]]:

@@ -17,8 +17,9 @@ import subprocess
 import threading
 import time
 from collections import Counter
-from collections.abc import Iterator
+from collections.abc import Callable, Iterator
 from dataclasses import dataclass, field
+from functools import partial
 from multiprocessing.connection import Connection
 from pathlib import Path
 
@@ -265,6 +266,26 @@ def take_over_often(trial: Trial, traffic: Traffic) -> None:
     compare(trial, traffic, silences)
 
 
+@contextlib.contextmanager
+def traffic_to(hosts: list[Host], compressor: Path) -> Iterator[Traffic]:
+    """Sends packets to these gateways and receives what they send, both in threads of their own."""
+    traffic = Traffic(hosts)
+    with compressing(compressor) as (listen, port), socket.socket(socket.AF_INET, socket.SOCK_DGRAM) as out:
+        threads = [
+            threading.Thread(target=traffic.take, args=(out, (listen, port + 1)), daemon=True),
+            threading.Thread(target=traffic.send, args=(out, (listen, port)), daemon=True),
+        ]
+        time.sleep(0.2)
+        for thread in threads:
+            thread.start()
+        try:
+            yield traffic
+        finally:
+            traffic.is_ended = True
+            for thread in threads:
+                thread.join(PATIENCE)
+
+
 def run_traffic(trial: Trial, compressor: Path) -> None:
     """Both gateways under traffic, in networks of their own."""
     with contextlib.ExitStack() as stack:
@@ -275,22 +296,7 @@ def run_traffic(trial: Trial, compressor: Path) -> None:
         for host in hosts:
             stack.callback(host.end)
         hosts[0].start()
-        traffic = Traffic(hosts)
-        listen, port = stack.enter_context(compressing(compressor))
-        out = stack.enter_context(socket.socket(socket.AF_INET, socket.SOCK_DGRAM))
-        threads = [
-            threading.Thread(target=traffic.take, args=(out, (listen, port + 1)), daemon=True),
-            threading.Thread(target=traffic.send, args=(out, (listen, port)), daemon=True),
-        ]
-        time.sleep(0.2)
-        for thread in threads:
-            thread.start()
-        try:
-            take_over_often(trial, traffic)
-        finally:
-            traffic.is_ended = True
-            for thread in threads:
-                thread.join(PATIENCE)
+        take_over_often(trial, stack.enter_context(traffic_to(hosts, compressor)))
 
 
 def run_first() -> None:
@@ -299,35 +305,44 @@ def run_first() -> None:
         os.sched_setscheduler(0, os.SCHED_RR, os.sched_param(1))
 
 
-def in_own_network(trial: Trial, compressor: Path, pipe: Connection) -> None:
-    """Runs it in a new network, and sends what was found."""
+def in_own_network(trial: Trial, left: str, run: Callable[[], None], pipe: Connection) -> None:
+    """Runs something in a new network, and sends what was found."""
     run_first()
     with networks.made(1) as own_network:
         if not own_network:
-            trial.leave_out("no network of its own can be made here, so no standby took over")
+            trial.leave_out(f"no network of its own can be made here, so {left}")
         else:
             own_network[0].enter()
-            run_traffic(trial, compressor)
+            run()
     pipe.send((trial.lines, trial.rights, trial.wrongs))
 
 
-def check(trial: Trial) -> None:
-    """Runs it in a process of its own, with which its networks end."""
+def run_apart(trial: Trial, name: str, left: str, run: Callable[[Trial, Path], None]) -> None:
+    """Runs something with a compressor in a process of its own, with which its networks end.
+
+    Where that can't be done, `left` says what wasn't tried.
+    """
     missing = [tool for tool in TOOLS if not shutil.which(tool)]
     if missing or os.geteuid() != 0:
-        trial.leave_out(f"{', '.join(missing) or 'root'} isn't there, so no standby took over")
+        trial.leave_out(f"{', '.join(missing) or 'root'} isn't there, so {left}")
         return
     compressor = evidence.build_compressor(trial)
     if not compressor:
-        trial.leave_out("cargo isn't installed, so no standby took over")
+        trial.leave_out(f"cargo isn't installed, so {left}")
         return
     here, there = multiprocessing.Pipe()
-    child = multiprocessing.get_context("fork").Process(target=in_own_network, args=(trial, compressor, there))
+    words = (trial, left, partial(run, trial, compressor), there)
+    child = multiprocessing.get_context("fork").Process(target=in_own_network, args=words)
     child.start()
     told = here.recv() if here.poll(LONGEST + 30) else None
     child.join(PATIENCE)
     if told is None:
         child.kill()
-        trial.wrong("standby: no end")
+        trial.wrong(f"{name}: no end")
         return
     trial.lines, trial.rights, trial.wrongs = list(told[0]), told[1], told[2]
+
+
+def check(trial: Trial) -> None:
+    """Runs it in a process of its own."""
+    run_apart(trial, "standby", "no standby took over", run_traffic)

@@ -1,5 +1,6 @@
 """What a check gets, and how it tells what it found."""
 
+import os
 import subprocess
 from collections.abc import Mapping, Sequence
 from dataclasses import dataclass, field
@@ -106,10 +107,11 @@ class Trial:
         ended = self.ran(*words, environment=environment, seconds=seconds)
         return self.demand(ended.status == 0, f"status {ended.status}: {ended.all.strip()}", ended.call)
 
-    def shown_live(self, *words: str) -> int:
+    def shown_live(self, *words: str, environment: Mapping[str, str] | None = None) -> int:
         """The status of a command at the top of the tree, which is shown as it goes on."""
+        pipe, all_environment = subprocess.PIPE, {**os.environ, **(environment or {})}
         with subprocess.Popen(
-            words, cwd=self.top, stdout=subprocess.PIPE, stderr=subprocess.STDOUT, encoding="utf-8", errors="replace"
+            words, cwd=self.top, stdout=pipe, stderr=subprocess.STDOUT, encoding="utf-8", errors="replace", env=all_environment
         ) as process:
             for line in process.stdout or ():
                 self.last = line.rstrip("\n")
