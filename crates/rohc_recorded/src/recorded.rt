@@ -5,7 +5,7 @@ ghost use Rattle.rohc_world.specs.Acts.{AddsActs};
 ghost use Rattle.rohc_recorded.specs.Recording.{act_of, acts_of};
 
 use crate::event::{Event, copied};
-use rohc_world::{Dates, Disk, Journal, Traced, Trouble, World};
+use rohc_world::{Clocks, Disk, Journal, Traced, Trouble, World};
 use std::alloc::Global;
 
 /// Another outside, with a record of its calls. Without memory for a call the record is `None` from then on.
@@ -137,12 +137,27 @@ impl<W: Disk> Disk for Recorded<W> {
         }
         result
     }
+
+    fn modified(&mut self, path: &str) -> Result<u64, Trouble> {
+        let result = self.inner.modified(path);
+        match copied(self.alloc, path.as_bytes()) {
+            Some(path) => self.note(Event::Modified(path, result)),
+            None => self.events = None,
+        }
+        result
+    }
 }
 
-impl<W: Dates> Dates for Recorded<W> {
+impl<W: Clocks> Clocks for Recorded<W> {
     fn date(&mut self) -> Result<u64, Trouble> {
         let result = self.inner.date();
         self.note(Event::Dated(result));
+        result
+    }
+
+    fn uptime(&mut self) -> Result<u64, Trouble> {
+        let result = self.inner.uptime();
+        self.note(Event::Timed(result));
         result
     }
 }

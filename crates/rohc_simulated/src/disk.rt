@@ -25,6 +25,8 @@ struct File {
     octets: Vec<u8>,
     /// How many of the first octets are on the device.
     synced: usize,
+    /// The date of the last write.
+    modified: u64,
 }
 
 /// A name, and the index of its file, if it has one: first that on the device, and then each since the last sync of the
@@ -69,7 +71,11 @@ fn remains_of(alloc: Global, file: &File, random: &mut Random) -> Result<File, A
         octets.push(if is_lost { 0 } else { *octet })?;
     }
     let synced = octets.len();
-    Ok(File { octets, synced })
+    Ok(File {
+        octets,
+        synced,
+        modified: file.modified,
+    })
 }
 
 impl SimulatedDisk {
@@ -142,11 +148,23 @@ impl SimulatedDisk {
         Ok(size)
     }
 
-    /// Opens an empty file, to be written.
-    pub fn create(&mut self, path: &str) -> Result<(), Trouble> {
+    /// The date of the last write to a file.
+    pub fn modified(&self, path: &str) -> Result<u64, Trouble> {
+        let Some(file) = self.file_of(path) else {
+            return Err(MISSING);
+        };
+        match self.files.get(file) {
+            Some(file) => Ok(file.modified),
+            None => Err(MISSING),
+        }
+    }
+
+    /// Opens an empty file, to be written, at this date.
+    pub fn create(&mut self, path: &str, date: u64) -> Result<(), Trouble> {
         let file = File {
             octets: Vec::new(self.alloc),
             synced: 0,
+            modified: date,
         };
         let index = self.files.len();
         self.files.push(file).map_err(|_| NO_MEMORY)?;
@@ -155,8 +173,8 @@ impl SimulatedDisk {
         Ok(())
     }
 
-    /// Appends at most this many octets to the open file.
-    pub fn write(&mut self, octets: &[u8], most: usize) -> Result<usize, Trouble>
+    /// Appends at most this many octets to the open file, at this date.
+    pub fn write(&mut self, octets: &[u8], most: usize, date: u64) -> Result<usize, Trouble>
         ensures { IfOk result (λ size. size ≤ length octets.now) }
     {
         let Some(file) = self.open else {
@@ -166,6 +184,7 @@ impl SimulatedDisk {
             return Err(NO_FILE);
         };
         let size = octets.len().min(most);
+        file.modified = date;
         match file.octets.extend_from_slice(&octets[..size]) {
             Ok(()) => Ok(size),
             Err(_) => Err(NO_MEMORY),

@@ -3,7 +3,7 @@
 use crate::disk::SimulatedDisk;
 use crate::random::Random;
 use rohc_text::Reason;
-use rohc_world::{Dates, Disk, Journal, Traced, Trouble, World};
+use rohc_world::{Clocks, Disk, Journal, Traced, Trouble, World};
 
 /// The trouble of each call of a process that was killed.
 const KILLED: Trouble = Trouble::Failed(Reason::Other(0));
@@ -15,7 +15,7 @@ pub struct Chances {
     pub failure: u64,
     /// A read or a write moves only a part.
     pub part: u64,
-    /// The clock jumps.
+    /// The system's clock jumps.
     pub jump: u64,
 }
 
@@ -31,6 +31,7 @@ pub struct Simulated {
     /// The call that fails with `NoSpace`; 0 if none does.
     pub fails: u64,
     date: u64,
+    uptime: u64,
 }
 
 impl Simulated {
@@ -44,6 +45,7 @@ impl Simulated {
             end,
             fails: 0,
             date: 1_700_000_000_000,
+            uptime: 0,
         }
     }
 
@@ -64,6 +66,13 @@ impl Simulated {
             1 => Trouble::Failed(Reason::ReadOnly),
             _ => Trouble::Failed(Reason::Other(5)),
         })
+    }
+
+    /// Up to a fifth of a second passes.
+    fn pass(&mut self) {
+        let passed = self.random.below(200);
+        self.date = self.date.saturating_add(passed);
+        self.uptime = self.uptime.saturating_add(passed);
     }
 
     /// How many octets a read or a write of this many moves at most.
@@ -92,13 +101,13 @@ impl Disk for Simulated {
 
     fn create(&mut self, path: &str) -> Result<(), Trouble> {
         self.call()?;
-        self.disk.create(path)
+        self.disk.create(path, self.date)
     }
 
     fn write(&mut self, octets: &[u8]) -> Result<usize, Trouble> {
         self.call()?;
         let most = self.part_of(octets.len());
-        self.disk.write(octets, most)
+        self.disk.write(octets, most, self.date)
     }
 
     fn sync(&mut self) -> Result<(), Trouble> {
@@ -126,17 +135,27 @@ impl Disk for Simulated {
         self.call()?;
         self.disk.sync_folder(path)
     }
+
+    fn modified(&mut self, path: &str) -> Result<u64, Trouble> {
+        self.call()?;
+        self.disk.modified(path)
+    }
 }
 
-impl Dates for Simulated {
+impl Clocks for Simulated {
     fn date(&mut self) -> Result<u64, Trouble> {
         self.call()?;
-        self.date = if self.random.happens(self.chances.jump) {
-            self.random.next() % (1 << 42)
-        } else {
-            self.date.saturating_add(self.random.below(200))
-        };
+        self.pass();
+        if self.random.happens(self.chances.jump) {
+            self.date = self.random.next() % (1 << 42);
+        }
         Ok(self.date)
+    }
+
+    fn uptime(&mut self) -> Result<u64, Trouble> {
+        self.call()?;
+        self.pass();
+        Ok(self.uptime)
     }
 }
 

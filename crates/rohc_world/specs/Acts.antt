@@ -16,7 +16,9 @@ pub data Act : Type 0 where
   Renamed : List ℕ → List ℕ → Result ⊤ Trouble → Act
   Removed : List ℕ → Result ⊤ Trouble → Act
   SyncedFolder : List ℕ → Result ⊤ Trouble → Act
+  Modified : List ℕ → Result ℕ Trouble → Act
   Dated : Result ℕ Trouble → Act
+  Timed : Result ℕ Trouble → Act
   Logged : List ℕ → Result ⊤ Trouble → Act
 
 -- the octets that a read put into a buffer

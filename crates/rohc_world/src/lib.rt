@@ -1,8 +1,8 @@
-//! What a program asks of the outside: files, the date and a log.
+//! What a program asks of the outside: files, clocks and a log.
 #![tactic(auto)]
 
 mod trouble;
 mod world;
 
 pub use trouble::Trouble;
-pub use world::{Dates, Disk, Journal, Traced, World};
+pub use world::{Clocks, Disk, Journal, Traced, World};

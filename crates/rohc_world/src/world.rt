@@ -1,7 +1,7 @@
 //! The outside of a program.
 
 ghost use Rattle.std.specs.Prelude.{None, ◌≤◌, [], ◌∷◌, length, List, Option, IfOk};
-ghost use Rattle.rohc_world.specs.Acts.{Act, Opened, read, Created, Wrote, Synced, Closed, Renamed, Removed, SyncedFolder, Dated, Logged, AddsActs};
+ghost use Rattle.rohc_world.specs.Acts.{Act, Opened, read, Created, Wrote, Synced, Closed, Renamed, Removed, SyncedFolder, Modified, Dated, Timed, Logged, AddsActs};
 
 use crate::trouble::Trouble;
 
@@ -50,13 +50,21 @@ pub trait Disk: Traced {
     /// Waits until the device has the names of a folder.
     fn sync_folder(&mut self, path: &str) -> Result<(), Trouble>
         ensures told { AddsActs (Self.acts self.old) (Self.acts self.new) (SyncedFolder path.now result ∷ []) };
+
+    /// When a file was written last, by the system's clock of then, in milliseconds since 1970.
+    fn modified(&mut self, path: &str) -> Result<u64, Trouble>
+        ensures told { AddsActs (Self.acts self.old) (Self.acts self.new) (Modified path.now result ∷ []) };
 }
 
-/// The clock of the outside.
-pub trait Dates: Traced {
-    /// The system's clock, in milliseconds since 1970.
+/// The clocks of the outside.
+pub trait Clocks: Traced {
+    /// The system's clock, in milliseconds since 1970. It may be set ahead or back at any time.
     fn date(&mut self) -> Result<u64, Trouble>
         ensures told { AddsActs (Self.acts self.old) (Self.acts self.new) (Dated result ∷ []) };
+
+    /// The monotonic clock, in milliseconds since some moment in the past. Nobody sets it.
+    fn uptime(&mut self) -> Result<u64, Trouble>
+        ensures told { AddsActs (Self.acts self.old) (Self.acts self.new) (Timed result ∷ []) };
 }
 
 /// The log of the outside.
@@ -67,4 +75,4 @@ pub trait Journal: Traced {
 }
 
 /// The outside of a program.
-pub trait World: Disk + Dates + Journal {}
+pub trait World: Disk + Clocks + Journal {}
