@@ -1,5 +1,5 @@
-//! The files and the clock of a gateway, over any outside: files that are read whole, a state file that is replaced so
-//! that the old one or the new one is always there whole, and moments that never go back.
+//! The files and the clocks of a gateway, over any outside: files that are read whole, a state file that is replaced so
+//! that the old one or the new one is always there whole, and moments that pass as time does.
 #![tactic(auto)]
 
 mod laws;
@@ -9,8 +9,8 @@ mod reading;
 mod saving;
 mod unwritten;
 
-pub use laws::saves_whole;
-pub use moments::Moments;
+pub use laws::{goes_on, passes_as_uptime, saves_whole};
+pub use moments::{Before, Moments, Reading, Step, first_moment, step_between};
 pub use paths::folder_of;
 pub use reading::{LONGEST_STATE, LONGEST_TEXT, read_state, read_text};
 pub use saving::replace_file;
