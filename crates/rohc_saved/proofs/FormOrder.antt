@@ -1,14 +1,16 @@
--- What is read is apart: the links of a form, and the CIDs of each.
-use Rattle.std.proofs.Common.{◌≡◌, ℕ, ◌-◌, zero, suc, List, [], ◌∷◌, ◌++◌, map, length, Bool, true, false, Ok, refl, sym, ap, subst, ◌∙◌, nat_eq}
+-- What is read is apart: the links of a form, and the CIDs of each. Its moment stands in front.
+use Rattle.std.proofs.Common.{◌≡◌, ℕ, ◌-◌, zero, suc, List, [], ◌∷◌, ◌++◌, map, length, Bool, true, false, Result, Ok, refl, sym, ap, subst, ◌∙◌, nat_eq}
 use Rattle.std.specs.Prelude.{nat_le, ◌==◌, ◌&&◌, ◌||◌, not}
 use Rattle.std.specs.List.{AllByRecursion, IsDistinct, list_any}
 use Rattle.std.proofs.lemmas.List.{map-append}
+use Rattle.rohc_bits.specs.Reading.{◌>>=◌}
 use Rattle.rohc_bits.proofs.Steps.{ok_is, bind_ok}
 use Rattle.rohc_context.specs.Record.{Record}
 use Rattle.rohc_saved.specs.declared.fault.SavedFault.{SavedFault}
 use Rattle.rohc_saved.specs.declared.fault.SavedFault.TheVariants.{BadOrder, Long}
 use Rattle.rohc_saved.specs.Form.{Link, Form}
-use Rattle.rohc_saved.specs.Reading.{given, word_at, version_at, magic_at, long_at, has, record_text_at, cid_at, context_at, contexts_at, number_at, size_at, reserved_at, greatest_at, link_at, links_at, form_at, digest_at, restored}
+use Rattle.rohc_saved.specs.Reading.{given, word_at, version_at, magic_at, long_at, has, record_text_at, cid_at, context_at, contexts_at, number_at, size_at, reserved_at, greatest_at, link_at, links_at, moment_at, form_at, digest_at, restored}
+use Rattle.rohc_saved.specs.Laws.{MomentIsInFront}
 use Rattle.rohc_saved.proofs.Distinct.{distinct_none, distinct_more}
 
 -- the numbers of these
@@ -112,3 +114,23 @@ form_order text form e =
     let links = links_order (length text) d.0.0 [] d.0.1 g.0 (record { numbers = distinct_none; each = tt }) g.1 in
     let same = ok_is {E = SavedFault} (record { moment = c.0.0; links = g.0.0 }, g.0.1) whole.0 g.2 in
     subst (λ (form : Form). AreApart form.links) (ap (λ (y : Form × List ℕ). y.0) same ∙ is.1) links
+
+pub moment_in_front : MomentIsInFront
+unfolding restored form_at moment_at
+moment_in_front text form e =
+    let whole = bind_ok (form_at (length text) text) _ form e in
+    let last = bind_ok (digest_at text whole.0.1) _ form whole.2 in
+    let is = given_test (length last.0 == 0) (Long (length text - length last.0)) whole.0.0 form last.2 in
+    let a = bind_ok (magic_at text) _ whole.0 whole.1 in
+    let b = bind_ok (version_at (length text) a.0) _ whole.0 a.2 in
+    let c = bind_ok (long_at (length text) b.0) _ whole.0 b.2 in
+    let d = bind_ok (word_at (length text) c.0.1) _ whole.0 c.2 in
+    let g = bind_ok (links_at (length text) d.0.0 [] d.0.1) _ whole.0 d.2 in
+    let same = ok_is {E = SavedFault} (record { moment = c.0.0; links = g.0.0 }, g.0.1) whole.0 g.2 in
+    let moment = ap (λ (y : Form × List ℕ). y.0.moment) same ∙ ap (λ (form : Form). form.moment) is.1 in (
+      c.0.1,
+      ap (λ (r : Result (List ℕ) SavedFault). r >>= λ front. version_at (length text) front >>= long_at (length text)) a.1
+          ∙ ap (λ (r : Result (List ℕ) SavedFault). r >>= long_at (length text)) b.1
+          ∙ c.1
+          ∙ ap (λ (m : ℕ). Ok (m, c.0.1)) moment,
+    )

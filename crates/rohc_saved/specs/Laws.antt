@@ -1,4 +1,4 @@
--- Laws of saved concentrators. Words: IsGoodLink, IsGoodForm; FormIsSpelled, IsReadBack; ComesBack,
+-- Laws of saved concentrators. Words: IsGoodLink, IsGoodForm; FormIsSpelled, IsReadBack, MomentIsInFront; ComesBack,
 -- LinkComesBack; IsMadeSound, IsKeptSound, IsRestoredSound, IsLinkRestoredSound;
 -- GoesOnRestored, CutByRestart; IsRestoredFrom, CutCallsByRestart.
 use Rattle.std.specs.Prelude.{◌≡◌, ◌++◌, ◌<◌, ◌≤◌, ◌^◌, ℕ, List, [], ◌∷◌, map, length, filter, nat_eq, All, Option, Some, None, Ok}
@@ -22,7 +22,7 @@ use Rattle.rohc_concentrator.specs.RunsCall.{Turn, Runs}
 use Rattle.rohc_concentrator.specs.OwnCalls.{calls_to, answers_to}
 use Rattle.rohc_concentrator.specs.CallLaws.{IsFitTurn}
 use Rattle.rohc_saved.specs.Form.{Link, Form, form_text, signed, saved_link_of, form_of, saved_form, saved_link}
-use Rattle.rohc_saved.specs.Reading.{restored}
+use Rattle.rohc_saved.specs.Reading.{moment_at, restored}
 use Rattle.rohc_saved.specs.Restoring.{Restores}
 use Rattle.rohc_saved.specs.LinkRestoring.{RestoresLink}
 use Rattle.rohc_saved.specs.declared.restored.Restored.{Restored}
@@ -55,6 +55,11 @@ FormIsSpelled = (text : List ℕ) (form : Form) → All IsOctet text → restore
 -- The octets of a good form are read as that form.
 abbrev pub IsReadBack : Type 0
 IsReadBack = (form : Form) → IsGoodForm form → restored (signed (form_text form)) ≡ Ok form
+
+-- The moment of octets that are read as a form is the one that their first octets tell.
+abbrev pub MomentIsInFront : Type 0
+MomentIsInFront = (text : List ℕ) (form : Form) → restored text ≡ Ok form →
+    (behind : List ℕ) × (moment_at (length text) text ≡ Ok (form.moment, behind))
 
 -- What is saved of a sound concentrator is read. A concentrator that is restored from it under the same
 -- settings keeps the same settings and the same records, in the same order.

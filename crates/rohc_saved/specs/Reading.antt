@@ -37,6 +37,10 @@ AddsNext {A} result old new behind read =
     MatchResult result (λ _. (x : A) × (read ≡ Ok (x, behind)) × (new ≡ old ++ x ∷ []))
     (λ e. (e ≡ NoMemory) ⊎ (read ≡ Err e))
 
+-- a reader's value, whatever octets it left, or its fault
+abbrev pub IsValue : {A : Type 0} → Result A SavedFault → Read A → Type 0
+IsValue {A} result read = MatchResult result (λ x. (behind : List ℕ) × (read ≡ Ok (x, behind))) (λ e. read ≡ Err e)
+
 -- what a reader of no value leaves is what the definition leaves
 abbrev pub Passes : Result Unit SavedFault → List ℕ → Result (List ℕ) SavedFault → Type 0
 Passes result behind read = MatchResult result (λ _. read ≡ Ok behind) (λ e. read ≡ Err e)
@@ -155,6 +159,13 @@ links_at total zero held text = Ok (held, text)
 links_at total (suc count) held text = do
   (one, text) ← link_at total held text
   links_at total count (held ++ one ∷ []) text
+
+-- the moment of saving, behind the name and the version
+unfoldable pub moment_at : ℕ → List ℕ → Read ℕ
+moment_at total text = do
+  text ← magic_at text
+  text ← version_at total text
+  long_at total text
 
 unfoldable pub form_at : ℕ → List ℕ → Read Form
 form_at total text = do

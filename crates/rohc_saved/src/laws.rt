@@ -1,13 +1,15 @@
 //! Laws of saved concentrators, as contracts of functions that do nothing.
 
-ghost use Rattle.rohc_saved.specs.Laws.{FormIsSpelled, IsReadBack, ComesBack, LinkComesBack, CutByRestart, CutCallsByRestart};
+ghost use Rattle.rohc_saved.specs.Laws.{FormIsSpelled, IsReadBack, MomentIsInFront, ComesBack, LinkComesBack, CutByRestart, CutCallsByRestart};
 ghost use Rattle.rohc_saved.specs.Laws.{IsMadeSound, IsKeptSound, IsRestoredSound, IsLinkRestoredSound};
 ghost use Rattle.rohc_concentrator.specs.Sound.{CallsKeepSound};
 
-/// Octets that are read as a form are those of that form, and the octets of a good form are read as that form.
+/// Octets that are read as a form are those of that form, and the octets of a good form are read as that form. Its moment is
+/// the one that the first octets tell.
 pub fn spelled()
     ensures spelled { FormIsSpelled }
     ensures back { IsReadBack }
+    ensures moment { MomentIsInFront }
 {}
 
 /// What is saved of a concentrator, restored under the same settings, is a concentrator that keeps the same.

@@ -15,6 +15,7 @@ pub mod saving;
 
 pub use fault::{LinkFault, SaveFault, SavedFault};
 pub use link_restoring::restore_link;
+pub use reading::saved_moment;
 pub use restored::Restored;
 pub use restoring::restore;
 pub use saving::{save, save_link};

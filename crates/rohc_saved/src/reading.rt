@@ -7,7 +7,7 @@ ghost use Rattle.indexmap.specs.IndexMap.{get};
 ghost use Rattle.rohc_bits.specs.Reading.{Reads, ReadsAs};
 ghost use Rattle.rohc_saved.specs.Form.{contexts_in};
 ghost use Rattle.rohc_saved.specs.Read.{link_in, links_in, form_in};
-ghost use Rattle.rohc_saved.specs.Reading.{Gives, AddsNext, Passes, part_at, magic_at, octet_at, word_at, quad_at, long_at, version_at, cid_at, context_at, contexts_at, number_at, size_at, reserved_at, greatest_at, link_at, links_at, form_at, HasLinks, digest_at, restored};
+ghost use Rattle.rohc_saved.specs.Reading.{Gives, IsValue, AddsNext, Passes, part_at, magic_at, octet_at, word_at, quad_at, long_at, version_at, cid_at, context_at, contexts_at, number_at, size_at, reserved_at, greatest_at, link_at, links_at, moment_at, form_at, HasLinks, digest_at, restored};
 
 use crate::context_reading::context;
 use crate::fault::SavedFault;
@@ -253,6 +253,18 @@ fn links(
         next_link(alloc, total, cursor, &mut links)?;
     }
     Ok(links)
+}
+
+/// The moment of saving. It is read without what follows it, so the octets may be damaged behind it.
+#[tactic(auto, unfolding(crate::specs::Reading::moment_at))]
+pub fn saved_moment(octets: &[u8]) -> Result<u64, SavedFault>
+    ensures reads { IsValue result (moment_at (length octets.now) octets.now) }
+{
+    let total = octets.len();
+    let mut cursor = reading::cursor_over(octets);
+    magic(&mut cursor)?;
+    version(total, &mut cursor)?;
+    long(total, &mut cursor)
 }
 
 /// Reads all before the digest.
