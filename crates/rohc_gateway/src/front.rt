@@ -1,6 +1,6 @@
 //! A socket of the gateway, as its service sees it.
 
-use crate::real::RealClock;
+use crate::real::RealClocks;
 use mio::net::UdpSocket;
 use rohc_loop::Moments;
 use rohc_serve::Front;
@@ -9,10 +9,10 @@ use std::io::ErrorKind;
 use std::net::{Ipv4Addr, SocketAddr};
 use std::time::Clock;
 
-/// A socket at a port of 127.0.0.1, if there is one, with the clock. What is sent goes to ports of 127.0.0.1.
+/// A socket at a port of 127.0.0.1, if there is one, with the clocks. What is sent goes to ports of 127.0.0.1.
 #[derive(Drop)]
 pub(crate) struct SocketFront<'a, R> {
-    rt: &'a R,
+    clocks: RealClocks<'a, R>,
     socket: Option<&'a UdpSocket>,
     moments: &'a mut Moments,
     /// Whether the last receive failed since no datagram waits.
@@ -23,9 +23,13 @@ pub(crate) struct SocketFront<'a, R> {
 
 impl<'a, R: Clock> SocketFront<'a, R> {
     /// This socket, and the moments of the gateway.
-    pub(crate) fn new(rt: &'a R, socket: Option<&'a UdpSocket>, moments: &'a mut Moments) -> Self {
+    pub(crate) fn new(
+        clocks: RealClocks<'a, R>,
+        socket: Option<&'a UdpSocket>,
+        moments: &'a mut Moments,
+    ) -> Self {
         SocketFront {
-            rt,
+            clocks,
             socket,
             moments,
             is_empty: false,
@@ -36,7 +40,7 @@ impl<'a, R: Clock> SocketFront<'a, R> {
 
 impl<R: Clock> Front for SocketFront<'_, R> {
     fn receive(&mut self, buffer: &mut [u8]) -> Option<(usize, u64)> {
-        let moment = self.moments.now(&mut RealClock::of(self.rt));
+        let moment = self.moments.now(&mut self.clocks);
         match self.socket?.recv_from(buffer) {
             Ok((size, _)) => Some((size, moment)),
             Err(e) => {

@@ -9,13 +9,14 @@ use crate::moving::{Awaited, awaits, forget, waits, write_moves};
 use crate::names::{
     Shown, limits_of, name_of, read_notes, write_link_info, write_names, write_unknown_links,
 };
-use crate::real::{RealClock, RealDisk};
+use crate::real::RealDisk;
 use crate::sockets::MOST_CONNECTIONS;
 use crate::streams::Viewers;
+use crate::time::Time;
 use mio::net::UdpSocket;
 use rohc_concentrator::NoLink;
 use rohc_gateway_file::{Build, Config, Level, LinkNote, Log, Options, VERSION, civil_at};
-use rohc_loop::{Moments, Unwritten, replace_file};
+use rohc_loop::{Step, Unwritten, replace_file};
 use rohc_station::{
     Asked, CallList, Duty, Form, GatewayFigures, LinkName, Page, Port, Preview, ReloadFault,
     ReloadReport, Request, RequestFault, Service, Wish, write_calls, write_calls_text,
@@ -61,7 +62,7 @@ pub(crate) struct Gateway<'a> {
     pub(crate) notes: Vec<LinkNote>,
     pub(crate) service: Service,
     pub(crate) figures: GatewayFigures,
-    pub(crate) moments: Moments,
+    pub(crate) time: Time,
     /// When the contexts are to be saved next.
     pub(crate) next_save: u64,
     /// The request to move a link that waits.
@@ -161,6 +162,25 @@ impl Gateway<'_> {
         Reply::fault(rt.alloc(), 500, "NoMemory", text)
     }
 
+    /// The moment that it is now.
+    pub(crate) fn now<R: Clock>(&mut self, rt: &R) -> u64 {
+        self.time.now(rt)
+    }
+
+    /// Logs that the system's clock was set, if it was since the last look.
+    pub(crate) fn note_step<R: Clock + Eprint + AllocGlobal>(&mut self, rt: &R, moment: u64) {
+        let (way, by) = match self.time.step(rt, moment) {
+            Some(Step::Ahead(by)) => ("ahead", by),
+            Some(Step::Back(by)) => ("back", by),
+            None => return,
+        };
+        let text = format_args!(
+            "the system's clock was set {way} by {} s; calls, saves and limits take no notice",
+            by / 1000
+        );
+        self.frame.log.say(rt, Level::Warning, text);
+    }
+
     /// How datagrams are answered now.
     pub(crate) fn duty(&self) -> Duty {
         Duty {
@@ -172,7 +192,8 @@ impl Gateway<'_> {
     /// Serves the datagrams that wait at a socket, but at most so many. Returns whether more may wait.
     pub(crate) fn serve<R: Clock>(&mut self, rt: &R, socket: &UdpSocket, port: Port) -> bool {
         let duty = self.duty();
-        let mut front = SocketFront::new(rt, Some(socket), &mut self.moments);
+        let clocks = self.time.clocks(rt);
+        let mut front = SocketFront::new(clocks, Some(socket), &mut self.time.moments);
         let mut viewers = Viewers {
             connections: self.connections.as_mut_slice(),
             wish: self.wish,
@@ -200,7 +221,7 @@ impl Gateway<'_> {
         let Some(path) = &self.frame.config.state else {
             return Ok(None);
         };
-        let moment = self.moments.now(&mut RealClock::of(rt));
+        let (moment, date) = (self.now(rt), self.time.date(rt));
         let saved = match self.state(rt.alloc(), moment) {
             Ok(octets) => replace_file(
                 &mut RealDisk::of(rt),
@@ -214,7 +235,8 @@ impl Gateway<'_> {
         match saved {
             Ok(count) => {
                 self.figures.saves = self.figures.saves.saturating_add(1);
-                self.figures.last_save = moment;
+                self.figures.last_save = date;
+                self.figures.saved = moment;
                 Ok(Some(count))
             }
             Err(e) => {
@@ -513,7 +535,7 @@ impl Gateway<'_> {
         {
             return Reply::no_link(alloc, link);
         }
-        let now = self.moments.now(&mut RealClock::of(rt));
+        let now = self.now(rt);
         let calls = self.call_list(now);
         let mut body = Vec::new(alloc);
         let kind = match form {
@@ -535,7 +557,7 @@ impl Gateway<'_> {
 
     /// Shows the contexts as a save would write them now.
     fn show_state<R: Clock + AllocGlobal>(&mut self, rt: &R) -> io::Result<Reply> {
-        let moment = self.moments.now(&mut RealClock::of(rt));
+        let moment = self.now(rt);
         match self.state(rt.alloc(), moment) {
             Ok(body) => Ok(Reply {
                 status: 200,
@@ -589,7 +611,7 @@ impl Gateway<'_> {
     /// The page for people.
     fn page<R: Clock + AllocGlobal>(&mut self, rt: &R) -> io::Result<Reply> {
         let alloc = rt.alloc();
-        let now = self.moments.now(&mut RealClock::of(rt));
+        let now = self.now(rt);
         let names = self.link_names(alloc)?;
         let mut body = Vec::new(alloc);
         write_page(alloc, &mut body, &self.shown(names.as_slice(), now))?;
@@ -603,7 +625,7 @@ impl Gateway<'_> {
     /// The links and the worst calls of the page, as text.
     fn top<R: Clock + AllocGlobal>(&mut self, rt: &R) -> io::Result<Reply> {
         let alloc = rt.alloc();
-        let now = self.moments.now(&mut RealClock::of(rt));
+        let now = self.now(rt);
         let names = self.link_names(alloc)?;
         let mut body = Vec::new(alloc);
         write_top(alloc, &mut body, &self.shown(names.as_slice(), now))?;

@@ -18,6 +18,7 @@ mod setup;
 mod sockets;
 mod stream;
 mod streams;
+mod time;
 
 use crate::real::RealDisk;
 use rohc_gateway_file::{Build, Ending, Level, Log, LogFormat, Request, VERSION, read_request};

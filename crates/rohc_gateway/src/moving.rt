@@ -4,17 +4,19 @@ use crate::answers::{Kind, Reply};
 use crate::connection::{Connection, Progress};
 use crate::front::SocketFront;
 use crate::gateway::Gateway;
-use crate::real::RealClock;
 use crate::sockets::Sockets;
 use mio::net::UdpSocket;
 use rohc_gateway_file::Level;
-use rohc_saved::{LinkFault, Restored};
+use rohc_saved::{LinkFault, Restored, saved_moment};
 use rohc_station::{Held, Moves, Request};
 use std::alloc::Global;
 use std::io;
 use std::io::Write;
 use std::rt::Files;
 use std::time::Clock;
+
+/// How far the moments of two gateways may be apart when a link moves, in milliseconds.
+const MOST_APART: u64 = 1000;
 
 /// A request that is done once the datagrams were taken that waited when it came.
 #[derive(Clone, Copy)]
@@ -67,6 +69,17 @@ pub(crate) fn write_moves<W: Write>(out: &mut W, moves: &Moves) -> io::Result<()
     }
     let dropped = moves.dropped();
     write!(out, "],\"exported_dropped\":{dropped}")
+}
+
+/// Why a link can't go on from these octets at this moment, if they were saved at another one. Faults of the octets are told by
+/// the import.
+fn apart(alloc: Global, octets: &[u8], now: u64) -> io::Result<Option<String>> {
+    match saved_moment(octets) {
+        Ok(moment) if moment.abs_diff(now) > MOST_APART => Ok(Some(format!(in alloc;
+            "was exported at moment {moment} and this gateway is at {now}; expected at most {MOST_APART} ms between them (rohctl hold --off lets it go)"
+        )?)),
+        _ => Ok(None),
+    }
 }
 
 /// The body of the request of the connection at a place, if there is one.
@@ -150,7 +163,7 @@ impl Gateway<'_> {
         if self.service.moves.is_held(link) {
             return self.refuse_move(alloc, "Held", link, "is held here, so it has no contexts");
         }
-        let moment = self.moments.now(&mut RealClock::of(rt));
+        let moment = self.now(rt);
         let mut body = Vec::new(alloc);
         if self
             .service
@@ -211,7 +224,8 @@ impl Gateway<'_> {
     ) -> io::Result<Reply> {
         let link = held.link();
         let duty = self.duty();
-        let mut front = SocketFront::new(rt, socket, &mut self.moments);
+        let clocks = self.time.clocks(rt);
+        let mut front = SocketFront::new(clocks, socket, &mut self.time.moments);
         self.service.answer_held(&mut front, duty, held);
         let (contexts, count, dropped) = (restored.contexts, held.count(), held.dropped());
         let text = format_args!(
@@ -237,9 +251,13 @@ impl Gateway<'_> {
             let reason = "is not held; expected rohctl hold --link before";
             return self.refuse_move(alloc, "NotHeld", link, reason);
         }
+        let now = self.now(rt);
         let Some(body) = body_of(self.connections.as_slice(), place) else {
             return Reply::no_link(alloc, link);
         };
+        if let Some(reason) = apart(alloc, body, now)? {
+            return self.refuse_move(alloc, "Moment", link, reason.as_str());
+        }
         let service = &mut self.service;
         let restored = match service.station.import(alloc, link, body) {
             Ok(restored) => restored,

@@ -1,4 +1,4 @@
-//! The outside of the gateway: the files and the clock of the system.
+//! The outside of the gateway: the files and the clocks of the system.
 
 ghost use Rattle.std.specs.Prelude.{◌≡◌, Some, Ok, IfOk};
 ghost use Rattle.std.specs.IoError.{error_kind};
@@ -7,11 +7,11 @@ ghost use Rattle.rohc_world.specs.Acts.{reason_for};
 
 use rohc_gateway_file::milliseconds;
 use rohc_text::Reason;
-use rohc_world::{Dates, Disk, Traced, Trouble};
+use rohc_world::{Clocks, Disk, Traced, Trouble};
 use std::fs::OpenFile;
 use std::io::{ErrorKind, Read, Write};
 use std::rt::Files;
-use std::time::Clock;
+use std::time::{Clock, Instant, SystemTime};
 use std::{fs, io};
 
 /// Why a call failed.
@@ -108,25 +108,37 @@ impl<R: Files> Disk for RealDisk<'_, R> {
         let folder = answer_of(fs::open(self.rt, path))?;
         answer_of(folder.sync_all())
     }
-}
 
-/// The clock of the system.
-#[derive(Drop)]
-pub(crate) struct RealClock<'a, R> {
-    rt: &'a R,
-}
-
-impl<'a, R> RealClock<'a, R> {
-    /// The clock of a system.
-    pub(crate) fn of(rt: &'a R) -> Self {
-        RealClock { rt }
+    fn modified(&mut self, path: &str) -> Result<u64, Trouble> {
+        let data = answer_of(fs::metadata(self.rt, path))?;
+        Ok(milliseconds(answer_of(data.modified())?))
     }
 }
 
-impl<R> Traced for RealClock<'_, R> {}
+/// The clocks of the system.
+#[derive(Drop)]
+pub(crate) struct RealClocks<'a, R> {
+    rt: &'a R,
+    /// When the run began: its uptime is 0 then.
+    began: Instant,
+}
 
-impl<R: Clock> Dates for RealClock<'_, R> {
+impl<'a, R> RealClocks<'a, R> {
+    /// The clocks of a system, and when the run began.
+    pub(crate) fn of(rt: &'a R, began: Instant) -> Self {
+        RealClocks { rt, began }
+    }
+}
+
+impl<R> Traced for RealClocks<'_, R> {}
+
+impl<R: Clock> Clocks for RealClocks<'_, R> {
     fn date(&mut self) -> Result<u64, Trouble> {
-        Ok(milliseconds(self.rt))
+        Ok(milliseconds(answer_of(SystemTime::now(self.rt))?))
+    }
+
+    fn uptime(&mut self) -> Result<u64, Trouble> {
+        let passed = answer_of(self.began.elapsed(self.rt))?;
+        Ok(u64::try_from(passed.as_millis()).unwrap_or(u64::MAX))
     }
 }

@@ -3,16 +3,15 @@
 use crate::connection::{Connection, Stream};
 use crate::gateway::{Frame, Gateway};
 use crate::lines::Lines;
-use crate::real::RealClock;
 use crate::setup::{NoStart, Start, read_start};
 use crate::sockets::{
     CONTROL, LINKS, METRICS, MOST_CONNECTIONS, PLAIN, Sockets, TIMED, remove_control,
 };
+use crate::time::Time;
 use mio::net::{TcpListener, UnixListener};
 use mio::{Events, Poll, Token};
 use rohc_gateway_file::{Build, Config, Ending, Level, LinkNote, Log, Options};
-use rohc_loop::Moments;
-use rohc_saved::Restored;
+use rohc_loop::Before;
 use rohc_station::{GatewayFigures, Port, Service, Station, Wish};
 use rohc_text::Reason;
 use std::alloc::{AllocError, Global};
@@ -57,28 +56,41 @@ fn empty_places(alloc: Global) -> Result<Vec<Option<Connection>>, AllocError> {
     Ok(places)
 }
 
-/// A gateway over what it starts from.
-fn gateway_of<'a, R: Clock + AllocGlobal>(
+/// What a gateway counts that begins.
+fn figures_of<R: Clock>(
     rt: &R,
+    time: &mut Time,
+    config: &Config,
+    before: Option<Before>,
+) -> GatewayFigures {
+    let mut figures = GatewayFigures::default();
+    figures.started = time.date(rt);
+    figures.begun = time.now(rt);
+    figures.has_state = config.state.is_some();
+    if let Some(before) = before {
+        figures.last_save = before.modified.unwrap_or(figures.started);
+        figures.saved = before.moment;
+    }
+    figures
+}
+
+/// A gateway over what it starts from.
+fn gateway_of<'a>(
     frame: Frame<'a>,
+    time: Time,
+    figures: GatewayFigures,
     notes: Vec<LinkNote>,
-    restored: &Restored,
     service: Service,
     connections: Vec<Option<Connection>>,
 ) -> Gateway<'a> {
-    let mut moments = Moments::from(restored.moment);
-    let started = moments.now(&mut RealClock::of(rt));
-    let mut figures = GatewayFigures::default();
-    figures.started = started;
-    figures.has_state = frame.config.state.is_some();
-    figures.last_save = restored.moment;
+    let seconds = u64::from(frame.config.save_seconds.unwrap_or(0));
     Gateway {
         frame,
         notes,
         service,
+        next_save: figures.begun.saturating_add(seconds * 1000),
         figures,
-        moments,
-        next_save: started.saturating_add(u64::from(frame.config.save_seconds.unwrap_or(0)) * 1000),
+        time,
         awaited: None,
         wish: Wish::Nothing,
         is_stopped: false,
@@ -100,7 +112,7 @@ fn take_connection<R: Clock + AllocGlobal>(
     if stream.watch(poll, Token(place)).is_err() {
         return;
     }
-    let moment = gateway.moments.now(&mut RealClock::of(rt));
+    let moment = gateway.now(rt);
     if let Some(slot) = gateway.connections.get_mut(place) {
         *slot = Some(Connection::new(rt.alloc(), stream, moment));
     }
@@ -238,8 +250,9 @@ where
     }
     *waiting = take_waiting(rt, gateway, sockets, *waiting);
     gateway.go_on_moving(rt, sockets, !waiting.is_datagram());
-    let moment = gateway.moments.now(&mut RealClock::of(rt));
+    let moment = gateway.now(rt);
     waiting.streams = gateway.pour_streams(rt.alloc(), moment);
+    gateway.note_step(rt, moment);
     gateway.drop_late(moment);
     gateway.save_in_time(rt, moment);
     Ok(())
@@ -335,8 +348,14 @@ where
         mut config,
         links,
         concentrator,
-        restored,
+        contexts,
+        before,
     } = start;
+    let Ok(mut time) = Time::begin(rt, before) else {
+        log.say(rt, Level::Error, "cannot read the clock");
+        return Err(Ending::Socket);
+    };
+    let figures = figures_of(rt, &mut time, &config, before);
     let Ok(station) = Station::new(rt.alloc(), concentrator, links) else {
         return Err(Ending::Memory);
     };
@@ -351,9 +370,9 @@ where
         options: *options,
         config: &config,
     };
-    let mut gateway = gateway_of(rt, frame, notes, &restored, service, connections);
+    let mut gateway = gateway_of(frame, time, figures, notes, service, connections);
     gateway.set_limits();
-    run_from(rt, &mut gateway, restored.contexts)
+    run_from(rt, &mut gateway, contexts)
 }
 
 /// Says why a gateway doesn't start.

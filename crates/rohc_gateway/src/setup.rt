@@ -7,9 +7,10 @@ use crate::real::RealDisk;
 use rohc_concentrator::{Concentrator, SetupFault};
 use rohc_gateway_file::{Config, LogFormat, Options, Reading, read_config};
 use rohc_links::Links;
-use rohc_loop::{read_state, read_text};
+use rohc_loop::{Before, first_moment, read_state, read_text};
 use rohc_saved::{Restored, SavedFault, restore};
 use rohc_text::{Reason, shown_word};
+use rohc_world::Disk;
 use std::alloc::Global;
 use std::io::{self, ErrorKind, Write};
 use std::rt::Files;
@@ -24,8 +25,9 @@ pub(crate) struct Start {
     pub(crate) config: Config,
     pub(crate) links: Links,
     pub(crate) concentrator: Concentrator,
-    /// What was restored: nothing, if there was no state file.
-    pub(crate) restored: Restored,
+    /// How many contexts were restored, and what the state file tells of the run before, if there was one.
+    pub(crate) contexts: u64,
+    pub(crate) before: Option<Before>,
 }
 
 /// Why a gateway doesn't start.
@@ -131,6 +133,9 @@ fn links_of<R: Files + AllocGlobal>(
     }
 }
 
+/// What starts a gateway in spite of its state file.
+const FRESH: &str = "run --fresh starts without it";
+
 /// Writes why the octets of a state file are refused.
 fn write_unsaved<W: Write>(out: &mut W, fault: &SavedFault) -> io::Result<()> {
     match fault {
@@ -146,6 +151,15 @@ fn write_unsaved<W: Write>(out: &mut W, fault: &SavedFault) -> io::Result<()> {
     }
 }
 
+/// Whether no run can go on from this moment.
+fn is_too_late(restored: &Restored) -> bool {
+    let before = Before {
+        moment: restored.moment,
+        modified: None,
+    };
+    first_moment(None, Some(before)).is_none()
+}
+
 /// Restores the contexts that these octets save; `None` if they are refused.
 fn restored_in(
     alloc: Global,
@@ -155,13 +169,21 @@ fn restored_in(
     lines: &mut Lines,
 ) -> io::Result<Option<(Concentrator, Restored)>> {
     match restore(alloc, links.settings(), octets) {
+        Ok((_, restored)) if is_too_late(&restored) => {
+            let moment = restored.moment;
+            writeln!(
+                lines,
+                "{path}: it was saved at moment {moment}; expected one below 2^63 ({FRESH})"
+            )?;
+            Ok(None)
+        }
         Ok(restored) => Ok(Some(restored)),
         Err(SavedFault::NoMemory) => Err(no_memory()),
         Err(fault) => {
             write!(lines, "{path}: ")?;
             write_unsaved(lines, &fault)?;
             let expected = "expected a complete state file of this version";
-            writeln!(lines, "; {expected} (run --fresh starts without it)")?;
+            writeln!(lines, "; {expected} ({FRESH})")?;
             Ok(None)
         }
     }
@@ -186,20 +208,26 @@ fn restored_of<R: Files + AllocGlobal>(
     }
 }
 
-/// The concentrator with what was saved of it, if something was and `fresh` isn't set.
-fn with_saved<R: Files + AllocGlobal>(
+/// What was saved, if something was and `fresh` isn't set, and what its file tells of the run before.
+fn saved_of<R: Files + AllocGlobal>(
     rt: &R,
     config: &Config,
     fresh: bool,
     links: &Links,
-    concentrator: Concentrator,
     lines: &mut Lines,
-) -> io::Result<(Concentrator, Restored)> {
-    let saved = match &config.state {
-        Some(path) if !fresh => restored_of(rt, path.as_str(), links, lines)?,
-        _ => None,
+) -> io::Result<Option<(Concentrator, u64, Before)>> {
+    let path = match &config.state {
+        Some(path) if !fresh => path.as_str(),
+        _ => return Ok(None),
     };
-    Ok(saved.unwrap_or((concentrator, Restored::default())))
+    let Some((concentrator, restored)) = restored_of(rt, path, links, lines)? else {
+        return Ok(None);
+    };
+    let before = Before {
+        moment: restored.moment,
+        modified: RealDisk::of(rt).modified(path).ok(),
+    };
+    Ok(Some((concentrator, restored.contexts, before)))
 }
 
 /// Reads the rest of what a gateway with this file starts from. `None` if something is wrong, which the lines say.
@@ -215,12 +243,16 @@ fn start_with<R: Files + AllocGlobal>(
     let Some((links, concentrator)) = links_of(rt, path.as_str(), lines)? else {
         return Ok(None);
     };
-    let (concentrator, restored) = with_saved(rt, &config, fresh, &links, concentrator, lines)?;
+    let (concentrator, contexts, before) = match saved_of(rt, &config, fresh, &links, lines)? {
+        Some((restored, contexts, before)) => (restored, contexts, Some(before)),
+        None => (concentrator, 0, None),
+    };
     Ok(Some(Start {
         config,
         links,
         concentrator,
-        restored,
+        contexts,
+        before,
     }))
 }
 

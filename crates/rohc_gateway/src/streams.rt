@@ -3,7 +3,6 @@
 use crate::answers::Reply;
 use crate::connection::{Connection, Progress};
 use crate::gateway::Gateway;
-use crate::real::RealClock;
 use crate::stream::{Counts, Flow, HEAD, Theme};
 use rohc_station::{Observer, Request, RequestFault, Seen, Taken, Wish};
 use std::alloc::Global;
@@ -126,7 +125,7 @@ impl Gateway<'_> {
     /// The stream that is asked for.
     fn stream_of<R: Clock + AllocGlobal>(&mut self, rt: &R, request: Request) -> io::Result<Begun> {
         let alloc = rt.alloc();
-        let moment = self.moments.now(&mut RealClock::of(rt));
+        let moment = self.now(rt);
         let named = match request {
             Request::Follow { link, .. } => Some(link),
             Request::Record { link, .. } => link,

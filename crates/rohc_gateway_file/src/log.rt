@@ -88,15 +88,17 @@ pub struct Log {
     pub format: LogFormat,
 }
 
-/// The system's clock, in milliseconds since 1970; 0 if it can't be read.
-pub fn milliseconds<R: Clock>(rt: &R) -> u64 {
-    let Ok(now) = SystemTime::now(rt) else {
-        return 0;
-    };
-    match now.duration_since(UNIX_EPOCH) {
+/// A time in milliseconds since 1970; 0 if it is before.
+pub fn milliseconds(time: SystemTime) -> u64 {
+    match time.duration_since(UNIX_EPOCH) {
         Ok(passed) => u64::try_from(passed.as_millis()).unwrap_or(u64::MAX),
         Err(_) => 0,
     }
+}
+
+/// The system's clock; 1970 if it can't be read.
+fn date<R: Clock>(rt: &R) -> SystemTime {
+    SystemTime::now(rt).unwrap_or(UNIX_EPOCH)
 }
 
 /// Writes a text as an object, without a line feed.
@@ -147,7 +149,7 @@ impl Log {
         level: Level,
         text: D,
     ) {
-        let moment = milliseconds(rt);
+        let moment = milliseconds(date(rt));
         let _ = match self.format {
             LogFormat::Json => say_object(rt, moment, level, &text),
             LogFormat::Text if self.is_journal => {

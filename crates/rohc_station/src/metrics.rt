@@ -28,10 +28,14 @@ pub struct GatewayFigures {
     pub failed_saves: u64,
     /// When the gateway was started, in milliseconds since 1970.
     pub started: u64,
+    /// The first moment of the run.
+    pub begun: u64,
     /// Whether there is a state file.
     pub has_state: bool,
     /// When the last save was done, by this run or the one before it, in milliseconds since 1970; 0 before the first.
     pub last_save: u64,
+    /// The moment of that save.
+    pub saved: u64,
     /// Whether no new call is taken.
     pub draining: bool,
 }

@@ -65,7 +65,7 @@ fn write_start<W: Write>(out: &mut W, page: &Page<'_>) -> io::Result<()> {
         "<!DOCTYPE html>\n<html lang=\"en\">\n<head>\n<meta charset=\"utf-8\">\n<meta http-equiv=\"Content-Security-Policy\" content=\"{POLICY}\">\n<meta http-equiv=\"refresh\" content=\"{REFRESH}\">\n<meta name=\"viewport\" content=\"width=device-width, initial-scale=1\">\n<meta name=\"referrer\" content=\"no-referrer\">\n<title>rohc-gateway</title>\n<style>{STYLE}</style>\n</head>\n<body>\n<header>\n<h1>rohc-gateway</h1>\n<p class=\"quiet\">Version {}, running for ",
         page.version
     )?;
-    write_duration(out, page.calls.now.saturating_sub(page.figures.started))?;
+    write_duration(out, page.calls.now.saturating_sub(page.figures.begun))?;
     let draining = if page.figures.draining {
         " <b>Draining: no new call is accepted.</b>"
     } else {
@@ -90,7 +90,7 @@ fn write_saves<W: Write>(out: &mut W, figures: &GatewayFigures, now: u64) -> io:
         write!(out, "Not saved since the start")?;
     } else {
         write!(out, "Saves since the start: {}. Last saved ", figures.saves)?;
-        write_duration(out, now.saturating_sub(figures.last_save))?;
+        write_duration(out, now.saturating_sub(figures.saved))?;
         write!(out, " ago")?;
     }
     if figures.failed_saves > 0 {

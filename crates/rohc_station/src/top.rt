@@ -10,7 +10,7 @@ use std::io::Write;
 /// Writes the gateway's version, and for how long it runs.
 fn write_start<W: Write>(out: &mut W, page: &Page<'_>) -> io::Result<()> {
     write!(out, "rohc-gateway {}, running for ", page.version)?;
-    write_duration(out, page.calls.now.saturating_sub(page.figures.started))?;
+    write_duration(out, page.calls.now.saturating_sub(page.figures.begun))?;
     let draining = if page.figures.draining {
         "; draining: no new call is accepted"
     } else {

@@ -4,10 +4,11 @@ use crate::loopback::{Loopback, Wanted};
 use crate::machines::{DELIVER_PORT, Machines, Saved, place_of, station_from};
 use crate::sender::{CALLS, Call, Octets, datagram, has_ir, hostile, octets_of};
 use crate::wrong::Wrong;
-use rohc_loop::{Moments, read_state, replace_file};
+use rohc_loop::{Before, Moments, first_moment, read_state, replace_file};
 use rohc_serve::{PacketBuffer, named_link};
 use rohc_simulated::{Chances, Random, Simulated, SimulatedDisk};
 use rohc_station::{Duty, Observer, Port, Seen, Service, Taken, Wish, arrival_in};
+use rohc_world::{Clocks, Disk};
 use std::alloc::Global;
 use std::mem;
 
@@ -17,7 +18,7 @@ const STATE: &str = "state";
 /// How often a gateway wakes in its life.
 const WAKES: u32 = 64;
 
-/// One call in 64 to the outside fails, half of the writes accept a part, and one reading of the clock in 32 jumps.
+/// One call in 64 to the outside fails, half of the writes accept a part, and one reading of the system's clock in 32 jumps.
 const CHANCES: Chances = Chances {
     failure: 64,
     part: 2,
@@ -118,6 +119,30 @@ fn link_of(datagram: &Octets) -> u16 {
     }
 }
 
+/// The moments of a run that goes on from this saved moment, or begins.
+fn moments_from(world: &mut Simulated, saved: Option<u64>) -> Result<Moments, Wrong> {
+    let before = match saved {
+        Some(moment) => Some(Before {
+            moment,
+            modified: world.modified(STATE).ok(),
+        }),
+        None => None,
+    };
+    let Some(first) = first_moment(world.date().ok(), before) else {
+        return Err(Wrong::State);
+    };
+    Moments::begin(world, first).map_err(|_| Wrong::State)
+}
+
+/// An outside over a disk. No call fails yet.
+fn world_over(disk: SimulatedDisk, seed: u64) -> Simulated {
+    let chances = Chances {
+        failure: 0,
+        ..CHANCES
+    };
+    Simulated::new(disk, Random::new(seed), chances, u64::MAX)
+}
+
 /// Whether a packet that was delivered is one that its sender sent.
 fn was_sent(calls: &[Call], packet: &Octets) -> bool {
     calls.iter().any(|call| call.sent(packet))
@@ -127,12 +152,13 @@ impl Life {
     /// A life that begins, from a seed.
     pub(crate) fn begin(alloc: Global, seed: u64) -> Result<Life, Wrong> {
         let mut random = Random::new(seed);
-        let disk = SimulatedDisk::new(alloc);
-        let world = Simulated::new(disk, Random::new(random.next()), CHANCES, u64::MAX);
+        let mut world = world_over(SimulatedDisk::new(alloc), random.next());
+        let moments = moments_from(&mut world, None)?;
+        world.chances = CHANCES;
         Ok(Life {
             alloc,
             world,
-            moments: Moments::from(0),
+            moments,
             moment: 0,
             service: service_from(alloc, None)?,
             loopback: Loopback::new(alloc, random.next()),
@@ -340,19 +366,11 @@ impl Life {
         } else {
             mem::replace(&mut self.world.disk, SimulatedDisk::new(self.alloc))
         };
-        let random = Random::new(self.random.next());
-        self.world = Simulated::new(
-            disk,
-            random,
-            Chances {
-                failure: 0,
-                ..CHANCES
-            },
-            u64::MAX,
-        );
+        self.world = world_over(disk, self.random.next());
         let found = read_state(&mut self.world, self.alloc, STATE).map_err(|_| Wrong::State)?;
+        self.start_from(found)?;
         self.world.chances = CHANCES;
-        self.start_from(found)
+        Ok(())
     }
 
     /// Starts a gateway from the octets of its state file, and the machines from what was saved with them.
@@ -362,11 +380,12 @@ impl Life {
             None if self.is_saved => return Err(Wrong::State),
             None => None,
         };
+        let moment = saved.map(|saved| saved.moment);
         let service = service_from(self.alloc, saved)?;
         let machines = Machines::from(self.alloc, saved)?;
         self.service = service;
         self.machines = machines;
-        self.moments = Moments::from(self.moment);
+        self.moments = moments_from(&mut self.world, moment)?;
         self.held.clear();
         self.missed = [UNSURE; CALLS];
         self.loopback.failed = 0;

@@ -68,6 +68,7 @@ pub(crate) fn saved_of(alloc: Global, station: &Station, moment: u64) -> Result<
 /// What was saved of a gateway, and at the same moment of each machine.
 #[derive(Drop)]
 pub(crate) struct Saved {
+    pub(crate) moment: u64,
     pub(crate) state: Vec<u8>,
     alone: Vec<Vec<u8>>,
 }
@@ -106,7 +107,11 @@ impl Machines {
             let octets = saved_of(alloc, one, moment)?;
             alone.push(octets).map_err(|_| Wrong::Memory)?;
         }
-        Ok(Saved { state, alone })
+        Ok(Saved {
+            moment,
+            state,
+            alone,
+        })
     }
 
     /// The machine of a place.
