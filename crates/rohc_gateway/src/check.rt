@@ -2,8 +2,9 @@
 
 use crate::lines::Lines;
 use crate::names::write_unknown_links;
-use crate::setup::{NoStart, read_start};
+use crate::setup::{Manner, NoStart, read_start};
 use rohc_gateway_file::{Ending, Options};
+use std::fs::File;
 use std::rt::Files;
 
 /// Says what may be wrong.
@@ -34,12 +35,11 @@ fn say_wrong<R: Print>(rt: &R, lines: &Lines) -> Result<Ending, Ending> {
 
 /// Says all that is wrong with a gateway file, its links file and its state file, a line each, or `good` behind what may be
 /// wrong.
-pub(crate) fn check<R: Files + Print + AllocGlobal>(
-    rt: &R,
-    file: &str,
-    options: &Options<'_>,
-) -> Result<Ending, Ending> {
-    match read_start(rt, file, options, false) {
+pub(crate) fn check<R>(rt: &R, file: &str, options: &Options<'_>) -> Result<Ending, Ending>
+where
+    R: Files<File = File> + Print + AllocGlobal,
+{
+    match read_start(rt, file, options, Manner::Check) {
         Ok(start) => {
             let mut lines = Lines::new(rt.alloc());
             let notes = start.config.notes.as_slice();

@@ -176,7 +176,7 @@ impl Gateway<'_> {
         };
         let text = format_args!(
             "the system's clock was set {way} by {} s; calls, saves and limits take no notice",
-            by / 1000
+            by.saturating_add(500) / 1000
         );
         self.frame.log.say(rt, Level::Warning, text);
     }

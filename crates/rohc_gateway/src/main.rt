@@ -9,6 +9,7 @@ mod gateway;
 mod journal;
 mod lines;
 mod links_file;
+mod lock;
 mod moving;
 mod names;
 mod outputs;
@@ -21,8 +22,10 @@ mod streams;
 mod time;
 
 use crate::real::RealDisk;
+use crate::setup::Manner;
 use rohc_gateway_file::{Build, Ending, Level, Log, LogFormat, Request, VERSION, read_request};
 use rohc_loop::{folder_of, read_text};
+use std::fs::File;
 use std::net::Net;
 use std::process::ExitCode;
 use std::rt::{Env, Files};
@@ -41,7 +44,7 @@ fn words<R: Env + AllocGlobal>(rt: &R) -> io::Result<Vec<String>> {
 /// Does what the words ask for.
 fn requested<R>(rt: &R, log: &mut Log, build: Build<'_>, words: &[String]) -> Result<Ending, Ending>
 where
-    R: Files + Net + Clock + Print + Eprint + AllocGlobal,
+    R: Files<File = File> + Net + Clock + Print + Eprint + AllocGlobal,
 {
     let Ok(version) = format!(in rt.alloc(); "{VERSION} ({build})") else {
         return Err(Ending::Memory);
@@ -52,7 +55,10 @@ where
             file,
             options,
             fresh,
-        } => run::run(rt, log, build, file, &options, fresh),
+        } => {
+            let manner = if fresh { Manner::Fresh } else { Manner::Run };
+            run::run(rt, log, build, file, &options, manner)
+        }
     }
 }
 

@@ -1,9 +1,10 @@
-//! What a gateway writes must be none of what it reads: the state file, the control socket, and the names beside them under
-//! which both are made first.
+//! What a gateway writes must be none of what it reads: the state file, the control socket, the names beside them under
+//! which both are made first, and those of their locks.
 
+use crate::lock::lock_of;
 use rohc_gateway_file::{Config, Reading, write_place};
 use rohc_loop::folder_of;
-use std::alloc::{AllocError, Global};
+use std::alloc::Global;
 use std::io::Write;
 use std::os::unix::fs::{FileTypeExt, MetadataExt};
 use std::rt::Files;
@@ -78,6 +79,7 @@ struct Output<'a> {
     key: &'static str,
     path: &'a str,
     beside: String,
+    lock: String,
 }
 
 /// What is written at this key, if it has a path.
@@ -85,12 +87,13 @@ fn output_of<'a>(
     alloc: Global,
     key: &'static str,
     path: &'a Option<String>,
-) -> Result<Option<Output<'a>>, AllocError> {
+) -> io::Result<Option<Output<'a>>> {
     match path {
         Some(path) => Ok(Some(Output {
             key,
             path: path.as_str(),
             beside: format!(in alloc; "{path}.new")?,
+            lock: lock_of(alloc, path.as_str())?,
         })),
         None => Ok(None),
     }
@@ -114,10 +117,10 @@ impl Output<'_> {
     /// The first of these files that would be written over.
     fn hit<'k, R: Files>(&self, rt: &R, kept: &[Kept<'k>]) -> Option<Kept<'k>> {
         for one in kept {
-            if lead_to_same(rt, self.path, one.path)
-                || lead_to_same(rt, self.beside.as_str(), one.path)
-            {
-                return Some(*one);
+            for path in [self.path, self.beside.as_str(), self.lock.as_str()] {
+                if lead_to_same(rt, path, one.path) {
+                    return Some(*one);
+                }
             }
         }
         None

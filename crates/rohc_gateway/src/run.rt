@@ -3,7 +3,7 @@
 use crate::connection::{Connection, Stream};
 use crate::gateway::{Frame, Gateway};
 use crate::lines::Lines;
-use crate::setup::{NoStart, Start, read_start};
+use crate::setup::{Manner, NoStart, Start, read_start};
 use crate::sockets::{
     CONTROL, LINKS, METRICS, MOST_CONNECTIONS, PLAIN, Sockets, TIMED, remove_control,
 };
@@ -15,6 +15,7 @@ use rohc_loop::Before;
 use rohc_station::{GatewayFigures, Port, Service, Station, Wish};
 use rohc_text::Reason;
 use std::alloc::{AllocError, Global};
+use std::fs::File;
 use std::net::Net;
 use std::rt::Files;
 use std::time::{Clock, Duration};
@@ -311,6 +312,18 @@ where
     }
 }
 
+/// Says how many octets of datagrams may wait at each socket, and what to do if that is less than was asked for.
+fn say_receive_buffer<R: Clock + Eprint + AllocGlobal>(rt: &R, log: Log, wanted: u32, got: u32) {
+    if got >= wanted {
+        let text = format_args!("receive buffers: {got} octets");
+        return log.say(rt, Level::Info, text);
+    }
+    let text = format_args!(
+        "receive buffers: {got} octets; expected {wanted} (sysctl -w net.core.rmem_max={wanted}, then start again)"
+    );
+    log.say(rt, Level::Warning, text);
+}
+
 /// Runs a gateway that has restored so many contexts, from its sockets on.
 fn run_from<R>(rt: &R, gateway: &mut Gateway<'_>, contexts: u64) -> Result<Ending, Ending>
 where
@@ -321,6 +334,7 @@ where
     let mut sockets = opened(rt, log, config, gateway.notes.as_slice())?;
     let text = format_args!("started: {links} links, {contexts} contexts restored");
     log.say(rt, Level::Info, text);
+    say_receive_buffer(rt, log, config.receive_buffer, sockets.receive_buffer);
     gateway.log_unknown_links(rt);
     let served = serve(rt, gateway, &mut sockets);
     if let Some(path) = &config.control {
@@ -350,6 +364,7 @@ where
         concentrator,
         contexts,
         before,
+        locks: _locks,
     } = start;
     let Ok(mut time) = Time::begin(rt, before) else {
         log.say(rt, Level::Error, "cannot read the clock");
@@ -389,13 +404,13 @@ pub(crate) fn run<R>(
     build: Build<'_>,
     file: &str,
     options: &Options<'_>,
-    fresh: bool,
+    manner: Manner,
 ) -> Result<Ending, Ending>
 where
-    R: Files + Net + Clock + Eprint + AllocGlobal,
+    R: Files<File = File> + Net + Clock + Eprint + AllocGlobal,
 {
     log.format = options.log_format.unwrap_or(log.format);
-    match read_start(rt, file, options, fresh) {
+    match read_start(rt, file, options, manner) {
         Ok(start) => {
             log.format = start.config.log_format;
             run_read(rt, *log, build, file, options, start)

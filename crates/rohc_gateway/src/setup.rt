@@ -2,6 +2,7 @@
 
 use crate::lines::Lines;
 use crate::links_file::{NoLinks, read_links_file};
+use crate::lock::Locks;
 use crate::outputs::write_overwritten;
 use crate::real::RealDisk;
 use rohc_concentrator::{Concentrator, SetupFault};
@@ -12,12 +13,24 @@ use rohc_saved::{Restored, SavedFault, restore};
 use rohc_text::{Reason, shown_word};
 use rohc_world::Disk;
 use std::alloc::Global;
+use std::fs::File;
 use std::io::{self, ErrorKind, Write};
 use std::rt::Files;
 
 /// What is expected where no gateway file can be read.
 pub(crate) const A_FILE: &str =
     "expected a gateway file that this user can read (man rohc-gateway)";
+
+/// How a start is made.
+#[derive(Clone, Copy, PartialEq, Eq)]
+pub(crate) enum Manner {
+    /// To look whether all is well.
+    Check,
+    /// To run from what was saved.
+    Run,
+    /// To run without it.
+    Fresh,
+}
 
 /// What a gateway starts from.
 #[derive(Drop)]
@@ -28,6 +41,8 @@ pub(crate) struct Start {
     /// How many contexts were restored, and what the state file tells of the run before, if there was one.
     pub(crate) contexts: u64,
     pub(crate) before: Option<Before>,
+    /// The locks, which no check takes.
+    pub(crate) locks: Locks,
 }
 
 /// Why a gateway doesn't start.
@@ -208,16 +223,16 @@ fn restored_of<R: Files + AllocGlobal>(
     }
 }
 
-/// What was saved, if something was and `fresh` isn't set, and what its file tells of the run before.
+/// What was saved, if something was and it is wanted, and what its file tells of the run before.
 fn saved_of<R: Files + AllocGlobal>(
     rt: &R,
     config: &Config,
-    fresh: bool,
+    manner: Manner,
     links: &Links,
     lines: &mut Lines,
 ) -> io::Result<Option<(Concentrator, u64, Before)>> {
     let path = match &config.state {
-        Some(path) if !fresh => path.as_str(),
+        Some(path) if manner != Manner::Fresh => path.as_str(),
         _ => return Ok(None),
     };
     let Some((concentrator, restored)) = restored_of(rt, path, links, lines)? else {
@@ -231,19 +246,23 @@ fn saved_of<R: Files + AllocGlobal>(
 }
 
 /// Reads the rest of what a gateway with this file starts from. `None` if something is wrong, which the lines say.
-fn start_with<R: Files + AllocGlobal>(
+fn start_with<R>(
     rt: &R,
     config: Config,
-    fresh: bool,
+    manner: Manner,
+    locks: Locks,
     lines: &mut Lines,
-) -> io::Result<Option<Start>> {
+) -> io::Result<Option<Start>>
+where
+    R: Files + AllocGlobal,
+{
     let Some(path) = &config.links else {
         return Ok(None);
     };
     let Some((links, concentrator)) = links_of(rt, path.as_str(), lines)? else {
         return Ok(None);
     };
-    let (concentrator, contexts, before) = match saved_of(rt, &config, fresh, &links, lines)? {
+    let (concentrator, contexts, before) = match saved_of(rt, &config, manner, &links, lines)? {
         Some((restored, contexts, before)) => (restored, contexts, Some(before)),
         None => (concentrator, 0, None),
     };
@@ -253,38 +272,64 @@ fn start_with<R: Files + AllocGlobal>(
         concentrator,
         contexts,
         before,
+        locks,
     }))
 }
 
-/// Reads all that a gateway starts from. `None` if something is wrong, which the lines say. With `fresh` no
-/// contexts are restored. The format becomes that of the gateway file.
-fn start_of<R: Files + AllocGlobal>(
+/// The locks of a gateway, before it reads what another one may still write. A check takes none.
+fn locks_for<R>(
+    rt: &R,
+    file: &str,
+    config: &Config,
+    manner: Manner,
+    lines: &mut Lines,
+) -> io::Result<Locks>
+where
+    R: Files<File = File> + AllocGlobal,
+{
+    match manner {
+        Manner::Check => Ok(Locks::none(rt.alloc())),
+        Manner::Run | Manner::Fresh if lines.is_empty() => Locks::of(rt, file, config, lines),
+        Manner::Run | Manner::Fresh => Ok(Locks::none(rt.alloc())),
+    }
+}
+
+/// Reads all that a gateway starts from. `None` if something is wrong, which the lines say. The format becomes that of the
+/// gateway file.
+fn start_of<R>(
     rt: &R,
     file: &str,
     options: &Options<'_>,
-    fresh: bool,
+    manner: Manner,
     lines: &mut Lines,
     format: &mut LogFormat,
-) -> io::Result<Option<Start>> {
+) -> io::Result<Option<Start>>
+where
+    R: Files<File = File> + AllocGlobal,
+{
     match config_of(rt, file, options, lines)? {
         Some(config) => {
             *format = config.log_format;
-            start_with(rt, config, fresh, lines)
+            let locks = locks_for(rt, file, &config, manner, lines)?;
+            start_with(rt, config, manner, locks, lines)
         }
         None => Ok(None),
     }
 }
 
 /// Reads all that a gateway starts from.
-pub(crate) fn read_start<R: Files + AllocGlobal>(
+pub(crate) fn read_start<R>(
     rt: &R,
     file: &str,
     options: &Options<'_>,
-    fresh: bool,
-) -> Result<Start, NoStart> {
+    manner: Manner,
+) -> Result<Start, NoStart>
+where
+    R: Files<File = File> + AllocGlobal,
+{
     let mut lines = Lines::new(rt.alloc());
     let mut format = options.log_format.unwrap_or(LogFormat::Text);
-    let Ok(start) = start_of(rt, file, options, fresh, &mut lines, &mut format) else {
+    let Ok(start) = start_of(rt, file, options, manner, &mut lines, &mut format) else {
         return Err(NoStart::Memory);
     };
     if !lines.is_empty() {

@@ -1,5 +1,6 @@
 //! The sockets of a gateway. Only 127.0.0.1 is bound.
 
+use libc::net::{SO_RCVBUF, SOL_SOCKET, getsockopt, setsockopt};
 use mio::event::Source;
 use mio::net::{TcpListener, UdpSocket, UnixListener};
 use mio::{Interest, Poll, Token};
@@ -8,6 +9,7 @@ use rohc_text::Reason;
 use std::fs::Permissions;
 use std::io::ErrorKind;
 use std::net::{Ipv4Addr, Net, SocketAddr};
+use std::os::fd::AsRawFd;
 use std::os::unix::fs::PermissionsExt;
 use std::rt::Files;
 use std::{fmt, fs, io};
@@ -48,6 +50,8 @@ pub(crate) struct Sockets {
     pub(crate) links: Vec<LinkSocket>,
     pub(crate) control: Option<UnixListener>,
     pub(crate) metrics: Option<TcpListener>,
+    /// How many octets of datagrams each socket for them keeps that wait: the least that one got.
+    pub(crate) receive_buffer: u32,
 }
 
 /// What can't be opened.
@@ -141,21 +145,47 @@ fn watch<S: Source>(poll: &Poll, source: &mut S, token: Token) -> io::Result<()>
     poll.registry().register(source, token, Interest::READABLE)
 }
 
-/// Binds a socket for datagrams.
-fn bind_datagrams<R: Net>(
-    rt: &R,
-    poll: &Poll,
-    key: &'static str,
-    port: Option<u16>,
-    token: Token,
-) -> Result<Option<UdpSocket>, SocketFault<'static>> {
-    let Some(port) = port else {
-        return Ok(None);
-    };
-    let opened = Opened::Udp(key, port);
-    let mut socket = at(opened, UdpSocket::bind(rt, local(port)))?;
-    at(opened, watch(poll, &mut socket, token))?;
-    Ok(Some(socket))
+/// Asks for room for so many octets of datagrams that wait at a socket. Returns how many it got.
+fn set_receive_buffer(socket: &UdpSocket, octets: u32) -> u32 {
+    let socket = socket.as_raw_fd();
+    let [a, b, c, d] = octets.to_ne_bytes();
+    let mut value = [a, b, c, d, 0, 0, 0, 0, 0, 0, 0, 0, 0, 0, 0, 0];
+    let mut size = 4;
+    let _ = unsafe { setsockopt(socket, SOL_SOCKET, SO_RCVBUF, &value, 4) };
+    if unsafe { getsockopt(socket, SOL_SOCKET, SO_RCVBUF, &mut value, &mut size) } != 0 {
+        return 0;
+    }
+    // The system adds as much for what it keeps beside each datagram (socket(7)).
+    u32::from_ne_bytes([value[0], value[1], value[2], value[3]]) / 2
+}
+
+/// Where the sockets for datagrams are bound.
+#[derive(Drop)]
+struct Binder<'a, R> {
+    rt: &'a R,
+    poll: &'a Poll,
+    /// How many octets of datagrams each socket is to keep that wait, and the least that one got.
+    wanted: u32,
+    got: u32,
+}
+
+impl<R: Net> Binder<'_, R> {
+    /// Binds a socket for datagrams.
+    fn bind(
+        &mut self,
+        key: &'static str,
+        port: Option<u16>,
+        token: Token,
+    ) -> Result<Option<UdpSocket>, SocketFault<'static>> {
+        let Some(port) = port else {
+            return Ok(None);
+        };
+        let opened = Opened::Udp(key, port);
+        let mut socket = at(opened, UdpSocket::bind(self.rt, local(port)))?;
+        self.got = self.got.min(set_receive_buffer(&socket, self.wanted));
+        at(opened, watch(self.poll, &mut socket, token))?;
+        Ok(Some(socket))
+    }
 }
 
 /// Adds the socket of a link's own port.
@@ -170,14 +200,13 @@ fn add_socket(sockets: &mut Vec<LinkSocket>, link: u16, socket: UdpSocket) -> io
 
 /// Binds the links' own ports.
 fn bind_links<R: Net + AllocGlobal>(
-    rt: &R,
-    poll: &Poll,
+    binder: &mut Binder<'_, R>,
     notes: &[LinkNote],
 ) -> Result<Vec<LinkSocket>, SocketFault<'static>> {
-    let mut sockets = Vec::new(rt.alloc());
+    let mut sockets = Vec::new(binder.rt.alloc());
     for note in notes {
         let token = Token(LINKS.saturating_add(sockets.len()));
-        if let Some(socket) = bind_datagrams(rt, poll, "link port", note.port, token)? {
+        if let Some(socket) = binder.bind("link port", note.port, token)? {
             at(Opened::Poll, add_socket(&mut sockets, note.number, socket))?;
         }
     }
@@ -237,9 +266,16 @@ impl Sockets {
         notes: &[LinkNote],
     ) -> Result<Sockets, SocketFault<'a>> {
         let poll = at(Opened::Poll, Poll::new(rt))?;
-        let plain = bind_datagrams(rt, &poll, "port", config.port, PLAIN)?;
-        let timed = bind_datagrams(rt, &poll, "timed_port", config.timed_port, TIMED)?;
-        let links = bind_links(rt, &poll, notes)?;
+        let mut binder = Binder {
+            rt,
+            poll: &poll,
+            wanted: config.receive_buffer,
+            got: u32::MAX,
+        };
+        let plain = binder.bind("port", config.port, PLAIN)?;
+        let timed = binder.bind("timed_port", config.timed_port, TIMED)?;
+        let links = bind_links(&mut binder, notes)?;
+        let receive_buffer = binder.got;
         let metrics = bind_metrics(rt, &poll, config.metrics_port)?;
         let control = match &config.control {
             Some(path) => {
@@ -255,6 +291,7 @@ impl Sockets {
             links,
             control,
             metrics,
+            receive_buffer,
         })
     }
 

@@ -10,7 +10,7 @@ use std::io::{ErrorKind, Write};
 use toml::{Table, Value};
 
 /// The keys of a gateway file.
-const KEYS: [&str; 10] = [
+const KEYS: [&str; 11] = [
     "links",
     "port",
     "timed_port",
@@ -20,8 +20,15 @@ const KEYS: [&str; 10] = [
     "metrics_port",
     "log_format",
     "numbered_feedback",
+    "receive_buffer",
     "link",
 ];
+
+/// How many octets of datagrams a socket keeps that wait, unless the gateway file says otherwise: 4 MiB.
+const RECEIVE_BUFFER: u32 = 4_194_304;
+
+/// The most that the gateway file may ask for: 1 GiB.
+const MOST_RECEIVED: u32 = 1_073_741_824;
 
 /// The longest path of a control socket, in octets: the system has room for 107, and it is first bound under a name that
 /// is four octets longer.
@@ -60,6 +67,8 @@ pub struct Config {
     pub log_format: LogFormat,
     /// Whether feedback for the compressor and relayed feedback are sent with the link's number first.
     pub numbered_feedback: bool,
+    /// How many octets of datagrams each socket keeps that wait.
+    pub receive_buffer: u32,
     /// What the tables [[link]] say.
     pub notes: Vec<LinkNote>,
 }
@@ -439,6 +448,13 @@ impl Reading<'_> {
         self.config.metrics_port = self.port_at(table, "metrics_port")?;
         self.config.log_format = self.format_at(table, "log_format")?;
         self.config.numbered_feedback = self.flag_at(table, "numbered_feedback")?;
+        let buffer = self.number_at(
+            table,
+            "receive_buffer",
+            MOST_RECEIVED,
+            "a number of octets from 1 to 1073741824",
+        )?;
+        self.config.receive_buffer = buffer.unwrap_or(RECEIVE_BUFFER);
         self.read_links(table)
     }
 
@@ -572,6 +588,7 @@ pub fn read_config<'a>(
         metrics_port: None,
         log_format: LogFormat::Text,
         numbered_feedback: false,
+        receive_buffer: RECEIVE_BUFFER,
         notes: Vec::new(alloc),
     };
     let mut reading = Reading {

@@ -1,0 +1,129 @@
+//! The locks of what one gateway alone may write: its state file and its control socket. The system lets go of a lock when
+//! its gateway ends, however it ends.
+
+use crate::lines::Lines;
+use rohc_gateway_file::Config;
+use rohc_text::{Reason, shown_word};
+use std::alloc::Global;
+use std::fs::{File, OpenOptions, TryLockError};
+use std::io::{self, ErrorKind, Read, Write};
+use std::rt::Files;
+
+/// The longest text of a lock that is shown, in octets.
+const LONGEST_HOLDER: u64 = 4096;
+
+/// The locks that a gateway holds.
+#[derive(Drop)]
+pub(crate) struct Locks {
+    held: Vec<File>,
+}
+
+/// Why a gateway doesn't get a lock.
+#[derive(Drop)]
+enum NoLock {
+    /// Another gateway holds it; this is what it wrote there.
+    Held(String),
+    /// The system's reason.
+    Failed(io::Error),
+}
+
+impl From<io::Error> for NoLock {
+    fn from(e: io::Error) -> NoLock {
+        NoLock::Failed(e)
+    }
+}
+
+/// The path of the lock beside a file.
+pub(crate) fn lock_of(alloc: Global, path: &str) -> io::Result<String> {
+    Ok(format!(in alloc; "{path}.lock")?)
+}
+
+/// What the holder of a lock wrote there, as far as it can be read.
+fn holder_in(alloc: Global, file: &mut File) -> String {
+    let mut octets = Vec::new(alloc);
+    let _ = file.take(LONGEST_HOLDER).read_to_end(&mut octets);
+    String::from_utf8(octets).unwrap_or(String::new(alloc))
+}
+
+/// Locks a file, which is made if it isn't there, and writes who holds it.
+fn lock<R>(rt: &R, path: &str, holder: &str) -> Result<File, NoLock>
+where
+    R: Files<File = File> + AllocGlobal,
+{
+    let mut options = OpenOptions::new();
+    let _ = options.read(true).write(true).create(true);
+    let mut file = options.open(rt, path)?;
+    match file.try_lock() {
+        Ok(()) => {}
+        Err(TryLockError::WouldBlock) => return Err(NoLock::Held(holder_in(rt.alloc(), &mut file))),
+        Err(TryLockError::Error(e)) => return Err(NoLock::Failed(e)),
+    }
+    file.set_len(0)?;
+    file.write_all(holder.as_bytes())?;
+    Ok(file)
+}
+
+/// Writes why there is no lock for the path of this key.
+fn write_unlocked(lines: &mut Lines, key: &str, path: &str, unlocked: &NoLock) -> io::Result<()> {
+    let path = shown_word(path);
+    match unlocked {
+        NoLock::Held(holder) => {
+            let holder = shown_word(holder.as_str().trim_end());
+            writeln!(
+                lines,
+                "{key}: {path} is held by another gateway ({holder}); expected a {key} that no other gateway uses"
+            )
+        }
+        NoLock::Failed(e) if e.kind() == ErrorKind::OutOfMemory => Err(*e),
+        NoLock::Failed(e) => {
+            let why = Reason::of(e);
+            writeln!(
+                lines,
+                "{key}: {path}: {why}; expected a file that this user can write"
+            )
+        }
+    }
+}
+
+impl Locks {
+    /// No locks.
+    pub(crate) fn none(alloc: Global) -> Locks {
+        Locks {
+            held: Vec::new(alloc),
+        }
+    }
+
+    /// Takes the lock for the path of a key, if the key has one. The lines say why not.
+    fn take<R>(
+        &mut self,
+        rt: &R,
+        key: &str,
+        path: &Option<String>,
+        holder: &str,
+        lines: &mut Lines,
+    ) -> io::Result<()>
+    where
+        R: Files<File = File> + AllocGlobal,
+    {
+        let Some(path) = path else {
+            return Ok(());
+        };
+        let path = lock_of(rt.alloc(), path.as_str())?;
+        match lock(rt, path.as_str(), holder) {
+            Ok(file) => Ok(self.held.push(file)?),
+            Err(unlocked) => write_unlocked(lines, key, path.as_str(), &unlocked),
+        }
+    }
+
+    /// Takes the locks of a gateway with this file. The lines say which it doesn't get, and why.
+    pub(crate) fn of<R>(rt: &R, file: &str, config: &Config, lines: &mut Lines) -> io::Result<Locks>
+    where
+        R: Files<File = File> + AllocGlobal,
+    {
+        let mut locks = Locks::none(rt.alloc());
+        let holder = format!(in rt.alloc(); "{file}\n")?;
+        locks.take(rt, "state", &config.state, holder.as_str(), lines)?;
+        locks.take(rt, "control", &config.control, holder.as_str(), lines)?;
+        Ok(locks)
+    }
+}
