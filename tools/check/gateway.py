@@ -23,6 +23,7 @@ from pathlib import Path
 import browser
 import completion
 import gateway_calls
+import gateway_clock
 import gateway_container
 import gateway_limits
 import gateway_recipe
@@ -36,7 +37,7 @@ from rohctl_survey import WHOLE_IR
 from trial import Trial
 
 ROHCTL = "crates/rohctl/out/rohctl"
-PARTS = ("words", "wrong", "heads", "whole", "numbered", "ported", "padded", "killed", "reloaded", "asked", "calls", "streamed", "logged", "named", "limited", "hostile", "flood", "poor", "files", "contained", "recipe")
+PARTS = ("words", "wrong", "heads", "whole", "numbered", "ported", "padded", "killed", "reloaded", "asked", "calls", "streamed", "logged", "named", "limited", "hostile", "flood", "poor", "files", "contained", "recipe", "clock")
 LINKS = range(1, 21)
 # The octets of the shortest Ethernet frame, without its check, and those of its head.
 SHORTEST_FRAME, ETHERNET_HEAD = 60, 14
@@ -135,6 +136,11 @@ def check_streamed(trial: Trial) -> None:
 def check_recipe(trial: Trial) -> None:
     """The recipe of docs/GATEWAY.md."""
     gateway_recipe.check(trial)
+
+
+def check_clock(trial: Trial) -> None:
+    """The system's clock is set."""
+    gateway_clock.check(trial)
 
 
 def check_contained(trial: Trial) -> None:
