@@ -53,7 +53,7 @@ MISSING = "no such file or directory"
 NO_DIRECTORY = "a part of the path is not a directory"
 NO_LINKS_FILE = f"{MISSING}; {READABLE}"
 A_GATEWAY_FILE = "expected a gateway file that this user can read (man rohc-gateway)"
-KEYS = "links, port, timed_port, state, save_seconds, control, metrics_port, log_format, numbered_feedback, link"
+KEYS = "links, port, timed_port, state, save_seconds, control, metrics_port, log_format, numbered_feedback, receive_buffer, link"
 OWN = "expected a path of its own"
 WRITABLE = "expected a path in a directory that this user may write"
 WHOLE = "expected a complete state file of this version (run --fresh starts without it)"
@@ -84,6 +84,7 @@ GATEWAY_FILES: tuple[tuple[bytes | str, tuple[str, ...]], ...] = (
     (GOOD + 'log_format = "xml"\n', ('FILE:3: log_format is "xml"; expected "text" or "json"',)),
     (GOOD + "log_format = 1\n", ('FILE:3: log_format is 1; expected "text" or "json"',)),
     (GOOD + "numbered_feedback = 1\n", ("FILE:3: numbered_feedback is 1; expected true or false",)),
+    (GOOD + "receive_buffer = 0\n", ("FILE:3: receive_buffer is 0; expected a number of octets from 1 to 1073741824",)),
     (GOOD + 'log_fromat = "json"\n', ('FILE:3: unknown key "log_fromat"; did you mean log_format?',)),
     (GOOD + "[[link]]\n", (f"FILE:3: link table 1: number is missing; {NUMBER}",)),
     (GOOD + '[[link]]\nnumber = 65536\n', (f"FILE:4: link table 1: number is 65536; {NUMBER}",)),
@@ -707,6 +708,46 @@ def check_stateless(trial: Trial) -> None:
             trial.demand((told.status, told.text) == (1, wanted), f"save: {told.all}; wanted {wanted}", told.call)
 
 
+def check_locks(trial: Trial) -> None:
+    """A second gateway over a state file or a control socket doesn't start, and says who has it. After a kill one does."""
+    with Receivers() as receivers:
+        first = Gateway(trial, trial.scratch / "l", receivers.links([1]))
+        other = Gateway(trial, trial.scratch / "l2", receivers.links([1]))
+        own = other.file.read_text()
+        with first:
+            before = first.ask("POST", "/save").status, same_files(first.folder)
+            for key, name in (("state", "calls"), ("control", "control")):
+                path = first.folder / name
+                other.file.write_text(own.replace(f'{key} = "{name}"', f'{key} = "{path}"'))
+                told = trial.ran(trial.top / PROGRAM, "run", other.file, seconds=20)
+                held = f"{LINE}{key}: {path}.lock is held by another gateway ({first.file}); "
+                wanted = f"{held}expected a {key} that no other gateway uses"
+                trial.demand((told.status, dated(told.said)) == (3, wanted), f"{key}: {told.end()}; wanted 3, {wanted}", told.call)
+                told = trial.ran(trial.top / PROGRAM, "check", other.file)
+                trial.demand((told.status, told.text) == (0, "good\n"), f"check takes no lock: {told.end()}", told.call)
+            after = first.ask("GET", "/ready").status, same_files(first.folder)
+            trial.demand(after == before, "a refused gateway changed the files of another one")
+            first.kill()
+            other.file.write_text(own.replace('state = "calls"', f'state = "{first.folder}/calls"'))
+            with other:
+                trial.demand(other.ask("POST", "/save").status == 200, f"after a kill: {other.said}")
+
+
+def check_buffers(trial: Trial) -> None:
+    """What the sockets got for datagrams that wait, and what to do if that is less than was asked for."""
+    most = int(Path("/proc/sys/net/core/rmem_max").read_text())
+    with Receivers() as receivers:
+        for wanted, words in ((4 << 20, ""), (1 << 16, "receive_buffer = 65536\n"), (1 << 30, "receive_buffer = 1073741824\n")):
+            gateway = Gateway(trial, trial.scratch / f"b{wanted}", receivers.links([1]))
+            gateway.file.write_text(gateway.file.read_text() + words)
+            line = f"receive buffers: {min(wanted, most)} octets"
+            if wanted > most:
+                line += f"; expected {wanted} (sysctl -w net.core.rmem_max={wanted}, then start again)"
+            with gateway:
+                level = 4 if wanted > most else 6
+                trial.demand(f"<{level}>rohc-gateway: {line}\n" in gateway.said, f"{words}{gateway.said}; wanted {line}")
+
+
 def check(trial: Trial) -> None:
     """All of it."""
     with hung(trial) as told:
@@ -721,6 +762,8 @@ def check(trial: Trial) -> None:
         check_waiting(trial)
         check_states(trial)
         check_stateless(trial)
+        check_locks(trial)
+        check_buffers(trial)
         check_objects(trial)
         check_hung(trial, told.result())
     calls = sum(map(len, (GATEWAY_FILES, LINKS_FILES, WORDS, OPTIONS, FORBIDDEN, CONTROLS, REFUSED)))

@@ -245,16 +245,33 @@ fn saved_of<R: Files + AllocGlobal>(
     Ok(Some((concentrator, restored.contexts, before)))
 }
 
+/// The locks for a start, before anything is read that another gateway may still write. A check takes none.
+fn locks_for<R>(
+    rt: &R,
+    file: &str,
+    config: &Config,
+    manner: Manner,
+    lines: &mut Lines,
+) -> io::Result<Locks>
+where
+    R: Files<File = File> + AllocGlobal,
+{
+    if manner == Manner::Check || !lines.is_empty() {
+        return Ok(Locks::none(rt.alloc()));
+    }
+    Locks::of(rt, file, config, lines)
+}
+
 /// Reads the rest of what a gateway with this file starts from. `None` if something is wrong, which the lines say.
 fn start_with<R>(
     rt: &R,
+    file: &str,
     config: Config,
     manner: Manner,
-    locks: Locks,
     lines: &mut Lines,
 ) -> io::Result<Option<Start>>
 where
-    R: Files + AllocGlobal,
+    R: Files<File = File> + AllocGlobal,
 {
     let Some(path) = &config.links else {
         return Ok(None);
@@ -262,6 +279,7 @@ where
     let Some((links, concentrator)) = links_of(rt, path.as_str(), lines)? else {
         return Ok(None);
     };
+    let locks = locks_for(rt, file, &config, manner, lines)?;
     let (concentrator, contexts, before) = match saved_of(rt, &config, manner, &links, lines)? {
         Some((restored, contexts, before)) => (restored, contexts, Some(before)),
         None => (concentrator, 0, None),
@@ -274,24 +292,6 @@ where
         before,
         locks,
     }))
-}
-
-/// The locks of a gateway, before it reads what another one may still write. A check takes none.
-fn locks_for<R>(
-    rt: &R,
-    file: &str,
-    config: &Config,
-    manner: Manner,
-    lines: &mut Lines,
-) -> io::Result<Locks>
-where
-    R: Files<File = File> + AllocGlobal,
-{
-    match manner {
-        Manner::Check => Ok(Locks::none(rt.alloc())),
-        Manner::Run | Manner::Fresh if lines.is_empty() => Locks::of(rt, file, config, lines),
-        Manner::Run | Manner::Fresh => Ok(Locks::none(rt.alloc())),
-    }
 }
 
 /// Reads all that a gateway starts from. `None` if something is wrong, which the lines say. The format becomes that of the
@@ -310,8 +310,7 @@ where
     match config_of(rt, file, options, lines)? {
         Some(config) => {
             *format = config.log_format;
-            let locks = locks_for(rt, file, &config, manner, lines)?;
-            start_with(rt, config, manner, locks, lines)
+            start_with(rt, file, config, manner, lines)
         }
         None => Ok(None),
     }
