@@ -31,17 +31,18 @@ import gateway_streams
 import gateway_wrong
 from cluster import Arrival, made_arrivals
 from gateway_limits import first_ir
-from gateway_run import BATCH, LOOPBACK, PROGRAM, WAIT_SECONDS, Gateway, Receivers, dated, free_port, numbered, replayed, samples
+from gateway_run import BATCH, LOOPBACK, PROGRAM, WAIT_SECONDS, Gateway, Receivers, dated, free_port, numbered, replayed, samples, sends_of
 from program import Ended
 from rohctl_survey import WHOLE_IR
 from trial import Trial
 
 ROHCTL = "crates/rohctl/out/rohctl"
-PARTS = ("words", "wrong", "heads", "whole", "numbered", "ported", "padded", "killed", "reloaded", "asked", "calls", "streamed", "logged", "named", "limited", "hostile", "flood", "poor", "files", "contained", "recipe", "clock")
+PARTS = ("words", "wrong", "heads", "whole", "numbered", "ported", "padded", "killed", "stopped", "reloaded", "asked", "calls", "streamed", "logged", "named", "limited", "hostile", "flood", "poor", "files", "contained", "recipe", "clock")
 LINKS = range(1, 21)
 # The octets of the shortest Ethernet frame, without its check, and those of its head.
 SHORTEST_FRAME, ETHERNET_HEAD = 60, 14
 KILLS = 20
+STOPS = 20
 SLOW = 40
 # How many CIDs of a link that only got NoContext are kept.
 UNKNOWN = 64
@@ -480,6 +481,28 @@ def check_killed(trial: Trial) -> None:
             receivers.forget()
             gateway.start()
         trial.say(f"killed: {KILLS} times, and {len(arrivals)} arrivals as one replay of what was saved answers")
+
+
+def check_stopped(trial: Trial) -> None:
+    """Stopped while datagrams wait: all of them are answered and saved, and nothing is answered after the save."""
+    arrivals = [arrival for arrival in made_arrivals(12_000, 21) if arrival.octets is not None]
+    part = len(arrivals) // STOPS
+    with Receivers() as receivers, Gateway(trial, trial.scratch / "stopped", receivers.links(LINKS)) as gateway:
+        wanted = replayed(trial, gateway.folder / "links.toml", arrivals)
+        for turn in range(STOPS):
+            own = slice(turn * part, (turn + 1) * part)
+            sends: dict[str, list[bytes]] = {kind: [] for kind in receivers.found}
+            for arrival, lines in zip(arrivals[own], wanted[own], strict=True):
+                gateway.send(arrival)
+                for kind, octets in sends_of(lines):
+                    sends[kind].append(octets)
+            trial.demand(gateway.stop() == 0, f"stopped {turn} times: {gateway.said}")
+            receivers.wait({kind: len(each) for kind, each in sends.items()}, 2.0)
+            if not trial.demand(receivers.found == sends, f"stopped {turn} times: other answers"):
+                return
+            receivers.forget()
+            gateway.start()
+        trial.say(f"stopped: {STOPS} times with {part} datagrams on their way, and all as one replay answers")
 
 
 def check_reloaded(trial: Trial) -> None:

@@ -147,7 +147,7 @@ def check_moment(trial: Trial, gateway: Gateway) -> None:
         try:
             gateway.start()
         except RuntimeError:
-            wanted = f"it was saved at moment {moment}; expected one below 2^63 (run --fresh starts without it)"
+            wanted = f"its moment is {moment}; expected one below 2^63 (run --fresh starts without it)"
             trial.demand(not is_good and wanted in gateway.said, f"clock: moment {moment}: {gateway.said}")
         else:
             trial.demand(is_good and len(silences(gateway)) == CALLS, f"clock: moment {moment} was accepted")

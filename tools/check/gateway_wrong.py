@@ -371,8 +371,8 @@ def prepare(trial: Trial, name: str) -> Path:
 
 
 def same_files(folder: Path) -> dict[str, bytes]:
-    """What each file of the folder holds."""
-    return {one.name: one.read_bytes() for one in sorted(folder.iterdir()) if one.is_file()}
+    """What each file of the folder holds, but for locks, which stay where they are."""
+    return {one.name: one.read_bytes() for one in sorted(folder.iterdir()) if one.is_file() and one.suffix != ".lock"}
 
 
 def refuses(trial: Trial, folder: Path, words: Sequence[str], wanted: Sequence[str]) -> None:
@@ -720,7 +720,7 @@ def check_locks(trial: Trial) -> None:
                 path = first.folder / name
                 other.file.write_text(own.replace(f'{key} = "{name}"', f'{key} = "{path}"'))
                 told = trial.ran(trial.top / PROGRAM, "run", other.file, seconds=20)
-                held = f"{LINE}{key}: {path}.lock is held by another gateway ({first.file}); "
+                held = f"{LINE}{key}: {path}.lock: locked by another gateway ({first.file}); "
                 wanted = f"{held}expected a {key} that no other gateway uses"
                 trial.demand((told.status, dated(told.said)) == (3, wanted), f"{key}: {told.end()}; wanted 3, {wanted}", told.call)
                 told = trial.ran(trial.top / PROGRAM, "check", other.file)

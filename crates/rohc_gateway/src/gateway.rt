@@ -11,6 +11,7 @@ use crate::names::{
 };
 use crate::real::RealDisk;
 use crate::sockets::MOST_CONNECTIONS;
+use crate::stop::{Stop, is_asked_by};
 use crate::streams::Viewers;
 use crate::time::Time;
 use mio::net::UdpSocket;
@@ -67,6 +68,8 @@ pub(crate) struct Gateway<'a> {
     pub(crate) next_save: u64,
     /// The request to move a link that waits.
     pub(crate) awaited: Option<Awaited>,
+    /// The stop that was asked for.
+    pub(crate) stop: Option<Stop>,
     /// What the streams want to see.
     pub(crate) wish: Wish,
     /// Whether it was told to stop.
@@ -175,7 +178,7 @@ impl Gateway<'_> {
             None => return,
         };
         let text = format_args!(
-            "the system's clock was set {way} by {} s; calls, saves and limits take no notice",
+            "the system's clock was set {way} by {} s; calls, saves and limits are not affected",
             by.saturating_add(500) / 1000
         );
         self.frame.log.say(rt, Level::Warning, text);
@@ -381,7 +384,7 @@ impl Gateway<'_> {
     }
 
     /// Saves as asked, and stops if that is asked too.
-    fn save_as_asked<R: Files + Clock + Eprint + AllocGlobal>(
+    pub(crate) fn save_as_asked<R: Files + Clock + Eprint + AllocGlobal>(
         &mut self,
         rt: &R,
         stops: bool,
@@ -642,7 +645,6 @@ impl Gateway<'_> {
         R: Files + Clock + Eprint + AllocGlobal,
     {
         match request {
-            Request::Stop => self.save_as_asked(rt, true),
             Request::Save => self.save_as_asked(rt, false),
             Request::Reload => self.reload(rt),
             Request::Reset { link, cid } => self.reset(rt, link, cid),
@@ -659,7 +661,7 @@ impl Gateway<'_> {
             Request::Top => self.top(rt),
             Request::Contexts { link } => self.contexts(rt, link),
             Request::Calls { link, form } => self.calls(rt, link, form),
-            Request::Follow { .. } | Request::Record { .. } => {
+            Request::Stop | Request::Follow { .. } | Request::Record { .. } => {
                 Reply::refused(rt.alloc(), RequestFault::NotFound)
             }
             Request::Preview => self.preview(rt),
@@ -688,7 +690,7 @@ impl Gateway<'_> {
     where
         R: Files + Clock + Eprint + AllocGlobal,
     {
-        if awaits(self.awaited, place) {
+        if awaits(self.awaited, place) || is_asked_by(self.stop, place) {
             return;
         }
         let Some(Some(connection)) = self.connections.get_mut(place) else {
@@ -696,6 +698,7 @@ impl Gateway<'_> {
         };
         let is_control = connection.is_control();
         let progress = match connection.go_on() {
+            Progress::Asks(Asked::Whole(Request::Stop)) if is_control => self.await_stop(rt, place),
             Progress::Asks(Asked::Whole(request)) if is_control && waits(request) => {
                 self.await_datagrams(rt, place, request)
             }

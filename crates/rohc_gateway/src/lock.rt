@@ -71,7 +71,7 @@ fn write_unlocked(lines: &mut Lines, key: &str, path: &str, unlocked: &NoLock) -
             let holder = shown_word(holder.as_str().trim_end());
             writeln!(
                 lines,
-                "{key}: {path} is held by another gateway ({holder}); expected a {key} that no other gateway uses"
+                "{key}: {path}: locked by another gateway ({holder}); expected a {key} that no other gateway uses"
             )
         }
         NoLock::Failed(e) if e.kind() == ErrorKind::OutOfMemory => Err(*e),

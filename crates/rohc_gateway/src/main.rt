@@ -17,6 +17,7 @@ mod real;
 mod run;
 mod setup;
 mod sockets;
+mod stop;
 mod stream;
 mod streams;
 mod time;

@@ -76,7 +76,7 @@ pub(crate) fn write_moves<W: Write>(out: &mut W, moves: &Moves) -> io::Result<()
 fn apart(alloc: Global, octets: &[u8], now: u64) -> io::Result<Option<String>> {
     match saved_moment(octets) {
         Ok(moment) if moment.abs_diff(now) > MOST_APART => Ok(Some(format!(in alloc;
-            "was exported at moment {moment} and this gateway is at {now}; expected at most {MOST_APART} ms between them (rohctl hold --off lets it go)"
+            "was exported at moment {moment}, and this gateway is at {now}; expected at most {MOST_APART} ms between them; the link is still held"
         )?)),
         _ => Ok(None),
     }

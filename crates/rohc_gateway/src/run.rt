@@ -93,6 +93,7 @@ fn gateway_of<'a>(
         figures,
         time,
         awaited: None,
+        stop: None,
         wish: Wish::Nothing,
         is_stopped: false,
         connections,
@@ -246,12 +247,16 @@ where
     for event in events.iter() {
         handle(rt, gateway, sockets, waiting, event.token());
     }
-    if gateway.awaited.is_some() {
+    if gateway.awaited.is_some() || gateway.stop.is_some() {
         look_everywhere(sockets, waiting);
     }
     *waiting = take_waiting(rt, gateway, sockets, *waiting);
     gateway.go_on_moving(rt, sockets, !waiting.is_datagram());
     let moment = gateway.now(rt);
+    gateway.stop_in_time(rt, moment, !waiting.is_datagram());
+    if gateway.is_stopped {
+        return Ok(());
+    }
     waiting.streams = gateway.pour_streams(rt.alloc(), moment);
     gateway.note_step(rt, moment);
     gateway.drop_late(moment);

@@ -188,7 +188,7 @@ fn restored_in(
             let moment = restored.moment;
             writeln!(
                 lines,
-                "{path}: it was saved at moment {moment}; expected one below 2^63 ({FRESH})"
+                "{path}: its moment is {moment}; expected one below 2^63 ({FRESH})"
             )?;
             Ok(None)
         }
