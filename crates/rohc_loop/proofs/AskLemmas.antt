@@ -1,7 +1,7 @@
 -- Acts, and then more of them.
-use Rattle.std.proofs.Common.{◌≡◌, ◌<◌, ℕ, refl, arith, List, [], ◌∷◌, ◌++◌, append_assoc, append-nil, sym, ◌∙◌, ap}
+use Rattle.std.proofs.Common.{◌≡◌, ◌<◌, ℕ, refl, arith, List, [], ◌++◌, append_assoc, append-nil, sym, ◌∙◌, ap}
 use Rattle.std.specs.Prelude.{Option, Some, None, zero, suc}
-use Rattle.rohc_world.specs.Acts.{Act, AddsActs, Asks}
+use Rattle.rohc_world.specs.Acts.{Act, AddsActs}
 
 pub adds_none : (acts : Option (List Act)) → AddsActs acts acts []
 adds_none None = tt

@@ -1,10 +1,10 @@
 -- The file that a save renames has all octets, and they are on the device.
 use Rattle.std.proofs.Common.{inl, inr, ◌≡◌, ℕ, List, [], ◌∷◌, ◌++◌, take, drop, true, false, append_assoc, append-nil, take-append-drop, refl, sym, ◌∙◌, ap, subst}
-use Rattle.std.specs.Prelude.{Ok, Err, Result}
+use Rattle.std.specs.Prelude.{Ok, Err}
 use Rattle.rohc_world.specs.declared.trouble.Trouble.{Trouble}
-use Rattle.rohc_world.specs.Acts.{Act, Created, Wrote, Synced, Closed, Renamed, Removed, SyncedFolder}
+use Rattle.rohc_world.specs.Acts.{Act, Wrote, Synced}
 use Rattle.rohc_loop.specs.Paths.{beside}
-use Rattle.rohc_loop.specs.Saving.{Takes, NotTaken, Fills, Ending, Saves, Saved, NotCreated, NotFilled, NotRenamed, NotSettled}
+use Rattle.rohc_loop.specs.Saving.{Takes, Fills, Saved, NotCreated, NotFilled, NotRenamed, NotSettled}
 use Rattle.rohc_loop.specs.Laws.{NewFile, after, NamesWhole, RenamesWhole, SavesWhole}
 
 -- after writes the file has what they took

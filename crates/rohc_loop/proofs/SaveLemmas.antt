@@ -1,5 +1,5 @@
 -- The parts of a save, one after the other.
-use Rattle.std.proofs.Common.{inl, inr, ◌≡◌, ℕ, List, [], ◌∷◌, ◌++◌, append_assoc, refl, sym, ◌∙◌, ap, subst}
+use Rattle.std.proofs.Common.{inl, inr, ◌≡◌, ℕ, List, [], ◌∷◌, ◌++◌, append_assoc, refl, ◌∙◌, ap}
 use Rattle.std.specs.Prelude.{Option, Ok, Err, Result, ⊤}
 use Rattle.rohc_world.specs.declared.trouble.Trouble.{Trouble}
 use Rattle.rohc_world.specs.Acts.{Act, Created, Closed, Renamed, Removed, SyncedFolder, AddsActs, Asks}

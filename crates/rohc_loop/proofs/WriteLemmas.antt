@@ -1,5 +1,5 @@
 -- Writes, one after the other, and the sync after them.
-use Rattle.std.proofs.Common.{inl, inr, ◌⊎◌, ◌≡◌, ◌<◌, ◌≤◌, ◌+◌, ◌-◌, ℕ, List, [], ◌∷◌, ◌++◌, take, drop, length, length-drop, take-append-drop, append-nil, drop-drop, refl, sym, ◌∙◌, ap, subst, arith, rules}
+use Rattle.std.proofs.Common.{inl, inr, ◌⊎◌, ◌≡◌, ◌<◌, ◌≤◌, ◌+◌, ◌-◌, ℕ, List, [], ◌∷◌, ◌++◌, take, drop, length, length-drop, take-append-drop, append-nil, drop-drop, refl, sym, ◌∙◌, ap, subst, arith}
 use Rattle.std.proofs.Common.{drop_of_length-le}
 use Rattle.std.specs.Prelude.{Option, Ok, Err, Result, ⊤}
 use Rattle.rohc_world.specs.declared.trouble.Trouble.{Trouble}
@@ -7,7 +7,7 @@ use Rattle.rohc_world.specs.declared.trouble.Trouble.TheVariants.{Failed}
 use Rattle.rohc_world.specs.Acts.{Act, Wrote, Synced, AddsActs, Asks}
 use Rattle.rohc_text.specs.declared.reason.Reason.TheVariants.{Other}
 use Rattle.std.specs.Prelude.{pos}
-use Rattle.rohc_loop.specs.Saving.{Takes, NotTaken, EndsWriting, Fills}
+use Rattle.rohc_loop.specs.Saving.{Takes, EndsWriting, Fills}
 use Rattle.rohc_loop.proofs.AskLemmas.{adds_none, adds_more}
 
 takes_more : (octets mid left : List ℕ) (n : ℕ) (acts : List Act) → Takes octets mid acts → 0 < n → left ≡ drop n mid →

@@ -1,5 +1,5 @@
 -- What follows from the acts of a save. Words: NewFile, after; NamesWhole, RenamesWhole; SavesWhole.
-use Rattle.std.specs.Prelude.{◌≡◌, ℕ, List, [], ◌∷◌, ◌++◌, take, Bool, true, false, Result, Ok, Err, ⊤}
+use Rattle.std.specs.Prelude.{◌≡◌, ℕ, List, [], ◌∷◌, ◌++◌, take, Bool, true, false, Ok, ⊤}
 use Rattle.rohc_world.specs.Acts.{Act, Created, Wrote, Synced, Renamed}
 use Rattle.rohc_loop.specs.Saving.{Ending, Saves}
 

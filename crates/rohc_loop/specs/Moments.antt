@@ -8,8 +8,8 @@ use Rattle.rohc_loop.specs.declared.moments.Reading.{Reading}
 use Rattle.rohc_loop.specs.declared.moments.Step.{Step}
 use Rattle.rohc_loop.specs.declared.moments.Step.TheVariants.{Ahead, Back}
 
--- The time since a file was written, as far as the system's clock tells. A longer absence changes no answer, since
--- every limit is below 2^32 ms.
+-- The time since a file was written, as far as the system's clock shows it. A longer absence changes no
+-- answer, since every limit is below 2^32 ms.
 abbrev pub absent : (date modified : Option ℕ) → ℕ
 absent (Some date) (Some modified) = min (date - modified) (2 ^ 32 - 1)
 absent (Some date) None = 0
@@ -22,7 +22,7 @@ first_of None None = Some 0
 first_of date (Some before) =
     if nat_lt before.moment (2 ^ 63) then Some (before.moment + absent date before.modified) else None
 
--- A run goes on from the saved moment, by no more than the longest absence, whatever the system's clock shows.
+-- A run continues from the saved moment, plus at most the longest absence, whatever the system's clock shows.
 abbrev pub GoesOn : Type 0
 GoesOn = (date : Option ℕ) (before : Before) (first : ℕ) → first_of date (Some before) ≡ Some first →
     (before.moment ≤ first) × (first ≤ before.moment + (2 ^ 32 - 1))
@@ -39,7 +39,8 @@ IsBegun first (Err trouble) result = result ≡ Err trouble
 
 -- The first moment and the time since then, if the monotonic clock answers this; never before the last.
 abbrev pub moment_after : Moments → (uptime : Result ℕ Trouble) → ℕ
-moment_after moments (Ok uptime) = max moments.last (min (moments.first + (uptime - moments.start)) (2 ^ 64 - 1))
+moment_after moments (Ok uptime) =
+    max moments.last (min (moments.first + (uptime - moments.start)) (2 ^ 64 - 1))
 moment_after moments (Err trouble) = moments.last
 
 -- Between two readings as many milliseconds pass as on the monotonic clock.
@@ -49,7 +50,8 @@ PassesAsUptime = (moments : Moments) (one two : ℕ) → moments.start ≤ one �
     moment_after (record moments { last = moment_after moments (Ok one) }) (Ok two) ≡
     moment_after moments (Ok one) + (two - one)
 
--- How the system's clock was set between two readings: what it shows, and what it would show had it gone as the moments.
+-- How the system's clock was set between two readings: the difference of what it shows and what it would
+-- show if it had passed as the moments did.
 abbrev pub step_of : (before now : Reading) → Option Step
 step_of before now =
     if nat_lt (before.date + now.moment + 1000) (now.date + before.moment)

@@ -1,5 +1,5 @@
 -- The paths of a save. Words: IsLastSlash, IsFolder; beside.
-use Rattle.std.specs.Prelude.{◌⊎◌, ◌≡◌, ◌≢◌, ◌<◌, ℕ, List, [], ◌∷◌, ◌++◌, take, length, slice_index, codes}
+use Rattle.std.specs.Prelude.{◌⊎◌, ◌≡◌, ◌≢◌, ◌<◌, ℕ, List, ◌++◌, take, length, slice_index, codes}
 use Rattle.std.specs.Path.{slash, root_dir, cur_dir}
 
 -- the last slash of a path is at this index

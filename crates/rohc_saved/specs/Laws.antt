@@ -1,5 +1,5 @@
--- Laws of saved concentrators. Words: IsGoodLink, IsGoodForm; FormIsSpelled, IsReadBack, MomentIsInFront; ComesBack,
--- LinkComesBack; IsMadeSound, IsKeptSound, IsRestoredSound, IsLinkRestoredSound;
+-- Laws of saved concentrators. Words: IsGoodLink, IsGoodForm; FormIsSpelled, IsReadBack, MomentIsInFront;
+-- ComesBack, LinkComesBack; IsMadeSound, IsKeptSound, IsRestoredSound, IsLinkRestoredSound;
 -- GoesOnRestored, CutByRestart; IsRestoredFrom, CutCallsByRestart.
 use Rattle.std.specs.Prelude.{◌≡◌, ◌++◌, ◌<◌, ◌≤◌, ◌^◌, ℕ, List, [], ◌∷◌, map, length, filter, nat_eq, All, Option, Some, None, Ok}
 use Rattle.std.specs.List.{AllByRecursion, IsDistinct}

@@ -39,7 +39,8 @@ AddsNext {A} result old new behind read =
 
 -- a reader's value, whatever octets it left, or its fault
 abbrev pub IsValue : {A : Type 0} → Result A SavedFault → Read A → Type 0
-IsValue {A} result read = MatchResult result (λ x. (behind : List ℕ) × (read ≡ Ok (x, behind))) (λ e. read ≡ Err e)
+IsValue {A} result read =
+    MatchResult result (λ x. (behind : List ℕ) × (read ≡ Ok (x, behind))) (λ e. read ≡ Err e)
 
 -- what a reader of no value leaves is what the definition leaves
 abbrev pub Passes : Result Unit SavedFault → List ℕ → Result (List ℕ) SavedFault → Type 0
