@@ -31,7 +31,7 @@ import gateway_streams
 import gateway_wrong
 from cluster import Arrival, made_arrivals
 from gateway_limits import first_ir
-from gateway_run import BATCH, LOOPBACK, PROGRAM, WAIT_SECONDS, Gateway, Receivers, dated, free_port, numbered, replayed, samples, sends_of
+from gateway_run import BATCH, LOOPBACK, PROGRAM, WAIT_SECONDS, Gateway, Receivers, dated, free_port, numbered, replayed, samples, sends_of, told_room
 from program import Ended
 from rohctl_survey import WHOLE_IR
 from trial import Trial
@@ -594,6 +594,7 @@ def log_objects(trial: Trial, begun: datetime) -> None:
     found = [(row["level"], row["text"]) for row in rows]
     wanted = [
         ("info", "started: 1 links, 0 contexts restored"),
+        told_room(),
         ("info", "link 1 is held: its datagrams wait for an import"),
         ("warning", f'{gateway.folder}/links.toml:2: link 1: unknown key "k\\u001b"; did you mean k1?'),
         ("warning", f"{gateway.folder}/links.toml:2: link 1: k1 is missing; expected a number from 1 to n1"),
@@ -617,7 +618,7 @@ def check_logged(trial: Trial) -> None:
             gateway.ask("POST", "/drain")
             gateway.stop()
             lines = gateway.said.splitlines()
-    texts = ["started: 1 links, 0 contexts restored", "draining: no new call is accepted", "stopped"]
+    texts = ["started: 1 links, 0 contexts restored", told_room()[1], "draining: no new call is accepted", "stopped"]
     trial.demand([dated(line) for line in lines] == [f"DATE rohc-gateway: {text}" for text in texts], f"logged: {lines}")
     for line in lines:
         moment = datetime.fromisoformat(line.split(" ")[0])

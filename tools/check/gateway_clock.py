@@ -6,18 +6,22 @@ must, and after a restart moments go on from the saved one.
 
 import hashlib
 import os
+import re
 import socket
 import struct
 import time
 from dataclasses import dataclass
 from pathlib import Path
 
+from cluster import Arrival
 from gateway_limits import first_ir
-from gateway_run import LOOPBACK, Gateway, Receivers, read_answer, samples
+from gateway_run import LOOPBACK, Answered, Gateway, Receivers, read_answer, samples
 from trial import Trial
 
 LINK, CALLS = 1, 5
 SECOND, HOUR, YEAR = 1000, 3_600_000, 31_556_952_000
+# How far the clocks of two gateways are apart.
+APART = 5 * SECOND
 # Calls expire after so many milliseconds.
 IDLE = 60 * SECOND
 # How long a connection may take, and how long a wake is awaited, in seconds.
@@ -155,6 +159,32 @@ def check_moment(trial: Trial, gateway: Gateway) -> None:
     file.write_bytes(good)
 
 
+def imports(gateway: Gateway, body: bytes) -> Answered:
+    """The answer to an import of the link."""
+    gateway.ask("POST", f"/hold?link={LINK}")
+    head = f"POST /import?link={LINK} HTTP/1.1\r\nHost: gateway\r\nContent-Length: {len(body)}\r\n\r\n"
+    return gateway.sent(head.encode() + body)
+
+
+def check_import(trial: Trial, links: str) -> None:
+    """A link doesn't move to a gateway whose moments are more than a second from those of its own."""
+    with Gateway(trial, trial.scratch / "from", links) as own:
+        own.send(Arrival(LINK, 5, first_ir(1)))
+        own.wait_taken()
+        for ahead, status in ((APART, 409), (-APART, 409), (0, 200)):
+            other = Gateway(trial, trial.scratch / f"to{ahead}", links)
+            Clock.of(trial, other).set(ahead)
+            with other:
+                body = own.ask("POST", f"/export?link={LINK}").body
+                told = imports(other, body)
+                own.ask("POST", f"/export?link={LINK}&off")
+            trial.demand(told.status == status, f"import, clocks {ahead} ms apart: {told}; wanted {status}")
+            if status == 409:
+                text = rf"link {LINK} was exported at moment \d+, and this gateway is at \d+; expected at most 1000 ms between them; "
+                fits = re.fullmatch(text + "the link is still held", str(told.json["text"])) and told.json["fault"] == "Moment"
+                trial.demand(bool(fits), f"import, clocks {ahead} ms apart: {told}")
+
+
 def check(trial: Trial) -> None:
     """A gateway without a timed port, since moments there are its senders'."""
     with Receivers() as receivers:
@@ -167,4 +197,5 @@ def check(trial: Trial) -> None:
             check_time(trial, gateway, clock)
             check_restarts(trial, gateway, clock)
             check_moment(trial, gateway)
+        check_import(trial, links)
     print("clock: set by an hour, by ten years and in restarts; calls, saves and connections took no notice")

@@ -146,6 +146,14 @@ def dated(text: str) -> str:
     return re.sub(r"^\d{4}-\d\d-\d\dT\d\d:\d\d:\d\dZ ", "DATE ", text, flags=re.MULTILINE)
 
 
+def told_room(wanted: int = 4 << 20) -> tuple[str, str]:
+    """What a start logs of the receive buffers that it asked for: the level, and the text."""
+    most = int(Path("/proc/sys/net/core/rmem_max").read_text())
+    if wanted <= most:
+        return "info", f"receive buffers: {wanted} octets"
+    return "warning", f"receive buffers: {most} octets; expected {wanted} (sysctl -w net.core.rmem_max={wanted}, then start again)"
+
+
 def read_answer(one: socket.socket) -> Answered:
     """Reads an answer to the end of the connection. Without one the status is 0."""
     octets = b""

@@ -17,7 +17,7 @@ from concurrent.futures import Future, ThreadPoolExecutor
 from contextlib import contextmanager
 from pathlib import Path
 
-from gateway_run import LOOPBACK, PROGRAM, Gateway, Receivers, bound, dated
+from gateway_run import LOOPBACK, PROGRAM, Gateway, Receivers, bound, dated, told_room
 from nobody import as_nobody
 from program import Call, Ended, Word, run
 from trial import Trial
@@ -735,17 +735,14 @@ def check_locks(trial: Trial) -> None:
 
 def check_buffers(trial: Trial) -> None:
     """What the sockets got for datagrams that wait, and what to do if that is less than was asked for."""
-    most = int(Path("/proc/sys/net/core/rmem_max").read_text())
     with Receivers() as receivers:
         for wanted, words in ((4 << 20, ""), (1 << 16, "receive_buffer = 65536\n"), (1 << 30, "receive_buffer = 1073741824\n")):
             gateway = Gateway(trial, trial.scratch / f"b{wanted}", receivers.links([1]))
             gateway.file.write_text(gateway.file.read_text() + words)
-            line = f"receive buffers: {min(wanted, most)} octets"
-            if wanted > most:
-                line += f"; expected {wanted} (sysctl -w net.core.rmem_max={wanted}, then start again)"
+            level, text = told_room(wanted)
+            line = f"<{4 if level == 'warning' else 6}>rohc-gateway: {text}\n"
             with gateway:
-                level = 4 if wanted > most else 6
-                trial.demand(f"<{level}>rohc-gateway: {line}\n" in gateway.said, f"{words}{gateway.said}; wanted {line}")
+                trial.demand(line in gateway.said, f"{words}{gateway.said}; wanted {line}")
 
 
 def check(trial: Trial) -> None:
