@@ -254,10 +254,10 @@ where
     gateway.go_on_moving(rt, sockets, !waiting.is_datagram());
     let moment = gateway.now(rt);
     gateway.stop_in_time(rt, moment, !waiting.is_datagram());
+    waiting.streams = gateway.pour_streams(rt.alloc(), moment);
     if gateway.is_stopped {
         return Ok(());
     }
-    waiting.streams = gateway.pour_streams(rt.alloc(), moment);
     gateway.note_step(rt, moment);
     gateway.drop_late(moment);
     gateway.save_in_time(rt, moment);
