@@ -511,9 +511,9 @@ def check_descriptors(trial: Trial, folder: Path) -> None:
         port, metrics_port = int(free.getsockname()[1]), int(other.getsockname()[1])
     file.write_text(f'links = "links.toml"\nport = {port}\nmetrics_port = {metrics_port}\ncontrol = "control"\n')
     for count, place in (
-        (4, f"port: UDP {LOOPBACK}:{port}"),
-        (5, f"metrics_port: TCP {LOOPBACK}:{metrics_port}"),
-        (6, f"control: {folder}/control"),
+        (5, f"port: UDP {LOOPBACK}:{port}"),
+        (6, f"metrics_port: TCP {LOOPBACK}:{metrics_port}"),
+        (7, f"control: {folder}/control"),
     ):
         told = trial.ran("bash", "-c", f'ulimit -n {count} && exec "$0" run "$1"', trial.top / PROGRAM, file, seconds=20)
         wanted = f"{LINE}{place}: {TOO_MANY}"

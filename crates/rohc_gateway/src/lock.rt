@@ -3,10 +3,10 @@
 
 use crate::lines::Lines;
 use rohc_gateway_file::Config;
-use rohc_text::{Reason, shown_word};
+use rohc_text::shown_word;
 use std::alloc::Global;
 use std::fs::{File, OpenOptions, TryLockError};
-use std::io::{self, ErrorKind, Read, Write};
+use std::io::{self, Read, Write};
 use std::rt::Files;
 
 /// The longest text of a lock that is shown, in octets.
@@ -16,21 +16,6 @@ const LONGEST_HOLDER: u64 = 4096;
 #[derive(Drop)]
 pub(crate) struct Locks {
     held: Vec<File>,
-}
-
-/// Why a gateway doesn't get a lock.
-#[derive(Drop)]
-enum NoLock {
-    /// Another gateway holds it; this is what it wrote there.
-    Held(String),
-    /// The system's reason.
-    Failed(io::Error),
-}
-
-impl From<io::Error> for NoLock {
-    fn from(e: io::Error) -> NoLock {
-        NoLock::Failed(e)
-    }
 }
 
 /// The path of the lock beside a file.
@@ -45,8 +30,8 @@ fn holder_in(alloc: Global, file: &mut File) -> String {
     String::from_utf8(octets).unwrap_or(String::new(alloc))
 }
 
-/// Locks a file, which is made if it isn't there, and writes who holds it.
-fn lock<R>(rt: &R, path: &str, holder: &str) -> Result<File, NoLock>
+/// Locks a file, which is made if it isn't there, and writes who holds it. `Err` inside is what another holder wrote there.
+fn lock<R>(rt: &R, path: &str, holder: &str) -> io::Result<Result<File, String>>
 where
     R: Files<File = File> + AllocGlobal,
 {
@@ -55,34 +40,22 @@ where
     let mut file = options.open(rt, path)?;
     match file.try_lock() {
         Ok(()) => {}
-        Err(TryLockError::WouldBlock) => return Err(NoLock::Held(holder_in(rt.alloc(), &mut file))),
-        Err(TryLockError::Error(e)) => return Err(NoLock::Failed(e)),
+        Err(TryLockError::WouldBlock) => return Ok(Err(holder_in(rt.alloc(), &mut file))),
+        Err(TryLockError::Error(e)) => return Err(e),
     }
-    file.set_len(0)?;
-    file.write_all(holder.as_bytes())?;
-    Ok(file)
+    // The lock holds even if there is no room to say who holds it.
+    let _ = file.set_len(0);
+    let _ = file.write_all(holder.as_bytes());
+    Ok(Ok(file))
 }
 
-/// Writes why there is no lock for the path of this key.
-fn write_unlocked(lines: &mut Lines, key: &str, path: &str, unlocked: &NoLock) -> io::Result<()> {
-    let path = shown_word(path);
-    match unlocked {
-        NoLock::Held(holder) => {
-            let holder = shown_word(holder.as_str().trim_end());
-            writeln!(
-                lines,
-                "{key}: {path}: locked by another gateway ({holder}); expected a {key} that no other gateway uses"
-            )
-        }
-        NoLock::Failed(e) if e.kind() == ErrorKind::OutOfMemory => Err(*e),
-        NoLock::Failed(e) => {
-            let why = Reason::of(e);
-            writeln!(
-                lines,
-                "{key}: {path}: {why}; expected a file that this user can write"
-            )
-        }
-    }
+/// Writes that another gateway holds the lock for the path of this key.
+fn write_held(lines: &mut Lines, key: &str, path: &str, holder: &str) -> io::Result<()> {
+    let (path, holder) = (shown_word(path), shown_word(holder.trim_end()));
+    writeln!(
+        lines,
+        "{key}: {path}: locked by another gateway ({holder}); expected a {key} that no other gateway uses"
+    )
 }
 
 impl Locks {
@@ -110,8 +83,10 @@ impl Locks {
         };
         let path = lock_of(rt.alloc(), path.as_str())?;
         match lock(rt, path.as_str(), holder) {
-            Ok(file) => Ok(self.held.push(file)?),
-            Err(unlocked) => write_unlocked(lines, key, path.as_str(), &unlocked),
+            Ok(Ok(file)) => Ok(self.held.push(file)?),
+            Ok(Err(other)) => write_held(lines, key, path.as_str(), other.as_str()),
+            // Where no lock can be made nothing else can be written either, and that error is told then.
+            Err(_) => Ok(()),
         }
     }
 
