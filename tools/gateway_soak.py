@@ -4,9 +4,10 @@
 usage: tools/gateway_soak.py PROGRAM [SECONDS [DATAGRAMS_A_SECOND]]
 
 PROGRAM is a rohc-gateway. It runs in a folder of its own, with its sockets at free ports of 127.0.0.1, and ends with this
-script. Every ten seconds its contexts are saved and its metrics read, and every minute its links file is read anew. A line a
-minute tells the datagrams that it took, its contexts and its memory. The status is 1 if it ended by itself, if a datagram was
-lost, or if its memory grew by more than a twentieth after the first tenth of the time, in which all calls have come.
+script. Every ten seconds its contexts are saved and its metrics read, every thirty seconds its system's clock is set, by an
+hour or ten years, and every minute its links file is read anew. A line a minute tells the datagrams that it took, its
+contexts and its memory. The status is 1 if it ended by itself, if a datagram was lost, or if its memory grew by more than a
+twentieth after the first tenth of the time, in which all calls have come.
 """
 
 import contextlib
@@ -21,6 +22,7 @@ sys.path.insert(0, str(TOP / "tools/check"))
 
 import gateway_run
 from cluster import Arrival, made_arrivals
+from gateway_clock import HOUR, YEAR, Clock
 from gateway_run import Gateway, Receivers
 from trial import Trial
 
@@ -28,7 +30,9 @@ LINKS = range(1, 21)
 ARRIVALS = 20_000
 TURN = 1_000_000
 BATCH = 100
-SAVE, RELOAD = 10, 60
+SAVE, STEP, RELOAD = 10, 30, 60
+# How far the clock is ahead, one after the other.
+AHEAD = (-HOUR, 0, HOUR, -10 * YEAR, 0, 10 * YEAR)
 
 
 def memory(gateway: Gateway) -> int:
@@ -45,11 +49,11 @@ def contexts(gateway: Gateway) -> int:
     return found
 
 
-def soak(gateway: Gateway, receivers: Receivers, seconds: float, rate: float) -> bool:
+def soak(gateway: Gateway, clock: Clock, receivers: Receivers, seconds: float, rate: float) -> bool:
     """Sends for so long at this rate, and tells how it goes. Returns whether all that is demanded holds."""
     arrivals = made_arrivals(ARRIVALS, 7)
     start = time.monotonic()
-    saves = reloads = number = 0
+    saves = steps = reloads = number = 0
     peaks = [0, 0]
     while (passed := time.monotonic() - start) < seconds:
         for place in range(number, number + BATCH):
@@ -63,6 +67,9 @@ def soak(gateway: Gateway, receivers: Receivers, seconds: float, rate: float) ->
             gateway.ask("POST", "/save")
             part = int(passed > max(seconds / 10, 2.5 * SAVE))
             peaks[part] = max(peaks[part], memory(gateway))
+        if passed >= STEP * (steps + 1):
+            clock.set(AHEAD[steps % len(AHEAD)])
+            steps += 1
         if passed >= RELOAD * (reloads + 1):
             reloads += 1
             gateway.ask("POST", "/reload")
@@ -90,8 +97,10 @@ def main() -> int:
     with tempfile.TemporaryDirectory(prefix="gateway-soak-") as folder, contextlib.ExitStack() as stack:
         trial = Trial(TOP, TOP / "none", Path(folder))
         receivers = stack.enter_context(Receivers())
-        gateway = stack.enter_context(Gateway(trial, Path(folder) / "run", receivers.links(LINKS)))
-        return 0 if soak(gateway, receivers, seconds, rate) else 1
+        gateway = Gateway(trial, Path(folder) / "run", receivers.links(LINKS))
+        clock = Clock.of(trial, gateway)
+        stack.enter_context(gateway)
+        return 0 if soak(gateway, clock, receivers, seconds, rate) else 1
 
 
 if __name__ == "__main__":
