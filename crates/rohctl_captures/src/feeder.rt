@@ -124,7 +124,8 @@ fn read_whole<R: Files>(rt: &R, path: &str, buffer: &mut Vec<u8>) -> Result<(), 
 
 /// What a datagram of so many octets takes in a queue, at most.
 fn cost_of(size: u64) -> u64 {
-    size.saturating_add(size.min(ROUNDED)).saturating_add(BESIDE)
+    size.saturating_add(size.min(ROUNDED))
+        .saturating_add(BESIDE)
 }
 
 /// The octets of a socket's queue on this host, less the quarter that may have been read and is counted still.
