@@ -1,4 +1,4 @@
-//! The tests of saves over a simulated disk, and of dates.
+//! The tests of saves over a simulated disk, of moments, and of dates.
 //!
 //! They stand apart from these crates, so that each of those is proved once, and not again with its tests.
 #![tactic(auto)]
@@ -7,3 +7,5 @@
 mod dates;
 #[cfg(test)]
 mod kills;
+#[cfg(test)]
+mod moments;
