@@ -114,13 +114,18 @@ impl Output<'_> {
         ]
     }
 
+    /// Whether something is written at a path.
+    fn is_at<R: Files>(&self, rt: &R, path: &str) -> bool {
+        lead_to_same(rt, self.path, path)
+            || lead_to_same(rt, self.beside.as_str(), path)
+            || lead_to_same(rt, self.lock.as_str(), path)
+    }
+
     /// The first of these files that would be written over.
     fn hit<'k, R: Files>(&self, rt: &R, kept: &[Kept<'k>]) -> Option<Kept<'k>> {
         for one in kept {
-            for path in [self.path, self.beside.as_str(), self.lock.as_str()] {
-                if lead_to_same(rt, path, one.path) {
-                    return Some(*one);
-                }
+            if self.is_at(rt, one.path) {
+                return Some(*one);
             }
         }
         None
