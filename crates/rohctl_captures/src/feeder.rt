@@ -128,15 +128,21 @@ fn cost_of(size: u64) -> u64 {
         .saturating_add(BESIDE)
 }
 
-/// The octets of a socket's queue on this host, less the quarter that may have been read and is counted still.
-fn room_of<R: Files + AllocGlobal>(rt: &R) -> u64 {
+/// The octets of a socket's queue on this host.
+fn queue_size<R: Files + AllocGlobal>(rt: &R) -> u64 {
     let mut text = Vec::new(rt.alloc());
-    let room = match read_whole(rt, ROOM, &mut text) {
-        Ok(()) => str::from_utf8(text.as_slice()).unwrap_or(""),
-        Err(_) => "",
-    };
-    let room: u64 = room.trim_end().parse().unwrap_or(USUAL_ROOM);
-    room / 4 * 3
+    if read_whole(rt, ROOM, &mut text).is_err() {
+        return USUAL_ROOM;
+    }
+    match str::from_utf8(text.as_slice()) {
+        Ok(text) => text.trim_end().parse().unwrap_or(USUAL_ROOM),
+        Err(_) => USUAL_ROOM,
+    }
+}
+
+/// The octets that surely fit into such a queue: a quarter may have been read, and is counted still.
+fn room_of<R: Files + AllocGlobal>(rt: &R) -> u64 {
+    queue_size(rt) / 4 * 3
 }
 
 /// After how many milliseconds an arrival is sent, at a pace in thousandths of its own.
