@@ -4,8 +4,8 @@
 //! the outside fail, the system's clock jumps, and the gateway is killed, alone or with its host, also in the middle of a save. What it
 //! sends is compared with machines that run alone, its file with what was saved, and its counts with what was done.
 //!
-//! usage: `simulation [FIRST COUNT]`. Without words it runs 1,000 lives, from seed 1. With words the last line says
-//! what was done.
+//! usage: `simulation [FIRST COUNT]`. Without words it runs a thousand lives, from the first seed on, and prints only what is
+//! wrong. With words the last line says what was done.
 #![tactic(auto)]
 
 mod life;
