@@ -24,9 +24,11 @@ pub mod Renewal
 pub mod Refresh
 pub mod Update
 pub mod Excess
+pub mod ExcessLaws
 pub mod View
 pub mod Lent
 pub mod Step
+pub mod Fallen
 pub mod Repaired
 pub mod Shown
 pub mod ShownLaws

@@ -128,13 +128,8 @@ impl FullContext {
     {
         let window = self.windows.0.and(true);
         if window.is_filled(settings.k1, settings.n1) {
-            let fallen = StaticContext {
-                fixed: self.fixed,
-                reference: Some(self.reference),
-                windows: (Window::empty(), Window::empty()),
-            };
             let due = Due::Nack(Some(self.reference.moving.sn));
-            return (State::Static(fallen), due);
+            return (State::Static(self.fallen()), due);
         }
         let stays = FullContext {
             fixed: self.fixed,

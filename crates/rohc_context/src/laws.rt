@@ -3,10 +3,12 @@
 ghost use Rattle.rohc_context.specs.Counts.{WindowsCount, FallsFromFull, FallsFromStatic};
 ghost use Rattle.rohc_context.specs.Modes.{IsSilentInU, KeepsPrevious, HasOneTry, SavesByReference, KeepsFlags, MeansOneUnrefused};
 ghost use Rattle.rohc_context.specs.Waits.{NacksAfterWait, WaitsToNack, IdleIsNone, CountsUntilIdle, TriesAfterWait, WaitsToTry};
+ghost use Rattle.rohc_context.specs.Fallen.{StaysGood, StaysInTime, FallsAsByChecks, TakesUor2Alone};
 ghost use Rattle.rohc_context.specs.Laws.{HasAnswer, HasNoOther, LeavesGood, BeginsByIr, LeavesNone, NeverPoor, KeepsGood, KeepsRefused, LendsPayload, ChecksChange, LowStatesChange, LowStatesRefuse, ComesToOne, MeansOne, TakesPlain, DeliversHonest, PromotesHonest, DeliversWritten, HasWritten};
 ghost use Rattle.rohc_context.specs.RefusalLaws.{HasNumbers, NumbersDiffer, NamesDiffer, FoundByFraming, FoundInChains, FoundInForms, FoundByContexts, RefusesByRow, KeepsByRow, HasFinder};
 ghost use Rattle.rohc_context.specs.SavedLaws.{ComesBack, RecordIsSpelled};
 ghost use Rattle.rohc_context.specs.ShownLaws.{AnswersAsShown};
+ghost use Rattle.rohc_context.specs.ExcessLaws.{CutFormIsRead, CutDynIsRead, CutIrIsRead, PaddedStaticIsCut};
 
 /// A step from good values has exactly one answer, and exactly one record after it, or none.
 pub fn one_answer()
@@ -137,6 +139,23 @@ pub fn written_is_delivered()
 /// refusal is `Check`. A packet that is refused before its tries is refused for that reason.
 pub fn shown_is_answered()
     ensures { AnswersAsShown }
+{}
+
+/// A fallen record is good, and counts as long as before. Full Context falls to the state to which failed checks lead it,
+/// and which takes no packet of kind Other but the UOR-2 formats (RFC 3095 5.3.2.2).
+pub fn fallen_record()
+    ensures good { StaysGood }
+    ensures in_time { StaysInTime }
+    ensures as_by_checks { FallsAsByChecks }
+    ensures uor2 { TakesUor2Alone }
+{}
+
+/// A packet that is cut behind its header and `n` octets is read as before, with the first `n` octets of its payload.
+pub fn cut_is_read()
+    ensures forms { CutFormIsRead }
+    ensures dyns { CutDynIsRead }
+    ensures irs { CutIrIsRead }
+    ensures statics { PaddedStaticIsCut }
 {}
 
 /// What is saved of a good record is read as that record, and octets that are read as a record are what is saved of it.

@@ -8,6 +8,7 @@ mod due;
 pub mod excess;
 mod explain;
 mod failures;
+mod fallen;
 mod fault;
 mod first_try;
 mod full;
