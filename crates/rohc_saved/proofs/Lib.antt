@@ -5,6 +5,7 @@ pub mod MapLemmas
 pub mod ReadingLemmas
 pub mod PutLemmas
 pub mod RestoringLemmas
+pub mod FallenLemmas
 pub mod LinkLemmas
 pub mod KeptLemmas
 pub mod BackLemmas

@@ -43,7 +43,7 @@ made_sound settings k fine numbers in_order each none =
     }
 
 pub restored_sound : IsRestoredSound
-restored_sound settings text form k fine numbers reads back =
+restored_sound settings form k fine numbers back =
     let at : ℕ → Option LinkSetting = λ link. entry_of link settings in
     calls_keep_sound back.made k (puts_in at form.links) (all_puts_in IsFitTurn (λ n c. tt) at form.links) back.puts (made_sound settings back.made fine numbers back.in_order back.each back.empty)
 

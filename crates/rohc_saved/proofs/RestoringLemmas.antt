@@ -28,18 +28,18 @@ counts_more count settings told after one rest links all cut more counts is h =
     let step : counted (after + sum_by (λ (l : ℕ × Link). count (settings l.0) l.1) rest) ≡ counted (told + sum_by (λ (l : ℕ × Link). count (settings l.0) l.1) (one ∷ rest)) = omega (arith, first, is, counts) in
     record { fits = omega (arith, is); sum = step ∙ here }
 
--- what is put into a concentrator that was made from settings, and told of it
-pub restores : (settings : List LinkSetting) (form : Form) (made new : Concentrator) (told : Restored) → settings_in_order made ≡ settings → ((link : ℕ) → setting_at made link ≡ entry_of link settings)
-    → ((link cid : ℕ) → record_at made link cid ≡ None) → Runs made (puts_in (setting_at made) form.links) new → IsToldOfForm (setting_at new) form told
-    → Restores settings form new × IsToldOfForm (λ link. entry_of link settings) form told
-restores settings form made new told in_order each none puts tells =
-    let keeps = keep_settings (puts_in (setting_at made) form.links) made new (all_puts_in KeepsTurn (λ n c. tt) (setting_at made) form.links) puts in (
+-- what is put into a concentrator that was made from settings, and what is told of the form
+pub restores : (settings : List LinkSetting) (form put : Form) (made new : Concentrator) (told : Restored) → settings_in_order made ≡ settings → ((link : ℕ) → setting_at made link ≡ entry_of link settings)
+    → ((link cid : ℕ) → record_at made link cid ≡ None) → Runs made (puts_in (setting_at made) put.links) new → IsToldOfForm (setting_at new) form told
+    → Restores settings put new × IsToldOfForm (λ link. entry_of link settings) form told
+restores settings form put made new told in_order each none puts tells =
+    let keeps = keep_settings (puts_in (setting_at made) put.links) made new (all_puts_in KeepsTurn (λ n c. tt) (setting_at made) put.links) puts in (
       record {
         made = made;
         in_order = in_order;
         each = each;
         empty = none;
-        puts = subst (λ (at : ℕ → Option LinkSetting). Runs made (puts_in at form.links) new) (λ i l. each l i) puts;
+        puts = subst (λ (at : ℕ → Option LinkSetting). Runs made (puts_in at put.links) new) (λ i l. each l i) puts;
       },
       subst (λ (at : ℕ → Option LinkSetting). IsToldOfForm at form told) (λ i l. (keeps.each l ∙ each l) i) tells,
     )

@@ -1,15 +1,16 @@
 -- Laws of saved concentrators. Words: IsGoodLink, IsGoodForm; FormIsSpelled, IsReadBack, MomentIsInFront;
--- ComesBack, LinkComesBack; IsMadeSound, IsKeptSound, IsRestoredSound, IsLinkRestoredSound;
+-- ComesBack, ComesBackFallen, LinkComesBack; IsMadeSound, IsKeptSound, IsRestoredSound, IsLinkRestoredSound;
 -- GoesOnRestored, CutByRestart; IsRestoredFrom, CutCallsByRestart.
-use Rattle.std.specs.Prelude.{◌≡◌, ◌++◌, ◌<◌, ◌≤◌, ◌^◌, ℕ, List, [], ◌∷◌, map, length, filter, nat_eq, All, Option, Some, None, Ok}
+use Rattle.std.specs.Prelude.{◌≡◌, ◌++◌, ◌<◌, ◌≤◌, ◌^◌, ℕ, List, [], ◌∷◌, map, length, filter, nat_eq, All, Option, Some, None, option_map, Ok}
 use Rattle.std.specs.List.{AllByRecursion, IsDistinct}
 use Rattle.rohc_bits.specs.Bits.{IsOctet}
 use Rattle.rohc_frame.specs.Header.{greatest_cid}
 use Rattle.rohc_context.specs.Good.{IsGoodRecord}
 use Rattle.rohc_context.specs.Record.{Record}
+use Rattle.rohc_context.specs.Fallen.{fallen}
 use Rattle.rohc_concentrator.specs.declared.concentrator.Concentrator.{Concentrator}
 use Rattle.rohc_concentrator.specs.declared.setting.LinkSetting.{LinkSetting}
-use Rattle.rohc_concentrator.specs.Tables.{record_at, identifiers_at, setting_at, settings_in_order, KeepsAll}
+use Rattle.rohc_concentrator.specs.Tables.{record_at, identifiers_at, setting_at, settings_in_order, KeepsSettings, KeepsAll}
 use Rattle.rohc_concentrator.specs.Setup.{entry_of, AreFine}
 use Rattle.rohc_concentrator.specs.Report.{Report}
 use Rattle.rohc_concentrator.specs.Events.{Event, RunsEvents}
@@ -23,6 +24,7 @@ use Rattle.rohc_concentrator.specs.OwnCalls.{calls_to, answers_to}
 use Rattle.rohc_concentrator.specs.CallLaws.{IsFitTurn}
 use Rattle.rohc_saved.specs.Form.{Link, Form, form_text, signed, saved_link_of, form_of, saved_form, saved_link}
 use Rattle.rohc_saved.specs.Reading.{moment_at, restored}
+use Rattle.rohc_saved.specs.Fallen.{fallen_form}
 use Rattle.rohc_saved.specs.Restoring.{Restores}
 use Rattle.rohc_saved.specs.LinkRestoring.{RestoresLink}
 use Rattle.rohc_saved.specs.declared.restored.Restored.{Restored}
@@ -80,9 +82,20 @@ LinkComesBack = (k : Concentrator) (moment : ℕ) (s : LinkSetting) → IsInOrde
     ((cid : ℕ) → record_at new s.link cid ≡ record_at k s.link cid)
     × (identifiers_at new s.link ≡ identifiers_at k s.link))
 
+-- A concentrator that is restored from a form whose contexts fell keeps what one keeps that is restored from
+-- the form, but for its records: each of them fell.
+pub record FallsFrom (k new : Concentrator) : Type 0 where
+  pub settings : KeepsSettings k new
+  pub records : (link cid : ℕ) → record_at new link cid ≡ option_map fallen (record_at k link cid)
+  pub order : (link : ℕ) → identifiers_at new link ≡ identifiers_at k link
+
+abbrev pub ComesBackFallen : Type 0
+ComesBackFallen = (settings : List LinkSetting) (form : Form) (k new : Concentrator) →
+    Restores settings form k → Restores settings (fallen_form form) new → FallsFrom k new
+
 -- A concentrator is sound if it was made from settings whose numbers have 16 bits, if it keeps all that a
--- sound one keeps, if it was restored, also under other settings, and if it was sound before one of its links
--- was restored. Calls keep it sound, by a law of rohc_concentrator.
+-- sound one keeps, if it was restored, also under other settings or fallen, and if it was sound before one of
+-- its links was restored. Calls keep it sound, by a law of rohc_concentrator.
 abbrev pub IsMadeSound : Type 0
 IsMadeSound = (settings : List LinkSetting) (k : Concentrator) → AreFine settings →
     All (λ (s : LinkSetting). s.link < 65536) settings → settings_in_order k ≡ settings →
@@ -93,9 +106,8 @@ abbrev pub IsKeptSound : Type 0
 IsKeptSound = (old new : Concentrator) → KeepsAll old new → IsInOrder old → IsInOrder new
 
 abbrev pub IsRestoredSound : Type 0
-IsRestoredSound = (settings : List LinkSetting) (text : List ℕ) (form : Form) (k : Concentrator) →
-    AreFine settings → All (λ (s : LinkSetting). s.link < 65536) settings → restored text ≡ Ok form →
-    Restores settings form k → IsInOrder k
+IsRestoredSound = (settings : List LinkSetting) (form : Form) (k : Concentrator) → AreFine settings →
+    All (λ (s : LinkSetting). s.link < 65536) settings → Restores settings form k → IsInOrder k
 
 abbrev pub IsLinkRestoredSound : Type 0
 IsLinkRestoredSound = (old new : Concentrator) (link : ℕ) (text : List ℕ) (told : Restored) →

@@ -1,6 +1,6 @@
 //! Laws of saved concentrators, as contracts of functions that do nothing.
 
-ghost use Rattle.rohc_saved.specs.Laws.{FormIsSpelled, IsReadBack, MomentIsInFront, ComesBack, LinkComesBack, CutByRestart, CutCallsByRestart};
+ghost use Rattle.rohc_saved.specs.Laws.{FormIsSpelled, IsReadBack, MomentIsInFront, ComesBack, ComesBackFallen, LinkComesBack, CutByRestart, CutCallsByRestart};
 ghost use Rattle.rohc_saved.specs.Laws.{IsMadeSound, IsKeptSound, IsRestoredSound, IsLinkRestoredSound};
 ghost use Rattle.rohc_concentrator.specs.Sound.{CallsKeepSound};
 
@@ -12,9 +12,11 @@ pub fn spelled()
     ensures moment { MomentIsInFront }
 {}
 
-/// What is saved of a concentrator, restored under the same settings, is a concentrator that keeps the same.
+/// What is saved of a concentrator, restored under the same settings, is a concentrator that keeps the same. Restored
+/// fallen, it keeps the same but for its records, each of which fell.
 pub fn comes_back()
-    ensures { ComesBack }
+    ensures whole { ComesBack }
+    ensures fallen { ComesBackFallen }
 {}
 
 /// What is saved of one link, restored in a concentrator that has it under the same setting, is the same link.

@@ -62,7 +62,7 @@ fn fill(
         × StopsAt concentrator.old number (up_to (Some greatest) (contexts_in contexts.now)) fault
         (reset_turn (plain_answer answer) number ∷ []) concentrator.new) }
 {
-    match put_contexts(concentrator, number, greatest, contexts) {
+    match put_contexts(concentrator, number, greatest, contexts, false) {
         Ok(()) => Ok(()),
         Err(_) => {
             // The link is there, so this has no error.

@@ -8,7 +8,7 @@ use arrayvec::ArrayVec;
 use rohc_context::Context;
 
 /// A part of the octets, in a buffer of fixed size: at most a CID and a saved context.
-pub(crate) type Part = ArrayVec<u8, 77>;
+pub type Part = ArrayVec<u8, 77>;
 
 /// Appends octets.
 pub(crate) fn put(text: &mut Part, more: &[u8])
@@ -38,7 +38,7 @@ pub(crate) fn put_quad(text: &mut Part, value: u32)
 }
 
 /// The octets of a CID and its context.
-pub(crate) fn context_part(cid: u16, context: &Context) -> Part
+pub fn context_part(cid: u16, context: &Context) -> Part
     ensures { result.items ≡ context_text (cid, record_of context.now) }
 {
     let mut text = Part::new();

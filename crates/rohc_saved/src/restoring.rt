@@ -5,7 +5,8 @@ ghost use Rattle.rohc_context.specs.Record.{record_of};
 ghost use Rattle.rohc_concentrator.specs.Tables.{setting_at};
 ghost use Rattle.rohc_concentrator.specs.RunsCall.{Runs};
 ghost use Rattle.rohc_saved.specs.Form.{Form, contexts_in};
-ghost use Rattle.rohc_saved.specs.Read.{link_in, links_in, form_in};
+ghost use Rattle.rohc_saved.specs.Fallen.{fallen_form, form_as, put_as, contexts_as, link_as, links_as};
+ghost use Rattle.rohc_saved.specs.Read.{link_in, form_in};
 ghost use Rattle.rohc_saved.specs.Restoring.{is_same, limit_of, up_to, taken_of, puts_of, puts_in, StopsAt, TellsOne, AddsUp, IsToldOfForm, Restores, IsRefusal};
 ghost use Rattle.rohc_saved.specs.Reading.{restored};
 ghost use Rattle.rohc_saved.specs.Output.{counted};
@@ -22,7 +23,7 @@ use rohc_frame::CidKind;
 use std::alloc::Global;
 
 /// Whether two CID kinds are the same.
-fn is_same(a: CidKind, b: CidKind) -> bool
+pub fn is_same(a: CidKind, b: CidKind) -> bool
     ensures { result ≡ is_same a b }
 {
     match (a, b) {
@@ -73,31 +74,45 @@ fn put_context(
     concentrator.put(number, cid, context)
 }
 
+/// A context as it is put: fallen, or as it was saved.
+fn put_as(context: &Context, falls: bool) -> Context
+    ensures { record_of result ≡ put_as falls (record_of context.now) }
+{
+    if falls { context.fallen() } else { *context }
+}
+
 /// Puts contexts of a link into a concentrator, up to the greatest CID.
 pub(crate) fn put_contexts(
     concentrator: &mut Concentrator,
     number: u16,
     greatest: u16,
     contexts: &IndexMap<u16, Context>,
+    falls: bool,
 ) -> Result<(), PutFault>
     ensures puts { OnOk result (Runs concentrator.old
-        (puts_of number (up_to (Some greatest) (contexts_in contexts.now))) concentrator.new) }
+        (puts_of number (up_to (Some greatest) (contexts_as falls contexts.now))) concentrator.new) }
     ensures stops { IfErr result (λ e. StopsAt concentrator.old number
-        (up_to (Some greatest) (contexts_in contexts.now)) e [] concentrator.new) }
+        (up_to (Some greatest) (contexts_as falls contexts.now)) e [] concentrator.new) }
 {
     for (cid, context) in contexts {
-        put_context(concentrator, number, greatest, *cid, *context)?;
+        let context = put_as(context, falls);
+        put_context(concentrator, number, greatest, *cid, context)?;
     }
     Ok(())
 }
 
 /// Puts the contexts of a link into a concentrator, as far as its settings have them.
-fn take_link(concentrator: &mut Concentrator, number: u16, link: &SavedLink) -> Result<(), PutFault>
+fn take_link(
+    concentrator: &mut Concentrator,
+    number: u16,
+    link: &SavedLink,
+    falls: bool,
+) -> Result<(), PutFault>
     ensures puts { OnOk result (Runs concentrator.old
-        (puts_of number (taken_of (setting_at concentrator.old number) (link_in link.now))) concentrator.new) }
+        (puts_of number (taken_of (setting_at concentrator.old number) (link_as falls link.now))) concentrator.new) }
 {
     match limit(concentrator, number, link) {
-        Some(greatest) => put_contexts(concentrator, number, greatest, &link.contexts),
+        Some(greatest) => put_contexts(concentrator, number, greatest, &link.contexts, falls),
         None => Ok(()),
     }
 }
@@ -106,12 +121,13 @@ fn take_link(concentrator: &mut Concentrator, number: u16, link: &SavedLink) -> 
 fn take_links(
     concentrator: &mut Concentrator,
     links: &IndexMap<u16, SavedLink>,
+    falls: bool,
 ) -> Result<(), PutFault>
     ensures puts { OnOk result (Runs concentrator.old
-        (puts_in (setting_at concentrator.old) (links_in links.now)) concentrator.new) }
+        (puts_in (setting_at concentrator.old) (links_as falls links.now)) concentrator.new) }
 {
     for (number, link) in links {
-        take_link(concentrator, *number, link)?;
+        take_link(concentrator, *number, link, falls)?;
     }
     Ok(())
 }
@@ -195,6 +211,32 @@ pub(crate) fn tell(concentrator: &Concentrator, form: &SavedForm) -> Restored
     told
 }
 
+/// A concentrator with these links, into which each context is put fallen, or as it was saved.
+fn restore_as(
+    alloc: Global,
+    settings: &[LinkSetting],
+    octets: &[u8],
+    falls: bool,
+) -> Result<(Concentrator, Restored), SavedFault>
+    ensures fine { IfOk result (λ x. AreFine settings.now) }
+    ensures restored { IfOk result (λ x. (form : Form) × (restored octets.now ≡ Ok form)
+        × Restores settings.now (form_as falls form) x.0 × IsToldOfForm (λ link. entry_of link settings.now) form x.1) }
+    ensures fault { IfErr result (IsRefusal settings.now octets.now) }
+{
+    let mut concentrator = match Concentrator::new(alloc, settings) {
+        Ok(concentrator) => concentrator,
+        Err(SetupFault::NoMemory) => return Err(SavedFault::NoMemory),
+        Err(fault) => return Err(SavedFault::Settings(fault)),
+    };
+    let form = read(alloc, octets)?;
+    // The CIDs of a link are apart and within its greatest, so a put is refused only for lack of memory.
+    let Ok(()) = take_links(&mut concentrator, &form.links, falls) else {
+        return Err(SavedFault::NoMemory);
+    };
+    let told = tell(&concentrator, &form);
+    Ok((concentrator, told))
+}
+
 /// A concentrator with these links, which goes on from what these octets spell (docs/FORMATS.md). The contexts of a
 /// link that isn't in the settings, or is of another CID kind there, are left out, and those above the greatest CID of
 /// the settings. What is left out is judged as well.
@@ -211,16 +253,20 @@ pub fn restore(
         × Restores settings.now form x.0 × IsToldOfForm (λ link. entry_of link settings.now) form x.1) }
     ensures fault { IfErr result (IsRefusal settings.now octets.now) }
 {
-    let mut concentrator = match Concentrator::new(alloc, settings) {
-        Ok(concentrator) => concentrator,
-        Err(SetupFault::NoMemory) => return Err(SavedFault::NoMemory),
-        Err(fault) => return Err(SavedFault::Settings(fault)),
-    };
-    let form = read(alloc, octets)?;
-    // The CIDs of a link are apart and within its greatest, so a put is refused only for lack of memory.
-    let Ok(()) = take_links(&mut concentrator, &form.links) else {
-        return Err(SavedFault::NoMemory);
-    };
-    let told = tell(&concentrator, &form);
-    Ok((concentrator, told))
+    restore_as(alloc, settings, octets, false)
+}
+
+/// As `restore`, from what was saved too long ago to be trusted: each context falls, as `Context::fallen` does. It then
+/// takes only packets with a check of seven or more bits.
+pub fn restore_fallen(
+    alloc: Global,
+    settings: &[LinkSetting],
+    octets: &[u8],
+) -> Result<(Concentrator, Restored), SavedFault>
+    ensures fine { IfOk result (λ x. AreFine settings.now) }
+    ensures restored { IfOk result (λ x. (form : Form) × (restored octets.now ≡ Ok form)
+        × Restores settings.now (fallen_form form) x.0 × IsToldOfForm (λ link. entry_of link settings.now) form x.1) }
+    ensures fault { IfErr result (IsRefusal settings.now octets.now) }
+{
+    restore_as(alloc, settings, octets, true)
 }

@@ -40,7 +40,7 @@ fn low_bits(count: usize) -> u16
 }
 
 /// The octet of a CID kind.
-fn size_octet(size: CidKind) -> u8
+pub fn size_octet(size: CidKind) -> u8
     ensures { result ≡ size_octet size }
 {
     match size {
@@ -63,9 +63,9 @@ fn head_part(setting: &LinkSetting, count: usize) -> Part
     text
 }
 
-/// The octets before the links.
+/// The octets before so many links of a concentrator that is saved at this moment.
 #[tactic(auto, unfolding(crate::specs::Form::start_text))]
-fn start_part(moment: u64, count: usize) -> Part
+pub fn start_part(moment: u64, count: usize) -> Part
     ensures { (links : List (ℕ × Link)) → length links ≡ count →
         result.items ≡ start_text (record { moment = moment; links = links }) }
 {
