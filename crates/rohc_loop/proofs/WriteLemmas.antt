@@ -4,7 +4,7 @@ use Rattle.std.proofs.Common.{drop_of_length-le}
 use Rattle.std.specs.Prelude.{Option, Ok, Err, Result, ⊤}
 use Rattle.rohc_world.specs.declared.trouble.Trouble.{Trouble}
 use Rattle.rohc_world.specs.declared.trouble.Trouble.TheVariants.{Failed}
-use Rattle.rohc_world.specs.Acts.{Act, Wrote, Synced, AddsActs, Asks}
+use Rattle.rohc_world.specs.Acts.{Act, Wrote, SetModified, Synced, AddsActs, Asks}
 use Rattle.rohc_text.specs.declared.reason.Reason.TheVariants.{Other}
 use Rattle.std.specs.Prelude.{pos}
 use Rattle.rohc_loop.specs.Saving.{Takes, EndsWriting, Fills}
@@ -76,20 +76,23 @@ pub fails_with_none : (before mid after : Option (List Act)) (octets left : List
 fails_with_none before mid after octets left n none h told =
     fails before mid after octets left (Ok n) (Failed (Other (pos 0))) h told (inr (ap Ok none, refl))
 
--- all is written, and then it is synced
-pub filled : (before mid after : Option (List Act)) (octets : List ℕ) (result : Result ⊤ Trouble) →
-    Asks before mid (EndsWriting octets (Ok tt)) → AddsActs mid after (Synced result ∷ []) → Asks before after (Fills octets result)
-filled before mid after octets (Ok done) h told = record {
-  acts = h.acts ++ Synced (Ok tt) ∷ [];
-  known = adds_more before mid after h.acts (Synced (Ok tt) ∷ []) h.known told;
-  form = (h.acts, h.form, refl);
+-- all is written, and then it gets its date and is synced
+pub filled : (before mid two after : Option (List Act)) (date : ℕ) (octets : List ℕ) (dated result : Result ⊤ Trouble) →
+    Asks before mid (EndsWriting octets (Ok tt)) → AddsActs mid two (SetModified date dated ∷ []) → AddsActs two after (Synced result ∷ []) →
+    Asks before after (Fills date octets result)
+filled before mid two after date octets dated (Ok done) h given told = record {
+  acts = h.acts ++ SetModified date dated ∷ Synced (Ok tt) ∷ [];
+  known = adds_more before mid after h.acts (SetModified date dated ∷ Synced (Ok tt) ∷ []) h.known
+      (adds_more mid two after (SetModified date dated ∷ []) (Synced (Ok tt) ∷ []) given told);
+  form = (h.acts, dated, h.form, refl);
 }
-filled before mid after octets (Err trouble) h told = record {
-  acts = h.acts ++ Synced (Err trouble) ∷ [];
-  known = adds_more before mid after h.acts (Synced (Err trouble) ∷ []) h.known told;
-  form = inr (h.acts, h.form, refl);
+filled before mid two after date octets dated (Err trouble) h given told = record {
+  acts = h.acts ++ SetModified date dated ∷ Synced (Err trouble) ∷ [];
+  known = adds_more before mid after h.acts (SetModified date dated ∷ Synced (Err trouble) ∷ []) h.known
+      (adds_more mid two after (SetModified date dated ∷ []) (Synced (Err trouble) ∷ []) given told);
+  form = inr (h.acts, dated, h.form, refl);
 }
 
-pub not_filled : (before after : Option (List Act)) (octets : List ℕ) (trouble : Trouble) →
-    Asks before after (EndsWriting octets (Err trouble)) → Asks before after (Fills octets (Err trouble))
-not_filled before after octets trouble h = record { acts = h.acts; known = h.known; form = inl h.form }
+pub not_filled : (before after : Option (List Act)) (date : ℕ) (octets : List ℕ) (trouble : Trouble) →
+    Asks before after (EndsWriting octets (Err trouble)) → Asks before after (Fills date octets (Err trouble))
+not_filled before after date octets trouble h = record { acts = h.acts; known = h.known; form = inl h.form }

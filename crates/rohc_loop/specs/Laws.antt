@@ -29,5 +29,5 @@ RenamesWhole path octets file (act ∷ acts) =
 
 -- however a save ends, and whatever file was created last before it
 abbrev pub SavesWhole : Type 0
-SavesWhole = (path octets : List ℕ) (ending : Ending) (file : NewFile) (acts : List Act) →
-    Saves path octets ending acts → RenamesWhole path octets file acts
+SavesWhole = (date : ℕ) (path octets : List ℕ) (ending : Ending) (file : NewFile) (acts : List Act) →
+    Saves date path octets ending acts → RenamesWhole path octets file acts

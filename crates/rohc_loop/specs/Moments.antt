@@ -1,6 +1,6 @@
--- The moments of a gateway. Words: absent, first_of, GoesOn; last_of; IsBegun,
+-- The moments of a gateway. Words: absent, first_of, GoesOn; is_stale; last_of; IsBegun,
 -- moment_after, PassesAsUptime; step_of.
-use Rattle.std.specs.Prelude.{ℕ, ◌+◌, ◌-◌, ◌^◌, nat_lt, if◌then◌else◌, Option, Some, None, Result, Ok, Err, MatchResult, ◌≡◌, ◌≤◌, ◌<◌, min, max}
+use Rattle.std.specs.Prelude.{ℕ, ◌+◌, ◌-◌, ◌^◌, Bool, ◌&&◌, nat_lt, nat_le, if◌then◌else◌, Option, Some, None, Result, Ok, Err, MatchResult, ◌≡◌, ◌≤◌, ◌<◌, min, max}
 use Rattle.rohc_world.specs.declared.trouble.Trouble.{Trouble}
 use Rattle.rohc_loop.specs.declared.moments.Before.{Before}
 use Rattle.rohc_loop.specs.declared.moments.Moments.{Moments}
@@ -26,6 +26,10 @@ first_of date (Some before) =
 abbrev pub GoesOn : Type 0
 GoesOn = (date : Option ℕ) (before : Before) (first : ℕ) → first_of date (Some before) ≡ Some first →
     (before.moment ≤ first) × (first ≤ before.moment + (2 ^ 32 - 1))
+
+-- Saved contexts are stale from an age on, in milliseconds; with 0 they never are.
+abbrev pub is_stale : (stale_ms age : ℕ) → Bool
+is_stale stale_ms age = nat_lt 0 stale_ms && nat_le stale_ms age
 
 -- the moment that was given last
 abbrev pub last_of : Moments → ℕ

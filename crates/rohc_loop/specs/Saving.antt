@@ -5,7 +5,7 @@ use Rattle.std.specs.String.{string_bytes}
 use Rattle.rohc_text.specs.declared.reason.Reason.TheVariants.{Other}
 use Rattle.rohc_world.specs.declared.trouble.Trouble.{Trouble}
 use Rattle.rohc_world.specs.declared.trouble.Trouble.TheVariants.{Failed}
-use Rattle.rohc_world.specs.Acts.{Act, Created, Wrote, Synced, Closed, Renamed, Removed, SyncedFolder}
+use Rattle.rohc_world.specs.Acts.{Act, Created, Wrote, SetModified, Synced, Closed, Renamed, Removed, SyncedFolder}
 use Rattle.rohc_loop.specs.declared.unwritten.Unwritten.{Unwritten}
 use Rattle.rohc_loop.specs.declared.unwritten.Unwritten.TheVariants.{System, Memory}
 use Rattle.rohc_loop.specs.Paths.{IsFolder, beside}
@@ -30,13 +30,15 @@ abbrev pub EndsWriting : List ℕ → Result ⊤ Trouble → List Act → Type 0
 EndsWriting octets (Ok done) acts = Takes octets [] acts
 EndsWriting octets (Err trouble) acts = NotTaken octets trouble acts
 
--- all octets are written, and then they are synced
-abbrev pub Fills : List ℕ → Result ⊤ Trouble → List Act → Type 0
-Fills octets (Ok done) acts =
-    (writes : List Act) × Takes octets [] writes × (acts ≡ writes ++ Synced (Ok tt) ∷ [])
-Fills octets (Err trouble) acts =
+-- all octets are written, the file gets this date, whether that is done or not, and is synced
+abbrev pub Fills : (date : ℕ) → List ℕ → Result ⊤ Trouble → List Act → Type 0
+Fills date octets (Ok done) acts =
+    (writes : List Act) × (dated : Result ⊤ Trouble) × Takes octets [] writes
+    × (acts ≡ writes ++ SetModified date dated ∷ Synced (Ok tt) ∷ [])
+Fills date octets (Err trouble) acts =
     NotTaken octets trouble acts
-    ⊎ ((writes : List Act) × Takes octets [] writes × (acts ≡ writes ++ Synced (Err trouble) ∷ []))
+    ⊎ ((writes : List Act) × (dated : Result ⊤ Trouble) × Takes octets [] writes
+    × (acts ≡ writes ++ SetModified date dated ∷ Synced (Err trouble) ∷ []))
 
 -- How a save ends.
 pub data Ending : Type 0 where
@@ -46,22 +48,22 @@ pub data Ending : Type 0 where
   NotRenamed : Trouble → Ending
   NotSettled : Trouble → Ending
 
--- The acts of a save of octets to a path, by how it ends.
-abbrev pub Saves : List ℕ → List ℕ → Ending → List Act → Type 0
-Saves path octets Saved acts =
-    (filling : List Act) × (folder : List ℕ) × Fills octets (Ok tt) filling × IsFolder path folder
+-- The acts of a save of octets to a path, in a file of this date, by how it ends.
+abbrev pub Saves : (date : ℕ) → List ℕ → List ℕ → Ending → List Act → Type 0
+Saves date path octets Saved acts =
+    (filling : List Act) × (folder : List ℕ) × Fills date octets (Ok tt) filling × IsFolder path folder
     × (acts ≡ Created (beside path) (Ok tt) ∷ filling
     ++ Closed ∷ Renamed (beside path) path (Ok tt) ∷ SyncedFolder folder (Ok tt) ∷ [])
-Saves path octets (NotCreated trouble) acts = acts ≡ Created (beside path) (Err trouble) ∷ []
-Saves path octets (NotFilled trouble) acts =
-    (filling : List Act) × (answer : Result ⊤ Trouble) × Fills octets (Err trouble) filling
+Saves date path octets (NotCreated trouble) acts = acts ≡ Created (beside path) (Err trouble) ∷ []
+Saves date path octets (NotFilled trouble) acts =
+    (filling : List Act) × (answer : Result ⊤ Trouble) × Fills date octets (Err trouble) filling
     × (acts ≡ Created (beside path) (Ok tt) ∷ filling ++ Closed ∷ Removed (beside path) answer ∷ [])
-Saves path octets (NotRenamed trouble) acts =
-    (filling : List Act) × (answer : Result ⊤ Trouble) × Fills octets (Ok tt) filling
+Saves date path octets (NotRenamed trouble) acts =
+    (filling : List Act) × (answer : Result ⊤ Trouble) × Fills date octets (Ok tt) filling
     × (acts ≡ Created (beside path) (Ok tt) ∷ filling
     ++ Closed ∷ Renamed (beside path) path (Err trouble) ∷ Removed (beside path) answer ∷ [])
-Saves path octets (NotSettled trouble) acts =
-    (filling : List Act) × (folder : List ℕ) × Fills octets (Ok tt) filling × IsFolder path folder
+Saves date path octets (NotSettled trouble) acts =
+    (filling : List Act) × (folder : List ℕ) × Fills date octets (Ok tt) filling × IsFolder path folder
     × (acts ≡ Created (beside path) (Ok tt) ∷ filling
     ++ Closed ∷ Renamed (beside path) path (Ok tt) ∷ SyncedFolder folder (Err trouble) ∷ [])
 
@@ -79,28 +81,28 @@ Says (System path trouble) at why = (string_bytes path ≡ at) × (trouble ≡ w
 Says Memory at why = ⊤
 
 -- a save that failed, as this error says
-pub record FailsToSave (path octets : List ℕ) (error : Unwritten) (acts : List Act) : Type 0 where
+pub record FailsToSave (date : ℕ) (path octets : List ℕ) (error : Unwritten) (acts : List Act) : Type 0 where
   pub ending : Ending
-  pub saves : Saves path octets ending acts
+  pub saves : Saves date path octets ending acts
   pub at : List ℕ
   pub trouble : Trouble
   pub fault : IsFault path ending at trouble
   pub says : Says error at trouble
 
 -- The acts of a save with this result. Nothing is asked if there is no memory for the path of the new file.
-abbrev pub EndsSaving : List ℕ → List ℕ → Result ⊤ Unwritten → List Act → Type 0
-EndsSaving path octets (Ok done) acts = Saves path octets Saved acts
-EndsSaving path octets (Err error) acts =
-    ((error ≡ Memory) × (acts ≡ [])) ⊎ FailsToSave path octets error acts
+abbrev pub EndsSaving : (date : ℕ) → List ℕ → List ℕ → Result ⊤ Unwritten → List Act → Type 0
+EndsSaving date path octets (Ok done) acts = Saves date path octets Saved acts
+EndsSaving date path octets (Err error) acts =
+    ((error ≡ Memory) × (acts ≡ [])) ⊎ FailsToSave date path octets error acts
 
 -- the new file is written, synced and closed; a new file that isn't is removed
-abbrev pub EndsFilling : List ℕ → List ℕ → Result ⊤ Trouble → List Act → Type 0
-EndsFilling new octets (Ok done) acts =
-    (filling : List Act) × Fills octets (Ok tt) filling
+abbrev pub EndsFilling : (date : ℕ) → List ℕ → List ℕ → Result ⊤ Trouble → List Act → Type 0
+EndsFilling date new octets (Ok done) acts =
+    (filling : List Act) × Fills date octets (Ok tt) filling
     × (acts ≡ Created new (Ok tt) ∷ filling ++ Closed ∷ [])
-EndsFilling new octets (Err trouble) acts =
+EndsFilling date new octets (Err trouble) acts =
     (acts ≡ Created new (Err trouble) ∷ [])
-    ⊎ ((filling : List Act) × (answer : Result ⊤ Trouble) × Fills octets (Err trouble) filling
+    ⊎ ((filling : List Act) × (answer : Result ⊤ Trouble) × Fills date octets (Err trouble) filling
     × (acts ≡ Created new (Ok tt) ∷ filling ++ Closed ∷ Removed new answer ∷ []))
 
 -- the new file gets the name of the old one; a new file that doesn't is removed

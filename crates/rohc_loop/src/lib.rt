@@ -10,8 +10,8 @@ mod saving;
 mod unwritten;
 
 pub use laws::{goes_on, passes_as_uptime, saves_whole};
-pub use moments::{Before, Moments, Reading, Step, first_moment, step_between};
-pub use paths::folder_of;
+pub use moments::{Before, Moments, Reading, Step, first_moment, is_stale, step_between};
+pub use paths::{folder_of, path_beside};
 pub use reading::{LONGEST_STATE, LONGEST_TEXT, read_state, read_text};
 pub use saving::replace_file;
 pub use unwritten::Unwritten;

@@ -1,9 +1,9 @@
 //! The moments of a gateway.
 
-ghost use Rattle.std.specs.Prelude.{◌≡◌, ◌≤◌, [], ◌∷◌, Result, ℕ, MatchResult};
+ghost use Rattle.std.specs.Prelude.{◌≡◌, ◌≤◌, ◌-◌, [], ◌∷◌, Result, ℕ, MatchResult};
 ghost use Rattle.rohc_world.specs.declared.trouble.Trouble.{Trouble};
 ghost use Rattle.rohc_world.specs.Acts.{AddsActs, Timed};
-ghost use Rattle.rohc_loop.specs.Moments.{absent, first_of, last_of, moment_after, IsBegun, step_of};
+ghost use Rattle.rohc_loop.specs.Moments.{absent, first_of, is_stale, last_of, moment_after, IsBegun, step_of};
 
 use rohc_world::{Clocks, Trouble};
 
@@ -47,6 +47,14 @@ pub fn first_moment(date: Option<u64>, before: Option<Before>) -> Option<u64>
         return None;
     }
     Some(before.moment + absence(date, before.modified))
+}
+
+/// Whether what was saved at a moment is stale at the first moment of a run: at least `stale_ms` old. With a `stale_ms` of 0 it
+/// never is.
+pub fn is_stale(first: u64, saved: u64, stale_ms: u32) -> bool
+    ensures { result ≡ is_stale stale_ms (first - saved) }
+{
+    stale_ms > 0 && first.saturating_sub(saved) >= u64::from(stale_ms)
 }
 
 /// Moments in milliseconds. They pass as the monotonic clock does, whatever becomes of the system's clock.

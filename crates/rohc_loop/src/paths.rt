@@ -18,7 +18,7 @@ pub fn folder_of(path: &str) -> &str
 }
 
 /// The path of the new file beside a file. `None` if there is no memory.
-pub(crate) fn path_beside(alloc: Global, path: &str) -> Option<String>
+pub fn path_beside(alloc: Global, path: &str) -> Option<String>
     ensures { IfSome result (λ new. string_bytes new ≡ beside path.now) }
 {
     let mut new = String::from_str(alloc, path).ok()?;

@@ -29,27 +29,30 @@ fn write_whole<W: Disk>(world: &mut W, octets: &[u8]) -> Result<(), Trouble>
     Ok(())
 }
 
-/// Writes octets to the open file, and syncs it once it has all of them.
+/// Writes octets to the open file. Once it has all of them, it gets this date, if the system can give it one, and is
+/// synced.
 #[tactic(auto, using(crate::proofs::WriteLemmas::not_filled))]
-fn fill<W: Disk>(world: &mut W, octets: &[u8]) -> Result<(), Trouble>
-    ensures { Asks (W.acts world.old) (W.acts world.new) (Fills octets.now result) }
+fn fill<W: Disk>(world: &mut W, octets: &[u8], date: u64) -> Result<(), Trouble>
+    ensures { Asks (W.acts world.old) (W.acts world.new) (Fills date octets.now result) }
 {
     match write_whole(world, octets) {
-        Ok(()) => world.sync(),
-        Err(trouble) => Err(trouble),
+        Ok(()) => {}
+        Err(trouble) => return Err(trouble),
     }
+    let _ = world.set_modified(date);
+    world.sync()
 }
 
-/// Writes octets to a new file, which is synced and closed. It is removed if that fails.
+/// Writes octets to a new file of this date, which is synced and closed. It is removed if that fails.
 #[tactic(auto, using(crate::proofs::SaveLemmas::not_created))]
-fn write_new<W: Disk>(world: &mut W, new: &str, octets: &[u8]) -> Result<(), Trouble>
-    ensures { Asks (W.acts world.old) (W.acts world.new) (EndsFilling new.now octets.now result) }
+fn write_new<W: Disk>(world: &mut W, new: &str, octets: &[u8], date: u64) -> Result<(), Trouble>
+    ensures { Asks (W.acts world.old) (W.acts world.new) (EndsFilling date new.now octets.now result) }
 {
     match world.create(new) {
         Ok(()) => {}
         Err(trouble) => return Err(trouble),
     }
-    let filled = fill(world, octets);
+    let filled = fill(world, octets, date);
     world.close();
     match filled {
         Ok(()) => Ok(()),
@@ -74,21 +77,22 @@ fn put_in_place<W: Disk>(world: &mut W, from: &str, path: &str) -> Result<(), Tr
     }
 }
 
-/// Puts octets into a file, so that the old file or the new one is always there whole: they are written to a new file
-/// beside it, which is synced and then renamed. Last the folder is synced. After a failure before the file has its name
-/// the new file is removed.
+/// Puts octets into a file of this date, so that the old file or the new one is always there whole: they are written to a
+/// new file beside it, which is synced and then renamed. Last the folder is synced. After a failure before the file has
+/// its name the new file is removed.
 pub fn replace_file<W: Disk>(
     world: &mut W,
     alloc: Global,
     path: &str,
     octets: &[u8],
+    date: u64,
 ) -> Result<(), Unwritten>
-    ensures { Asks (W.acts world.old) (W.acts world.new) (EndsSaving path.now octets.now result) }
+    ensures { Asks (W.acts world.old) (W.acts world.new) (EndsSaving date path.now octets.now result) }
 {
     let Some(new) = path_beside(alloc, path) else {
         return Err(Unwritten::Memory);
     };
-    match write_new(world, new.as_str(), octets) {
+    match write_new(world, new.as_str(), octets, date) {
         Ok(()) => {}
         Err(trouble) => return Err(Unwritten::new(alloc, new.as_str(), trouble)),
     }

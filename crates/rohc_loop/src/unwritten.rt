@@ -18,7 +18,7 @@ pub enum Unwritten {
 
 impl Unwritten {
     /// Why it failed at the file or folder with this path.
-    pub(crate) fn new(alloc: Global, path: &str, trouble: Trouble) -> Unwritten
+    pub fn new(alloc: Global, path: &str, trouble: Trouble) -> Unwritten
         ensures { Says result path.now trouble }
     {
         if trouble == Trouble::Failed(Reason::Memory) {

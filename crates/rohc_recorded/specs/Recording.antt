@@ -6,7 +6,7 @@ use Rattle.rohc_world.specs.declared.trouble.Trouble.{Trouble}
 use Rattle.rohc_world.specs.Acts as world
 use Rattle.rohc_world.specs.Acts.{Act}
 use Rattle.rohc_recorded.specs.declared.event.Event.{Event}
-use Rattle.rohc_recorded.specs.declared.event.Event.TheVariants.{Opened, Read, Created, Wrote, Synced, Closed, Renamed, Removed, SyncedFolder, Modified, Dated, Timed, Logged}
+use Rattle.rohc_recorded.specs.declared.event.Event.TheVariants.{Opened, Read, Created, Wrote, Synced, Closed, Renamed, Removed, SyncedFolder, SetModified, Modified, Dated, Timed, Logged}
 
 -- what a read returned
 abbrev pub octets_of : Result (Vec ℕ Global) Trouble → Result (List ℕ) Trouble
@@ -23,6 +23,7 @@ act_of Closed = world.Closed
 act_of (Renamed from to result) = world.Renamed from.items to.items result
 act_of (Removed path result) = world.Removed path.items result
 act_of (SyncedFolder path result) = world.SyncedFolder path.items result
+act_of (SetModified date result) = world.SetModified date result
 act_of (Modified path result) = world.Modified path.items result
 act_of (Dated result) = world.Dated result
 act_of (Timed result) = world.Timed result

@@ -17,6 +17,7 @@ pub enum Event {
     Renamed(Vec<u8>, Vec<u8>, Result<(), Trouble>),
     Removed(Vec<u8>, Result<(), Trouble>),
     SyncedFolder(Vec<u8>, Result<(), Trouble>),
+    SetModified(u64, Result<(), Trouble>),
     Modified(Vec<u8>, Result<u64, Trouble>),
     Dated(Result<u64, Trouble>),
     Timed(Result<u64, Trouble>),

@@ -138,6 +138,12 @@ impl<W: Disk> Disk for Recorded<W> {
         result
     }
 
+    fn set_modified(&mut self, date: u64) -> Result<(), Trouble> {
+        let result = self.inner.set_modified(date);
+        self.note(Event::SetModified(date, result));
+        result
+    }
+
     fn modified(&mut self, path: &str) -> Result<u64, Trouble> {
         let result = self.inner.modified(path);
         match copied(self.alloc, path.as_bytes()) {

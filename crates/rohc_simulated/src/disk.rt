@@ -148,6 +148,20 @@ impl SimulatedDisk {
         Ok(size)
     }
 
+    /// Sets the date of the last write to the open file.
+    pub fn set_modified(&mut self, date: u64) -> Result<(), Trouble> {
+        let Some(file) = self.open else {
+            return Err(NO_FILE);
+        };
+        match self.files.get_mut(file) {
+            Some(file) => {
+                file.modified = date;
+                Ok(())
+            }
+            None => Err(NO_FILE),
+        }
+    }
+
     /// The date of the last write to a file.
     pub fn modified(&self, path: &str) -> Result<u64, Trouble> {
         let Some(file) = self.file_of(path) else {

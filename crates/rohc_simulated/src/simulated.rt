@@ -136,6 +136,11 @@ impl Disk for Simulated {
         self.disk.sync_folder(path)
     }
 
+    fn set_modified(&mut self, date: u64) -> Result<(), Trouble> {
+        self.call()?;
+        self.disk.set_modified(date)
+    }
+
     fn modified(&mut self, path: &str) -> Result<u64, Trouble> {
         self.call()?;
         self.disk.modified(path)

@@ -16,6 +16,7 @@ pub data Act : Type 0 where
   Renamed : List ℕ → List ℕ → Result ⊤ Trouble → Act
   Removed : List ℕ → Result ⊤ Trouble → Act
   SyncedFolder : List ℕ → Result ⊤ Trouble → Act
+  SetModified : ℕ → Result ⊤ Trouble → Act
   Modified : List ℕ → Result ℕ Trouble → Act
   Dated : Result ℕ Trouble → Act
   Timed : Result ℕ Trouble → Act

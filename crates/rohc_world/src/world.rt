@@ -1,7 +1,7 @@
 //! The outside of a program.
 
 ghost use Rattle.std.specs.Prelude.{None, ◌≤◌, [], ◌∷◌, length, List, Option, IfOk};
-ghost use Rattle.rohc_world.specs.Acts.{Act, Opened, read, Created, Wrote, Synced, Closed, Renamed, Removed, SyncedFolder, Modified, Dated, Timed, Logged, AddsActs};
+ghost use Rattle.rohc_world.specs.Acts.{Act, Opened, read, Created, Wrote, Synced, Closed, Renamed, Removed, SyncedFolder, Modified, SetModified, Dated, Timed, Logged, AddsActs};
 
 use crate::trouble::Trouble;
 
@@ -50,6 +50,10 @@ pub trait Disk: Traced {
     /// Waits until the device has the names of a folder.
     fn sync_folder(&mut self, path: &str) -> Result<(), Trouble>
         ensures told { AddsActs (Self.acts self.old) (Self.acts self.new) (SyncedFolder path.now result ∷ []) };
+
+    /// Sets when the open file was written last.
+    fn set_modified(&mut self, date: u64) -> Result<(), Trouble>
+        ensures told { AddsActs (Self.acts self.old) (Self.acts self.new) (SetModified date result ∷ []) };
 
     /// When a file was written last, by the system's clock of then, in milliseconds since 1970.
     fn modified(&mut self, path: &str) -> Result<u64, Trouble>
