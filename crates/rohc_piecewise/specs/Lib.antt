@@ -1,0 +1,6 @@
+pub mod Piecewise
+pub mod Noted
+pub mod Between
+pub mod LooksOn
+pub mod UnderWay
+pub mod Laws

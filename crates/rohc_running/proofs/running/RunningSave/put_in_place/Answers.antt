@@ -1,0 +1,31 @@
+use Rattle.std.proofs.Common.{◌∷◌, [], refl}
+use Rattle.std.specs.Prelude.{Ok, Err}
+use Rattle.rohc_world.specs.Acts.{SetModified, Closed, Renamed, Removed}
+use Rattle.rohc_loop.proofs.AskLemmas.{adds_more}
+use Rattle.rohc_running.proofs.running.RunningSave.put_in_place.Goals as goal
+
+pub returns-in-Ok : goal.returns-in-Ok
+returns-in-Ok g c =
+    let dated = SetModified c.args.self.now.date c.set_modified.result in
+    let named = Renamed c.as_str.result.now c.as_str-2.result.now (Ok tt) ∷ [] in
+    record {
+      acts = dated ∷ Closed ∷ named;
+      known = adds_more _ _ _ (dated ∷ []) (Closed ∷ named) c.set_modified.ensures.told (adds_more _ _ _ (Closed ∷ []) named c.close.ensures.told c.in-Ok.ensures.told);
+      form = (
+        refl,
+        record { path = refl; unfinished = refl },
+        (c.set_modified.result, λ i. dated ∷ Closed ∷ Renamed (c.as_str.ensures.value i) (c.as_str-2.ensures.value i) (Ok tt) ∷ []),
+      );
+    }
+
+pub returns-in-Err : goal.returns-in-Err
+returns-in-Err g c =
+    let dated = SetModified c.args.self.now.date c.set_modified.result in
+    let named = Renamed c.as_str.result.now c.as_str-2.result.now (Err c.in-Err.trouble) in
+    let gone = Removed c.as_str-in-Err.result.now c.remove.result ∷ [] in
+    record {
+      acts = dated ∷ Closed ∷ named ∷ gone;
+      known = adds_more _ _ _ (dated ∷ []) (Closed ∷ named ∷ gone) c.set_modified.ensures.told
+          (adds_more _ _ _ (Closed ∷ []) (named ∷ gone) c.close.ensures.told (adds_more _ _ _ (named ∷ []) gone c.in-Err.ensures.told c.remove.ensures.told));
+      form = record { closed = refl; paths = record { path = refl; unfinished = refl }; leaves = (tt, (tt, (tt, (c.as_str-in-Err.ensures.value, tt)))) };
+    }
