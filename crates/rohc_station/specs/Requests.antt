@@ -8,7 +8,7 @@ use Rattle.httparse.specs.Spans.{RequestOverflows}
 use Rattle.rohc_station.specs.declared.request.Asked.{Asked}
 use Rattle.rohc_station.specs.declared.request.Asked.TheVariants.{Unfinished, Whole, Faulty}
 use Rattle.rohc_station.specs.declared.request.Request.{Request}
-use Rattle.rohc_station.specs.declared.request.Request.TheVariants.{Stop, Save, Reload, Reset, Drain, Hold, Export, Import, Ready, Preview, Follow, Record, Status, State, Metrics, Page, Top, Contexts, Calls}
+use Rattle.rohc_station.specs.declared.request.Request.TheVariants.{Stop, Save, Reload, Reset, Drain, Resume, Kept, Hold, Export, Import, Ready, Preview, Follow, Record, Status, State, Keep, Metrics, Page, Top, Contexts, Calls}
 use Rattle.rohc_station.specs.declared.request.RequestFault.{RequestFault}
 use Rattle.rohc_station.specs.declared.request.RequestFault.TheVariants.{BadRequest, NotFound, MethodNotAllowed, TooLarge}
 
@@ -46,6 +46,8 @@ changes Save = false
 changes Reload = true
 changes (Reset link cid) = true
 changes Drain = true
+changes Resume = true
+changes (Kept failed) = false
 changes (Hold link off) = true
 changes (Export link off) = true
 changes (Import link) = true
@@ -55,6 +57,7 @@ changes (Follow link cid) = false
 changes (Record link seconds) = false
 changes Status = false
 changes State = false
+changes Keep = false
 changes Metrics = false
 changes Page = false
 changes Top = false

@@ -22,6 +22,8 @@ pub struct GatewayFigures {
     pub failed_receives: u64,
     /// How often the gateway woke.
     pub wakes: u64,
+    /// The longest time that a wake took, in microseconds.
+    pub longest_wake: u64,
     /// Saves that were done.
     pub saves: u64,
     /// Saves that failed.
@@ -36,6 +38,10 @@ pub struct GatewayFigures {
     pub last_save: u64,
     /// The moment of that save.
     pub saved: u64,
+    /// When a save was last copied for a power failure, in milliseconds since 1970; 0 before the first.
+    pub last_kept: u64,
+    /// Copies that failed.
+    pub failed_copies: u64,
     /// Whether no new call is taken.
     pub draining: bool,
 }
@@ -331,13 +337,30 @@ fn write_figures<W: Write>(out: &mut W, figures: &GatewayFigures) -> io::Result<
             "Failed saves.",
             figures.failed_saves,
         ),
+        (
+            "polorowan_failed_copies_total",
+            "Copies of saves (rohctl keep) that failed.",
+            figures.failed_copies,
+        ),
     ] {
         write_one(out, name, "counter", help, count)?;
     }
     Ok(())
 }
 
-/// Writes when the gateway was started and, if there is a state file, when it was last saved.
+/// Writes how long the longest wake took.
+fn write_longest_wake<W: Write>(out: &mut W, figures: &GatewayFigures) -> io::Result<()> {
+    let name = "polorowan_longest_wake_seconds";
+    let help = "The longest time between two looks at the sockets.";
+    write_head(out, name, "gauge", help)?;
+    let (seconds, rest) = (
+        figures.longest_wake / 1_000_000,
+        figures.longest_wake % 1_000_000,
+    );
+    writeln!(out, "{name} {seconds}.{rest:06}")
+}
+
+/// Writes when the gateway was started and, if there is a state file, when it was last saved, and that save copied.
 fn write_times<W: Write>(out: &mut W, figures: &GatewayFigures) -> io::Result<()> {
     write_one(
         out,
@@ -355,6 +378,13 @@ fn write_times<W: Write>(out: &mut W, figures: &GatewayFigures) -> io::Result<()
         "gauge",
         "Time of the last completed save, 0 before the first; only with a state file.",
         figures.last_save / 1000,
+    )?;
+    write_one(
+        out,
+        "polorowan_last_copy_timestamp_seconds",
+        "gauge",
+        "Time of the last copy of a save (rohctl keep), 0 before the first; only with a state file.",
+        figures.last_kept / 1000,
     )
 }
 
@@ -375,6 +405,7 @@ pub fn write_metrics<W: Write>(
     write_contexts(out, station)?;
     write_totals(out, station)?;
     write_figures(out, figures)?;
+    write_longest_wake(out, figures)?;
     write_times(out, figures)?;
     let draining = "polorowan_draining";
     write_one(

@@ -36,6 +36,13 @@ pub enum Request {
     },
     /// `POST /drain`: take no new call.
     Drain,
+    /// `POST /resume`: take new calls again.
+    Resume,
+    /// `POST /kept`: the newest save was copied; with `?failed`, it couldn't be.
+    Kept {
+        /// Whether the copy failed.
+        failed: bool,
+    },
     /// `POST /hold?link=L`: keep the datagrams of a link until its contexts are imported; with `&off`, drop them.
     Hold {
         /// The link.
@@ -77,6 +84,8 @@ pub enum Request {
     Status,
     /// `GET /state`: the contexts as a save would write them now.
     State,
+    /// `GET /keep`: where the newest save stands, and where its copy belongs.
+    Keep,
     /// `GET /metrics`
     Metrics,
     /// `GET /`: the page for people.
@@ -110,16 +119,19 @@ impl Request {
             | Request::Reload
             | Request::Reset { .. }
             | Request::Drain
+            | Request::Resume
             | Request::Hold { .. }
             | Request::Export { .. }
             | Request::Import { .. } => true,
             Request::Save
+            | Request::Kept { .. }
             | Request::Ready
             | Request::Preview
             | Request::Follow { .. }
             | Request::Record { .. }
             | Request::Status
             | Request::State
+            | Request::Keep
             | Request::Metrics
             | Request::Page
             | Request::Top
@@ -370,6 +382,15 @@ fn record_in(query: Option<&[u8]>) -> Result<Request, RequestFault>
     }
 }
 
+/// What a query of `/kept` means: none, or `failed`.
+fn kept_in(query: Option<&[u8]>) -> Result<Request, RequestFault> {
+    match query {
+        None => Ok(Request::Kept { failed: false }),
+        Some(word) if word == b"failed".as_slice() => Ok(Request::Kept { failed: true }),
+        Some(_) => Err(RequestFault::BadRequest),
+    }
+}
+
 /// The request, if there is no query.
 fn alone(request: Request, query: Option<&[u8]>) -> Result<Request, RequestFault>
     ensures { IfOk result (λ r. r ≡ request) }
@@ -390,6 +411,10 @@ fn posted(path: &[u8], query: Option<&[u8]>) -> Option<Result<Request, RequestFa
         Some(alone(Request::Reload, query))
     } else if path == b"/drain".as_slice() {
         Some(alone(Request::Drain, query))
+    } else if path == b"/resume".as_slice() {
+        Some(alone(Request::Resume, query))
+    } else if path == b"/kept".as_slice() {
+        Some(kept_in(query))
     } else if path == b"/reset".as_slice() {
         Some(reset_in(query))
     } else {
@@ -407,6 +432,8 @@ fn got(path: &[u8], query: Option<&[u8]>) -> Option<Result<Request, RequestFault
         Some(alone(Request::Status, query))
     } else if path == b"/state".as_slice() {
         Some(alone(Request::State, query))
+    } else if path == b"/keep".as_slice() {
+        Some(alone(Request::Keep, query))
     } else if path == b"/top".as_slice() {
         Some(alone(Request::Top, query))
     } else if path == b"/metrics".as_slice() {
