@@ -93,6 +93,16 @@ impl Reply {
         })
     }
 
+    /// A text, if there was memory for it.
+    pub(crate) fn text(text: Result<String, AllocError>) -> io::Result<Reply> {
+        let body = text?.into_bytes();
+        Ok(Reply {
+            status: 200,
+            kind: Kind::Text,
+            body,
+        })
+    }
+
     /// A fault of this name, with a text for a reader.
     pub(crate) fn fault(alloc: Global, status: u16, name: &str, text: &str) -> io::Result<Reply> {
         let mut body = Vec::new(alloc);

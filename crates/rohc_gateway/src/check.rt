@@ -6,6 +6,7 @@ use crate::setup::{Manner, NoStart, read_start};
 use rohc_gateway_file::{Ending, Options};
 use std::fs::File;
 use std::rt::Files;
+use std::time::Clock;
 
 /// Says what may be wrong.
 fn say_warnings<R: Print>(rt: &R, lines: &Lines) -> Result<(), Ending> {
@@ -37,7 +38,7 @@ fn say_wrong<R: Print>(rt: &R, lines: &Lines) -> Result<Ending, Ending> {
 /// wrong.
 pub(crate) fn check<R>(rt: &R, file: &str, options: &Options<'_>) -> Result<Ending, Ending>
 where
-    R: Files<File = File> + Print + AllocGlobal,
+    R: Files<File = File> + Clock + Print + AllocGlobal,
 {
     match read_start(rt, file, options, Manner::Check) {
         Ok(start) => {
@@ -46,6 +47,7 @@ where
             if write_unknown_links(&mut lines, file, notes, &start.concentrator).is_err() {
                 return Err(Ending::Memory);
             }
+            say_warnings(rt, &start.remarks)?;
             say_warnings(rt, &lines)?;
             say_good(rt)
         }

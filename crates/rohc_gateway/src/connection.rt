@@ -1,6 +1,7 @@
 //! A connection: one request, and its answer.
 
 use crate::answers::Reply;
+use crate::saves::Wanted;
 use crate::stream::{Flow, HEAD};
 use mio::net::{TcpStream, UnixStream};
 use mio::{Interest, Poll, Token};
@@ -98,6 +99,8 @@ pub(crate) struct Connection {
     sent: usize,
     /// What is streamed in place of an answer.
     pub(crate) flow: Option<Flow>,
+    /// The save that it waits for.
+    wanted: Option<Wanted>,
     end: u64,
 }
 
@@ -112,6 +115,7 @@ impl Connection {
             answer: None,
             sent: 0,
             flow: None,
+            wanted: None,
             end: moment.saturating_add(LONGEST_TIME),
         }
     }
@@ -124,6 +128,28 @@ impl Connection {
     /// Whether the connection has taken too long.
     pub(crate) fn is_late(&self, moment: u64) -> bool {
         self.end <= moment
+    }
+
+    /// Waits for a save, however long it takes.
+    pub(crate) fn await_save(&mut self, wanted: Wanted) {
+        self.wanted = Some(wanted);
+        self.end = u64::MAX;
+    }
+
+    /// Whether it waits for this save.
+    pub(crate) fn awaits_save(&self, wanted: Wanted) -> bool {
+        self.wanted == Some(wanted)
+    }
+
+    /// Whether it waits for a save.
+    pub(crate) fn is_waiting(&self) -> bool {
+        self.wanted.is_some()
+    }
+
+    /// Waits no longer. The answer may take as long as that of a connection that begins at this moment.
+    pub(crate) fn end_wait(&mut self, moment: u64) {
+        self.wanted = None;
+        self.end = moment.saturating_add(LONGEST_TIME);
     }
 
     /// Goes on: reads the request, or writes the rest of the answer.

@@ -1,6 +1,6 @@
 //! A socket of the gateway, as its service sees it.
 
-use crate::real::RealClocks;
+use crate::clocks::RealClocks;
 use mio::net::UdpSocket;
 use rohc_loop::Moments;
 use rohc_serve::Front;

@@ -9,15 +9,17 @@ use crate::moving::{Awaited, awaits, forget, waits, write_moves};
 use crate::names::{
     Shown, limits_of, name_of, read_notes, write_link_info, write_names, write_unknown_links,
 };
-use crate::real::RealDisk;
+use crate::saves::{Saves, save_reply};
 use crate::sockets::MOST_CONNECTIONS;
 use crate::stop::{Stop, is_asked_by};
 use crate::streams::Viewers;
 use crate::time::Time;
 use mio::net::UdpSocket;
 use rohc_concentrator::NoLink;
+use rohc_disk::RealDisk;
 use rohc_gateway_file::{Build, Config, Level, LinkNote, Log, Options, VERSION, civil_at};
 use rohc_loop::{Step, Unwritten, replace_file};
+use rohc_running::Begin;
 use rohc_station::{
     Asked, CallList, Duty, Form, GatewayFigures, LinkName, Page, Port, Preview, ReloadFault,
     ReloadReport, Request, RequestFault, Service, Wish, write_calls, write_calls_text,
@@ -31,7 +33,7 @@ use std::rt::Files;
 use std::time::Clock;
 
 /// What follows when a save fails.
-const UNSAVED: &str = "the gateway continues, and the file of the last save stays";
+pub(crate) const UNSAVED: &str = "the gateway continues, and the file of the last save stays";
 
 /// Writes the members of an object that have a time in milliseconds since 1970, as a number and as a text. The time 0 is
 /// none.
@@ -64,6 +66,8 @@ pub(crate) struct Gateway<'a> {
     pub(crate) service: Service,
     pub(crate) figures: GatewayFigures,
     pub(crate) time: Time,
+    /// The saves of the run, if there is a state file.
+    pub(crate) saves: Option<Saves>,
     /// When the contexts are to be saved next.
     pub(crate) next_save: u64,
     /// The request to move a link that waits.
@@ -74,6 +78,10 @@ pub(crate) struct Gateway<'a> {
     pub(crate) wish: Wish,
     /// Whether it was told to stop.
     pub(crate) is_stopped: bool,
+    /// The place of the connection that asked for a reload.
+    pub(crate) reload: Option<usize>,
+    /// Whether the gateway file was read again, and the ports don't follow it yet.
+    pub(crate) is_reloaded: bool,
     /// The connections, by their tokens.
     pub(crate) connections: Vec<Option<Connection>>,
 }
@@ -151,7 +159,11 @@ impl Gateway<'_> {
     }
 
     /// Logs why the contexts aren't saved.
-    fn log_unsaved<R: Clock + Eprint + AllocGlobal>(&self, rt: &R, unwritten: &Unwritten) {
+    pub(crate) fn log_unsaved<R: Clock + Eprint + AllocGlobal>(
+        &self,
+        rt: &R,
+        unwritten: &Unwritten,
+    ) {
         let text = format_args!("save failed: {unwritten}; {UNSAVED}");
         self.frame.log.say(rt, Level::Error, text);
     }
@@ -216,60 +228,32 @@ impl Gateway<'_> {
         }
     }
 
-    /// Saves the contexts; `None` if there is no state file. Returns how many octets were saved.
-    pub(crate) fn save<R: Files + Clock + AllocGlobal>(
-        &mut self,
-        rt: &R,
-    ) -> Result<Option<usize>, Unwritten> {
+    /// Saves the contexts whole to the state file, which is on the device then; `None` if there is no state file. Returns how
+    /// many octets were saved.
+    fn save<R: Files + Clock + AllocGlobal>(&mut self, rt: &R) -> Result<Option<u64>, Unwritten> {
         let Some(path) = &self.frame.config.state else {
             return Ok(None);
         };
         let (moment, date) = (self.now(rt), self.time.date(rt));
         let saved = match self.state(rt.alloc(), moment) {
-            Ok(octets) => replace_file(
-                &mut RealDisk::of(rt),
-                rt.alloc(),
-                path.as_str(),
-                octets.as_slice(),
-            )
-            .map(|_| octets.len()),
+            Ok(octets) => {
+                let (mut disk, text) = (RealDisk::of(rt), octets.as_slice());
+                replace_file(&mut disk, rt.alloc(), path.as_str(), text, date).map(
+                    |_| octets.len() as u64,
+                )
+            }
             Err(unwritten) => Err(unwritten),
         };
-        match saved {
-            Ok(count) => {
-                self.figures.saves = self.figures.saves.saturating_add(1);
-                self.figures.last_save = date;
-                self.figures.saved = moment;
-                Ok(Some(count))
-            }
-            Err(e) => {
-                self.figures.failed_saves = self.figures.failed_saves.saturating_add(1);
-                Err(e)
-            }
-        }
-    }
-
-    /// Saves the contexts if it is time.
-    pub(crate) fn save_in_time<R: Files + Clock + Eprint + AllocGlobal>(
-        &mut self,
-        rt: &R,
-        moment: u64,
-    ) {
-        let Some(seconds) = self.frame.config.save_seconds else {
-            return;
-        };
-        if moment < self.next_save {
-            return;
-        }
-        self.next_save = moment.saturating_add(u64::from(seconds).saturating_mul(1000));
-        if let Err(unwritten) = self.save(rt) {
-            self.log_unsaved(rt, &unwritten);
-        }
+        self.count_save(saved.is_ok(), Begin { moment, date });
+        saved.map(Some)
     }
 
     /// Reads the tables [[link]] of the gateway file and the links file again. If one of the files is refused, nothing
     /// changes.
-    fn reload<R: Files + Clock + Eprint + AllocGlobal>(&mut self, rt: &R) -> io::Result<Reply> {
+    pub(crate) fn reload<R: Files + Clock + Eprint + AllocGlobal>(
+        &mut self,
+        rt: &R,
+    ) -> io::Result<Reply> {
         let Frame { file, options, .. } = self.frame;
         match read_notes(rt, file, &options) {
             Ok(notes) => self.reload_links(rt, notes),
@@ -295,6 +279,7 @@ impl Gateway<'_> {
         match self.reload_from(rt, path) {
             Ok(report) => {
                 self.notes = notes;
+                self.is_reloaded = true;
                 self.set_limits();
                 self.end_records(rt.alloc(), "reload");
                 self.log_reloaded(rt, &report);
@@ -383,35 +368,24 @@ impl Gateway<'_> {
         }
     }
 
-    /// Saves as asked, and stops if that is asked too.
-    pub(crate) fn save_as_asked<R: Files + Clock + Eprint + AllocGlobal>(
+    /// Saves, and stops. If the contexts can't be saved, the gateway continues.
+    pub(crate) fn save_and_stop<R: Files + Clock + Eprint + AllocGlobal>(
         &mut self,
         rt: &R,
-        stops: bool,
     ) -> io::Result<Reply> {
         let alloc = rt.alloc();
         let saved = match self.save(rt) {
             Ok(saved) => saved,
             Err(unwritten) => {
                 self.log_unsaved(rt, &unwritten);
-                let text = format!(in alloc; "{unwritten}; {UNSAVED}")?;
-                return Reply::fault(alloc, 500, "Save", text.as_str());
+                return save_reply(alloc, &Err(unwritten));
             }
         };
-        self.is_stopped = stops;
-        if stops {
-            self.end_records(alloc, "stop");
-        }
-        let text = match (saved, stops) {
-            (Some(octets), true) => {
-                format!(in alloc; "{{\"stopped\":true,\"saved\":{octets}}}\n")
-            }
-            (Some(octets), false) => format!(in alloc; "{{\"saved\":{octets}}}\n"),
-            (None, true) => format!(in alloc; "{{\"stopped\":true,\"saved\":null}}\n"),
-            (None, false) => {
-                let text = "there is no state file; expected the key state in the gateway file";
-                return Reply::fault(alloc, 409, "NoState", text);
-            }
+        self.is_stopped = true;
+        self.end_records(alloc, "stop");
+        let text = match saved {
+            Some(octets) => format!(in alloc; "{{\"stopped\":true,\"saved\":{octets}}}\n"),
+            None => format!(in alloc; "{{\"stopped\":true,\"saved\":null}}\n"),
         };
         Reply::object(200, text)
     }
@@ -434,6 +408,13 @@ impl Gateway<'_> {
         self.figures.draining = true;
         self.note(rt, "draining: no new call is accepted");
         Reply::object(200, format!(in rt.alloc(); "{{\"draining\":true}}\n"))
+    }
+
+    /// Takes new calls again.
+    fn resume<R: Clock + Eprint + AllocGlobal>(&mut self, rt: &R) -> io::Result<Reply> {
+        self.figures.draining = false;
+        self.note(rt, "resumed: new calls are accepted again");
+        Reply::object(200, format!(in rt.alloc(); "{{\"draining\":false}}\n"))
     }
 
     /// How many contexts there are.
@@ -645,10 +626,11 @@ impl Gateway<'_> {
         R: Files + Clock + Eprint + AllocGlobal,
     {
         match request {
-            Request::Save => self.save_as_asked(rt, false),
-            Request::Reload => self.reload(rt),
             Request::Reset { link, cid } => self.reset(rt, link, cid),
             Request::Drain => self.drain(rt),
+            Request::Resume => self.resume(rt),
+            Request::Keep => self.keep(rt),
+            Request::Kept { failed } => self.kept(rt, failed),
             Request::Hold { link, off: false } => self.hold(rt, link),
             Request::Hold { link, off: true } => self.hold_off(rt, link),
             Request::Export { link, .. } => self.export_off(rt, link),
@@ -661,9 +643,11 @@ impl Gateway<'_> {
             Request::Top => self.top(rt),
             Request::Contexts { link } => self.contexts(rt, link),
             Request::Calls { link, form } => self.calls(rt, link, form),
-            Request::Stop | Request::Follow { .. } | Request::Record { .. } => {
-                Reply::refused(rt.alloc(), RequestFault::NotFound)
-            }
+            Request::Stop
+            | Request::Save
+            | Request::Reload
+            | Request::Follow { .. }
+            | Request::Record { .. } => Reply::refused(rt.alloc(), RequestFault::NotFound),
             Request::Preview => self.preview(rt),
         }
     }
@@ -696,9 +680,17 @@ impl Gateway<'_> {
         let Some(Some(connection)) = self.connections.get_mut(place) else {
             return;
         };
+        if connection.is_waiting() {
+            return;
+        }
         let is_control = connection.is_control();
         let progress = match connection.go_on() {
             Progress::Asks(Asked::Whole(Request::Stop)) if is_control => self.await_stop(rt, place),
+            Progress::Asks(Asked::Whole(Request::Save)) if is_control => self.await_save(rt, place),
+            Progress::Asks(Asked::Whole(Request::Reload)) if is_control => {
+                self.reload = Some(place);
+                Progress::Waits
+            }
             Progress::Asks(Asked::Whole(request)) if is_control && waits(request) => {
                 self.await_datagrams(rt, place, request)
             }
@@ -710,6 +702,17 @@ impl Gateway<'_> {
                 Err(_) => Progress::Ended,
             },
             progress => progress,
+        };
+        if let Progress::Ended = progress {
+            self.free(place);
+        }
+    }
+
+    /// Answers the request of the connection at a place, if there was memory for the answer.
+    pub(crate) fn end_request(&mut self, alloc: Global, place: usize, reply: io::Result<Reply>) {
+        let progress = match reply {
+            Ok(reply) => self.send_answer(alloc, place, &reply),
+            Err(_) => Progress::Ended,
         };
         if let Progress::Ended = progress {
             self.free(place);

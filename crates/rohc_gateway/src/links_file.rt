@@ -1,7 +1,7 @@
 //! The links file: its links, or why they aren't accepted.
 
 use crate::lines::Lines;
-use crate::real::RealDisk;
+use rohc_disk::RealDisk;
 use rohc_faults::write_faults;
 use rohc_links::{Links, LinksFault, read_links};
 use rohc_loop::read_text;

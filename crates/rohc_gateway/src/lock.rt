@@ -1,7 +1,8 @@
-//! The locks of what one gateway alone may write: its state file and its control socket. The system lets go of a lock when
+//! The locks of what one gateway alone may write: its saves and its control socket. The system lets go of a lock when
 //! its gateway ends, however it ends.
 
 use crate::lines::Lines;
+use crate::saves::SavePaths;
 use rohc_gateway_file::Config;
 use rohc_text::shown_word;
 use std::alloc::Global;
@@ -66,22 +67,19 @@ impl Locks {
         }
     }
 
-    /// Takes the lock for the path of a key, if the key has one. The lines say why not.
+    /// Takes the lock for a path of a key. The lines say why not.
     fn take<R>(
         &mut self,
         rt: &R,
         key: &str,
-        path: &Option<String>,
+        path: &str,
         holder: &str,
         lines: &mut Lines,
     ) -> io::Result<()>
     where
         R: Files<File = File> + AllocGlobal,
     {
-        let Some(path) = path else {
-            return Ok(());
-        };
-        let path = lock_of(rt.alloc(), path.as_str())?;
+        let path = lock_of(rt.alloc(), path)?;
         match lock(rt, path.as_str(), holder) {
             Ok(Ok(file)) => Ok(self.held.push(file)?),
             Ok(Err(other)) => write_held(lines, key, path.as_str(), other.as_str()),
@@ -97,8 +95,16 @@ impl Locks {
     {
         let mut locks = Locks::none(rt.alloc());
         let holder = format!(in rt.alloc(); "{file}\n")?;
-        locks.take(rt, "state", &config.state, holder.as_str(), lines)?;
-        locks.take(rt, "control", &config.control, holder.as_str(), lines)?;
+        if let Some(paths) = SavePaths::of(rt.alloc(), config)? {
+            let [state, latest, _] = paths.all();
+            locks.take(rt, "state", state, holder.as_str(), lines)?;
+            if config.scratch.is_some() {
+                locks.take(rt, "scratch", latest, holder.as_str(), lines)?;
+            }
+        }
+        if let Some(control) = &config.control {
+            locks.take(rt, "control", control.as_str(), holder.as_str(), lines)?;
+        }
         Ok(locks)
     }
 }

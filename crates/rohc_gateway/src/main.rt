@@ -3,6 +3,7 @@
 
 mod answers;
 mod check;
+mod clocks;
 mod connection;
 mod front;
 mod gateway;
@@ -13,8 +14,9 @@ mod lock;
 mod moving;
 mod names;
 mod outputs;
-mod real;
+mod restoring;
 mod run;
+mod saves;
 mod setup;
 mod sockets;
 mod stop;
@@ -22,8 +24,8 @@ mod stream;
 mod streams;
 mod time;
 
-use crate::real::RealDisk;
 use crate::setup::Manner;
+use rohc_disk::RealDisk;
 use rohc_gateway_file::{Build, Ending, Level, Log, LogFormat, Request, VERSION, read_request};
 use rohc_loop::{folder_of, read_text};
 use std::fs::File;

@@ -2,9 +2,9 @@
 
 use crate::lines::Lines;
 use crate::links_file::NoLinks;
-use crate::real::RealDisk;
 use crate::setup::A_FILE;
 use rohc_concentrator::Concentrator;
+use rohc_disk::RealDisk;
 use rohc_gateway_file::{LinkNote, Options, Reading, read_config, write_place};
 use rohc_loop::read_text;
 use rohc_station::LinkLimits;

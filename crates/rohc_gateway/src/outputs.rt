@@ -2,6 +2,7 @@
 //! which both are made first, and those of their locks.
 
 use crate::lock::lock_of;
+use crate::saves::SavePaths;
 use rohc_gateway_file::{Config, Reading, write_place};
 use rohc_loop::folder_of;
 use std::alloc::Global;
@@ -32,7 +33,7 @@ fn is_no_socket<R: Files>(rt: &R, path: &str) -> bool {
 }
 
 /// The name of a file in its folder.
-fn name_of(path: &str) -> &str {
+pub(crate) fn file_name(path: &str) -> &str {
     match path.rsplit_once("/") {
         Some((_, name)) => name,
         None => path,
@@ -44,7 +45,7 @@ fn lead_to_same<R: Files>(rt: &R, one: &str, other: &str) -> bool {
     let has_folder = || are_same(identity(rt, folder_of(one)), identity(rt, folder_of(other)));
     one == other
         || are_same(identity(rt, one), identity(rt, other))
-        || (name_of(one) == name_of(other) && has_folder())
+        || (file_name(one) == file_name(other) && has_folder())
 }
 
 /// A file that a gateway must not write over, and what it is.
@@ -74,38 +75,48 @@ fn inputs_of<'a>(file: &'a str, config: &'a Config) -> [Kept<'a>; 2] {
 
 /// What is written at a path and beside it.
 #[derive(Drop)]
-struct Output<'a> {
+struct Output {
     /// The key of the gateway file.
     key: &'static str,
-    path: &'a str,
+    path: String,
     beside: String,
     lock: String,
 }
 
-/// What is written at this key, if it has a path.
-fn output_of<'a>(
-    alloc: Global,
-    key: &'static str,
-    path: &'a Option<String>,
-) -> io::Result<Option<Output<'a>>> {
-    match path {
-        Some(path) => Ok(Some(Output {
-            key,
-            path: path.as_str(),
-            beside: format!(in alloc; "{path}.new")?,
-            lock: lock_of(alloc, path.as_str())?,
-        })),
-        None => Ok(None),
-    }
+/// What is written at this path, by this key.
+fn output_of(alloc: Global, key: &'static str, path: &str) -> io::Result<Output> {
+    Ok(Output {
+        key,
+        path: String::from_str(alloc, path)?,
+        beside: format!(in alloc; "{path}.new")?,
+        lock: lock_of(alloc, path)?,
+    })
 }
 
-impl Output<'_> {
+/// Where calls are saved: at a stop, while the gateway runs, and by `rohctl keep`.
+fn saves_of(alloc: Global, config: &Config) -> io::Result<Vec<Output>> {
+    let mut saves = Vec::new(alloc);
+    if let Some(paths) = SavePaths::of(alloc, config)? {
+        let [state, latest, kept] = paths.all();
+        let scratch = if config.scratch.is_some() {
+            "scratch"
+        } else {
+            "state"
+        };
+        for (key, path) in [("state", state), (scratch, latest), ("state", kept)] {
+            saves.push(output_of(alloc, key, path)?)?;
+        }
+    }
+    Ok(saves)
+}
+
+impl Output {
     /// What a state file must not lose.
     fn kept(&self) -> [Kept<'_>; 2] {
         [
             Kept {
                 what: "the state file",
-                path: self.path,
+                path: self.path.as_str(),
             },
             Kept {
                 what: "the new state file",
@@ -116,7 +127,7 @@ impl Output<'_> {
 
     /// Whether something is written at a path.
     fn is_at<R: Files>(&self, rt: &R, path: &str) -> bool {
-        lead_to_same(rt, self.path, path)
+        lead_to_same(rt, self.path.as_str(), path)
             || lead_to_same(rt, self.beside.as_str(), path)
             || lead_to_same(rt, self.lock.as_str(), path)
     }
@@ -133,8 +144,8 @@ impl Output<'_> {
 
     /// The path that is there and no socket, if there is one.
     fn no_socket<R: Files>(&self, rt: &R) -> Option<&str> {
-        if is_no_socket(rt, self.path) {
-            Some(self.path)
+        if is_no_socket(rt, self.path.as_str()) {
+            Some(self.path.as_str())
         } else if is_no_socket(rt, self.beside.as_str()) {
             Some(self.beside.as_str())
         } else {
@@ -149,7 +160,7 @@ fn write_hit<R: Files, W: Write>(
     out: &mut W,
     file: &str,
     reading: &Reading<'_>,
-    output: &Output<'_>,
+    output: &Output,
     kept: &[Kept<'_>],
 ) -> io::Result<bool> {
     let key = output.key;
@@ -170,7 +181,7 @@ fn write_no_socket<R: Files, W: Write>(
     out: &mut W,
     file: &str,
     reading: &Reading<'_>,
-    control: &Output<'_>,
+    control: &Output,
 ) -> io::Result<()> {
     let Some(path) = control.no_socket(rt) else {
         return Ok(());
@@ -182,8 +193,35 @@ fn write_no_socket<R: Files, W: Write>(
     )
 }
 
-/// Writes what the gateway of a gateway file would write over, a line for each key. Returns whether the state file is
-/// something else.
+/// Writes what the control socket would be made over, if it would: an input, a save, or something that is no socket.
+fn write_control<R: Files, W: Write>(
+    rt: &R,
+    out: &mut W,
+    file: &str,
+    reading: &Reading<'_>,
+    control: &Output,
+    saves: &[Output],
+) -> io::Result<()> {
+    if write_hit(
+        rt,
+        out,
+        file,
+        reading,
+        control,
+        &inputs_of(file, &reading.config),
+    )? {
+        return Ok(());
+    }
+    for save in saves {
+        if write_hit(rt, out, file, reading, control, &save.kept())? {
+            return Ok(());
+        }
+    }
+    write_no_socket(rt, out, file, reading, control)
+}
+
+/// Writes what the gateway of a gateway file would write over, a line for each path. Returns whether a save would be written
+/// over something else.
 pub(crate) fn write_overwritten<R: Files + AllocGlobal, W: Write>(
     rt: &R,
     out: &mut W,
@@ -191,25 +229,15 @@ pub(crate) fn write_overwritten<R: Files + AllocGlobal, W: Write>(
     reading: &Reading<'_>,
 ) -> io::Result<bool> {
     let config = &reading.config;
+    let saves = saves_of(rt.alloc(), config)?;
     let inputs = inputs_of(file, config);
-    let state = output_of(rt.alloc(), "state", &config.state)?;
-    let control = output_of(rt.alloc(), "control", &config.control)?;
-    let is_hit = match &state {
-        Some(state) => write_hit(rt, out, file, reading, state, &inputs)?,
-        None => false,
-    };
-    let Some(control) = &control else {
-        return Ok(is_hit);
-    };
-    if write_hit(rt, out, file, reading, control, &inputs)? {
-        return Ok(is_hit);
+    let mut is_hit = false;
+    for save in &saves {
+        is_hit = is_hit || write_hit(rt, out, file, reading, save, &inputs)?;
     }
-    let hits_state = match &state {
-        Some(state) => write_hit(rt, out, file, reading, control, &state.kept())?,
-        None => false,
-    };
-    if !hits_state {
-        write_no_socket(rt, out, file, reading, control)?;
+    if let Some(path) = &config.control {
+        let control = output_of(rt.alloc(), "control", path.as_str())?;
+        write_control(rt, out, file, reading, &control, saves.as_slice())?;
     }
     Ok(is_hit)
 }

@@ -3,6 +3,7 @@
 use crate::connection::{Connection, Stream};
 use crate::gateway::{Frame, Gateway};
 use crate::lines::Lines;
+use crate::saves::{SavePaths, Saves};
 use crate::setup::{Manner, NoStart, Start, read_start};
 use crate::sockets::{
     CONTROL, LINKS, METRICS, MOST_CONNECTIONS, PLAIN, Sockets, TIMED, remove_control,
@@ -10,7 +11,9 @@ use crate::sockets::{
 use crate::time::Time;
 use mio::net::{TcpListener, UnixListener};
 use mio::{Events, Poll, Token};
+use rohc_concentrator::Concentrator;
 use rohc_gateway_file::{Build, Config, Ending, Level, LinkNote, Log, Options};
+use rohc_links::Links;
 use rohc_loop::Before;
 use rohc_station::{GatewayFigures, Port, Service, Station, Wish};
 use rohc_text::Reason;
@@ -18,7 +21,7 @@ use std::alloc::{AllocError, Global};
 use std::fs::File;
 use std::net::Net;
 use std::rt::Files;
-use std::time::{Clock, Duration};
+use std::time::{Clock, Duration, Instant};
 use std::{io, mem};
 
 /// How many connections are accepted at a wake and socket.
@@ -75,6 +78,13 @@ fn figures_of<R: Clock>(
     figures
 }
 
+/// What a gateway takes memory for once, at its start.
+#[derive(Drop)]
+struct Room {
+    saves: Option<Saves>,
+    connections: Vec<Option<Connection>>,
+}
+
 /// A gateway over what it starts from.
 fn gateway_of<'a>(
     frame: Frame<'a>,
@@ -82,13 +92,15 @@ fn gateway_of<'a>(
     figures: GatewayFigures,
     notes: Vec<LinkNote>,
     service: Service,
-    connections: Vec<Option<Connection>>,
+    room: Room,
 ) -> Gateway<'a> {
+    let Room { saves, connections } = room;
     let seconds = u64::from(frame.config.save_seconds.unwrap_or(0));
     Gateway {
         frame,
         notes,
         service,
+        saves,
         next_save: figures.begun.saturating_add(seconds * 1000),
         figures,
         time,
@@ -96,6 +108,8 @@ fn gateway_of<'a>(
         stop: None,
         wish: Wish::Nothing,
         is_stopped: false,
+        reload: None,
+        is_reloaded: false,
         connections,
     }
 }
@@ -153,6 +167,32 @@ fn accept_metrics<R: Clock + AllocGlobal>(
     true
 }
 
+/// Reloads, if that was asked for. Ports are opened and closed as the gateway file says now, before the answer; one that can't
+/// be opened is logged, and tried again at the next reload.
+fn reload_as_asked<R>(
+    rt: &R,
+    gateway: &mut Gateway<'_>,
+    sockets: &mut Sockets,
+    waiting: &mut Waiting,
+)
+where
+    R: Files + Net + Clock + Eprint + AllocGlobal,
+{
+    let Some(place) = gateway.reload.take() else {
+        return;
+    };
+    let reply = gateway.reload(rt);
+    if gateway.is_reloaded {
+        gateway.is_reloaded = false;
+        waiting.links = true;
+        let wanted = gateway.frame.config.receive_buffer;
+        if let Err(fault) = sockets.follow(rt, wanted, gateway.notes.as_slice()) {
+            gateway.frame.log.say(rt, Level::Error, fault);
+        }
+    }
+    gateway.end_request(rt.alloc(), place, reply);
+}
+
 /// Does what an event calls for.
 fn handle<R>(
     rt: &R,
@@ -162,7 +202,7 @@ fn handle<R>(
     token: Token,
 )
 where
-    R: Files + Clock + Eprint + AllocGlobal,
+    R: Files + Net + Clock + Eprint + AllocGlobal,
 {
     if token == PLAIN {
         waiting.plain = true;
@@ -172,11 +212,12 @@ where
         waiting.control = true;
     } else if token == METRICS {
         waiting.metrics = true;
-    } else if let Some(place) = token.0.checked_sub(LINKS) {
+    } else if let Some(port) = token.0.checked_sub(LINKS) {
         waiting.links = true;
-        sockets.note_link(place);
+        sockets.note_link(port);
     } else {
         gateway.go_on(rt, token.0);
+        reload_as_asked(rt, gateway, sockets, waiting);
     }
 }
 
@@ -226,7 +267,18 @@ fn look_everywhere(sockets: &mut Sockets, waiting: &mut Waiting) {
     }
 }
 
-/// One wake: what came is done, and the contexts are saved when it is time.
+/// Notes how long a wake took.
+fn note_wake<R: Clock>(rt: &R, gateway: &mut Gateway<'_>, woken: Option<Instant>) {
+    let Some(woken) = woken else {
+        return;
+    };
+    if let Ok(took) = woken.elapsed(rt) {
+        let took = u64::try_from(took.as_micros()).unwrap_or(u64::MAX);
+        gateway.figures.longest_wake = gateway.figures.longest_wake.max(took);
+    }
+}
+
+/// One wake: what came is done, and a save goes on by one piece.
 fn wake<R>(
     rt: &R,
     gateway: &mut Gateway<'_>,
@@ -235,14 +287,15 @@ fn wake<R>(
     waiting: &mut Waiting,
 ) -> io::Result<()>
 where
-    R: Files + Clock + Eprint + AllocGlobal,
+    R: Files<File = File> + Net + Clock + Eprint + AllocGlobal,
 {
-    let timeout = if waiting.is_any() {
+    let timeout = if waiting.is_any() || gateway.is_saving() {
         Duration::ZERO
     } else {
         Duration::from_secs(1)
     };
     sockets.poll.poll(events, Some(timeout))?;
+    let woken = Instant::now(rt).ok();
     gateway.figures.wakes = gateway.figures.wakes.saturating_add(1);
     for event in events.iter() {
         handle(rt, gateway, sockets, waiting, event.token());
@@ -260,14 +313,15 @@ where
     }
     gateway.note_step(rt, moment);
     gateway.drop_late(moment);
-    gateway.save_in_time(rt, moment);
+    gateway.save_on(rt, moment);
+    note_wake(rt, gateway, woken);
     Ok(())
 }
 
 /// Serves until it is told to stop.
 fn serve<R>(rt: &R, gateway: &mut Gateway<'_>, sockets: &mut Sockets) -> io::Result<()>
 where
-    R: Files + Clock + Eprint + AllocGlobal,
+    R: Files<File = File> + Net + Clock + Eprint + AllocGlobal,
 {
     let mut events = Events::with_capacity(rt.alloc(), 64)?;
     let mut waiting = Waiting::default();
@@ -329,23 +383,65 @@ fn say_receive_buffer<R: Clock + Eprint + AllocGlobal>(rt: &R, log: Log, wanted:
     log.say(rt, Level::Warning, text);
 }
 
-/// Runs a gateway that has restored so many contexts, from its sockets on.
-fn run_from<R>(rt: &R, gateway: &mut Gateway<'_>, contexts: u64) -> Result<Ending, Ending>
-where
-    R: Files + Net + Clock + Eprint + AllocGlobal,
-{
-    let Frame { config, log, .. } = gateway.frame;
+/// Says what was restored.
+fn say_started<R: Clock + Eprint + AllocGlobal>(rt: &R, gateway: &Gateway<'_>, back: Told) {
+    let log = gateway.frame.log;
     let links = gateway.service.station.concentrator().tables().len();
-    let mut sockets = opened(rt, log, config, gateway.notes.as_slice())?;
+    let Told {
+        contexts,
+        stale_for,
+    } = back;
     let text = format_args!("started: {links} links, {contexts} contexts restored");
     log.say(rt, Level::Info, text);
+    if let Some(age) = stale_for {
+        let text = format_args!(
+            "they are stale, saved {age} ms ago: each accepts only packets with a check of 7 bits or more until one is delivered (stale_ms)"
+        );
+        log.say(rt, Level::Warning, text);
+    }
+}
+
+/// What is told of the contexts that were restored: how many, and how old they are if they are stale, in milliseconds.
+#[derive(Clone, Copy)]
+struct Told {
+    contexts: u64,
+    stale_for: Option<u64>,
+}
+
+/// Runs a gateway from its sockets on.
+fn run_from<R>(rt: &R, gateway: &mut Gateway<'_>, back: Told) -> Result<Ending, Ending>
+where
+    R: Files<File = File> + Net + Clock + Eprint + AllocGlobal,
+{
+    let Frame { config, log, .. } = gateway.frame;
+    let mut sockets = opened(rt, log, config, gateway.notes.as_slice())?;
+    say_started(rt, gateway, back);
     say_receive_buffer(rt, log, config.receive_buffer, sockets.receive_buffer);
     gateway.log_unknown_links(rt);
     let served = serve(rt, gateway, &mut sockets);
+    gateway.give_up_save(rt);
     if let Some(path) = &config.control {
         let _ = remove_control(rt, path.as_str());
     }
     tell_end(rt, log, served)
+}
+
+/// Takes the memory that a run needs from its start on.
+fn room_of<R: AllocGlobal>(rt: &R, paths: Option<SavePaths>) -> Option<Room> {
+    let saves = match paths {
+        Some(paths) => Some(Saves::new(rt.alloc(), paths)?),
+        None => None,
+    };
+    Some(Room {
+        saves,
+        connections: empty_places(rt.alloc()).ok()?,
+    })
+}
+
+/// The service of a gateway with these contexts and links.
+fn service_of(alloc: Global, concentrator: Concentrator, links: Links) -> Option<Service> {
+    let station = Station::new(alloc, concentrator, links).ok()?;
+    Service::new(alloc, station).ok()
 }
 
 /// Runs a gateway from what was read.
@@ -358,30 +454,24 @@ fn run_read<R>(
     start: Start,
 ) -> Result<Ending, Ending>
 where
-    R: Files + Net + Clock + Eprint + AllocGlobal,
+    R: Files<File = File> + Net + Clock + Eprint + AllocGlobal,
 {
-    let Ok(connections) = empty_places(rt.alloc()) else {
-        return Err(Ending::Memory);
-    };
     let Start {
         mut config,
         links,
         concentrator,
         contexts,
+        is_stale,
         before,
+        mut time,
+        paths,
+        remarks,
         locks: _locks,
     } = start;
-    let Ok(mut time) = Time::begin(rt, before) else {
-        log.say(rt, Level::Error, "cannot read the clock");
-        return Err(Ending::Socket);
-    };
+    say_lines(rt, log, Level::Warning, &remarks);
     let figures = figures_of(rt, &mut time, &config, before);
-    let Ok(station) = Station::new(rt.alloc(), concentrator, links) else {
-        return Err(Ending::Memory);
-    };
-    let Ok(service) = Service::new(rt.alloc(), station) else {
-        return Err(Ending::Memory);
-    };
+    let room = room_of(rt, paths).ok_or(Ending::Memory)?;
+    let service = service_of(rt.alloc(), concentrator, links).ok_or(Ending::Memory)?;
     let notes = mem::replace(&mut config.notes, Vec::new(rt.alloc()));
     let frame = Frame {
         log,
@@ -390,15 +480,23 @@ where
         options: *options,
         config: &config,
     };
-    let mut gateway = gateway_of(frame, time, figures, notes, service, connections);
+    let stale_for = match before {
+        Some(before) if is_stale => Some(time.first().saturating_sub(before.moment)),
+        _ => None,
+    };
+    let told = Told {
+        contexts,
+        stale_for,
+    };
+    let mut gateway = gateway_of(frame, time, figures, notes, service, room);
     gateway.set_limits();
-    run_from(rt, &mut gateway, contexts)
+    run_from(rt, &mut gateway, told)
 }
 
-/// Says why a gateway doesn't start.
-fn say_wrong<R: Clock + Eprint + AllocGlobal>(rt: &R, log: Log, lines: &Lines) {
+/// Says these lines.
+fn say_lines<R: Clock + Eprint + AllocGlobal>(rt: &R, log: Log, level: Level, lines: &Lines) {
     for line in lines.as_str().lines() {
-        log.say(rt, Level::Error, line);
+        log.say(rt, level, line);
     }
 }
 
@@ -422,7 +520,7 @@ where
         }
         Err(NoStart::Wrong(lines, format)) => {
             log.format = format;
-            say_wrong(rt, *log, &lines);
+            say_lines(rt, *log, Level::Error, &lines);
             Ok(Ending::Refused)
         }
         Err(NoStart::Memory) => Err(Ending::Memory),

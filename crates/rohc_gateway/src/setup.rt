@@ -4,18 +4,20 @@ use crate::lines::Lines;
 use crate::links_file::{NoLinks, read_links_file};
 use crate::lock::Locks;
 use crate::outputs::write_overwritten;
-use crate::real::RealDisk;
+use crate::restoring::{Back, move_aside, restore_newest};
+use crate::saves::SavePaths;
+use crate::time::Time;
 use rohc_concentrator::{Concentrator, SetupFault};
+use rohc_disk::RealDisk;
 use rohc_gateway_file::{Config, LogFormat, Options, Reading, read_config};
 use rohc_links::Links;
-use rohc_loop::{Before, first_moment, read_state, read_text};
-use rohc_saved::{Restored, SavedFault, restore};
+use rohc_loop::{Before, read_text};
 use rohc_text::{Reason, shown_word};
-use rohc_world::Disk;
 use std::alloc::Global;
 use std::fs::File;
 use std::io::{self, ErrorKind, Write};
 use std::rt::Files;
+use std::time::Clock;
 
 /// What is expected where no gateway file can be read.
 pub(crate) const A_FILE: &str =
@@ -38,9 +40,16 @@ pub(crate) struct Start {
     pub(crate) config: Config,
     pub(crate) links: Links,
     pub(crate) concentrator: Concentrator,
-    /// How many contexts were restored, and what the state file tells of the run before, if there was one.
+    /// How many contexts were restored, whether they are stale, and what their file tells of the run before, if there was one.
     pub(crate) contexts: u64,
+    pub(crate) is_stale: bool,
     pub(crate) before: Option<Before>,
+    /// The time of the run.
+    pub(crate) time: Time,
+    /// Where the saves stand, if there is a state file.
+    pub(crate) paths: Option<SavePaths>,
+    /// What may be wrong with the saves that stand, and which were moved aside.
+    pub(crate) remarks: Lines,
     /// The locks, which no check takes.
     pub(crate) locks: Locks,
 }
@@ -148,101 +157,35 @@ fn links_of<R: Files + AllocGlobal>(
     }
 }
 
-/// What starts a gateway in spite of its state file.
-const FRESH: &str = "run --fresh starts without it";
-
-/// Writes why the octets of a state file are refused.
-fn write_unsaved<W: Write>(out: &mut W, fault: &SavedFault) -> io::Result<()> {
-    match fault {
-        SavedFault::NotSaved => write!(out, "it is not a state file"),
-        SavedFault::Version { place } => write!(out, "it has an unknown version, at octet {place}"),
-        SavedFault::Short { place } => write!(out, "it is cut off, at octet {place}"),
-        SavedFault::Long { place } => write!(out, "octets follow its end, at octet {place}"),
-        SavedFault::Digest { .. } => write!(out, "it is damaged: its digest does not match"),
-        SavedFault::BadLink { place }
-        | SavedFault::BadContext { place }
-        | SavedFault::BadOrder { place } => write!(out, "it has a bad value, at octet {place}"),
-        SavedFault::Settings(_) | SavedFault::NoMemory => write!(out, "{fault}"),
-    }
-}
-
-/// Whether no run can go on from this moment.
-fn is_too_late(restored: &Restored) -> bool {
-    let before = Before {
-        moment: restored.moment,
-        modified: None,
-    };
-    first_moment(None, Some(before)).is_none()
-}
-
-/// Restores the contexts that these octets save; `None` if they are refused.
-fn restored_in(
-    alloc: Global,
-    path: &str,
-    links: &Links,
-    octets: &[u8],
-    lines: &mut Lines,
-) -> io::Result<Option<(Concentrator, Restored)>> {
-    match restore(alloc, links.settings(), octets) {
-        Ok((_, restored)) if is_too_late(&restored) => {
-            let moment = restored.moment;
-            writeln!(
-                lines,
-                "{path}: its moment is {moment}; expected one below 2^63 ({FRESH})"
-            )?;
-            Ok(None)
-        }
-        Ok(restored) => Ok(Some(restored)),
-        Err(SavedFault::NoMemory) => Err(no_memory()),
-        Err(fault) => {
-            write!(lines, "{path}: ")?;
-            write_unsaved(lines, &fault)?;
-            let expected = "expected a complete state file of this version";
-            writeln!(lines, "; {expected} ({FRESH})")?;
-            Ok(None)
-        }
-    }
-}
-
-/// Restores the saved contexts, if there are some; `None` if there are none, or if they are refused.
-fn restored_of<R: Files + AllocGlobal>(
-    rt: &R,
-    path: &str,
-    links: &Links,
-    lines: &mut Lines,
-) -> io::Result<Option<(Concentrator, Restored)>> {
-    match read_state(&mut RealDisk::of(rt), rt.alloc(), path) {
-        Ok(Some(octets)) => restored_in(rt.alloc(), path, links, octets.as_slice(), lines),
-        Ok(None) => Ok(None),
-        Err(Reason::Memory) => Err(no_memory()),
-        Err(reason) => {
-            let expected = "expected a state file that this user can read, or none";
-            writeln!(lines, "{path}: {reason}; {expected}")?;
-            Ok(None)
-        }
-    }
-}
-
-/// What was saved, if something was and it is wanted, and what its file tells of the run before.
-fn saved_of<R: Files + AllocGlobal>(
-    rt: &R,
-    config: &Config,
+/// What is restored of the saves that stand, if it is wanted.
+#[derive(Clone, Copy)]
+struct Restoring<'a> {
+    paths: &'a SavePaths,
     manner: Manner,
+    stale_ms: u32,
+}
+
+/// What was restored, if something was. Saves that aren't wanted are moved aside; remarks say so, and which save is restored in
+/// place of a newer one that is damaged. The lines say what is wrong if none can be restored.
+fn back_of<R: Files + Clock + AllocGlobal>(
+    rt: &R,
+    restoring: &Restoring<'_>,
     links: &Links,
+    remarks: &mut Lines,
     lines: &mut Lines,
-) -> io::Result<Option<(Concentrator, u64, Before)>> {
-    let path = match &config.state {
-        Some(path) if manner != Manner::Fresh => path.as_str(),
-        _ => return Ok(None),
-    };
-    let Some((concentrator, restored)) = restored_of(rt, path, links, lines)? else {
+) -> io::Result<Option<Back>> {
+    let paths = restoring.paths;
+    if restoring.manner == Manner::Fresh {
+        if !move_aside(rt, paths, remarks)? {
+            lines.write_all(remarks.as_str().as_bytes())?;
+        }
         return Ok(None);
-    };
-    let before = Before {
-        moment: restored.moment,
-        modified: RealDisk::of(rt).modified(path).ok(),
-    };
-    Ok(Some((concentrator, restored.contexts, before)))
+    }
+    let back = restore_newest(rt, paths, links, restoring.stale_ms, remarks)?;
+    if back.is_none() {
+        lines.write_all(remarks.as_str().as_bytes())?;
+    }
+    Ok(back)
 }
 
 /// The locks for a start, before anything is read that another gateway may still write. A check takes none.
@@ -262,6 +205,27 @@ where
     Locks::of(rt, file, config, lines)
 }
 
+/// Restores what was saved, if there is a state file.
+fn restored_with<R: Files + Clock + AllocGlobal>(
+    rt: &R,
+    config: &Config,
+    manner: Manner,
+    links: &Links,
+    remarks: &mut Lines,
+    lines: &mut Lines,
+) -> io::Result<(Option<SavePaths>, Option<Back>)> {
+    let Some(paths) = SavePaths::of(rt.alloc(), config)? else {
+        return Ok((None, None));
+    };
+    let restoring = Restoring {
+        paths: &paths,
+        manner,
+        stale_ms: config.stale_ms(),
+    };
+    let back = back_of(rt, &restoring, links, remarks, lines)?;
+    Ok((Some(paths), back))
+}
+
 /// Reads the rest of what a gateway with this file starts from. `None` if something is wrong, which the lines say.
 fn start_with<R>(
     rt: &R,
@@ -271,7 +235,7 @@ fn start_with<R>(
     lines: &mut Lines,
 ) -> io::Result<Option<Start>>
 where
-    R: Files<File = File> + AllocGlobal,
+    R: Files<File = File> + Clock + AllocGlobal,
 {
     let Some(path) = &config.links else {
         return Ok(None);
@@ -280,16 +244,34 @@ where
         return Ok(None);
     };
     let locks = locks_for(rt, file, &config, manner, lines)?;
-    let (concentrator, contexts, before) = match saved_of(rt, &config, manner, &links, lines)? {
-        Some((restored, contexts, before)) => (restored, contexts, Some(before)),
-        None => (concentrator, 0, None),
+    if !lines.is_empty() {
+        return Ok(None);
+    }
+    let mut remarks = Lines::new(rt.alloc());
+    let (paths, back) = restored_with(rt, &config, manner, &links, &mut remarks, lines)?;
+    let (concentrator, contexts, is_stale, before, time) = match back {
+        Some(back) => (
+            back.concentrator,
+            back.contexts,
+            back.is_stale,
+            Some(back.before),
+            Some(back.time),
+        ),
+        None => (concentrator, 0, false, None, Time::begin(rt, None)?),
+    };
+    let Some(time) = time else {
+        return Ok(None);
     };
     Ok(Some(Start {
         config,
         links,
         concentrator,
         contexts,
+        is_stale,
         before,
+        time,
+        paths,
+        remarks,
         locks,
     }))
 }
@@ -305,7 +287,7 @@ fn start_of<R>(
     format: &mut LogFormat,
 ) -> io::Result<Option<Start>>
 where
-    R: Files<File = File> + AllocGlobal,
+    R: Files<File = File> + Clock + AllocGlobal,
 {
     match config_of(rt, file, options, lines)? {
         Some(config) => {
@@ -324,7 +306,7 @@ pub(crate) fn read_start<R>(
     manner: Manner,
 ) -> Result<Start, NoStart>
 where
-    R: Files<File = File> + AllocGlobal,
+    R: Files<File = File> + Clock + AllocGlobal,
 {
     let mut lines = Lines::new(rt.alloc());
     let mut format = options.log_format.unwrap_or(LogFormat::Text);

@@ -1,21 +1,24 @@
 //! The sockets of a gateway. Only 127.0.0.1 is bound.
 
-use libc::net::{SO_RCVBUF, SOL_SOCKET, getsockopt, setsockopt};
+use libc::fchmod;
+use libc::net::{SO_RCVBUF, SOL_SOCKET, getsockopt, listen, setsockopt};
 use mio::event::Source;
 use mio::net::{TcpListener, UdpSocket, UnixListener};
 use mio::{Interest, Poll, Token};
 use rohc_gateway_file::{Config, LinkNote};
 use rohc_text::Reason;
-use std::fs::Permissions;
 use std::io::ErrorKind;
 use std::net::{Ipv4Addr, Net, SocketAddr};
-use std::os::fd::AsRawFd;
-use std::os::unix::fs::PermissionsExt;
+use std::os::fd::{AsFd, AsRawFd};
+use std::os::unix;
 use std::rt::Files;
 use std::{fmt, fs, io};
 
 /// How many connections there may be at a time.
 pub(crate) const MOST_CONNECTIONS: usize = 16;
+
+/// How many connections may wait at the control socket.
+const WAITING_CONNECTIONS: i32 = 128;
 
 /// The token of the port for datagrams. Tokens below `MOST_CONNECTIONS` are those of connections.
 pub(crate) const PLAIN: Token = Token(100);
@@ -29,13 +32,14 @@ pub(crate) const CONTROL: Token = Token(102);
 /// The token of the metrics port.
 pub(crate) const METRICS: Token = Token(103);
 
-/// The token of the first link's own port; the others follow in the order of the sockets.
+/// The tokens of the links' own ports follow this one: each is that of its port.
 pub(crate) const LINKS: usize = 1000;
 
 /// The socket of a link's own port.
 #[derive(Drop)]
 pub(crate) struct LinkSocket {
     pub(crate) link: u16,
+    port: u16,
     pub(crate) socket: UdpSocket,
     /// Whether more may wait there.
     pub(crate) is_waiting: bool,
@@ -188,29 +192,48 @@ impl<R: Net> Binder<'_, R> {
     }
 }
 
-/// Adds the socket of a link's own port.
-fn add_socket(sockets: &mut Vec<LinkSocket>, link: u16, socket: UdpSocket) -> io::Result<()> {
+/// Adds the socket of a link's own port. Something may wait there already.
+fn add_socket(
+    sockets: &mut Vec<LinkSocket>,
+    link: u16,
+    port: u16,
+    socket: UdpSocket,
+) -> io::Result<()> {
     sockets.push(LinkSocket {
         link,
+        port,
         socket,
-        is_waiting: false,
+        is_waiting: true,
     })?;
     Ok(())
 }
 
-/// Binds the links' own ports.
-fn bind_links<R: Net + AllocGlobal>(
+/// Whether there is a socket for a link at this port.
+fn has_socket(sockets: &[LinkSocket], link: u16, port: u16) -> bool {
+    sockets
+        .iter()
+        .any(|one| one.link == link && one.port == port)
+}
+
+/// Binds those of the links' own ports that aren't bound yet.
+fn bind_links<R: Net>(
     binder: &mut Binder<'_, R>,
+    sockets: &mut Vec<LinkSocket>,
     notes: &[LinkNote],
-) -> Result<Vec<LinkSocket>, SocketFault<'static>> {
-    let mut sockets = Vec::new(binder.rt.alloc());
+) -> Result<(), SocketFault<'static>> {
     for note in notes {
-        let token = Token(LINKS.saturating_add(sockets.len()));
-        if let Some(socket) = binder.bind("link port", note.port, token)? {
-            at(Opened::Poll, add_socket(&mut sockets, note.number, socket))?;
+        let Some(port) = note.port else {
+            continue;
+        };
+        if has_socket(sockets.as_slice(), note.number, port) {
+            continue;
+        }
+        let token = Token(LINKS.saturating_add(usize::from(port)));
+        if let Some(socket) = binder.bind("link port", Some(port), token)? {
+            at(Opened::Poll, add_socket(sockets, note.number, port, socket))?;
         }
     }
-    Ok(sockets)
+    Ok(())
 }
 
 /// Removes a socket that a run left behind when it was killed.
@@ -221,17 +244,31 @@ pub(crate) fn remove_control<R: Files>(rt: &R, path: &str) -> io::Result<()> {
     }
 }
 
-/// Binds a socket that its owner alone may open, under this name.
+/// Whether a call of the system was done.
+fn is_done(status: i32) -> io::Result<()> {
+    if status == 0 {
+        Ok(())
+    } else {
+        Err(io::Error::from(ErrorKind::Other))
+    }
+}
+
+/// Binds a socket that its owner alone may open, under this name. It has its mode before it is there.
 fn bind_owned<R: Files + Net>(rt: &R, poll: &Poll, path: &str) -> io::Result<UnixListener> {
     remove_control(rt, path)?;
-    let mut listener = UnixListener::bind(rt, path)?;
-    fs::set_permissions(rt, path, Permissions::from_mode(0o600))?;
+    let socket = rt.unix_socket()?;
+    is_done(fchmod(socket.as_raw_fd(), 0o600))?;
+    rt.bind_unix(socket.as_fd(), &unix::net::SocketAddr::from_pathname(path)?)?;
+    is_done(listen(socket.as_raw_fd(), WAITING_CONNECTIONS))?;
+    let listener = unix::net::UnixListener::from(socket);
+    listener.set_nonblocking(true)?;
+    let mut listener = UnixListener::from_std(listener);
     watch(poll, &mut listener, CONTROL)?;
     Ok(listener)
 }
 
-/// Binds the control socket, which its owner alone may open. It is bound under another name first, so that
-/// it is never there for others.
+/// Binds the control socket, which its owner alone may open. It is bound under another name first, so that it is there only
+/// when it can be used.
 fn bind_control<R: Files + Net + AllocGlobal>(
     rt: &R,
     poll: &Poll,
@@ -274,7 +311,8 @@ impl Sockets {
         };
         let plain = binder.bind("port", config.port, PLAIN)?;
         let timed = binder.bind("timed_port", config.timed_port, TIMED)?;
-        let links = bind_links(&mut binder, notes)?;
+        let mut links = Vec::new(rt.alloc());
+        bind_links(&mut binder, &mut links, notes)?;
         let receive_buffer = binder.got;
         let metrics = bind_metrics(rt, &poll, config.metrics_port)?;
         let control = match &config.control {
@@ -295,6 +333,26 @@ impl Sockets {
         })
     }
 
+    /// Closes the links' own ports that the gateway file no longer names, and opens those that it names now. The error is the
+    /// first that can't be opened; those before it are.
+    pub(crate) fn follow<R: Net>(
+        &mut self,
+        rt: &R,
+        wanted: u32,
+        notes: &[LinkNote],
+    ) -> Result<(), SocketFault<'static>> {
+        self.links.retain(|one| {
+            notes.iter().any(|note| note.number == one.link && note.port == Some(one.port))
+        });
+        let mut binder = Binder {
+            rt,
+            poll: &self.poll,
+            wanted,
+            got: u32::MAX,
+        };
+        bind_links(&mut binder, &mut self.links, notes)
+    }
+
     /// A socket for datagrams, if there is one.
     pub(crate) fn any(&self) -> Option<&UdpSocket> {
         if self.plain.is_some() {
@@ -309,10 +367,12 @@ impl Sockets {
         }
     }
 
-    /// Notes that something waits at the link's own port of this place.
-    pub(crate) fn note_link(&mut self, place: usize) {
-        if let Some(one) = self.links.get_mut(place) {
-            one.is_waiting = true;
+    /// Notes that something waits at this port of a link.
+    pub(crate) fn note_link(&mut self, port: usize) {
+        for one in self.links.iter_mut() {
+            if usize::from(one.port) == port {
+                one.is_waiting = true;
+            }
         }
     }
 }

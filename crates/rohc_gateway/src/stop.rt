@@ -54,12 +54,7 @@ impl Gateway<'_> {
             return;
         }
         self.stop = None;
-        let progress = match self.save_as_asked(rt, true) {
-            Ok(reply) => self.send_answer(rt.alloc(), place, &reply),
-            Err(_) => Progress::Ended,
-        };
-        if let Progress::Ended = progress {
-            self.free(place);
-        }
+        let reply = self.save_and_stop(rt);
+        self.end_request(rt.alloc(), place, reply);
     }
 }

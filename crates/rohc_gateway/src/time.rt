@@ -1,6 +1,6 @@
 //! The time of a gateway: its moments, and the system's clock beside them.
 
-use crate::real::RealClocks;
+use crate::clocks::RealClocks;
 use rohc_loop::{Before, Moments, Reading, Step, first_moment, step_between};
 use rohc_world::Clocks;
 use std::io;
@@ -11,27 +11,36 @@ use std::time::{Clock, Instant};
 pub(crate) struct Time {
     began: Instant,
     pub(crate) moments: Moments,
+    first: u64,
     /// What the system's clock and the moments showed last.
     shown: Reading,
 }
 
 impl Time {
-    /// Begins a run that goes on from what was saved, or from the system's clock. The error is that a clock can't be read.
-    pub(crate) fn begin<R: Clock>(rt: &R, before: Option<Before>) -> io::Result<Time> {
+    /// Begins a run that goes on from what was saved, or from the system's clock; `None` if the saved moment is too late. The
+    /// error is that a clock can't be read.
+    pub(crate) fn begin<R: Clock>(rt: &R, before: Option<Before>) -> io::Result<Option<Time>> {
         let began = Instant::now(rt)?;
         let mut clocks = RealClocks::of(rt, began);
         let date = clocks.date().ok();
-        // A state file whose moment is too late was refused.
-        let moment = first_moment(date, before).unwrap_or(0);
+        let Some(moment) = first_moment(date, before) else {
+            return Ok(None);
+        };
         let Ok(moments) = Moments::begin(&mut clocks, moment) else {
             return Err(io::Error::from(io::ErrorKind::Other));
         };
         let date = date.unwrap_or(0);
-        Ok(Time {
+        Ok(Some(Time {
             began,
             moments,
+            first: moment,
             shown: Reading { date, moment },
-        })
+        }))
+    }
+
+    /// The first moment of the run.
+    pub(crate) fn first(&self) -> u64 {
+        self.first
     }
 
     /// The clocks of the system, for this run.

@@ -10,12 +10,14 @@ use std::io::{ErrorKind, Write};
 use toml::{Table, Value};
 
 /// The keys of a gateway file.
-const KEYS: [&str; 11] = [
+const KEYS: [&str; 13] = [
     "links",
     "port",
     "timed_port",
     "state",
     "save_seconds",
+    "scratch",
+    "stale_ms",
     "control",
     "metrics_port",
     "log_format",
@@ -27,8 +29,45 @@ const KEYS: [&str; 11] = [
 /// How many octets of datagrams a socket keeps that wait, unless the gateway file says otherwise: 4 MiB.
 const RECEIVE_BUFFER: u32 = 4_194_304;
 
-/// The most that the gateway file may ask for: 1 GiB.
-const MOST_RECEIVED: u32 = 1_073_741_824;
+/// Which numbers a key may have.
+#[derive(Clone, Copy)]
+struct Range {
+    least: u32,
+    greatest: u32,
+    /// What is expected, in words.
+    expected: &'static str,
+}
+
+/// The ports.
+const PORTS: Range = Range {
+    least: 1,
+    greatest: 65_535,
+    expected: A_PORT,
+};
+
+/// The seconds between two saves, up to a day.
+const SAVE_SECONDS: Range = Range {
+    least: 1,
+    greatest: 86_400,
+    expected: "a number from 1 to 86400",
+};
+
+/// The ages from which on calls are stale.
+const STALE: Range = Range {
+    least: 0,
+    greatest: u32::MAX,
+    expected: "a number of milliseconds from 0 to 4294967295",
+};
+
+/// What a socket may keep: up to 1 GiB.
+const RECEIVED: Range = Range {
+    least: 1,
+    greatest: 1_073_741_824,
+    expected: "a number of octets from 1 to 1073741824",
+};
+
+/// From which age on saved calls are stale, in milliseconds, unless the gateway file says otherwise.
+const STALE_MS: u32 = 1000;
 
 /// The longest path of a control socket, in octets: the system has room for 107, and it is first bound under a name that
 /// is four octets longer.
@@ -57,8 +96,12 @@ pub struct Config {
     pub timed_port: Option<u16>,
     /// The file for saved contexts.
     pub state: Option<String>,
-    /// How often they are saved.
+    /// How often they are saved while the gateway runs.
     pub save_seconds: Option<u32>,
+    /// The folder for these saves; that of the state file if it isn't given.
+    pub scratch: Option<String>,
+    /// From which age on saved contexts are stale, in milliseconds, if the gateway file says so.
+    pub stale_ms: Option<u32>,
     /// The control socket.
     pub control: Option<String>,
     /// The port for metrics.
@@ -74,6 +117,15 @@ pub struct Config {
 }
 
 impl Config {
+    /// From which age on saved contexts are stale, in milliseconds; 0 is never. At `timed_port` moments are the sender's, and no
+    /// context is.
+    pub fn stale_ms(&self) -> u32 {
+        match self.timed_port {
+            Some(_) => 0,
+            None => self.stale_ms.unwrap_or(STALE_MS),
+        }
+    }
+
     /// The key that has this port, if one has.
     pub(crate) fn key_of_port(&self, port: u16) -> Option<&'static str> {
         if self.port == Some(port) {
@@ -103,6 +155,8 @@ pub enum Wrong {
     SamePort(&'static str),
     /// Without a state file there is nothing to save.
     NeedsState,
+    /// At `timed_port` moments are the sender's, so the age of a saved call isn't known.
+    NotTimed,
     /// The path of a socket has this many octets, which are too many.
     LongPath(usize),
 }
@@ -199,6 +253,10 @@ impl ConfigFault {
                     "{key} needs state; expected state = \"FILE\" for the saved calls"
                 )?
             }
+            Wrong::NotTimed => write!(
+                out,
+                "{key} needs the gateway's moments; expected no timed_port, whose moments are the sender's"
+            )?,
             Wrong::LongPath(size) => write!(
                 out,
                 "{key} is a path of {size} octets; expected at most {LONGEST_SOCKET}"
@@ -350,18 +408,22 @@ impl Reading<'_> {
         Ok(Some(String::from_str(self.alloc, path)?))
     }
 
-    /// The number at a key that is there, from 1 to the greatest, or a fault.
+    /// The number at a key that is there, within its range, or a fault.
     fn number_at(
         &mut self,
         table: &Table,
         key: &'static str,
-        greatest: u32,
-        expected: &'static str,
+        range: Range,
     ) -> Result<Option<u32>, AllocError> {
         let Some(value) = table.get(key) else {
             return Ok(None);
         };
-        match number_of(value, greatest) {
+        let Range {
+            least,
+            greatest,
+            expected,
+        } = range;
+        match number_of(value, least, greatest) {
             Some(number) => Ok(Some(number)),
             None => {
                 self.add_value(key, value, expected)?;
@@ -372,7 +434,7 @@ impl Reading<'_> {
 
     /// The port at a key that is there, or a fault.
     fn port_at(&mut self, table: &Table, key: &'static str) -> Result<Option<u16>, AllocError> {
-        match self.number_at(table, key, 65_535, A_PORT)? {
+        match self.number_at(table, key, PORTS)? {
             Some(number) => Ok(u16::try_from(number).ok()),
             None => Ok(None),
         }
@@ -438,22 +500,14 @@ impl Reading<'_> {
         self.config.port = self.port_at(table, "port")?;
         self.config.timed_port = self.port_at(table, "timed_port")?;
         self.config.state = self.path_at(table, "state", folder)?;
-        self.config.save_seconds = self.number_at(
-            table,
-            "save_seconds",
-            86_400,
-            "a number from 1 to 86400",
-        )?;
+        self.config.save_seconds = self.number_at(table, "save_seconds", SAVE_SECONDS)?;
+        self.config.scratch = self.path_at(table, "scratch", folder)?;
+        self.config.stale_ms = self.number_at(table, "stale_ms", STALE)?;
         self.config.control = self.path_at(table, "control", folder)?;
         self.config.metrics_port = self.port_at(table, "metrics_port")?;
         self.config.log_format = self.format_at(table, "log_format")?;
         self.config.numbered_feedback = self.flag_at(table, "numbered_feedback")?;
-        let buffer = self.number_at(
-            table,
-            "receive_buffer",
-            MOST_RECEIVED,
-            "a number of octets from 1 to 1073741824",
-        )?;
+        let buffer = self.number_at(table, "receive_buffer", RECEIVED)?;
         self.config.receive_buffer = buffer.unwrap_or(RECEIVE_BUFFER);
         self.read_links(table)
     }
@@ -498,6 +552,21 @@ impl Reading<'_> {
         Ok(())
     }
 
+    /// Judges what is said of saves.
+    fn judge_saves(&mut self) -> Result<(), AllocError> {
+        let has_state = self.config.state.is_some() || self.is_faulty("state");
+        if self.config.save_seconds.is_some() && !has_state {
+            self.add("save_seconds", Wrong::NeedsState)?;
+        }
+        if self.config.scratch.is_some() && !has_state {
+            self.add("scratch", Wrong::NeedsState)?;
+        }
+        if self.config.stale_ms.is_some() && self.config.timed_port.is_some() {
+            self.add("stale_ms", Wrong::NotTimed)?;
+        }
+        Ok(())
+    }
+
     /// Judges what was read as a whole.
     fn judge(&mut self) -> Result<(), AllocError> {
         if self.config.links.is_none() && !self.is_faulty("links") {
@@ -527,12 +596,7 @@ impl Reading<'_> {
         if ports[2].is_some() && ports[2] == ports[1] {
             self.add("metrics_port", Wrong::SamePort("timed_port"))?;
         }
-        if self.config.save_seconds.is_some()
-            && self.config.state.is_none()
-            && !self.is_faulty("state")
-        {
-            self.add("save_seconds", Wrong::NeedsState)?;
-        }
+        self.judge_saves()?;
         self.judge_link_ports()?;
         self.judge_control()
     }
@@ -543,10 +607,10 @@ fn is_key(name: &str) -> bool {
     KEYS.iter().any(|key| *key == name)
 }
 
-/// The number of a value, from 1 to the greatest.
-fn number_of(value: &Value, greatest: u32) -> Option<u32> {
+/// The number of a value, from the least to the greatest.
+fn number_of(value: &Value, least: u32, greatest: u32) -> Option<u32> {
     let number = u32::try_from(value.as_integer()?).ok()?;
-    if 1 <= number && number <= greatest {
+    if least <= number && number <= greatest {
         Some(number)
     } else {
         None
@@ -584,6 +648,8 @@ pub fn read_config<'a>(
         timed_port: None,
         state: None,
         save_seconds: None,
+        scratch: None,
+        stale_ms: None,
         control: None,
         metrics_port: None,
         log_format: LogFormat::Text,

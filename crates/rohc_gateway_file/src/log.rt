@@ -1,6 +1,7 @@
 //! The log: lines on standard error.
 
 use crate::civil::civil_at;
+use rohc_disk::milliseconds;
 use rohc_text::write_json_text;
 use std::alloc::Global;
 use std::io::Write;
@@ -86,14 +87,6 @@ pub struct Log {
     pub is_journal: bool,
     /// The format of each line.
     pub format: LogFormat,
-}
-
-/// A time in milliseconds since 1970; 0 if it is before.
-pub fn milliseconds(time: SystemTime) -> u64 {
-    match time.duration_since(UNIX_EPOCH) {
-        Ok(passed) => u64::try_from(passed.as_millis()).unwrap_or(u64::MAX),
-        Err(_) => 0,
-    }
 }
 
 /// The system's clock; 1970 if it can't be read.
