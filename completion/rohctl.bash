@@ -14,7 +14,7 @@ _rohctl() {
     # The command comes behind the program's own options.
     while [[ ${COMP_WORDS[at]} == @(--color) && $at -lt $COMP_CWORD ]]; do at=$((at + 2)); done
     if [[ $at -eq $COMP_CWORD && $word != -* ]]; then
-        mapfile -t COMPREPLY < <(compgen -W 'totals run trace links diff explain plan decompress script feed report survey find spread verify status stop save drain top reload reset watch record contexts hold export import calls' -- "$word")
+        mapfile -t COMPREPLY < <(compgen -W 'totals run trace links diff explain plan decompress script feed report survey find spread verify status stop save drain resume top reload reset watch record contexts hold export import keep calls' -- "$word")
         return
     fi
     case ${COMP_WORDS[at]} in
@@ -94,6 +94,10 @@ _rohctl() {
         options='--control --name --color --help'
         plain='--name' files='--control' takes_files=''
         ;;
+    resume)
+        options='--control --name --color --help'
+        plain='--name' files='--control' takes_files=''
+        ;;
     top)
         options='--control --name --color --help'
         plain='--name' files='--control' takes_files=''
@@ -129,6 +133,10 @@ _rohctl() {
     import)
         options='--control --name --link --color --help'
         plain='--name --link' files='--control' takes_files='yes'
+        ;;
+    keep)
+        options='--control --name --every --color --help'
+        plain='--name --every' files='--control' takes_files=''
         ;;
     calls)
         options='--control --name --link --json --color --help'

@@ -1,5 +1,5 @@
 # Completion of rohctl in fish. tools/make_completion.py writes this from the help of rohctl.
-set -l commands totals run trace links diff explain plan decompress script feed report survey find spread verify status stop save drain top reload reset watch record contexts hold export import calls
+set -l commands totals run trace links diff explain plan decompress script feed report survey find spread verify status stop save drain resume top reload reset watch record contexts hold export import keep calls
 complete -c rohctl -f
 complete -c rohctl -n "not __fish_seen_subcommand_from $commands" -a totals -d 'Count the answer lines of rohcd replay, for each call, each link and all'
 complete -c rohctl -n "not __fish_seen_subcommand_from $commands" -a run -d 'Run a script as rohcd replay does, also from the contexts of a state file'
@@ -20,6 +20,7 @@ complete -c rohctl -n "not __fish_seen_subcommand_from $commands" -a status -d '
 complete -c rohctl -n "not __fish_seen_subcommand_from $commands" -a stop -d 'Save the calls of a gateway and stop it'
 complete -c rohctl -n "not __fish_seen_subcommand_from $commands" -a save -d 'Save the calls of a gateway'
 complete -c rohctl -n "not __fish_seen_subcommand_from $commands" -a drain -d 'Stop accepting new calls'
+complete -c rohctl -n "not __fish_seen_subcommand_from $commands" -a resume -d 'Accept new calls again'
 complete -c rohctl -n "not __fish_seen_subcommand_from $commands" -a top -d 'Show the links and the worst calls of a gateway, on a terminal every two seconds'
 complete -c rohctl -n "not __fish_seen_subcommand_from $commands" -a reload -d 'Make a gateway read its links file again'
 complete -c rohctl -n "not __fish_seen_subcommand_from $commands" -a reset -d 'Remove the contexts of a link, or one of them, from a gateway'
@@ -29,6 +30,7 @@ complete -c rohctl -n "not __fish_seen_subcommand_from $commands" -a contexts -d
 complete -c rohctl -n "not __fish_seen_subcommand_from $commands" -a hold -d 'Hold the datagrams of a link until its contexts are imported'
 complete -c rohctl -n "not __fish_seen_subcommand_from $commands" -a export -d 'Write the contexts of a link, and accept none of its datagrams from then on'
 complete -c rohctl -n "not __fish_seen_subcommand_from $commands" -a import -d 'Continue the calls of a held link from what export wrote'
+complete -c rohctl -n "not __fish_seen_subcommand_from $commands" -a keep -d 'Copy the newest save of a gateway to a durable file'
 complete -c rohctl -n "not __fish_seen_subcommand_from $commands" -a calls -d 'List the calls of all links or of one, those silent longest first'
 complete -c rohctl -F -n "__fish_seen_subcommand_from totals run trace links diff explain decompress script feed report survey spread verify import"
 complete -c rohctl -l color -x -a 'auto always never' -n "not __fish_seen_subcommand_from $commands" -d 'Use colors'
@@ -37,8 +39,8 @@ complete -c rohctl -s V -l version -n "not __fish_seen_subcommand_from $commands
 complete -c rohctl -l json -n "__fish_seen_subcommand_from totals links diff explain plan survey find calls" -d 'Write JSON, one object per line'
 complete -c rohctl -l prometheus -n "__fish_seen_subcommand_from totals" -d 'Write the Prometheus text format'
 complete -c rohctl -l follow -n "__fish_seen_subcommand_from totals" -d 'On a terminal, redraw the table while lines arrive'
-complete -c rohctl -l color -x -a 'auto always never' -n "__fish_seen_subcommand_from totals run trace links diff explain plan decompress script feed report survey find spread verify status stop save drain top reload reset watch record contexts hold export import calls" -d 'Use colors'
-complete -c rohctl -s h -l help -n "__fish_seen_subcommand_from totals run trace links diff explain plan decompress script feed report survey find spread verify status stop save drain top reload reset watch record contexts hold export import calls" -d 'Print help'
+complete -c rohctl -l color -x -a 'auto always never' -n "__fish_seen_subcommand_from totals run trace links diff explain plan decompress script feed report survey find spread verify status stop save drain resume top reload reset watch record contexts hold export import keep calls" -d 'Use colors'
+complete -c rohctl -s h -l help -n "__fish_seen_subcommand_from totals run trace links diff explain plan decompress script feed report survey find spread verify status stop save drain resume top reload reset watch record contexts hold export import keep calls" -d 'Print help'
 complete -c rohctl -l links -r -F -n "__fish_seen_subcommand_from run trace decompress report find" -d 'The links file'
 complete -c rohctl -l state -r -F -n "__fish_seen_subcommand_from run explain find" -d 'Begin with the contexts of this state file of rohc-gateway'
 complete -c rohctl -l new -n "__fish_seen_subcommand_from links" -d 'Write a links file of N links to start from, 1 if N isn\'t given'
@@ -83,8 +85,8 @@ complete -c rohctl -l now -n "__fish_seen_subcommand_from feed" -d 'Send the pre
 complete -c rohctl -s o -l output -r -F -n "__fish_seen_subcommand_from report" -d 'The page to write'
 complete -c rohctl -l links -r -F -n "__fish_seen_subcommand_from survey" -d 'Write a links file to start from to this file'
 complete -c rohctl -s i -l input -r -F -n "__fish_seen_subcommand_from find" -d 'The script or the capture to search'
-complete -c rohctl -l control -r -F -n "__fish_seen_subcommand_from find status stop save drain top reload reset watch record contexts hold export import calls" -d 'The control socket of the gateway'
-complete -c rohctl -l name -x -n "__fish_seen_subcommand_from find status stop save drain top reload reset watch record contexts hold export import calls" -d 'The gateway with the control socket /run/rohc-gateway/NAME/control'
+complete -c rohctl -l control -r -F -n "__fish_seen_subcommand_from find status stop save drain resume top reload reset watch record contexts hold export import keep calls" -d 'The control socket of the gateway'
+complete -c rohctl -l name -x -n "__fish_seen_subcommand_from find status stop save drain resume top reload reset watch record contexts hold export import keep calls" -d 'The gateway with the control socket /run/rohc-gateway/NAME/control'
 complete -c rohctl -l hosts -r -F -n "__fish_seen_subcommand_from spread" -d 'The file of the processes and their links'
 complete -c rohctl -l nginx -n "__fish_seen_subcommand_from spread" -d 'Write an nginx configuration instead of an nftables table'
 complete -c rohctl -l out -r -F -n "__fish_seen_subcommand_from spread" -d 'Also write a links file for each process into this directory'
@@ -98,4 +100,5 @@ complete -c rohctl -l link -x -n "__fish_seen_subcommand_from record" -d 'Record
 complete -c rohctl -s o -l output -x -n "__fish_seen_subcommand_from record" -d 'Write the contexts at the start to NAME.state, and the packets to NAME.script'
 complete -c rohctl -l off -n "__fish_seen_subcommand_from hold" -d 'Stop holding them, and drop those that are held'
 complete -c rohctl -l off -n "__fish_seen_subcommand_from export" -d 'Accept the datagrams of an exported link again'
+complete -c rohctl -l every -x -n "__fish_seen_subcommand_from keep" -d 'Copy it every S seconds, until interrupted or the gateway is gone'
 complete -c rohctl -l link -x -n "__fish_seen_subcommand_from calls" -d 'List only the calls of this link'

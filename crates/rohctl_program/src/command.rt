@@ -4,6 +4,7 @@ use crate::capture_words::{decompress_of, feed_of, script_of};
 use crate::control::Wish;
 use crate::explain_words::explain_of;
 use crate::gateway::{Gateway, gateway_of};
+use crate::keeping::every_of;
 use crate::recording::{Recorded, recorded_of};
 use crate::replaying::{Replayed, replayed_of};
 use crate::report_words::report_of;
@@ -84,6 +85,11 @@ pub(crate) enum Request<'a> {
     Record {
         gateway: Gateway<'a>,
         asked: Recorded<'a>,
+    },
+    /// Copy the newest save of a gateway, once or every so many seconds.
+    Keep {
+        gateway: Gateway<'a>,
+        every: Option<u32>,
     },
     /// Run a script as rohcd does.
     Replay(Replayed<'a>),
@@ -228,6 +234,7 @@ fn wish_of<'a>(name: &str, options: &ArgMatches<'a>) -> Result<Wish, Ending<'a>>
             dry_run: options.get_flag("dry-run"),
         }),
         "drain" => Ok(Wish::Drain),
+        "resume" => Ok(Wish::Resume),
         "top" => Ok(Wish::Top),
         name => link_wish(name, options),
     }
@@ -324,6 +331,14 @@ fn record_of<'a>(options: &ArgMatches<'a>) -> Result<Request<'a>, Ending<'a>> {
     })
 }
 
+/// The request `keep`.
+fn keep_of<'a>(options: &ArgMatches<'a>) -> Result<Request<'a>, Ending<'a>> {
+    Ok(Request::Keep {
+        gateway: gateway_of(options)?,
+        every: every_of(options)?,
+    })
+}
+
 /// The request of a subcommand. `is_terminal` is whether standard input is one.
 fn named<'a>(
     alloc: Global,
@@ -348,6 +363,7 @@ fn named<'a>(
         "trace" => trace_of(options, is_terminal),
         "run" => replayed_of(options, is_terminal).map(|asked| Request::Replay(asked)),
         "record" => record_of(options),
+        "keep" => keep_of(options),
         "spread" => spread_of(options),
         "verify" => verify_of(options),
         "import" => import_of(options),

@@ -122,6 +122,8 @@ pub(crate) enum Wish {
     Reload { dry_run: bool },
     /// Accept no new call.
     Drain,
+    /// Accept new calls again.
+    Resume,
     /// Forget the contexts of a link, or the one of a CID.
     Reset { link: u16, cid: Option<u16> },
     /// Show each packet of a call until the program is interrupted.
@@ -140,6 +142,10 @@ pub(crate) enum Wish {
     Top,
     /// Give the contexts as they are saved.
     State,
+    /// Say where the newest save is, and where its copy belongs.
+    Keep,
+    /// Note that a copy was made, or that one failed.
+    Kept { is_made: bool },
     /// Give the contexts, and then the packets that arrive in so many seconds.
     Record { link: Option<u16>, seconds: u16 },
 }
@@ -170,6 +176,7 @@ impl Wish {
             Wish::Reload { dry_run: false } => out.write_all(b"POST /reload"),
             Wish::Reload { dry_run: true } => out.write_all(b"GET /reload"),
             Wish::Drain => out.write_all(b"POST /drain"),
+            Wish::Resume => out.write_all(b"POST /resume"),
             Wish::Reset { link, cid: None } => write!(out, "POST /reset?link={link}"),
             Wish::Reset {
                 link,
@@ -183,6 +190,9 @@ impl Wish {
             Wish::Calls { link, json } => write_calls_path(out, link, json),
             Wish::Top => out.write_all(b"GET /top"),
             Wish::State => out.write_all(b"GET /state"),
+            Wish::Keep => out.write_all(b"GET /keep"),
+            Wish::Kept { is_made: true } => out.write_all(b"POST /kept"),
+            Wish::Kept { is_made: false } => out.write_all(b"POST /kept?failed"),
             Wish::Record {
                 link: None,
                 seconds,
@@ -394,12 +404,12 @@ fn write_held<R: Print>(rt: &R, octets: &[u8]) -> Result<(), Fault> {
     write_body(&mut out, octets)
 }
 
-/// The contexts of a gateway as they are saved. An answer that has none is written.
-pub(crate) fn state_of<R>(rt: &R, control: &str) -> Result<Vec<u8>, Ending<'static>>
+/// What a gateway answers if the request was done. Another answer is written.
+pub(crate) fn answer_of<R>(rt: &R, control: &str, wish: Wish) -> Result<Vec<u8>, Ending<'static>>
 where
     R: Files + Net + Print + Eprint + AllocGlobal,
 {
-    match held(rt, control, Wish::State) {
+    match held(rt, control, wish) {
         Ok((true, octets)) => Ok(octets),
         Ok((false, octets)) => match write_held(rt, octets.as_slice()) {
             Ok(()) => Err(Ending::Findings),
@@ -407,6 +417,11 @@ where
         },
         Err(fault) => Err(fault.ending(rt, control)),
     }
+}
+
+/// Prints that what a gateway answered is none of its answers. Returns how the program ends by it.
+pub(crate) fn no_answer<R: Eprint>(rt: &R, control: &str) -> Ending<'static> {
+    Fault::NoAnswer.ending(rt, control)
 }
 
 /// Clears the terminal, and writes what a gateway answers. Returns whether the request was done.

@@ -8,6 +8,7 @@ mod command;
 mod control;
 mod explain_words;
 mod gateway;
+mod keeping;
 mod narrow_words;
 mod program;
 mod recording;

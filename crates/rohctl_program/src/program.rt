@@ -1,8 +1,9 @@
 //! The program, from the words after its name to how it ends.
 
 use crate::command::{Request, read_request};
-use crate::control::{run_control, run_import, state_of};
+use crate::control::{Wish, answer_of, run_control, run_import};
 use crate::gateway::socket_of;
+use crate::keeping::keep_from;
 use crate::recording::run_record;
 use crate::replaying::run_replay;
 use crate::seeking_words::searched_socket;
@@ -73,7 +74,7 @@ where
             sought,
             gateway: Some(gateway),
         } => {
-            let state = state_of(rt, searched_socket(rt, gateway)?.as_str())?;
+            let state = answer_of(rt, searched_socket(rt, gateway)?.as_str(), Wish::State)?;
             run_find(rt, &sought, Some(state.as_slice()), screen)
         }
         Request::Spread(spread) => run_spread(rt, spread),
@@ -96,6 +97,9 @@ where
         }
         Request::Record { gateway, asked } => {
             run_record(rt, socket_of(rt, gateway)?.as_str(), asked)
+        }
+        Request::Keep { gateway, every } => {
+            keep_from(rt, socket_of(rt, gateway)?.as_str(), every)
         }
         Request::Replay(asked) => run_replay(rt, asked, screen),
         Request::Trace { links, script } => run_trace(rt, links, script, screen),

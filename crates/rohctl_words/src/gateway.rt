@@ -47,6 +47,7 @@ fn with_whole<'a>(given: Given<'_>, command: Command<'a>) -> Result<Command<'a>,
         ("stop", "Save the calls of a gateway and stop it"),
         ("save", "Save the calls of a gateway"),
         ("drain", "Stop accepting new calls; existing calls continue"),
+        ("resume", "Accept new calls again"),
         (
             "top",
             "Show the links and the worst calls of a gateway, on a terminal every two seconds",
@@ -88,6 +89,21 @@ fn with_moving<'a>(given: Given<'_>, command: Command<'a>) -> Result<Command<'a>
             link(),
             argument("FILE", "What export wrote; - is standard input").required(),
         ],
+    )
+}
+
+/// With the subcommand that copies what a gateway saved.
+fn with_keep<'a>(given: Given<'_>, command: Command<'a>) -> Result<Command<'a>, AllocError> {
+    asking(
+        given,
+        command,
+        "keep",
+        "Copy the newest save of a gateway to a durable file",
+        &[valued(
+            "every",
+            "S",
+            "Copy it every S seconds, until interrupted or the gateway is gone; the default is once",
+        )],
     )
 }
 
@@ -149,6 +165,7 @@ pub(crate) fn with_gateway<'a>(
         &[link()],
     )?;
     let command = with_moving(given, command)?;
+    let command = with_keep(given, command)?;
     asking(
         given,
         command,
