@@ -3,8 +3,11 @@
 use crate::loopback::{Loopback, Wanted};
 use crate::machines::{DELIVER_PORT, Machines, Saved, place_of, station_from};
 use crate::sender::{CALLS, Call, Octets, datagram, has_ir, hostile, octets_of};
+use crate::shadow::Shadow;
 use crate::wrong::Wrong;
-use rohc_loop::{Before, Moments, first_moment, read_state, replace_file};
+use rohc_loop::{Before, Moments, first_moment, is_stale, read_state, replace_file};
+use rohc_running::{Begin, Progress, RunningSave};
+use rohc_saved::saved_moment;
 use rohc_serve::{PacketBuffer, named_link};
 use rohc_simulated::{Chances, Random, Simulated, SimulatedDisk};
 use rohc_station::{Duty, Observer, Port, Seen, Service, Taken, Wish, arrival_in};
@@ -12,8 +15,13 @@ use rohc_world::{Clocks, Disk};
 use std::alloc::Global;
 use std::mem;
 
-/// The file of the state.
+/// The save of a stop, and the newest one of a run.
 const STATE: &str = "state";
+
+const LATEST: &str = "latest";
+
+/// From which age on what was saved is stale, in milliseconds.
+const STALE_MS: u32 = 1000;
 
 /// How often a gateway wakes in its life.
 const WAKES: u32 = 64;
@@ -90,10 +98,14 @@ pub(crate) struct Life {
     buffer: PacketBuffer,
     calls: [Call; CALLS],
     missed: [Missed; CALLS],
-    /// What the state file may be, whenever the power fails, since the last save that was done.
+    /// The saves of the run, and what must be in their files.
+    running: RunningSave,
+    shadow: Shadow,
+    /// What either file may be.
     saved: Vec<Saved>,
-    /// Whether a save was done.
-    is_saved: bool,
+    /// The moments of the last save that was done, and of the last one that the device has.
+    done: Option<u64>,
+    synced: Option<u64>,
     /// The datagrams of the link that is held, with the moments at which they came.
     held: Vec<(u64, Octets)>,
     /// How many datagrams were answered since the last start, and how many of the exported link dropped.
@@ -102,13 +114,13 @@ pub(crate) struct Life {
     pub(crate) tally: Tally,
 }
 
-/// A service that goes on from what was saved, or begins.
-fn service_from(alloc: Global, saved: Option<&Saved>) -> Result<Service, Wrong> {
+/// A service that goes on from what was saved, or begins. Its contexts fall, if what was saved is stale.
+fn service_from(alloc: Global, saved: Option<&Saved>, falls: bool) -> Result<Service, Wrong> {
     let state = match saved {
         Some(saved) => Some(saved.state.as_slice()),
         None => None,
     };
-    Service::new(alloc, station_from(alloc, state)?).map_err(|_| Wrong::Memory)
+    Service::new(alloc, station_from(alloc, state, falls)?).map_err(|_| Wrong::Memory)
 }
 
 /// The link of a datagram.
@@ -119,18 +131,39 @@ fn link_of(datagram: &Octets) -> u16 {
     }
 }
 
-/// The moments of a run that goes on from this saved moment, or begins.
-fn moments_from(world: &mut Simulated, saved: Option<u64>) -> Result<Moments, Wrong> {
-    let before = match saved {
-        Some(moment) => Some(Before {
-            moment,
-            modified: world.modified(STATE).ok(),
+/// A save that was found.
+#[derive(Drop)]
+struct Found {
+    path: &'static str,
+    moment: u64,
+    octets: Vec<u8>,
+}
+
+/// The save at a path, if it is there and tells its moment.
+fn found_at(world: &mut Simulated, alloc: Global, path: &'static str) -> Option<Found> {
+    let octets = read_state(world, alloc, path).ok()??;
+    let moment = saved_moment(octets.as_slice()).ok()?;
+    Some(Found {
+        path,
+        moment,
+        octets,
+    })
+}
+
+/// The first moment of a run that goes on from this save, or begins.
+fn first_of(world: &mut Simulated, found: Option<&Found>) -> Result<u64, Wrong> {
+    let before = match found {
+        Some(found) => Some(Before {
+            moment: found.moment,
+            modified: world.modified(found.path).ok(),
         }),
         None => None,
     };
-    let Some(first) = first_moment(world.date().ok(), before) else {
-        return Err(Wrong::State);
-    };
+    first_moment(world.date().ok(), before).ok_or(Wrong::State)
+}
+
+/// The moments of a run from this one on.
+fn moments_from(world: &mut Simulated, first: u64) -> Result<Moments, Wrong> {
     Moments::begin(world, first).map_err(|_| Wrong::State)
 }
 
@@ -153,21 +186,25 @@ impl Life {
     pub(crate) fn begin(alloc: Global, seed: u64) -> Result<Life, Wrong> {
         let mut random = Random::new(seed);
         let mut world = world_over(SimulatedDisk::new(alloc), random.next());
-        let moments = moments_from(&mut world, None)?;
+        let first = first_of(&mut world, None)?;
+        let moments = moments_from(&mut world, first)?;
         world.chances = CHANCES;
         Ok(Life {
             alloc,
             world,
             moments,
             moment: 0,
-            service: service_from(alloc, None)?,
+            service: service_from(alloc, None, false)?,
             loopback: Loopback::new(alloc, random.next()),
-            machines: Machines::from(alloc, None)?,
+            machines: Machines::from(alloc, None, false)?,
             buffer: PacketBuffer::new(alloc).map_err(|_| Wrong::Memory)?,
             calls: [Call::new(1, 0), Call::new(1, 3), Call::new(2, 0)],
             missed: [UNSURE; CALLS],
+            running: RunningSave::new(alloc, LATEST).ok_or(Wrong::Memory)?,
+            shadow: Shadow::new(alloc)?,
             saved: Vec::new(alloc),
-            is_saved: false,
+            done: None,
+            synced: None,
             held: Vec::new(alloc),
             answered: 0,
             dropped: 0,
@@ -184,19 +221,24 @@ impl Life {
         self.check_counts()
     }
 
-    /// One wake: what came is answered. Then the gateway may save, or be killed.
+    /// One wake: what came is answered. Then the gateway may go on with a save, begin one, stop, or be killed.
     fn wake(&mut self) -> Result<(), Wrong> {
         self.moment = self.moments.now(&mut self.world);
         self.send_calls()?;
         self.send_others()?;
         self.serve()?;
         self.move_links()?;
-        if self.random.happens(8) {
-            self.save()?;
+        if self.running.is_busy() {
+            self.go_on_saving()
+        } else if self.random.happens(4) {
+            self.begin_save()
+        } else if self.random.happens(16) {
+            self.stop()
         } else if self.random.happens(24) {
-            self.restart()?;
+            self.restart()
+        } else {
+            Ok(())
         }
-        Ok(())
     }
 
     /// Each sender sends its next packet. One in eight is lost on the way.
@@ -337,55 +379,154 @@ impl Life {
         self.compare(&wanted)
     }
 
-    /// Saves. In every second save the gateway is killed at one of its calls, if that call comes.
-    fn save(&mut self) -> Result<(), Wrong> {
-        let saved = self
-            .machines
-            .saved_with(self.alloc, &self.service.station, self.moment)?;
-        let is_killed = self.random.happens(2);
+    /// When a save begins now.
+    fn begin_now(&mut self) -> Begin {
+        Begin {
+            moment: self.moment,
+            date: self.world.date().unwrap_or(0),
+        }
+    }
+
+    /// Begins a save that goes on while the gateway runs.
+    fn begin_save(&mut self) -> Result<(), Wrong> {
+        let begin = self.begin_now();
+        let own = &self.service.station;
+        let begun = self
+            .running
+            .begin(&mut self.world, self.alloc, own.concentrator(), begin);
+        if begun.is_ok() {
+            self.shadow.begin(&self.machines, own, begin.moment)?;
+        }
+        Ok(())
+    }
+
+    /// Goes on with the save under way by some pieces. In every eighth wake the gateway is killed at one of its calls, if that
+    /// call comes.
+    fn go_on_saving(&mut self) -> Result<(), Wrong> {
+        let is_killed = self.random.happens(8);
         if is_killed {
-            let calls = self.random.below(14);
-            self.world.end = self.world.calls.saturating_add(calls);
+            let calls = self.random.below(4);
+            self.kill_after(calls);
         }
-        let state = saved.state.as_slice();
-        if replace_file(&mut self.world, self.alloc, STATE, state).is_ok() {
-            self.saved.clear();
-            self.is_saved = true;
-            self.tally.saves = self.tally.saves.saturating_add(1);
+        for _ in 0..self.random.below(4) {
+            if self.running.is_busy() {
+                self.save_piece()?;
+            }
         }
-        self.saved.push(saved).map_err(|_| Wrong::Memory)?;
         if is_killed { self.restart() } else { Ok(()) }
     }
 
-    /// Kills the gateway, with its host or alone, and starts it again from its state file.
+    /// Goes on with the save under way by one piece.
+    fn save_piece(&mut self) -> Result<(), Wrong> {
+        let calls = self.world.calls;
+        let own = &self.service.station;
+        let step = self
+            .running
+            .go_on(&mut self.world, self.alloc, own.concentrator());
+        if let Ok(Progress::Goes) = step {
+            return if self.world.calls == calls {
+                self.shadow.gather(&self.machines, own)
+            } else {
+                Ok(())
+            };
+        }
+        let Some(saved) = self.shadow.saved() else {
+            return Ok(());
+        };
+        if step.is_ok() {
+            self.done = Some(saved.moment);
+            self.tally.saves = self.tally.saves.saturating_add(1);
+        }
+        self.saved.push(saved).map_err(|_| Wrong::Memory)
+    }
+
+    /// The gateway is killed after so many more calls, if they come.
+    fn kill_after(&mut self, calls: u64) {
+        self.world.end = self.world.calls.saturating_add(calls);
+    }
+
+    /// Saves as a stop does, and starts again. In every second stop the gateway is killed at one of its calls.
+    fn stop(&mut self) -> Result<(), Wrong> {
+        let saved = self
+            .machines
+            .saved_with(self.alloc, &self.service.station, self.moment)?;
+        let date = self.begin_now().date;
+        if self.random.happens(2) {
+            let calls = self.random.below(16);
+            self.kill_after(calls);
+        }
+        let state = saved.state.as_slice();
+        if replace_file(&mut self.world, self.alloc, STATE, state, date).is_ok() {
+            self.done = Some(saved.moment);
+            self.synced = self.done;
+            self.tally.saves = self.tally.saves.saturating_add(1);
+        }
+        self.saved.push(saved).map_err(|_| Wrong::Memory)?;
+        self.restart()
+    }
+
+    /// Kills the gateway, with its host or alone, and starts it again from its newest save that is whole.
     fn restart(&mut self) -> Result<(), Wrong> {
         self.check_counts()?;
-        let disk = if self.random.happens(2) {
+        let least = if self.random.happens(2) {
             let failed = self.world.disk.after_power_failure(&mut self.random);
-            failed.map_err(|_| Wrong::Memory)?
+            self.world = world_over(failed.map_err(|_| Wrong::Memory)?, self.random.next());
+            self.synced
         } else {
-            mem::replace(&mut self.world.disk, SimulatedDisk::new(self.alloc))
+            let disk = mem::replace(&mut self.world.disk, SimulatedDisk::new(self.alloc));
+            self.world = world_over(disk, self.random.next());
+            self.done
         };
-        self.world = world_over(disk, self.random.next());
-        let found = read_state(&mut self.world, self.alloc, STATE).map_err(|_| Wrong::State)?;
-        self.start_from(found)?;
+        self.running = RunningSave::new(self.alloc, LATEST).ok_or(Wrong::Memory)?;
+        let found = self.newest()?;
+        let moment = match &found {
+            Some(found) => Some(found.moment),
+            None => None,
+        };
+        if moment < least {
+            return Err(Wrong::State);
+        }
+        self.done = moment;
+        self.start_from(found.as_ref())?;
         self.world.chances = CHANCES;
         Ok(())
     }
 
-    /// Starts a gateway from the octets of its state file, and the machines from what was saved with them.
-    fn start_from(&mut self, found: Option<Vec<u8>>) -> Result<(), Wrong> {
-        let saved = match &found {
-            Some(octets) => Some(self.saved_as(octets.as_slice())?),
-            None if self.is_saved => return Err(Wrong::State),
-            None => None,
+    /// The newest save that is whole. One that no gateway saved is refused.
+    fn newest(&mut self) -> Result<Option<Found>, Wrong> {
+        let state = found_at(&mut self.world, self.alloc, STATE);
+        let Some(latest) = found_at(&mut self.world, self.alloc, LATEST) else {
+            return Ok(state);
         };
-        let moment = saved.map(|saved| saved.moment);
-        let service = service_from(self.alloc, saved)?;
-        let machines = Machines::from(self.alloc, saved)?;
+        let is_newer = match &state {
+            Some(state) => state.moment < latest.moment,
+            None => true,
+        };
+        let octets = latest.octets.as_slice();
+        if self.saved_as(octets).is_ok() {
+            return Ok(if is_newer { Some(latest) } else { state });
+        }
+        match station_from(self.alloc, Some(octets), false) {
+            Ok(_) => Err(Wrong::State),
+            Err(_) => Ok(state),
+        }
+    }
+
+    /// Starts a gateway from a save, and the machines from what was saved with it.
+    fn start_from(&mut self, found: Option<&Found>) -> Result<(), Wrong> {
+        let first = first_of(&mut self.world, found)?;
+        let (saved, falls) = match found {
+            Some(found) => (
+                Some(self.saved_as(found.octets.as_slice())?),
+                is_stale(first, found.moment, STALE_MS),
+            ),
+            None => (None, false),
+        };
+        let service = service_from(self.alloc, saved, falls)?;
+        let machines = Machines::from(self.alloc, saved, falls)?;
         self.service = service;
         self.machines = machines;
-        self.moments = moments_from(&mut self.world, moment)?;
+        self.moments = moments_from(&mut self.world, first)?;
         self.held.clear();
         self.missed = [UNSURE; CALLS];
         self.loopback.failed = 0;

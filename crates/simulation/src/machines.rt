@@ -4,7 +4,7 @@ use crate::sender::{CALLS, Call, Octets};
 use crate::wrong::Wrong;
 use rohc_concentrator::Concentrator;
 use rohc_links::read_links;
-use rohc_saved::restore;
+use rohc_saved::{restore, restore_fallen};
 use rohc_station::Station;
 use std::alloc::Global;
 
@@ -43,14 +43,21 @@ relay_port = 7003
 /// The port to which both links deliver.
 pub(crate) const DELIVER_PORT: u16 = 6001;
 
-/// A station that goes on from what was saved, or begins.
-pub(crate) fn station_from(alloc: Global, saved: Option<&[u8]>) -> Result<Station, Wrong> {
+/// A station that goes on from what was saved, or begins. Its contexts fall, if what was saved is stale.
+pub(crate) fn station_from(
+    alloc: Global,
+    saved: Option<&[u8]>,
+    falls: bool,
+) -> Result<Station, Wrong> {
     let links = read_links(alloc, LINKS).map_err(|_| Wrong::Memory)?;
-    let begun = match saved {
-        Some(octets) => match restore(alloc, links.settings(), octets) {
-            Ok((concentrator, _)) => Ok(concentrator),
-            Err(_) => Err(Wrong::State),
-        },
+    let restored = match saved {
+        Some(octets) if falls => Some(restore_fallen(alloc, links.settings(), octets)),
+        Some(octets) => Some(restore(alloc, links.settings(), octets)),
+        None => None,
+    };
+    let begun = match restored {
+        Some(Ok((concentrator, _))) => Ok(concentrator),
+        Some(Err(_)) => Err(Wrong::State),
         None => Concentrator::new(alloc, links.settings()).map_err(|_| Wrong::Memory),
     };
     Station::new(alloc, begun?, links).map_err(|_| Wrong::Memory)
@@ -70,7 +77,7 @@ pub(crate) fn saved_of(alloc: Global, station: &Station, moment: u64) -> Result<
 pub(crate) struct Saved {
     pub(crate) moment: u64,
     pub(crate) state: Vec<u8>,
-    alone: Vec<Vec<u8>>,
+    pub(crate) alone: Vec<Vec<u8>>,
 }
 
 /// The machines of the calls, and behind them that of all other packets.
@@ -80,15 +87,19 @@ pub(crate) struct Machines {
 }
 
 impl Machines {
-    /// Machines that go on from what was saved, or begin.
-    pub(crate) fn from(alloc: Global, saved: Option<&Saved>) -> Result<Machines, Wrong> {
+    /// Machines that go on from what was saved, or begin. Their contexts fall, if what was saved is stale.
+    pub(crate) fn from(
+        alloc: Global,
+        saved: Option<&Saved>,
+        falls: bool,
+    ) -> Result<Machines, Wrong> {
         let mut each = Vec::new(alloc);
         for place in 0..CALLS + 1 {
             let octets = match saved {
                 Some(saved) => saved.alone.get(place).map(|one| one.as_slice()),
                 None => None,
             };
-            let station = station_from(alloc, octets)?;
+            let station = station_from(alloc, octets, falls)?;
             each.push(station).map_err(|_| Wrong::Memory)?;
         }
         Ok(Machines { each })
@@ -112,6 +123,11 @@ impl Machines {
             state,
             alone,
         })
+    }
+
+    /// The machines.
+    pub(crate) fn each(&self) -> &[Station] {
+        self.each.as_slice()
     }
 
     /// The machine of a place.

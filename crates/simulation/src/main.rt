@@ -1,7 +1,8 @@
 //! Lives of gateways in a simulated outside.
 //!
 //! In each life, from a seed, a gateway's service answers honest and hostile datagrams. Links are held and exported, calls to
-//! the outside fail, the system's clock jumps, and the gateway is killed, alone or with its host, also in the middle of a save. What it
+//! the outside fail, the system's clock jumps, and the gateway saves while it runs and at its stops. It is killed, alone or with
+//! its host, also in the middle of a save. What it
 //! sends is compared with machines that run alone, its file with what was saved, and its counts with what was done.
 //!
 //! usage: `simulation [FIRST COUNT]`. Without words it runs a thousand lives, from the first seed on, and prints only what is
@@ -12,6 +13,7 @@ mod life;
 mod loopback;
 mod machines;
 mod sender;
+mod shadow;
 mod wrong;
 
 use life::{Life, Tally};
