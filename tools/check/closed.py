@@ -1,13 +1,14 @@
 """Refuses crates above rohc_context that look inside the step of one context.
 
 The crates above may use a step by its stated laws alone. This is an allow-list: what it doesn't understand, it refuses.
-In the crates above each mention of the name rohc_context, also in a comment, must be one of these:
+In the crates above each mention of the name rohc_context, also in a comment of code, must be one of these:
 
 - in code, a path to one of its public modules, types or functions;
 - a line of its own `use Rattle.rohc_context.MODULE.{NAMES}`, with a module and names of the tables below.
 
 None of these may be renamed or exported again. A closed word is one of these names that is marked `unfoldable`. A
-file that has one may not have `unfold` or `unfolding`, and may not rename it. Of the proofs of rohc_context only the
+file that has one may not have `unfold` or `unfolding`, but for words of its own, and may not rename it. Lines of definitions
+and proofs that are comments only are passed over. Of the proofs of rohc_context only the
 laws may be used: in StepLaws the type of each public lemma is a name of specs/Laws.antt. Beside them stand one example
 of a call, in WrittenCall, and the two laws of saved contexts, in SavedLemmas.
 
@@ -28,6 +29,7 @@ OPEN: dict[str, tuple[str, ...] | None] = {
     "specs.Step": ("LoneStep", "HasMissed"),
     "specs.Repaired": ("Repairs",),
     "specs.Excess": ("excess_in",),
+    "specs.Fallen": ("fallen",),
     "specs.Record": ("Record", "record_of"),
     "specs.SavedText": ("saved_text",),
     "specs.SavedReading": ("saved_at",),
@@ -41,6 +43,7 @@ MUST_BE_CLOSED = {
     "HasMissed": "Step",
     "Repairs": "Repaired",
     "excess_in": "Excess",
+    "fallen": "Fallen",
     "record_of": "Record",
     "saved_text": "SavedText",
     "saved_at": "SavedReading",
@@ -58,6 +61,9 @@ DECLARED = re.compile(r"specs\.declared\.[\w.]+?\.(\w+)", re.ASCII)
 VARIANTS = re.compile(r"specs\.declared\.[\w.]+?\.(\w+)\.TheVariants", re.ASCII)
 STATED = re.compile(r"use Rattle\.rohc_context\.specs\.Laws\.\{(\w+(?:, \w+)*)\}", re.ASCII)
 LEMMA = re.compile(r"pub (\w+) : (\w+)", re.ASCII)
+COMMENT = re.compile(r"^[ \t]*--(?: .*)?$", re.MULTILINE)
+OWN = re.compile(r"^(?:abbrev |unfoldable )?(?:pub )?(\w+) :", re.ASCII | re.MULTILINE)
+UNFOLDING = re.compile(r"^unfolding ([\w ]+)$", re.ASCII | re.MULTILINE)
 PROOF = re.compile(r"(\w+) [^:]*=", re.ASCII)
 LAW_LINE = re.compile(r"|(?: |--).*|use Rattle\.[\w.]+\.\{[^{}]*\}|unfolding [\w ]+", re.ASCII)
 
@@ -113,10 +119,18 @@ class Tables:
         return path is not None and self.may_call(path[1], path[2])
 
 
+def without_own(text: str, words: tuple[str, ...]) -> str:
+    """A text without the lines that unfold words of its own alone."""
+    own = set(OWN.findall(text)) - set(words)
+    return UNFOLDING.sub(lambda line: "" if set(line[1].split()) <= own else line[0], text)
+
+
 @cache
 def faults_in(text: str, is_code: bool, tables: Tables) -> tuple[str, ...]:
     """What a text may not have."""
     found = []
+    if not is_code:
+        text = without_own(COMMENT.sub("", text), tables.words)
     for mention in MENTION.finditer(text):
         if not tables.may_mention(text, is_code, *mention.span()):
             found.append("takes rohc_context" + re.split(r"\s", text[mention.end() :], maxsplit=1)[0])

@@ -83,6 +83,9 @@ REFUSED = (
         "use Rattle.rohc_context.specs.Step.{LoneStep}\nlemma : LoneStep None s m h x y\nunfolding LoneStep\nlemma = refl",
     ),
     (PROOFS, "use Rattle.rohc_context.specs.Step.{LoneStep}\nlemma = unfold LoneStep in refl"),
+    (PROOFS, "use Rattle.rohc_context.specs.Step.{LoneStep}\nown : LoneStep None s m h x y\nunfolding own LoneStep\nown = refl"),
+    (PROOFS, "use Rattle.rohc_context.specs.Step.{LoneStep}\nlemma : LoneStep None s m h x y\nunfolding other\nlemma = refl"),
+    (PROOFS, "LoneStep : ℕ\nlemma : LoneStep ≡ 1\nunfolding LoneStep\nlemma = refl"),
     (PROOFS, "use Rattle.rohc_concentrator.specs.Report\nlemma = unfold Report.LoneStep in refl"),
     (
         PROOFS,
@@ -121,6 +124,7 @@ CHANGES = (
     ("rohc_context/specs/Step.antt", "unfoldable pub HasMissed :", "abbrev pub HasMissed :"),
     ("rohc_context/specs/Repaired.antt", "unfoldable pub Repairs :", "abbrev pub Repairs :"),
     ("rohc_context/specs/Excess.antt", "unfoldable pub excess_in :", "abbrev pub excess_in :"),
+    ("rohc_context/specs/Fallen.antt", "unfoldable pub fallen :", "abbrev pub fallen :"),
 )
 
 ACCEPTED = (
@@ -133,6 +137,7 @@ ACCEPTED = (
     (PROOFS, "use Rattle.rohc_context.proofs.SavedLemmas.{comes_back, is_spelled}"),
     (SPECS, "use Rattle.rohc_context.specs.SavedText.{saved_text}\nuse Rattle.rohc_context.specs.SavedReading.{saved_at}"),
     (PROOFS, "unfoldable pub own : ℕ\nlemma : own ≡ 1\nunfolding own\nlemma = refl"),
+    (PROOFS, "-- as in rohc_context\nuse Rattle.rohc_context.specs.Fallen.{fallen}\nown : ℕ\nlemma : own ≡ 1\nunfolding own\nlemma = refl"),
     (
         CODE,
         "use rohc_context::{Context, Refusal};\nuse rohc_context::Settings;\nfn f() { rohc_context::laws::one_answer(); }\nghost use Rattle.rohc_context.specs.Laws.{HasAnswer};",

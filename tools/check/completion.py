@@ -20,7 +20,7 @@ MARKED = re.compile(r"<mark>\r?\n(.*?)<mark>", re.DOTALL)
 BASH = '. "$0" && COMP_WORDS=("$@") COMP_CWORD=$(($# - 1)) && "_${1/-/_}" && printf "%s\\n" "${COMPREPLY[@]}"'
 FISH = "source $argv[1]; complete -C $argv[2]"
 COMMANDS = (
-    "calls contexts decompress diff drain explain export feed find hold import links plan record reload report reset run save script spread status stop survey top totals trace"
+    "calls contexts decompress diff drain explain export feed find hold import keep links plan record reload report reset resume run save script spread status stop survey top totals trace"
     " verify watch"
 )
 
@@ -44,6 +44,7 @@ ROHCTL: tuple[Row, ...] = (
     ("--color --feedback --help --hosts --nginx --out", ("spread", "--")),
     ("--color --help --root", ("verify", "--")),
     ("--color --control --help --name", ("drain", "--")),
+    ("--color --control --every --help --name", ("keep", "--")),
     ("--color --control --help --name", ("watch", "--")),
     ("--color --control --dry-run --help --name", ("reload", "--")),
     ("--color --control --help --link --name --output --seconds", ("record", "--")),

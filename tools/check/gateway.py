@@ -26,18 +26,20 @@ import gateway_calls
 import gateway_clock
 import gateway_container
 import gateway_limits
+import gateway_owner
 import gateway_recipe
+import gateway_saves
 import gateway_streams
 import gateway_wrong
 from cluster import Arrival, made_arrivals
 from gateway_limits import first_ir
-from gateway_run import BATCH, LOOPBACK, PROGRAM, WAIT_SECONDS, Gateway, Receivers, dated, free_port, numbered, replayed, samples, sends_of, told_room
+from gateway_run import BATCH, LOOPBACK, PROGRAM, WAIT_SECONDS, Gateway, Receivers, bound, dated, free_port, numbered, replayed, samples, sends_of, told_room
 from program import Ended
 from rohctl_survey import WHOLE_IR
 from trial import Trial
 
 ROHCTL = "crates/rohctl/out/rohctl"
-PARTS = ("words", "wrong", "heads", "whole", "numbered", "ported", "padded", "killed", "stopped", "reloaded", "asked", "calls", "streamed", "logged", "named", "limited", "hostile", "flood", "poor", "files", "contained", "recipe", "clock")
+PARTS = ("words", "wrong", "heads", "whole", "numbered", "ported", "padded", "killed", "stopped", "reloaded", "asked", "calls", "streamed", "logged", "named", "limited", "hostile", "flood", "poor", "files", "contained", "recipe", "clock", "saved", "owned")
 LINKS = range(1, 21)
 # The octets of the shortest Ethernet frame, without its check, and those of its head.
 SHORTEST_FRAME, ETHERNET_HEAD = 60, 14
@@ -144,13 +146,23 @@ def check_clock(trial: Trial) -> None:
     gateway_clock.check(trial)
 
 
+def check_saved(trial: Trial) -> None:
+    """The saves of a gateway, and a slow disk."""
+    gateway_saves.check(trial)
+
+
+def check_owned(trial: Trial) -> None:
+    """The control socket lets in its owner alone."""
+    gateway_owner.check_owner(trial)
+
+
 def check_contained(trial: Trial) -> None:
     """deploy/entrypoint, which makes a stop of a signal."""
     gateway_container.check(trial)
 
 
 # What is shown at both sockets, and only at the control socket.
-SHOWN, KEPT = ("/ready", "/metrics"), ("/status", "/contexts?link=1", "/calls", "/calls?link=1", "/calls?as=text", "/state", "/top", "/contexts?link=999", "/nothing", "/stop")
+SHOWN, KEPT = ("/ready", "/metrics"), ("/status", "/keep", "/contexts?link=1", "/calls", "/calls?link=1", "/calls?as=text", "/state", "/top", "/contexts?link=999", "/nothing", "/stop")
 
 
 def check_heads(trial: Trial) -> None:
@@ -433,6 +445,39 @@ def check_ported(trial: Trial) -> None:
     arrivals = timeless_arrivals()
     one, all_alike = (told_at_ports(trial, arrivals, ports) for ports in ({link: free_port() for link in LINKS}, {}))
     trial.demand(one == all_alike and all(one), f"ported: {one[2]} at the links' own ports, {all_alike[2]} at one port")
+    check_followed(trial)
+
+
+def taken_at(gateway: Gateway, port: int, packet: bytes) -> dict[str, int]:
+    """The packets that each link delivered, once one more was sent to a port."""
+    gateway.sender.sendto(packet, (LOOPBACK, port))
+    gateway.count += 1
+    gateway.wait_taken()
+    found = samples(gateway.metrics())
+    return {labels["link"]: count for name, labels, count in found if name == "polorowan_packets_total" and labels["outcome"] == "delivered" and count}
+
+
+def check_followed(trial: Trial) -> None:
+    """A reload opens and closes the links' own ports. One that is in use is logged, and opened by the next reload."""
+    first, second = free_port(), free_port()
+    with Receivers() as receivers, Gateway(trial, trial.scratch / "followed", receivers.links((1, 3)), link_ports={1: first}) as gateway:
+        trial.demand(taken_at(gateway, first, first_ir(1)) == {"1": 1}, "followed: the first port")
+        text = gateway.file.read_text().replace(f"number = 1\nport = {first}\n", f"number = 3\nport = {first}\n")
+        with bound() as other:
+            used = other.getsockname()[1]
+            gateway.file.write_text(f"{text}[[link]]\nnumber = 1\nport = {used}\n")
+            trial.demand(gateway.ask("POST", "/reload").status == 200, "followed: the reload is refused")
+            trial.demand(taken_at(gateway, first, first_ir(1)) == {"1": 1, "3": 1}, "followed: the port of another link")
+            fault = f"link port: UDP 127.0.0.1:{used}: address already in use; expected a free port (ss -anp shows who uses it)"
+            trial.demand(fault in gateway.said, f"followed: a port in use: {gateway.said}")
+        trial.demand(gateway.ask("POST", "/reload").status == 200, "followed: the second reload is refused")
+        trial.demand(taken_at(gateway, used, first_ir(2)) == {"1": 2, "3": 1}, "followed: a port that is free again")
+        gateway.file.write_text(text.replace(f"port = {first}\n", f"port = {second}\n"))
+        trial.demand(gateway.ask("POST", "/reload").status == 200, "followed: the third reload is refused")
+        trial.demand(taken_at(gateway, second, first_ir(2)) == {"1": 2, "3": 2}, "followed: a new port")
+        # The first port is free again.
+        with socket.socket(socket.AF_INET, socket.SOCK_DGRAM) as again:
+            again.bind((LOOPBACK, first))
 
 
 def delivered(trial: Trial, packets: Iterable[bytes], payloads: dict[int, int]) -> list[bytes]:
@@ -571,7 +616,7 @@ def check_asked(trial: Trial) -> None:
         # Only a package says what it was built from.
         trial.demand((status["sources"], status["logic"]) == ("unknown", "unknown"), f"status: {status}")
         told = asked(trial, gateway, "save")
-        trial.demand(told.is_good and json.loads(told.text)["saved"] == (gateway.folder / "calls").stat().st_size, f"save: {told.all}")
+        trial.demand(told.is_good and json.loads(told.text)["saved"] == (gateway.folder / "calls.latest").stat().st_size, f"save: {told.all}")
         told = asked(trial, gateway, "reset", "--link", "1")
         trial.demand(json.loads(told.text) == {"gone": 1}, f"reset: {told.all}", told.call)
         told = asked(trial, gateway, "stop")
@@ -583,7 +628,7 @@ def check_asked(trial: Trial) -> None:
 def log_objects(trial: Trial, begun: datetime) -> None:
     """With log_format = "json" each line is an object, whoever reads it."""
     with Receivers() as receivers:
-        gateway = Gateway(trial, trial.scratch / "objects", receivers.links([1]))
+        gateway = Gateway(trial, trial.scratch / "log-objects", receivers.links([1]))
         gateway.file.write_text(gateway.file.read_text() + 'log_format = "json"\n')
         with gateway:
             gateway.ask("POST", "/hold?link=1")
@@ -750,16 +795,18 @@ def check_full(trial: Trial) -> None:
         gateway.send(Arrival(1, 0, first_ir(1)))
         trial.demand(receivers.wait({"deliver": 1}), "full: no first packet")
         trial.demand(gateway.ask("POST", "/save").status == 200, "full: a file that has room isn't saved")
-        saved = (gateway.folder / "calls").read_bytes()
+        saved = (gateway.folder / "calls.latest").read_bytes()
         for cid in range(2, 16):
             gateway.send(Arrival(1, 0, first_ir(cid)))
         trial.demand(receivers.wait({"deliver": 15}), "full: no packets")
-        for path in ("/save", "/stop"):
+        for path, file in (("/save", "calls.latest.new"), ("/stop", "calls.new")):
             told = gateway.ask("POST", path)
-            wanted = {"fault": "Save", "text": f"{gateway.folder}/calls.new: File too large (os error 27); {gateway_wrong.UNSAVED}"}
+            wanted = {"fault": "Save", "text": f"{gateway.folder}/{file}: File too large (os error 27); {gateway_wrong.UNSAVED}"}
             trial.demand((told.status, told.json) == (500, wanted), f"full: {path}: {told}")
-            trial.demand(f"<3>rohc-gateway: save failed: {wanted['text']}" in gateway.said, f"full: {path}: {gateway.said}")
-        trial.demand((gateway.folder / "calls").read_bytes() == saved, "full: the last good file is gone")
+            # The log may not grow above that size either.
+            is_logged = f"<3>rohc-gateway: save failed: {wanted['text']}" in gateway.said
+            trial.demand(is_logged or path == "/stop", f"full: {path}: {gateway.said}")
+        trial.demand((gateway.folder / "calls.latest").read_bytes() == saved, "full: the last good file is gone")
         trial.demand(gateway.ask("GET", "/ready").status == 200, "full: it stopped")
         failed = [count for name, _, count in samples(gateway.metrics()) if name == "polorowan_failed_saves_total"]
         trial.demand(failed == [2], f"full: failed saves {failed}")

@@ -108,9 +108,9 @@ def check_state(trial: Trial, gateway: Gateway) -> None:
     """The contexts as a save writes them, at another moment; `find` reads them, and they are never written to a disk."""
     told = gateway.ask("GET", "/state")
     trial.demand(told.status == 200 and "Content-Type: application/octet-stream\r\n" in told.head, f"/state: {told}")
-    trial.demand(not (gateway.folder / "calls").exists(), "/state wrote the state file")
+    trial.demand(not any((gateway.folder / name).exists() for name in ("calls", "calls.latest")), "/state wrote a file")
     gateway.ask("POST", "/save")
-    saved = (gateway.folder / "calls").read_bytes()
+    saved = (gateway.folder / "calls.latest").read_bytes()
     # Behind the name and the version stands the moment; the digest ends the file.
     trial.same("/state", saved[19:-32], told.body[19:-32])
     links = ("--links", str(gateway.folder / "links.toml"))

@@ -144,6 +144,7 @@ def check_moment(trial: Trial, gateway: Gateway) -> None:
     """A saved moment of 2^63 or more is a fault of the state file, and changes nothing."""
     file = gateway.folder / "calls"
     good = file.read_bytes()
+    (gateway.folder / "calls.latest").unlink()
     for moment, is_good in ((2**64 - 1, False), (2**63, False), (2**63 - 1, True)):
         front = good[: MOMENT.start] + struct.pack(">Q", moment) + good[MOMENT.stop : -DIGEST]
         file.write_bytes(front + hashlib.sha256(front).digest())

@@ -53,7 +53,7 @@ MISSING = "no such file or directory"
 NO_DIRECTORY = "a part of the path is not a directory"
 NO_LINKS_FILE = f"{MISSING}; {READABLE}"
 A_GATEWAY_FILE = "expected a gateway file that this user can read (man rohc-gateway)"
-KEYS = "links, port, timed_port, state, save_seconds, control, metrics_port, log_format, numbered_feedback, receive_buffer, link"
+KEYS = "links, port, timed_port, state, save_seconds, scratch, stale_ms, control, metrics_port, log_format, numbered_feedback, receive_buffer, link"
 OWN = "expected a path of its own"
 WRITABLE = "expected a path in a directory that this user may write"
 WHOLE = "expected a complete state file of this version (run --fresh starts without it)"
@@ -129,6 +129,12 @@ GATEWAY_FILES: tuple[tuple[bytes | str, tuple[str, ...]], ...] = (
     ("port = 4000\nport.x = 1\n", (f"FILE:2: not TOML: cannot extend a value with a dotted key; {A_DOCUMENT}",)),
     ("port = " + 200 * "[" + "\n", (f"FILE:1: not TOML: cannot recurse further; max recursion depth met; {A_DOCUMENT}",)),
     (GOOD + "save_seconds = 5\n", ('FILE:3: save_seconds needs state; expected state = "FILE" for the saved calls',)),
+    (GOOD + 'scratch = "run"\n', ('FILE:3: scratch needs state; expected state = "FILE" for the saved calls',)),
+    (GOOD + 'state = "calls"\nstale_ms = -1\n', ("FILE:4: stale_ms is -1; expected a number of milliseconds from 0 to 4294967295",)),
+    (
+        GOOD + "timed_port = 4001\nstale_ms = 0\n",
+        ("FILE:4: stale_ms needs the gateway's moments; expected no timed_port, whose moments are the sender's",),
+    ),
     (GOOD + 'state = "calls"\nsave_seconds = 0\n', ("FILE:4: save_seconds is 0; expected a number from 1 to 86400",)),
     (GOOD + 'state = "calls"\nsave_seconds = 1.5\n', ("FILE:4: save_seconds is a floating-point number; expected a number from 1 to 86400",)),
     ("links =\n", ("FILE:1: links has no value; expected a number, or a text in quotes",)),
@@ -159,6 +165,7 @@ GATEWAY_FILES: tuple[tuple[bytes | str, tuple[str, ...]], ...] = (
     (GOOD + 'state = "./links.toml"\n', (f"FILE:3: state would overwrite the links file DIR/links.toml; {OWN}",)),
     (GOOD + 'state = "to_links"\n', (f"FILE:3: state would overwrite the links file DIR/links.toml; {OWN}",)),
     (GOOD + 'state = "gateway.toml"\n', (f"FILE:3: state would overwrite the gateway file FILE; {OWN}",)),
+    ('links = "calls.latest"\nport = 4000\nstate = "calls"\n', (f"FILE:3: state would overwrite the links file DIR/calls.latest; {OWN}",)),
     ('links = "calls.new"\nport = 4000\nstate = "calls"\n', (f"FILE:3: state would overwrite the links file DIR/calls.new; {OWN}",)),
     (GOOD + 'control = "links.toml"\n', (f"FILE:3: control would overwrite the links file DIR/links.toml; {OWN}",)),
     (GOOD + 'state = "calls"\ncontrol = "calls"\n', (f"FILE:4: control would overwrite the state file DIR/calls; {OWN}",)),
@@ -364,6 +371,7 @@ def prepare(trial: Trial, name: str) -> Path:
     trial.write(f"{name}/long.toml", "#" * (LONGEST + 1))
     trial.write(f"{name}/notes", "no calls")
     trial.write(f"{name}/calls.new", LINKS)
+    trial.write(f"{name}/calls.latest", LINKS)
     (folder / "folder").mkdir(exist_ok=True)
     (folder / "to_links").unlink(missing_ok=True)
     (folder / "to_links").symlink_to("links.toml")
@@ -426,6 +434,8 @@ def check_forbidden(trial: Trial) -> None:
     folder = prepare(trial, "forbidden")
     for name in ("shut.toml", "calls"):
         trial.write(f"forbidden/{name}", LINKS).chmod(0)
+    # Without it there is one save, which may not be read.
+    (folder / "calls.latest").unlink()
     (folder / "shut").mkdir(mode=0o555, exist_ok=True)
     for place, mode in (folder, 0o755), (folder / "links.toml", 0o644), (folder / "gateway.toml", 0o644):
         place.chmod(mode)
@@ -456,7 +466,7 @@ def check_unsaved(trial: Trial, folder: Path, words_before: Sequence[Word]) -> N
             time.sleep(0.05)
         for _ in range(2):
             told = asked(trial, folder, "save", "--control", "open/control")
-            text = f"shut/calls.new: permission denied; {UNSAVED}"
+            text = f"shut/calls.latest.new: permission denied; {UNSAVED}"
             wanted = f'{{"fault":"Save","text":"{text}"}}\n'
             trial.demand((told.status, told.text) == (1, wanted), f"save: {told.all}; wanted {wanted}", told.call)
         gateway.terminate()
@@ -661,7 +671,7 @@ def check_states(trial: Trial) -> None:
     """State files that are damaged."""
     with Receivers() as receivers, Gateway(trial, trial.scratch / "d", receivers.links([1])) as gateway:
         trial.demand(gateway.ask("POST", "/save").status == 200, "no state file")
-        file = gateway.folder / "calls"
+        file = gateway.folder / "calls.latest"
         good = file.read_bytes()
         for damage, why in STATES:
             file.write_bytes(damage(good))

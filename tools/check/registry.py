@@ -344,7 +344,7 @@ TESTED = (
     Tested("Command", "rohctl totals, links, run, trace, diff, plan, script, decompress, report, survey, find", "gate rohctl"),
     Tested("Command", "rohctl explain", "gate rohctl evidence"),
     Tested("Command", "rohctl spread", "gate rohctl spread"),
-    Tested("Command", "rohctl status, stop, save, reload, drain, top, reset, contexts, calls, watch, record", "gate gateway"),
+    Tested("Command", "rohctl status, stop, save, keep, reload, drain, resume, top, reset, contexts, calls, watch, record", "gate gateway"),
     Tested("Command", "rohctl hold, export, import, deploy/move-link", "moving"),
     Tested("Command", "rohc-gateway run, check", "gate gateway call"),
     Tested("Command", "deploy/entrypoint", "gateway"),

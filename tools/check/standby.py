@@ -219,7 +219,7 @@ def begin_standby(trial: Trial, active: Host, standby: Host) -> None:
     """Starts the gateway that was killed as the standby, with the contexts of the active one."""
     standby.hold(trial, active)
     trial.demand(active.gateway.ask("POST", "/save").status == 200, "standby: the active gateway doesn't save")
-    shutil.copy(active.gateway.folder / "calls", standby.gateway.folder / "calls")
+    shutil.copy(active.gateway.folder / "calls.latest", standby.gateway.folder / "calls")
     standby.start()
 
 
