@@ -25,6 +25,8 @@ use Rattle.rohc_station.specs.Taking.{limiter_at, trimmed_by, trimmed_at, TakesI
 use Rattle.rohc_station.specs.Reload.{is_among, removed, changed, added, removing, changing, adding, refused_add, reload_turns, StopsIn}
 use Rattle.rohc_saved.specs.Restoring.{put_turn, puts_of, taken_of}
 use Rattle.rohc_saved.specs.LinkRestoring.{reset_turn as stopped_turn}
+use Rattle.rohc_station.specs.declared.counters.DatagramFault.{DatagramFault}
+use Rattle.rohc_station.specs.declared.counters.DatagramFault.TheVariants.{Short, NewCall}
 use Rattle.rohc_station.specs.Life.{StationCall, StationTurn, Take, TakeKnown, Reset, Reload, Import, AddFailedSends, SetLimits, IsTurn, TakesTurns, IsFit, IsFitPacket, LifeIsRun, LifeKeepsSound, IsolatedLife, IsolatedLinkLife, SameLives, SameLinkLives}
 use Rattle.rohc_saved.proofs.PutLemmas.{runs_append}
 use Rattle.rohc_station.proofs.CallLemmas.{all_weaker, all_passed, all_if}
@@ -33,8 +35,8 @@ module _ (old new : Station) (calls : List Turn) where
   abbrev RunsThem : List Turn → Type 0
   RunsThem turns = Runs old.concentrator turns new.concentrator
 
-  unread_runs : (told : Told) → IsRefusedUnread old new told calls → RunsThem calls
-  unread_runs told p = subst RunsThem (sym p.none) p.concentrator
+  unread_runs : (fault : DatagramFault) (told : Told) → IsRefusedUnread fault old new told calls → RunsThem calls
+  unread_runs fault told p = subst RunsThem (sym p.none) p.concentrator
 
   within_runs : (away : Bool) (second : ℕ) (t : TimedPacket) (told : Told) → TakesIf away old new second t told calls → RunsThem calls
   within_runs true second t told (mid, counts, p) = subst RunsThem (sym p.none) (p.concentrator ∙ counts.concentrator)
@@ -45,7 +47,7 @@ module _ (old new : Station) (calls : List Turn) where
   taken_runs second t told p = within_runs (turns_away old second t.link t.packet) second t told p
 
   known_runs : (begins : Bool) (second : ℕ) (t : TimedPacket) (told : Told) → TakesUnless begins old new second t told calls → RunsThem calls
-  known_runs true second t told p = unread_runs told p
+  known_runs true second t told p = unread_runs NewCall told p
   known_runs false second t told p = taken_runs second t told p
 
   standing_runs : (second : ℕ) (t : TimedPacket) (told : Told) → TakesStanding old new second t told calls → RunsThem calls
@@ -55,9 +57,9 @@ module _ (old new : Station) (calls : List Turn) where
   none_runs stays none = subst RunsThem (sym none) (ap (λ (s : Station). s.concentrator) stays)
 
   turn_runs : (call : StationCall) → IsTurn old call calls new → RunsThem calls
-  turn_runs (Take second None told) p = unread_runs told p
+  turn_runs (Take second None told) p = unread_runs Short told p
   turn_runs (Take second (Some t) told) p = taken_runs second (trimmed_at old t) told p
-  turn_runs (TakeKnown second None told) p = unread_runs told p
+  turn_runs (TakeKnown second None told) p = unread_runs Short told p
   turn_runs (TakeKnown second (Some t) told) p = standing_runs second (trimmed_at old t) told p
   turn_runs (Reset link cid answer) p = subst RunsThem (sym p.1) (new.concentrator, p.0.call, refl)
   turn_runs (Reload file (Ok report)) p = p.runs

@@ -1,4 +1,4 @@
--- What is counted. Words: with_datagram; IsUncounted; rebuilt_octets, with_packet; CountsAnswer;
+-- What is counted. Words: uncounted_station, with_fault, with_datagram; IsUncounted; rebuilt_octets, with_packet; CountsAnswer;
 -- with_failed_sends; limiter_in, with_limiter; KeepsCounts.
 use Rattle.std.specs.Prelude.{◌≡◌, ℕ, ◌+◌, [], length, Bool, Option, Some, None, option_map, slice_index}
 use Rattle.rohc_context.specs.Response.{Packet}
@@ -9,18 +9,32 @@ use Rattle.rohc_counts.specs.Counted.{IsCounted}
 use Rattle.rohc_station.specs.declared.limits.Limiter.{Limiter}
 use Rattle.rohc_station.specs.Limits.{one_if, unlimited}
 use Rattle.rohc_station.specs.Unknown.{unknown_in}
+use Rattle.rohc_station.specs.declared.counters.DatagramFault.{DatagramFault}
+use Rattle.rohc_station.specs.declared.counters.DatagramFault.TheVariants.{Short, UnknownLink, NewCall}
 use Rattle.rohc_station.specs.declared.counters.LinkCounters.{LinkCounters}
 use Rattle.rohc_station.specs.declared.counters.Octets.{Octets}
 use Rattle.rohc_station.specs.declared.counters.StationCounters.{StationCounters}
 
--- One more datagram. It may be bad: too short, of a link that isn't there, or turned away. For want of memory
--- its answer may be uncounted for its call.
-abbrev pub with_datagram : StationCounters → (is_bad is_uncounted : Bool) → StationCounters
-with_datagram c is_bad is_uncounted = record {
+-- no datagram came yet
+abbrev pub uncounted_station : StationCounters
+uncounted_station = record { datagrams = 0; short = 0; unknown_link = 0; new_call = 0; uncounted = 0 }
+
+-- one more of the datagrams that have this fault
+abbrev pub with_fault : DatagramFault → StationCounters → StationCounters
+with_fault Short c = record c { short = counted c.short 1 }
+with_fault UnknownLink c = record c { unknown_link = counted c.unknown_link 1 }
+with_fault NewCall c = record c { new_call = counted c.new_call 1 }
+
+abbrev pub with_fault_if : Option DatagramFault → StationCounters → StationCounters
+with_fault_if None c = c
+with_fault_if (Some fault) c = with_fault fault c
+
+-- One more datagram, which may have a fault. For want of memory its answer may be uncounted for its call.
+abbrev pub with_datagram : Option DatagramFault → (is_uncounted : Bool) → StationCounters → StationCounters
+with_datagram fault is_uncounted c = with_fault_if fault (record c {
   datagrams = counted c.datagrams 1;
-  bad_datagrams = counted c.bad_datagrams (one_if is_bad);
   uncounted = counted c.uncounted (one_if is_uncounted);
-}
+})
 
 -- nothing is counted yet
 pub record IsUncounted (c : LinkCounters) : Type 0 where

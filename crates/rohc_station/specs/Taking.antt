@@ -1,5 +1,5 @@
 -- What a station does with a datagram. Words: counters_at, limiter_at a link; by_call_at; trimmed_by,
--- trimmed_at; arrival, TakesPacket; IsRefusedUnread; dated; begins_call; CountsChange; turns_away, TurnsAway;
+-- trimmed_at; arrival, fault_at, TakesPacket; IsRefusedUnread; dated; begins_call; CountsChange; turns_away, TurnsAway;
 -- made_on, LimitsFeedback; TakesIf, TakesWithin; Takes; TakesUnless, TakesKnown; FailsSends, SetsLimits.
 use Rattle.std.specs.Prelude.{◌≡◌, ◌≢◌, ℕ, ◌-◌, ◌&&◌, List, [], ◌∷◌, length, Option, Some, None, nat_eq, not, is_some, Bool, true, false}
 use Rattle.std.specs.Option.{option_map}
@@ -13,9 +13,12 @@ use Rattle.rohc_concentrator.specs.Report.{Report}
 use Rattle.rohc_concentrator.specs.Repaired.{IsRepaired}
 use Rattle.rohc_concentrator.specs.Calls.{Arrive, Reported}
 use Rattle.rohc_concentrator.specs.RunsCall.{RunsCall, Turn}
+use Rattle.rohc_links.specs.declared.ports.Ports.{Ports}
 use Rattle.rohc_serve.specs.Datagram.{named_link, datagram_packet, ports_of}
 use Rattle.rohc_station.specs.declared.limits.LinkLimits.{LinkLimits}
 use Rattle.rohc_station.specs.declared.limits.Limiter.{Limiter}
+use Rattle.rohc_station.specs.declared.counters.DatagramFault.{DatagramFault}
+use Rattle.rohc_station.specs.declared.counters.DatagramFault.TheVariants.{Short, UnknownLink, NewCall}
 use Rattle.rohc_station.specs.declared.counters.LinkCounters.{LinkCounters}
 use Rattle.rohc_station.specs.declared.station.Station.{Station}
 use Rattle.rohc_station.specs.declared.calls.CallCounts.{CallCounts}
@@ -51,6 +54,11 @@ abbrev pub arrival : (link moment : ℕ) → List ℕ → Report → Turn
 arrival link moment packet report =
     record { link = link; call = Arrive moment packet; answer = Reported report }
 
+-- a link without ports isn't there
+abbrev pub fault_at : Option Ports → Option DatagramFault
+fault_at None = Some UnknownLink
+fault_at (Some ports) = None
+
 -- A packet of a link arrives, which is one call of the concentrator. What is told is its report, to the
 -- link's ports, and what is counted is that report, only for that link.
 pub record TakesPacket (old new : Station) (link moment : ℕ) (packet : List ℕ) (told : Told)
@@ -68,17 +76,18 @@ pub record TakesPacket (old new : Station) (link moment : ℕ) (packet : List �
   pub is_uncounted : Bool
   pub counts_call : CountsForCall (stands new.concentrator) link moment report is_repaired is_uncounted
       (by_call_at old) (by_call_at new)
-  pub totals : new.totals ≡ with_datagram old.totals (not (is_some (ports_of link old.links))) is_uncounted
+  pub totals : new.totals ≡ with_datagram (fault_at (ports_of link old.links)) is_uncounted old.totals
   pub links : new.links ≡ old.links
 
--- a datagram that is too short, or turned away: nothing is called or sent, and no link's counts change
-pub record IsRefusedUnread (old new : Station) (told : Told) (calls : List Turn) : Type 0 where
+-- a datagram with this fault is refused unread: nothing is called or sent, and no link's counts change
+pub record IsRefusedUnread (fault : DatagramFault) (old new : Station) (told : Told) (calls : List Turn)
+    : Type 0 where
   pub none : calls ≡ []
   pub concentrator : new.concentrator ≡ old.concentrator
   pub tells : told ≡ told_unread
   pub counters : new.counters ≡ old.counters
   pub by_call : new.by_call ≡ old.by_call
-  pub totals : new.totals ≡ with_datagram old.totals true false
+  pub totals : new.totals ≡ with_datagram (Some fault) false old.totals
   pub links : new.links ≡ old.links
 
 -- a datagram that came at this moment: the link that it names, if it names one, the moment and the packet
@@ -114,7 +123,7 @@ turns_away s second link packet =
 -- It is counted for its link, and as a datagram that is refused unread.
 abbrev pub TurnsAway : (old new : Station) → (link : ℕ) → Told → List Turn → Type 0
 TurnsAway old new link told calls = (mid : Station)
-    × CountsChange old mid link (with_limiter with_turned_away) × IsRefusedUnread mid new told calls
+    × CountsChange old mid link (with_limiter with_turned_away) × IsRefusedUnread NewCall mid new told calls
 
 -- how many contexts a link has more
 abbrev pub made_on : (old new : Concentrator) → ℕ → ℕ
@@ -142,12 +151,12 @@ TakesWithin old new second t told calls =
 -- A datagram is taken in a second of the gateway's clock, as it was read: a packet with its link and its
 -- moment, if it could be read. What a layer below added behind the packet goes first.
 abbrev pub Takes : Station → Station → (second : ℕ) → Option TimedPacket → Told → List Turn → Type 0
-Takes old new second None told calls = IsRefusedUnread old new told calls
+Takes old new second None told calls = IsRefusedUnread Short old new told calls
 Takes old new second (Some t) told calls = TakesWithin old new second (trimmed_at old t) told calls
 
 -- while no call is begun, a packet that would begin one is refused, and every other is taken
 abbrev pub TakesUnless : Bool → Station → Station → (second : ℕ) → TimedPacket → Told → List Turn → Type 0
-TakesUnless true old new second t told calls = IsRefusedUnread old new told calls
+TakesUnless true old new second t told calls = IsRefusedUnread NewCall old new told calls
 TakesUnless false old new second t told calls = TakesWithin old new second t told calls
 
 abbrev pub TakesStanding : Station → Station → (second : ℕ) → TimedPacket → Told → List Turn → Type 0
@@ -155,7 +164,7 @@ TakesStanding old new second t told calls =
     TakesUnless (begins_call old.concentrator t.link t.packet) old new second t told calls
 
 abbrev pub TakesKnown : Station → Station → (second : ℕ) → Option TimedPacket → Told → List Turn → Type 0
-TakesKnown old new second None told calls = IsRefusedUnread old new told calls
+TakesKnown old new second None told calls = IsRefusedUnread Short old new told calls
 TakesKnown old new second (Some t) told calls = TakesStanding old new second (trimmed_at old t) told calls
 
 -- sends failed for a datagram of the link that it names, if it names one

@@ -99,43 +99,69 @@ impl LinkCounters {
     }
 }
 
+/// Why a datagram isn't taken.
+#[derive(Clone, Copy)]
+pub enum DatagramFault {
+    /// It is too short for the number of its link and its moment.
+    Short,
+    /// Its link isn't there.
+    UnknownLink,
+    /// It would begin a call, and none is accepted, or no more of its link in this second.
+    NewCall,
+}
+
 /// The counts of a station, over all links.
 #[derive(Clone, Copy)]
 pub struct StationCounters {
-    /// Datagrams that were taken.
+    /// Datagrams that came.
     pub datagrams: u64,
-    /// Datagrams that are too short, of a link that isn't there, or turned away.
-    pub bad_datagrams: u64,
-    /// Datagrams whose answers there was no memory to count for their calls.
+    /// Those that are too short.
+    pub short: u64,
+    /// Those of a link that isn't there.
+    pub unknown_link: u64,
+    /// Those that were turned away, since they would begin a call.
+    pub new_call: u64,
+    /// Those whose answers there was no memory to count for their calls.
     pub uncounted: u64,
 }
 
 impl StationCounters {
     ghost use Rattle.std.specs.Prelude.{◌≡◌};
-    ghost use Rattle.rohc_station.specs.Counting.{with_datagram};
+    ghost use Rattle.rohc_station.specs.Counting.{uncounted_station, with_fault, with_datagram};
 
     /// Nothing is counted yet.
     pub(crate) fn new() -> StationCounters
-        ensures datagrams { result.datagrams ≡ 0 }
-        ensures bad { result.bad_datagrams ≡ 0 }
-        ensures uncounted { result.uncounted ≡ 0 }
+        ensures { result ≡ uncounted_station }
     {
         StationCounters {
             datagrams: 0,
-            bad_datagrams: 0,
+            short: 0,
+            unknown_link: 0,
+            new_call: 0,
             uncounted: 0,
         }
     }
 
-    /// Counts a datagram.
-    pub(crate) fn add(&mut self, is_bad: bool, is_uncounted: bool)
-        ensures { self.new ≡ with_datagram self.old is_bad is_uncounted }
+    /// Counts a fault of a datagram.
+    fn add_fault(&mut self, fault: DatagramFault)
+        ensures { self.new ≡ with_fault fault self.old }
     {
-        *self = StationCounters {
-            datagrams: self.datagrams.saturating_add(1),
-            bad_datagrams: counted_if(self.bad_datagrams, is_bad),
-            uncounted: counted_if(self.uncounted, is_uncounted),
-        };
+        match fault {
+            DatagramFault::Short => self.short = self.short.saturating_add(1),
+            DatagramFault::UnknownLink => self.unknown_link = self.unknown_link.saturating_add(1),
+            DatagramFault::NewCall => self.new_call = self.new_call.saturating_add(1),
+        }
+    }
+
+    /// Counts a datagram.
+    pub(crate) fn add(&mut self, fault: Option<DatagramFault>, is_uncounted: bool)
+        ensures { self.new ≡ with_datagram fault is_uncounted self.old }
+    {
+        self.datagrams = self.datagrams.saturating_add(1);
+        self.uncounted = counted_if(self.uncounted, is_uncounted);
+        if let Some(fault) = fault {
+            self.add_fault(fault);
+        }
     }
 }
 

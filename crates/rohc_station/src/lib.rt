@@ -37,7 +37,7 @@ pub mod unknown;
 pub use ahead::{Ahead, Format};
 pub use calls::{CallCounts, FIRST_REFUSAL, Order, Sequence, sn_in};
 pub use calls_text::write_calls_text;
-pub use counters::{LinkCounters, Octets, StationCounters};
+pub use counters::{DatagramFault, LinkCounters, Octets, StationCounters};
 pub use duty::Duty;
 pub use held::Held;
 pub use limits::{Limiter, LinkLimits, Second};

@@ -1,6 +1,6 @@
 //! The metrics of a gateway in the text format of Prometheus.
 
-use crate::counters::Octets;
+use crate::counters::{Octets, StationCounters};
 use crate::lists::state_name;
 use crate::station::Station;
 use rohc_concentrator::LinkRecords;
@@ -20,6 +20,10 @@ const STORED: u8 = 31;
 pub struct GatewayFigures {
     /// Receives that failed.
     pub failed_receives: u64,
+    /// Datagrams that the system dropped before they were received.
+    pub dropped_datagrams: u64,
+    /// Log lines that were lost, since their reader didn't take them.
+    pub lost_lines: u64,
     /// How often the gateway woke.
     pub wakes: u64,
     /// The longest time that a wake took, in microseconds.
@@ -128,7 +132,7 @@ fn write_packets<W: Write>(out: &mut W, station: &Station) -> io::Result<()> {
     Ok(())
 }
 
-/// Writes the refusals of each link: those that came, by name.
+/// Writes the refusals of each link, by name.
 fn write_refusals<W: Write>(out: &mut W, station: &Station) -> io::Result<()> {
     let name = "polorowan_refused_total";
     write_head(
@@ -140,12 +144,10 @@ fn write_refusals<W: Write>(out: &mut W, station: &Station) -> io::Result<()> {
     for (link, of_link) in station.counters() {
         for refusal in Refusal::all() {
             let count = outcome_count(&of_link.answers, refusal.number());
-            if count > 0 {
-                writeln!(
-                    out,
-                    "{name}{{link=\"{link}\",refusal=\"{refusal}\"}} {count}"
-                )?;
-            }
+            writeln!(
+                out,
+                "{name}{{link=\"{link}\",refusal=\"{refusal}\"}} {count}"
+            )?;
         }
     }
     Ok(())
@@ -293,29 +295,31 @@ fn write_contexts<W: Write>(out: &mut W, station: &Station) -> io::Result<()> {
     Ok(())
 }
 
+/// Writes the datagrams that were refused, by reason.
+fn write_bad<W: Write>(out: &mut W, totals: StationCounters) -> io::Result<()> {
+    let name = "polorowan_bad_datagrams_total";
+    let help =
+        "Datagrams refused unread: too short, of an unknown link, or of a new call while draining or above a limit.";
+    write_head(out, name, "counter", help)?;
+    for (reason, count) in [
+        ("short", totals.short),
+        ("unknown_link", totals.unknown_link),
+        ("new_call", totals.new_call),
+    ] {
+        writeln!(out, "{name}{{reason=\"{reason}\"}} {count}")?;
+    }
+    Ok(())
+}
+
 /// Writes the counts over all links.
 fn write_totals<W: Write>(out: &mut W, station: &Station) -> io::Result<()> {
     let totals = station.totals();
-    for (name, help, count) in [
-        (
-            "polorowan_datagrams_total",
-            "Datagrams received.",
-            totals.datagrams,
-        ),
-        (
-            "polorowan_bad_datagrams_total",
-            "Datagrams refused: too short, of an unknown link, or of a new call while draining or above a limit.",
-            totals.bad_datagrams,
-        ),
-        (
-            "polorowan_uncounted_total",
-            "Packets that are missing in the counts of their call, for lack of memory.",
-            totals.uncounted,
-        ),
-    ] {
-        write_one(out, name, "counter", help, count)?;
-    }
-    Ok(())
+    let (name, help) = ("polorowan_datagrams_total", "Datagrams received.");
+    write_one(out, name, "counter", help, totals.datagrams)?;
+    write_bad(out, totals)?;
+    let name = "polorowan_uncounted_total";
+    let help = "Packets that are missing in the counts of their call, for lack of memory.";
+    write_one(out, name, "counter", help, totals.uncounted)
 }
 
 /// Writes what a gateway counts beside its station.
@@ -325,6 +329,16 @@ fn write_figures<W: Write>(out: &mut W, figures: &GatewayFigures) -> io::Result<
             "polorowan_failed_receives_total",
             "Failed receives.",
             figures.failed_receives,
+        ),
+        (
+            "polorowan_dropped_datagrams_total",
+            "Datagrams that the system dropped, since they came faster than they were received.",
+            figures.dropped_datagrams,
+        ),
+        (
+            "polorowan_lost_log_lines_total",
+            "Log lines that are lost, since nothing read them.",
+            figures.lost_lines,
         ),
         (
             "polorowan_wakes_total",

@@ -128,11 +128,13 @@ fn write_totals<W: Write>(out: &mut W, page: &Page<'_>) -> io::Result<()> {
     let (station, figures) = (page.calls.station, page.figures);
     writeln!(out, "<section aria-label=\"Totals\">\n<ul class=\"tiles\">")?;
     let totals = station.totals();
+    let bad = totals.short.saturating_add(totals.unknown_link);
     for (name, number, is_bad) in [
         ("Links", station.counters().len() as u64, false),
         ("Contexts", context_count(station), false),
         ("Datagrams", totals.datagrams, false),
-        ("Bad datagrams", totals.bad_datagrams, true),
+        ("Bad datagrams", bad, true),
+        ("New calls turned away", totals.new_call, true),
         ("Not counted", totals.uncounted, true),
         ("Delivered", sum_of(station, false), false),
         ("Refused", sum_of(station, true), true),

@@ -1,11 +1,12 @@
 //! A station: a concentrator with its links and its counts.
 
 ghost use Rattle.std.specs.Prelude.{◌≡◌};
+ghost use Rattle.rohc_station.specs.Taking.{fault_at};
 
 use crate::calls::{CallCounts, count_call, keep_standing};
 use crate::counters::{
-    LinkCounters, StationCounters, count_answer, count_failed_sends, count_turned_away, count_work,
-    limiter_of, set_limits,
+    DatagramFault, LinkCounters, StationCounters, count_answer, count_failed_sends,
+    count_turned_away, count_work, limiter_of, set_limits,
 };
 use crate::limits::{Limiter, LinkLimits, Work, second_of};
 use crate::marked::Marked;
@@ -16,12 +17,22 @@ use crate::trimming::trimmed_by;
 use indexmap::IndexMap;
 use rohc_concentrator::{Concentrator, LinkSetting, NoLink};
 use rohc_frame::cut;
-use rohc_links::Links;
+use rohc_links::{Links, Ports};
 use rohc_report::key_of;
 use rohc_saved::{SaveFault, save};
 use rohc_serve::ports_of;
 use std::alloc::{AllocError, Global};
 use std::io::Write;
+
+/// The fault of a datagram whose link has these ports: a link without any isn't there.
+fn fault_at(ports: Option<Ports>) -> Option<DatagramFault>
+    ensures { result ≡ fault_at ports }
+{
+    match ports {
+        Some(_) => None,
+        None => Some(DatagramFault::UnknownLink),
+    }
+}
 
 /// A concentrator with its links and its counts.
 #[derive(Drop)]
@@ -110,7 +121,7 @@ impl Station {
     ghost use Rattle.rohc_station.specs.Limits.{second_of, is_silent};
     ghost use Rattle.rohc_station.specs.Timed.{plain_timed};
     ghost use Rattle.rohc_station.specs.Told.{told_of};
-    ghost use Rattle.rohc_station.specs.Counting.{KeepsCounts};
+    ghost use Rattle.rohc_station.specs.Counting.{KeepsCounts, uncounted_station};
     ghost use Rattle.rohc_report.specs.Taken.{key_of};
     ghost use Rattle.rohc_station.specs.Reset.{Forgets};
     ghost use Rattle.rohc_station.specs.Taking.{limiter_at, counters_at, by_call_at, turns_away, TakesPacket, TurnsAway, TakesIf, TakesWithin, Takes, TakesKnown, IsRefusedUnread, FailsSends, SetsLimits};
@@ -125,9 +136,7 @@ impl Station {
         ensures links { IfOk result (λ station. station.links ≡ links) }
         ensures counters { IfOk result (λ station. (l : ℕ) → KeepsCounts None (entry_of l links.settings) (counters_at station l)) }
         ensures by_call { IfOk result (λ station. (key : ℕ) → by_call_at station key ≡ None) }
-        ensures datagrams { IfOk result (λ station. station.totals.datagrams ≡ 0) }
-        ensures bad { IfOk result (λ station. station.totals.bad_datagrams ≡ 0) }
-        ensures uncounted { IfOk result (λ station. station.totals.uncounted ≡ 0) }
+        ensures totals { IfOk result (λ station. station.totals ≡ uncounted_station) }
     {
         let counters = counters_for(alloc, &IndexMap::new(alloc), links.settings())?;
         Ok(Station {
@@ -225,15 +234,15 @@ impl Station {
         count_answer(&mut self.counters, &self.concentrator, link, size, &marked);
         let is_uncounted = count_call(&mut self.by_call, &self.concentrator, link, moment, &marked);
         let ports = ports_of(&self.links, link);
-        self.totals.add(ports.is_none(), is_uncounted);
+        self.totals.add(fault_at(ports), is_uncounted);
         answered(ports, marked.answer)
     }
 
-    /// Refuses a datagram that is too short, or turned away.
-    fn refuse<'a>(&mut self) -> Taken<'a>
-        ensures { (calls : List Turn) × IsRefusedUnread self.old self.new (told_of result) calls }
+    /// Refuses a datagram unread, for this fault.
+    fn refuse<'a>(&mut self, fault: DatagramFault) -> Taken<'a>
+        ensures { (calls : List Turn) × IsRefusedUnread fault self.old self.new (told_of result) calls }
     {
-        self.totals.add(true, false);
+        self.totals.add(Some(fault), false);
         unread()
     }
 
@@ -251,7 +260,7 @@ impl Station {
         ensures { (calls : List Turn) × TurnsAway self.old self.new link (told_of result) calls }
     {
         count_turned_away(&mut self.counters, link);
-        self.refuse()
+        self.refuse(DatagramFault::NewCall)
     }
 
     /// Takes a packet of a link, and withholds its feedback if the link is silent: it sends no more in this second.
@@ -298,7 +307,7 @@ impl Station {
             (told_of result) calls }
     {
         let Some(arrival) = read else {
-            return self.refuse();
+            return self.refuse(DatagramFault::Short);
         };
         let limiter = limiter_of(&self.counters, arrival.link);
         let arrival = trimmed_by(&self.concentrator, limiter.limits.payload, arrival);
@@ -313,12 +322,12 @@ impl Station {
             (told_of result) calls }
     {
         let Some(arrival) = read else {
-            return self.refuse();
+            return self.refuse(DatagramFault::Short);
         };
         let limiter = limiter_of(&self.counters, arrival.link);
         let arrival = trimmed_by(&self.concentrator, limiter.limits.payload, arrival);
         if begins_call(&self.concentrator, arrival.link, arrival.packet) {
-            self.refuse()
+            self.refuse(DatagramFault::NewCall)
         } else {
             self.take_within(&limiter, second_of(now), arrival)
         }

@@ -198,7 +198,7 @@ fn takes_and_reloads(rt: HostRuntime) {
             .refusal
             == Some(Refusal::NoLink)
     );
-    assert!(rt; station.totals().datagrams == 2 && station.totals().bad_datagrams == 1);
+    assert!(rt; station.totals().datagrams == 2 && station.totals().unknown_link == 1);
     assert!(rt;
         station
             .take_known(1000, arrival_in(false, 1000, &[0, 6, 0xfd, 0x01]))
