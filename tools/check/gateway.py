@@ -25,6 +25,7 @@ import completion
 import gateway_calls
 import gateway_clock
 import gateway_container
+import gateway_edges
 import gateway_limits
 import gateway_owner
 import gateway_recipe
@@ -39,7 +40,7 @@ from rohctl_survey import WHOLE_IR
 from trial import Trial
 
 ROHCTL = "crates/rohctl/out/rohctl"
-PARTS = ("words", "wrong", "heads", "whole", "numbered", "ported", "padded", "killed", "stopped", "reloaded", "asked", "calls", "streamed", "logged", "named", "limited", "hostile", "flood", "poor", "files", "contained", "recipe", "clock", "saved", "owned")
+PARTS = ("words", "wrong", "heads", "whole", "numbered", "ported", "padded", "killed", "stopped", "reloaded", "asked", "calls", "streamed", "logged", "named", "limited", "hostile", "flood", "poor", "files", "contained", "recipe", "clock", "saved", "owned", "edges")
 LINKS = range(1, 21)
 # The octets of the shortest Ethernet frame, without its check, and those of its head.
 SHORTEST_FRAME, ETHERNET_HEAD = 60, 14
@@ -149,6 +150,11 @@ def check_clock(trial: Trial) -> None:
 def check_saved(trial: Trial) -> None:
     """The saves of a gateway, and a slow disk."""
     gateway_saves.check(trial)
+
+
+def check_edges(trial: Trial) -> None:
+    """Its service manager, a log that nobody reads, what the system drops, and locks that are none."""
+    gateway_edges.check(trial)
 
 
 def check_owned(trial: Trial) -> None:

@@ -2,9 +2,11 @@
 
 use crate::answers::{Kind, MOST_FAULTS, REFUSED, Reply};
 use crate::connection::{Connection, Progress};
+use crate::drops::Drops;
 use crate::front::SocketFront;
 use crate::lines::Lines;
 use crate::links_file::{NoLinks, read_links_file};
+use crate::manager::Manager;
 use crate::moving::{Awaited, awaits, forget, waits, write_moves};
 use crate::names::{
     Shown, limits_of, name_of, read_notes, write_link_info, write_names, write_unknown_links,
@@ -49,7 +51,7 @@ fn write_time<W: Write>(out: &mut W, name: &str, moment: u64) -> io::Result<()> 
 /// What a gateway was started with.
 #[derive(Clone, Copy)]
 pub(crate) struct Frame<'a> {
-    pub(crate) log: Log,
+    pub(crate) log: Log<'a>,
     pub(crate) build: Build<'a>,
     /// The gateway file.
     pub(crate) file: &'a str,
@@ -65,6 +67,9 @@ pub(crate) struct Gateway<'a> {
     pub(crate) notes: Vec<LinkNote>,
     pub(crate) service: Service,
     pub(crate) figures: GatewayFigures,
+    /// What the system drops.
+    pub(crate) drops: Drops,
+    pub(crate) manager: Manager,
     pub(crate) time: Time,
     /// The saves of the run, if there is a state file.
     pub(crate) saves: Option<Saves>,
@@ -99,7 +104,7 @@ struct Refused<'a> {
 /// Logs the first faults of a file that a reload refuses, and what follows.
 fn log_refused<R: Clock + Eprint + AllocGlobal>(
     rt: &R,
-    log: Log,
+    log: Log<'_>,
     refused: Refused<'_>,
     faults: &str,
 ) {

@@ -1,5 +1,5 @@
-//! The locks of what one gateway alone may write: its saves and its control socket. The system lets go of a lock when
-//! its gateway ends, however it ends.
+//! The locks of what only one gateway may write: its saves and its control socket. The system releases a lock when its gateway
+//! ends, however it ends.
 
 use crate::lines::Lines;
 use crate::saves::SavePaths;
@@ -7,11 +7,14 @@ use rohc_gateway_file::Config;
 use rohc_text::shown_word;
 use std::alloc::Global;
 use std::fs::{File, OpenOptions, TryLockError};
-use std::io::{self, Read, Write};
+use std::io::{self, ErrorKind, Read, Seek, Write};
 use std::rt::Files;
 
-/// The longest text of a lock that is shown, in octets.
-const LONGEST_HOLDER: u64 = 4096;
+/// What stands in a lock in front of its holder's gateway file.
+const MARK: &str = "rohc-gateway ";
+
+/// The longest text of a lock that is read, in octets.
+const LONGEST: u64 = 8192;
 
 /// The locks that a gateway holds.
 #[derive(Drop)]
@@ -19,40 +22,85 @@ pub(crate) struct Locks {
     held: Vec<File>,
 }
 
+/// What became of a lock that was tried.
+#[derive(Drop)]
+enum Tried {
+    /// It is held from now on, as long as this file is open.
+    Taken(File),
+    /// A gateway with this gateway file holds it.
+    Held(String),
+    /// Something else stands at its path.
+    Foreign,
+}
+
 /// The path of the lock beside a file.
 pub(crate) fn lock_of(alloc: Global, path: &str) -> io::Result<String> {
     Ok(format!(in alloc; "{path}.lock")?)
 }
 
-/// What the holder of a lock wrote there, as far as it can be read.
-fn holder_in(alloc: Global, file: &mut File) -> String {
+/// The gateway file that a lock names: none if it is new. `None` if the file is no lock.
+fn holder_in(alloc: Global, file: &mut File) -> io::Result<Option<String>> {
     let mut octets = Vec::new(alloc);
-    let _ = file.take(LONGEST_HOLDER).read_to_end(&mut octets);
-    String::from_utf8(octets).unwrap_or(String::new(alloc))
+    let _ = file.take(LONGEST).read_to_end(&mut octets)?;
+    let Ok(text) = String::from_utf8(octets) else {
+        return Ok(None);
+    };
+    let text = text.as_str();
+    match text.strip_prefix(MARK) {
+        Some(holder) => Ok(Some(String::from_str(alloc, holder.trim_end())?)),
+        None if text.is_empty() => Ok(Some(String::new(alloc))),
+        None => Ok(None),
+    }
 }
 
-/// Locks a file, which is made if it isn't there, and writes who holds it. `Err` inside is what another holder wrote there.
-fn lock<R>(rt: &R, path: &str, holder: &str) -> io::Result<Result<File, String>>
+/// Writes a lock's holder into it.
+fn write_holder(file: &mut File, holder: &str) -> io::Result<()> {
+    file.rewind()?;
+    file.set_len(0)?;
+    file.write_all(MARK.as_bytes())?;
+    file.write_all(holder.as_bytes())?;
+    file.write_all(b"\n")
+}
+
+/// Opens the file of a lock, which is made if it isn't there; `None` if something else stands at its path.
+fn opened<R: Files<File = File>>(rt: &R, path: &str) -> io::Result<Option<File>> {
+    let mut options = OpenOptions::new();
+    let _ = options.read(true).write(true).create(true);
+    match options.open(rt, path) {
+        Ok(file) if file.metadata()?.is_file() => Ok(Some(file)),
+        Ok(_) => Ok(None),
+        Err(e) if e.kind() == ErrorKind::IsADirectory => Ok(None),
+        Err(e) => Err(e),
+    }
+}
+
+/// Tries a lock for the gateway with this gateway file.
+fn lock<R>(rt: &R, path: &str, holder: &str) -> io::Result<Tried>
 where
     R: Files<File = File> + AllocGlobal,
 {
-    let mut options = OpenOptions::new();
-    let _ = options.read(true).write(true).create(true);
-    let mut file = options.open(rt, path)?;
-    match file.try_lock() {
-        Ok(()) => {}
-        Err(TryLockError::WouldBlock) => return Ok(Err(holder_in(rt.alloc(), &mut file))),
+    let Some(mut file) = opened(rt, path)? else {
+        return Ok(Tried::Foreign);
+    };
+    let is_taken = match file.try_lock() {
+        Ok(()) => true,
+        Err(TryLockError::WouldBlock) => false,
         Err(TryLockError::Error(e)) => return Err(e),
+    };
+    let Some(other) = holder_in(rt.alloc(), &mut file)? else {
+        return Ok(Tried::Foreign);
+    };
+    if !is_taken {
+        return Ok(Tried::Held(other));
     }
     // The lock holds even if there is no room to say who holds it.
-    let _ = file.set_len(0);
-    let _ = file.write_all(holder.as_bytes());
-    Ok(Ok(file))
+    let _ = write_holder(&mut file, holder);
+    Ok(Tried::Taken(file))
 }
 
 /// Writes that another gateway holds the lock for the path of this key.
 fn write_held(lines: &mut Lines, key: &str, path: &str, holder: &str) -> io::Result<()> {
-    let (path, holder) = (shown_word(path), shown_word(holder.trim_end()));
+    let (path, holder) = (shown_word(path), shown_word(holder));
     writeln!(
         lines,
         "{key}: {path}: locked by another gateway ({holder}); expected a {key} that no other gateway uses"
@@ -81,8 +129,15 @@ impl Locks {
     {
         let path = lock_of(rt.alloc(), path)?;
         match lock(rt, path.as_str(), holder) {
-            Ok(Ok(file)) => Ok(self.held.push(file)?),
-            Ok(Err(other)) => write_held(lines, key, path.as_str(), other.as_str()),
+            Ok(Tried::Taken(file)) => Ok(self.held.push(file)?),
+            Ok(Tried::Held(other)) => write_held(lines, key, path.as_str(), other.as_str()),
+            Ok(Tried::Foreign) => {
+                let path = shown_word(path.as_str());
+                writeln!(
+                    lines,
+                    "{key}: {path}: not the lock of a gateway; expected no other file there"
+                )
+            }
             // Where no lock can be made nothing else can be written either, and that error is told then.
             Err(_) => Ok(()),
         }
@@ -94,16 +149,15 @@ impl Locks {
         R: Files<File = File> + AllocGlobal,
     {
         let mut locks = Locks::none(rt.alloc());
-        let holder = format!(in rt.alloc(); "{file}\n")?;
         if let Some(paths) = SavePaths::of(rt.alloc(), config)? {
             let [state, latest, _] = paths.all();
-            locks.take(rt, "state", state, holder.as_str(), lines)?;
+            locks.take(rt, "state", state, file, lines)?;
             if config.scratch.is_some() {
-                locks.take(rt, "scratch", latest, holder.as_str(), lines)?;
+                locks.take(rt, "scratch", latest, file, lines)?;
             }
         }
         if let Some(control) = &config.control {
-            locks.take(rt, "control", control.as_str(), holder.as_str(), lines)?;
+            locks.take(rt, "control", control.as_str(), file, lines)?;
         }
         Ok(locks)
     }

@@ -5,12 +5,14 @@ mod answers;
 mod check;
 mod clocks;
 mod connection;
+mod drops;
 mod front;
 mod gateway;
 mod journal;
 mod lines;
 mod links_file;
 mod lock;
+mod manager;
 mod moving;
 mod names;
 mod outputs;
@@ -24,9 +26,13 @@ mod stream;
 mod streams;
 mod time;
 
+use crate::manager::Manager;
+use crate::run::Host;
 use crate::setup::Manner;
 use rohc_disk::RealDisk;
-use rohc_gateway_file::{Build, Ending, Level, Log, LogFormat, Request, VERSION, read_request};
+use rohc_gateway_file::{
+    Build, Ending, Level, Log, LogFormat, LostLines, Request, VERSION, read_request,
+};
 use rohc_loop::{folder_of, read_text};
 use std::fs::File;
 use std::net::Net;
@@ -45,9 +51,14 @@ fn words<R: Env + AllocGlobal>(rt: &R) -> io::Result<Vec<String>> {
 }
 
 /// Does what the words ask for.
-fn requested<R>(rt: &R, log: &mut Log, build: Build<'_>, words: &[String]) -> Result<Ending, Ending>
+fn requested<R>(
+    rt: &R,
+    log: &mut Log<'_>,
+    build: Build<'_>,
+    words: &[String],
+) -> Result<Ending, Ending>
 where
-    R: Files<File = File> + Net + Clock + Print + Eprint + AllocGlobal,
+    R: Files<File = File> + Env + Net + Clock + Print + Eprint + AllocGlobal,
 {
     let Ok(version) = format!(in rt.alloc(); "{VERSION} ({build})") else {
         return Err(Ending::Memory);
@@ -60,7 +71,11 @@ where
             fresh,
         } => {
             let manner = if fresh { Manner::Fresh } else { Manner::Run };
-            run::run(rt, log, build, file, &options, manner)
+            let host = Host {
+                build,
+                manager: Manager::of(rt),
+            };
+            run::run(rt, log, host, file, &options, manner)
         }
     }
 }
@@ -75,9 +90,11 @@ fn build_text<R: Files + AllocGlobal>(rt: &R) -> Option<String> {
 }
 
 fn main(rt: HostRuntime) -> ExitCode {
+    let lost = LostLines::new();
     let mut log = Log {
         is_journal: journal::is_journal(&rt),
         format: LogFormat::Text,
+        lost: &lost,
     };
     let text = build_text(&rt);
     let build = Build::of(match &text {

@@ -33,7 +33,7 @@ struct Save<'a> {
 pub(crate) struct Back {
     pub(crate) concentrator: Concentrator,
     pub(crate) contexts: u64,
-    /// What its file tells of the run before.
+    /// When it was saved.
     pub(crate) before: Before,
     /// Whether its contexts fell, since they are stale.
     pub(crate) is_stale: bool,

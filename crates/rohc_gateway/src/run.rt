@@ -1,8 +1,10 @@
 //! `run`: from the gateway file to a stop.
 
 use crate::connection::{Connection, Stream};
+use crate::drops::Drops;
 use crate::gateway::{Frame, Gateway};
 use crate::lines::Lines;
+use crate::manager::Manager;
 use crate::saves::{SavePaths, Saves};
 use crate::setup::{Manner, NoStart, Start, read_start};
 use crate::sockets::{
@@ -24,8 +26,18 @@ use std::rt::Files;
 use std::time::{Clock, Duration, Instant};
 use std::{io, mem};
 
+/// The longest wait for something to come, in milliseconds.
+const LONGEST_WAIT: u64 = 1000;
+
 /// How many connections are accepted at a wake and socket.
 const MOST_ACCEPTED: u32 = 64;
+
+/// What a gateway runs in: what it was built from, and the service manager that started it.
+#[derive(Clone, Copy)]
+pub(crate) struct Host<'a> {
+    pub(crate) build: Build<'a>,
+    pub(crate) manager: Manager,
+}
 
 /// Where more may wait. A socket tells that something came only once.
 #[derive(Clone, Copy, Default)]
@@ -81,6 +93,7 @@ fn figures_of<R: Clock>(
 /// What a gateway takes memory for once, at its start.
 #[derive(Drop)]
 struct Room {
+    manager: Manager,
     saves: Option<Saves>,
     connections: Vec<Option<Connection>>,
 }
@@ -94,7 +107,11 @@ fn gateway_of<'a>(
     service: Service,
     room: Room,
 ) -> Gateway<'a> {
-    let Room { saves, connections } = room;
+    let Room {
+        manager,
+        saves,
+        connections,
+    } = room;
     let seconds = u64::from(frame.config.save_seconds.unwrap_or(0));
     Gateway {
         frame,
@@ -103,6 +120,8 @@ fn gateway_of<'a>(
         saves,
         next_save: figures.begun.saturating_add(seconds * 1000),
         figures,
+        drops: Drops::default(),
+        manager,
         time,
         awaited: None,
         stop: None,
@@ -181,6 +200,7 @@ where
     let Some(place) = gateway.reload.take() else {
         return;
     };
+    gateway.manager.tell("RELOADING=1\n");
     let reply = gateway.reload(rt);
     if gateway.is_reloaded {
         gateway.is_reloaded = false;
@@ -190,6 +210,7 @@ where
             gateway.frame.log.say(rt, Level::Error, fault);
         }
     }
+    gateway.manager.tell("READY=1\n");
     gateway.end_request(rt.alloc(), place, reply);
 }
 
@@ -292,7 +313,8 @@ where
     let timeout = if waiting.is_any() || gateway.is_saving() {
         Duration::ZERO
     } else {
-        Duration::from_secs(1)
+        let every = gateway.manager.every.unwrap_or(LONGEST_WAIT);
+        Duration::from_millis(every.min(LONGEST_WAIT))
     };
     sockets.poll.poll(events, Some(timeout))?;
     let woken = Instant::now(rt).ok();
@@ -314,6 +336,9 @@ where
     gateway.note_step(rt, moment);
     gateway.drop_late(moment);
     gateway.save_on(rt, moment);
+    gateway.note_drops(rt, sockets, moment);
+    gateway.manager.go_on(moment);
+    gateway.figures.lost_lines = gateway.frame.log.lost.count();
     note_wake(rt, gateway, woken);
     Ok(())
 }
@@ -340,7 +365,7 @@ where
 /// Tells how a run ended.
 fn tell_end<R: Clock + Eprint + AllocGlobal>(
     rt: &R,
-    log: Log,
+    log: Log<'_>,
     served: io::Result<()>,
 ) -> Result<Ending, Ending> {
     match served {
@@ -358,7 +383,7 @@ fn tell_end<R: Clock + Eprint + AllocGlobal>(
 }
 
 /// Opens the sockets, or says which one can't be opened, and why.
-fn opened<R>(rt: &R, log: Log, config: &Config, notes: &[LinkNote]) -> Result<Sockets, Ending>
+fn opened<R>(rt: &R, log: Log<'_>, config: &Config, notes: &[LinkNote]) -> Result<Sockets, Ending>
 where
     R: Files + Net + Clock + Eprint + AllocGlobal,
 {
@@ -372,7 +397,12 @@ where
 }
 
 /// Says how many octets of datagrams may wait at each socket, and what to do if that is less than was asked for.
-fn say_receive_buffer<R: Clock + Eprint + AllocGlobal>(rt: &R, log: Log, wanted: u32, got: u32) {
+fn say_receive_buffer<R: Clock + Eprint + AllocGlobal>(
+    rt: &R,
+    log: Log<'_>,
+    wanted: u32,
+    got: u32,
+) {
     if got >= wanted {
         let text = format_args!("receive buffers: {got} octets");
         return log.say(rt, Level::Info, text);
@@ -418,7 +448,9 @@ where
     say_started(rt, gateway, back);
     say_receive_buffer(rt, log, config.receive_buffer, sockets.receive_buffer);
     gateway.log_unknown_links(rt);
+    gateway.manager.tell("READY=1\n");
     let served = serve(rt, gateway, &mut sockets);
+    gateway.manager.tell("STOPPING=1\n");
     gateway.give_up_save(rt);
     if let Some(path) = &config.control {
         let _ = remove_control(rt, path.as_str());
@@ -427,12 +459,13 @@ where
 }
 
 /// Takes the memory that a run needs from its start on.
-fn room_of<R: AllocGlobal>(rt: &R, paths: Option<SavePaths>) -> Option<Room> {
+fn room_of<R: AllocGlobal>(rt: &R, manager: Manager, paths: Option<SavePaths>) -> Option<Room> {
     let saves = match paths {
         Some(paths) => Some(Saves::new(rt.alloc(), paths)?),
         None => None,
     };
     Some(Room {
+        manager,
         saves,
         connections: empty_places(rt.alloc()).ok()?,
     })
@@ -447,8 +480,8 @@ fn service_of(alloc: Global, concentrator: Concentrator, links: Links) -> Option
 /// Runs a gateway from what was read.
 fn run_read<R>(
     rt: &R,
-    log: Log,
-    build: Build<'_>,
+    log: Log<'_>,
+    host: Host<'_>,
     file: &str,
     options: &Options<'_>,
     start: Start,
@@ -470,12 +503,12 @@ where
     } = start;
     say_lines(rt, log, Level::Warning, &remarks);
     let figures = figures_of(rt, &mut time, &config, before);
-    let room = room_of(rt, paths).ok_or(Ending::Memory)?;
+    let room = room_of(rt, host.manager, paths).ok_or(Ending::Memory)?;
     let service = service_of(rt.alloc(), concentrator, links).ok_or(Ending::Memory)?;
     let notes = mem::replace(&mut config.notes, Vec::new(rt.alloc()));
     let frame = Frame {
         log,
-        build,
+        build: host.build,
         file,
         options: *options,
         config: &config,
@@ -494,7 +527,7 @@ where
 }
 
 /// Says these lines.
-fn say_lines<R: Clock + Eprint + AllocGlobal>(rt: &R, log: Log, level: Level, lines: &Lines) {
+fn say_lines<R: Clock + Eprint + AllocGlobal>(rt: &R, log: Log<'_>, level: Level, lines: &Lines) {
     for line in lines.as_str().lines() {
         log.say(rt, level, line);
     }
@@ -503,8 +536,8 @@ fn say_lines<R: Clock + Eprint + AllocGlobal>(rt: &R, log: Log, level: Level, li
 /// Runs a gateway until it is told to stop. The log has the format of the gateway file from then on.
 pub(crate) fn run<R>(
     rt: &R,
-    log: &mut Log,
-    build: Build<'_>,
+    log: &mut Log<'_>,
+    host: Host<'_>,
     file: &str,
     options: &Options<'_>,
     manner: Manner,
@@ -516,7 +549,7 @@ where
     match read_start(rt, file, options, manner) {
         Ok(start) => {
             log.format = start.config.log_format;
-            run_read(rt, *log, build, file, options, start)
+            run_read(rt, *log, host, file, options, start)
         }
         Err(NoStart::Wrong(lines, format)) => {
             log.format = format;

@@ -40,7 +40,7 @@ pub(crate) struct Start {
     pub(crate) config: Config,
     pub(crate) links: Links,
     pub(crate) concentrator: Concentrator,
-    /// How many contexts were restored, whether they are stale, and what their file tells of the run before, if there was one.
+    /// How many contexts were restored, whether they are stale, and when they were saved, if any were.
     pub(crate) contexts: u64,
     pub(crate) is_stale: bool,
     pub(crate) before: Option<Before>,

@@ -52,6 +52,8 @@ pub(crate) struct Sockets {
     pub(crate) plain: Option<UdpSocket>,
     pub(crate) timed: Option<UdpSocket>,
     pub(crate) links: Vec<LinkSocket>,
+    /// The ports of those for datagrams of all links; 0: there is none.
+    ports: [u16; 2],
     pub(crate) control: Option<UnixListener>,
     pub(crate) metrics: Option<TcpListener>,
     /// How many octets of datagrams each socket for them keeps that wait: the least that one got.
@@ -253,7 +255,7 @@ fn is_done(status: i32) -> io::Result<()> {
     }
 }
 
-/// Binds a socket that its owner alone may open, under this name. It has its mode before it is there.
+/// Binds a socket to a path. Its mode is set first, so that only its owner can ever open it.
 fn bind_owned<R: Files + Net>(rt: &R, poll: &Poll, path: &str) -> io::Result<UnixListener> {
     remove_control(rt, path)?;
     let socket = rt.unix_socket()?;
@@ -327,6 +329,7 @@ impl Sockets {
             plain,
             timed,
             links,
+            ports: [config.port.unwrap_or(0), config.timed_port.unwrap_or(0)],
             control,
             metrics,
             receive_buffer,
@@ -365,6 +368,11 @@ impl Sockets {
             Some(one) => Some(&one.socket),
             None => None,
         }
+    }
+
+    /// Whether datagrams come in at this port.
+    pub(crate) fn has_port(&self, port: u16) -> bool {
+        self.ports.contains(&port) || self.links.iter().any(|one| one.port == port)
     }
 
     /// Notes that something waits at this port of a link.

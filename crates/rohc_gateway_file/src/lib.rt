@@ -15,4 +15,4 @@ pub use command::{Options, Request, VERSION, read_request};
 pub use config::{Config, ConfigFault, Place, Reading, Unread, Wrong, read_config, write_place};
 pub use ending::Ending;
 pub use link_tables::LinkNote;
-pub use log::{Level, Log, LogFormat};
+pub use log::{Level, Log, LogFormat, LostLines};

@@ -1,9 +1,12 @@
 //! The log: lines on standard error.
 
 use crate::civil::civil_at;
+use libc::net::{POLLOUT, poll};
+use libc::types::pollfd;
 use rohc_disk::milliseconds;
 use rohc_text::write_json_text;
 use std::alloc::Global;
+use std::cell::Cell;
 use std::io::Write;
 use std::time::{Clock, SystemTime, UNIX_EPOCH};
 use std::{fmt, io};
@@ -80,13 +83,57 @@ impl LogFormat {
     }
 }
 
+/// Standard error.
+const STANDARD_ERROR: i32 = 2;
+
+/// Lines that were lost, since their reader didn't take them.
+#[derive(Drop)]
+pub struct LostLines {
+    all: Cell<u64>,
+    /// Those that the log doesn't tell of yet.
+    untold: Cell<u64>,
+}
+
+impl LostLines {
+    /// None.
+    pub fn new() -> LostLines {
+        LostLines {
+            all: Cell::new(0),
+            untold: Cell::new(0),
+        }
+    }
+
+    /// How many there are. The count stays at the greatest `u64`.
+    pub fn count(&self) -> u64 {
+        self.all.get()
+    }
+
+    /// Counts one more.
+    fn add(&self) {
+        self.all.set(self.all.get().saturating_add(1));
+        self.untold.set(self.untold.get().saturating_add(1));
+    }
+}
+
 /// How log lines are written.
 #[derive(Clone, Copy)]
-pub struct Log {
+pub struct Log<'a> {
     /// Whether the journal reads standard error. Then a line of text begins with its level, otherwise with the date.
     pub is_journal: bool,
     /// The format of each line.
     pub format: LogFormat,
+    /// The lines that were lost.
+    pub lost: &'a LostLines,
+}
+
+/// Whether standard error takes a line of at most 4,096 octets (PIPE_BUF, pipe(7)) at once.
+fn is_taken() -> bool {
+    let mut asked = [pollfd {
+        fd: STANDARD_ERROR,
+        events: POLLOUT,
+        revents: 0,
+    }];
+    poll(&mut asked, 0) > 0
 }
 
 /// The system's clock; 1970 if it can't be read.
@@ -134,21 +181,46 @@ fn say_object<R: Eprint + AllocGlobal, D: fmt::Display>(
     }
 }
 
-impl Log {
-    /// Writes a line. If that fails, nothing follows, since there is nowhere to say so.
+impl Log<'_> {
+    /// Writes a line.
+    fn write<R: Clock + Eprint + AllocGlobal, D: fmt::Display + Drop>(
+        &self,
+        rt: &R,
+        level: Level,
+        text: D,
+    ) -> io::Result<()> {
+        let moment = milliseconds(date(rt));
+        match self.format {
+            LogFormat::Json => say_object(rt, moment, level, &text),
+            LogFormat::Text if self.is_journal => {
+                eprintln!(rt; "<{}>rohc-gateway: {text}", level.number())
+            }
+            LogFormat::Text => eprintln!(rt; "{} rohc-gateway: {text}", civil_at(moment)),
+        }
+    }
+
+    /// Writes how many lines were lost since the log told of some last.
+    fn tell_lost<R: Clock + Eprint + AllocGlobal>(&self, rt: &R) {
+        let lost = self.lost.untold.replace(0);
+        if lost > 0 {
+            let text = format_args!("{lost} log lines are lost, since nothing read them");
+            let _ = self.write(rt, Level::Warning, text);
+        }
+    }
+
+    /// Writes a line. One that standard error doesn't take at once is lost, and counted: nothing waits for who reads it.
     pub fn say<R: Clock + Eprint + AllocGlobal, D: fmt::Display + Drop>(
         &self,
         rt: &R,
         level: Level,
         text: D,
     ) {
-        let moment = milliseconds(date(rt));
-        let _ = match self.format {
-            LogFormat::Json => say_object(rt, moment, level, &text),
-            LogFormat::Text if self.is_journal => {
-                eprintln!(rt; "<{}>rohc-gateway: {text}", level.number())
-            }
-            LogFormat::Text => eprintln!(rt; "{} rohc-gateway: {text}", civil_at(moment)),
-        };
+        if !is_taken() {
+            return self.lost.add();
+        }
+        self.tell_lost(rt);
+        if self.write(rt, level, text).is_err() {
+            self.lost.add();
+        }
     }
 }
