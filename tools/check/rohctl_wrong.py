@@ -7,6 +7,8 @@ import socket
 import struct
 import subprocess
 import threading
+from collections.abc import Iterator
+from contextlib import contextmanager
 from pathlib import Path
 
 from nobody import as_nobody
@@ -369,6 +371,54 @@ NAMED: tuple[tuple[tuple[str, ...], bytes | str, tuple[int, str, str]], ...] = (
     (("status",), "", (2, "", f"rohctl: --control is missing; {A_GATEWAY}")),
     (("status",), b"\xff", (2, "", "rohctl: ROHC_CONTROL (not UTF-8): expected a path in UTF-8")),
 )
+OK, NOT_FOUND = b"HTTP/1.1 200 OK\r\n", b"HTTP/1.1 404 Not Found\r\n"
+LONG = b"".join(b'{"cid":%d}\n' % cid for cid in range(2_000))
+HALF = LONG[: len(LONG) // 2]
+KEEPS_RUNNING = "expected a gateway that keeps running (systemctl status rohc-gateway@NAME)"
+NO_ANSWER = "rohctl: answering: no complete answer; expected the control socket of a running rohc-gateway"
+
+
+def sized(body: bytes, size: int, status: bytes = OK, name: bytes = b"Content-Length") -> bytes:
+    """An answer whose head gives this length."""
+    return status + b"Content-Type: text/plain\r\n%b: %d\r\nConnection: close\r\n\r\n" % (name, size) + body
+
+
+def short(read: int, size: int) -> str:
+    """What is said of an answer that ends early."""
+    return f"rohctl: answering: the answer ended after {read} of {size} octets; {KEEPS_RUNNING}"
+
+
+# What a gateway sends before its connection ends, and how rohctl ends: its status, what it prints, and what it says.
+Ends = tuple[int, bytes, str]
+ANSWERS: tuple[tuple[bytes, Ends], ...] = (
+    (sized(LONG, len(LONG)), (0, LONG, "")),
+    (sized(b"", 0), (0, b"", "")),
+    (sized(ANSWER, len(ANSWER), NOT_FOUND), (1, ANSWER, "")),
+    # The body of a stream ends with the connection.
+    (OK + b"\r\n" + HALF, (0, HALF, "")),
+    (sized(HALF, len(LONG)), (4, HALF, short(len(HALF), len(LONG)))),
+    (sized(HALF, len(LONG), name=b"content-length"), (4, HALF, short(len(HALF), len(LONG)))),
+    (sized(LONG[:-1], len(LONG)), (4, LONG[:-1], short(len(LONG) - 1, len(LONG)))),
+    (sized(b"", 10), (4, b"", short(0, 10))),
+    (sized(ANSWER, 100, NOT_FOUND), (4, ANSWER, short(len(ANSWER), 100))),
+    (sized(ANSWER, 2**64), (4, b"", NO_ANSWER)),
+    # These end within the head.
+    (sized(b"", 5)[:-2], (4, b"", NO_ANSWER)),
+    (OK, (4, b"", NO_ANSWER)),
+    (OK[:10], (4, b"", NO_ANSWER)),
+    (b"", (4, b"", NO_ANSWER)),
+)
+# Commands that print an answer as it comes, and those that print nothing of one that isn't whole.
+PRINTING: tuple[tuple[str, ...], ...] = (
+    ("contexts", "--link", "1"),
+    ("calls",),
+    ("calls", "--json"),
+    ("status",),
+    ("top",),
+    ("export", "--link", "1"),
+    ("import", "--link", "1", "empty"),
+)
+HOLDING: tuple[tuple[str, ...], ...] = (("keep",), ("find", "--links", "links.toml", "10.0.0.1"))
 # Lists of digests, and what is told of them on standard output.
 LISTS: tuple[tuple[str, int, str], ...] = (
     (f"# a comment\n\n{DIGEST}  empty\n", 0, "1 file is as packaged\n"),
@@ -476,8 +526,8 @@ def check_table(trial: Trial, folder: Path) -> None:
     trial.demand(not changed, f"inputs that changed: {changed}")
 
 
-def answer(listener: socket.socket) -> None:
-    """Answers each request as a gateway does, until the socket is shut."""
+def answer(listener: socket.socket, octets: bytes) -> None:
+    """Answers each request with these octets and ends the connection, until the socket is shut."""
     while True:
         try:
             asked, _ = listener.accept()
@@ -485,27 +535,56 @@ def answer(listener: socket.socket) -> None:
             return
         with asked:
             asked.recv(4096)
-            asked.sendall(b"HTTP/1.1 200 OK\r\n\r\n" + ANSWER)
+            asked.sendall(octets)
 
 
-def check_named(trial: Trial, folder: Path) -> None:
-    """Which of --control, --name and ROHC_CONTROL decides."""
+@contextmanager
+def answering(folder: Path, octets: bytes) -> Iterator[None]:
+    """A socket `answering` in a folder that answers each request with these octets."""
     with socket.socket(socket.AF_UNIX) as listener:
         place = os.open(folder, os.O_RDONLY)
         (folder / "answering").unlink(missing_ok=True)
         listener.bind(f"/proc/self/fd/{place}/answering")
         os.close(place)
         listener.listen()
-        answering = threading.Thread(target=answer, args=(listener,))
-        answering.start()
+        thread = threading.Thread(target=answer, args=(listener, octets))
+        thread.start()
+        try:
+            yield
+        finally:
+            listener.shutdown(socket.SHUT_RDWR)
+            thread.join()
+    (folder / "answering").unlink()
+
+
+def check_named(trial: Trial, folder: Path) -> None:
+    """Which of --control, --name and ROHC_CONTROL decides."""
+    with answering(folder, OK + b"\r\n" + ANSWER):
         for words, control, wanted in NAMED:
             environment = os.environb | {b"ROHC_CONTROL": os.fsencode(control)}
             done = subprocess.run([trial.top / PROGRAM, *words], stdin=subprocess.DEVNULL, capture_output=True, cwd=folder, env=environment, timeout=60)
             found = (done.returncode, done.stdout.decode(), done.stderr.decode().rstrip("\n"))
             trial.demand(found == wanted, f"rohctl {words} with ROHC_CONTROL={control!r}: {found}; wanted {wanted}")
-        listener.shutdown(socket.SHUT_RDWR)
-        answering.join()
-    (folder / "answering").unlink()
+
+
+def check_answers(trial: Trial, folder: Path) -> None:
+    """Answers that are whole, and those that end early."""
+
+    def demand(words: tuple[str, ...], octets: bytes, wanted: Ends) -> None:
+        ended = run(Call((trial.top / PROGRAM, *words, "--control", "answering"), b"", {}, folder))
+        found = (ended.status, ended.output, ended.said)
+        told = f"{ended.end()}, {len(ended.output)} octets; wanted {wanted[0]}, {wanted[2]}, {len(wanted[1])} octets"
+        trial.demand(found == wanted, f"rohctl {words} at {octets[:90]!r}: {told}", ended.call)
+
+    for octets, wanted in ANSWERS:
+        with answering(folder, octets):
+            demand(PRINTING[0], octets, wanted)
+    for octets, wanted in ((sized(HALF, len(LONG)), (4, HALF, short(len(HALF), len(LONG)))), (OK, (4, b"", NO_ANSWER))):
+        with answering(folder, octets):
+            for words in PRINTING:
+                demand(words, octets, wanted)
+            for words in HOLDING:
+                demand(words, octets, (4, b"", wanted[2]))
 
 
 def check_systems(trial: Trial, folder: Path) -> None:
@@ -625,6 +704,7 @@ def check(trial: Trial) -> None:
     check_table(trial, folder)
     check_lists(trial, folder)
     check_named(trial, folder)
+    check_answers(trial, folder)
     check_systems(trial, folder)
     check_changed(trial, folder)
     check_terminals(trial, folder)

@@ -1,5 +1,8 @@
 //! What is asked of a running gateway, at its control socket.
 
+ghost use Rattle.std.specs.Prelude.{◌≡◌, ◌≤◌, ◌<◌, ◌+◌, ◌^◌, ◌-◌, ℕ, IfOk, length, min};
+ghost use Rattle.rohctl_program.specs.declared.control.Body.{Body};
+
 use rohc_text::Reason;
 use rohctl_answers::clear;
 use rohctl_ground::{Ending, Screen, shown_word, unprinted};
@@ -30,6 +33,10 @@ const LONGEST_STATE: u64 = 1_073_741_824 + 8192;
 /// How often `top` is redrawn on a terminal, in seconds.
 const REDRAW_SECONDS: u64 = 2;
 
+/// What is expected if an answer ends early, and what to do.
+const KEEPS_RUNNING: &str =
+    "expected a gateway that keeps running (systemctl status rohc-gateway@NAME)";
+
 /// How an answer begins.
 const ANSWER: &[u8] = b"HTTP/1.1 ";
 
@@ -44,8 +51,10 @@ enum Fault {
     NoSocket,
     /// The socket can't be reached, or fails.
     Socket(io::Error),
-    /// What listens there is no gateway, or ended in mid-answer.
+    /// What listens there is no gateway, or ended within the head of its answer.
     NoAnswer,
+    /// The connection ended after this many octets of a body that has more.
+    Cut { read: u64, size: u64 },
     /// Standard output failed.
     Output(io::Error),
     /// There is no memory.
@@ -73,6 +82,10 @@ impl fmt::Display for Fault {
             }
             Fault::NoAnswer => f.write_str(
                 "no complete answer; expected the control socket of a running rohc-gateway",
+            ),
+            Fault::Cut { read, size } => write!(
+                f,
+                "the answer ended after {read} of {size} octets; {KEEPS_RUNNING}"
             ),
             Fault::Output(_) | Fault::Memory => Ok(()),
         }
@@ -252,12 +265,60 @@ fn is_done(head: &[u8]) -> bool {
     head.get(8..12) == Some(b" 200".as_slice())
 }
 
+/// The length of the body that a head gives, as it is written there (RFC 9112 6.2).
+fn length_in(head: &str) -> Option<&str> {
+    for line in head.lines() {
+        if let Some((name, value)) = line.split_once(":")
+            && name.eq_ignore_ascii_case("Content-Length")
+        {
+            return Some(value.trim());
+        }
+    }
+    None
+}
+
+/// The body of an answer, as far as it was read.
+#[derive(Clone, Copy)]
+struct Body {
+    /// Whether the request was done.
+    done: bool,
+    /// How many octets it has, if the head says so. The body of a stream ends with the connection.
+    size: Option<u64>,
+    /// How many octets were read.
+    read: u64,
+}
+
+impl Body {
+    /// The body behind a head, before it is read. Returns `None` if the head gives a length that is not a number.
+    fn behind(head: &[u8]) -> Option<Body> {
+        let done = is_done(head);
+        let size = match length_in(std::str::from_utf8(head).ok()?) {
+            Some(digits) => Some(digits.parse::<u64>().ok()?),
+            None => None,
+        };
+        Some(Body {
+            done,
+            size,
+            read: 0,
+        })
+    }
+
+    /// Counts octets that were read.
+    fn count(&mut self, octets: &[u8])
+        ensures read { self.new.read ≡ min (self.old.read + length octets.now) (2 ^ 64 - 1) }
+        ensures size { self.new.size ≡ self.old.size }
+        ensures done { self.new.done ≡ self.old.done }
+    {
+        self.read = self.read.saturating_add(octets.len() as u64);
+    }
+}
+
 /// An answer, as far as it was read.
 #[derive(Drop)]
 struct Reading {
     head: Vec<u8>,
-    /// Whether the request was done, once the head has ended.
-    done: Option<bool>,
+    /// The body, once the head has ended.
+    body: Option<Body>,
 }
 
 /// Writes a part of an answer's body.
@@ -267,8 +328,13 @@ fn write_body<W: Write>(out: &mut W, octets: &[u8]) -> Result<(), Fault> {
 
 impl Reading {
     /// Takes the next octets of an answer, and writes those of its body. Returns whether it can be an answer.
-    fn take<W: Write>(&mut self, octets: &[u8], out: &mut W) -> Result<bool, Fault> {
-        if self.done.is_some() {
+    fn take<W: Write>(&mut self, octets: &[u8], out: &mut W) -> Result<bool, Fault>
+        ensures read { (before : Body) → self.old.body ≡ Some before → IfOk result (λ good.
+            (after : Body) × (self.new.body ≡ Some after) × (after.size ≡ before.size) × (after.done ≡ before.done)
+            × (after.read ≡ min (before.read + length octets.now) (2 ^ 64 - 1))) }
+    {
+        if let Some(body) = &mut self.body {
+            body.count(octets);
             write_body(out, octets)?;
             return Ok(true);
         }
@@ -281,13 +347,36 @@ impl Reading {
         let Some(at) = body_at(&self.head) else {
             return Ok(self.head.len() <= LONGEST_HEAD);
         };
-        self.done = Some(is_done(&self.head));
-        write_body(out, self.head.get(at..).unwrap_or(&[]))?;
+        let Some(mut body) = Body::behind(self.head.get(..at).unwrap_or(&[])) else {
+            return Ok(false);
+        };
+        let first = self.head.get(at..).unwrap_or(&[]);
+        body.count(first);
+        self.body = Some(body);
+        write_body(out, first)?;
         Ok(true)
+    }
+
+    /// How the answer ends if the connection ends now: whether the request was done, or that the answer isn't whole.
+    fn end(&self) -> Result<bool, Fault>
+        ensures head { self.now.body ≡ None → result ≡ Err Fault.NoAnswer }
+        ensures stream { (body : Body) → self.now.body ≡ Some body → body.size ≡ None → result ≡ Ok body.done }
+        ensures whole { (body : Body) → (size : ℕ) → self.now.body ≡ Some body → body.size ≡ Some size
+            → size ≤ body.read → result ≡ Ok body.done }
+        ensures cut { (body : Body) → (size : ℕ) → self.now.body ≡ Some body → body.size ≡ Some size
+            → body.read < size → result ≡ Err (Fault.Cut body.read size) }
+    {
+        let Some(Body { done, size, read }) = self.body else {
+            return Err(Fault::NoAnswer);
+        };
+        match size {
+            Some(size) if read < size => Err(Fault::Cut { read, size }),
+            _ => Ok(done),
+        }
     }
 }
 
-/// Reads an answer to its end, and writes its body. Returns whether the request was done.
+/// Reads an answer to its end, and writes its body as far as it comes. Returns whether the request was done.
 fn pass_answer<R: Read, W: Write>(
     alloc: Global,
     stream: &mut R,
@@ -296,11 +385,11 @@ fn pass_answer<R: Read, W: Write>(
     let mut piece = [0; PIECE];
     let mut reading = Reading {
         head: Vec::new(alloc),
-        done: None,
+        body: None,
     };
     for _ in 0..u64::MAX {
         let count = match stream.read(&mut piece) {
-            Ok(0) => return reading.done.ok_or(Fault::NoAnswer),
+            Ok(0) => return reading.end(),
             Ok(count) => count,
             Err(e) => return Err(Fault::Socket(e)),
         };
