@@ -6,7 +6,7 @@ ghost use Rattle.rohc_concentrator.specs.declared.concentrator.Concentrator.{Con
 ghost use Rattle.rohc_world.specs.Acts.{Asks};
 ghost use Rattle.rohc_loop.specs.Paths.{beside};
 ghost use Rattle.rohc_piecewise.specs.Piecewise.{Head};
-ghost use Rattle.rohc_running.specs.Running.{IsRunning, EndsBegin, EndsPlacing, EndsFailing, GoesOn};
+ghost use Rattle.rohc_running.specs.Running.{IsRunning, GivesUp, Stops, EndsBegin, EndsPlacing, GoesOn};
 
 use rohc_concentrator::Concentrator;
 use rohc_loop::{Unwritten, path_beside};
@@ -32,7 +32,7 @@ pub struct Begin {
 pub enum Progress {
     /// More is to be done.
     Goes,
-    /// It is whole: so many octets, up to the greatest `u64`.
+    /// It is whole. The number is its size in octets, up to the greatest `u64`.
     Ends(u64),
 }
 
@@ -86,7 +86,8 @@ impl RunningSave {
 
     /// Begins a save of the links that stand, in a new file.
     ///
-    /// The error is that the file can't be created, or that there is no memory. Then none is under way.
+    /// The error is that the file can't be created, or that there is no memory. Then none is under way, and a file that was
+    /// created is removed.
     pub fn begin<W: Disk>(
         &mut self,
         world: &mut W,
@@ -112,9 +113,9 @@ impl RunningSave {
         Ok(())
     }
 
-    /// Gives up the save under way, if there is one.
+    /// Gives up the save under way and removes its file. If none is under way, it asks for nothing.
     pub fn stop<W: Disk>(&mut self, world: &mut W)
-        ensures { Asks (W.acts world.old) (W.acts world.new) (EndsFailing self.old self.new) }
+        ensures { Asks (W.acts world.old) (W.acts world.new) (Stops self.old self.new) }
     {
         if self.is_open {
             self.give_up(world);
@@ -123,7 +124,7 @@ impl RunningSave {
 
     /// Closes and removes the file of the save under way. None is, from then on.
     fn give_up<W: Disk>(&mut self, world: &mut W)
-        ensures { Asks (W.acts world.old) (W.acts world.new) (EndsFailing self.old self.new) }
+        ensures { Asks (W.acts world.old) (W.acts world.new) (GivesUp self.old self.new) }
     {
         self.is_open = false;
         world.close();
@@ -132,7 +133,7 @@ impl RunningSave {
 
     /// Gives up for a trouble with the file of the save under way.
     fn fail<W: Disk>(&mut self, world: &mut W, alloc: Global, trouble: Trouble) -> Unwritten
-        ensures { Asks (W.acts world.old) (W.acts world.new) (EndsFailing self.old self.new) }
+        ensures { Asks (W.acts world.old) (W.acts world.new) (GivesUp self.old self.new) }
     {
         self.give_up(world);
         Unwritten::new(alloc, self.unfinished.as_str(), trouble)

@@ -1,4 +1,4 @@
-use Rattle.std.proofs.Common.{◌∷◌, [], refl}
+use Rattle.std.proofs.Common.{◌∷◌, [], refl, ap, inr}
 use Rattle.std.specs.Prelude.{Ok}
 use Rattle.rohc_world.specs.Acts.{Created}
 use Rattle.rohc_loop.proofs.AskLemmas.{adds_more}
@@ -12,6 +12,9 @@ returns-then-is_err g c =
       begins = record {
         acts = made ∷ c.give_up.ensures.acts;
         known = adds_more _ _ _ (made ∷ []) c.give_up.ensures.acts c.in-Ok.ensures.told c.give_up.ensures.known;
-        form = fails_later c.args.self.now _ c.give_up.new.self made c.give_up.ensures.acts (record { path = refl; unfinished = refl }) c.as_str.ensures.value c.give_up.ensures.form;
+        form = (
+          fails_later c.args.self.now _ c.give_up.new.self made c.give_up.ensures.acts (record { path = refl; unfinished = refl }) c.as_str.ensures.value c.give_up.ensures.form.fails,
+          inr (c.give_up.ensures.acts, ap (λ path. Created path (Ok tt) ∷ c.give_up.ensures.acts) c.as_str.ensures.value, c.give_up.ensures.form.removed),
+        );
       };
     }

@@ -1,7 +1,8 @@
-use Rattle.std.proofs.Common.{◌∷◌, [], refl}
-use Rattle.std.specs.Prelude.{Ok, Err}
-use Rattle.rohc_world.specs.Acts.{SetModified, Closed, Renamed, Removed}
+use Rattle.std.proofs.Common.{◌∷◌, [], refl, rules}
+use Rattle.std.specs.Prelude.{Ok}
+use Rattle.rohc_world.specs.Acts.{SetModified, Closed, Renamed}
 use Rattle.rohc_loop.proofs.AskLemmas.{adds_more}
+use Rattle.rohc_running.proofs.RunningLemmas.{not_placed}
 use Rattle.rohc_running.proofs.running.RunningSave.put_in_place.Goals as goal
 
 pub returns-in-Ok : goal.returns-in-Ok
@@ -13,19 +14,11 @@ returns-in-Ok g c =
       known = adds_more _ _ _ (dated ∷ []) (Closed ∷ named) c.set_modified.ensures.told (adds_more _ _ _ (Closed ∷ []) named c.close.ensures.told c.in-Ok.ensures.told);
       form = (
         refl,
+        refl,
         record { path = refl; unfinished = refl },
         (c.set_modified.result, λ i. dated ∷ Closed ∷ Renamed (c.as_str.ensures.value i) (c.as_str-2.ensures.value i) (Ok tt) ∷ []),
       );
     }
 
 pub returns-in-Err : goal.returns-in-Err
-returns-in-Err g c =
-    let dated = SetModified c.args.self.now.date c.set_modified.result in
-    let named = Renamed c.as_str.result.now c.as_str-2.result.now (Err c.in-Err.trouble) in
-    let gone = Removed c.as_str-in-Err.result.now c.remove.result ∷ [] in
-    record {
-      acts = dated ∷ Closed ∷ named ∷ gone;
-      known = adds_more _ _ _ (dated ∷ []) (Closed ∷ named ∷ gone) c.set_modified.ensures.told
-          (adds_more _ _ _ (Closed ∷ []) (named ∷ gone) c.close.ensures.told (adds_more _ _ _ (named ∷ []) gone c.in-Err.ensures.told c.remove.ensures.told));
-      form = record { closed = refl; paths = record { path = refl; unfinished = refl }; leaves = (tt, (tt, (tt, (c.as_str-in-Err.ensures.value, tt)))) };
-    }
+returns-in-Err g c = search (rules, not_placed, c.in-Err.ensures.told)
