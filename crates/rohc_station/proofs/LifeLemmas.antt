@@ -27,7 +27,7 @@ use Rattle.rohc_saved.specs.Restoring.{put_turn, puts_of, taken_of}
 use Rattle.rohc_saved.specs.LinkRestoring.{reset_turn as stopped_turn}
 use Rattle.rohc_station.specs.declared.counters.DatagramFault.{DatagramFault}
 use Rattle.rohc_station.specs.declared.counters.DatagramFault.TheVariants.{Short, NewCall}
-use Rattle.rohc_station.specs.Life.{StationCall, StationTurn, Take, TakeKnown, Reset, Reload, Import, AddFailedSends, SetLimits, IsTurn, TakesTurns, IsFit, IsFitPacket, LifeIsRun, LifeKeepsSound, IsolatedLife, IsolatedLinkLife, SameLives, SameLinkLives}
+use Rattle.rohc_station.specs.Life.{StationCall, StationTurn, Take, TakeKnown, Reset, Expire, Reload, Import, AddFailedSends, SetLimits, IsTurn, TakesTurns, IsFit, IsFitPacket, LifeIsRun, LifeKeepsSound, IsolatedLife, IsolatedLinkLife, SameLives, SameLinkLives}
 use Rattle.rohc_saved.proofs.PutLemmas.{runs_append}
 use Rattle.rohc_station.proofs.CallLemmas.{all_weaker, all_passed, all_if}
 
@@ -61,7 +61,8 @@ module _ (old new : Station) (calls : List Turn) where
   turn_runs (Take second (Some t) told) p = taken_runs second (trimmed_at old t) told p
   turn_runs (TakeKnown second None told) p = unread_runs Short told p
   turn_runs (TakeKnown second (Some t) told) p = standing_runs second (trimmed_at old t) told p
-  turn_runs (Reset link cid answer) p = subst RunsThem (sym p.1) (new.concentrator, p.0.call, refl)
+  turn_runs (Reset link cid answer) p = subst RunsThem (sym p.1) (new.concentrator, p.0.runs, refl)
+  turn_runs (Expire link moment answer) p = subst RunsThem (sym p.1) (new.concentrator, p.0.runs, refl)
   turn_runs (Reload file (Ok report)) p = p.runs
   turn_runs (Reload file (Err (Settings fault))) p = none_runs p.0 p.1
   turn_runs (Reload file (Err NoMemory)) (inl p) = none_runs p.0 p.1
@@ -146,6 +147,7 @@ module _ (old new : Station) (calls : List Turn) where
   turn_fit (TakeKnown second (Some t) told) fit p = standing_fit second (trimmed_at old t) told (trimmed_fit old t fit) p
   turn_fit (Reset link None answer) fit p = subst AreFit (sym p.1) (tt, tt)
   turn_fit (Reset link (Some cid) answer) fit p = subst AreFit (sym p.1) (tt, tt)
+  turn_fit (Expire link moment answer) fit p = subst AreFit (sym p.1) (tt, tt)
   turn_fit (Reload file (Ok report)) fit p = subst AreFit (sym p.these) (reload_fit old.concentrator p.numbers file.settings fit)
   turn_fit (Reload file (Err (Settings fault))) fit p = subst AreFit (sym p.1) tt
   turn_fit (Reload file (Err NoMemory)) fit (inl p) = subst AreFit (sym p.1) tt

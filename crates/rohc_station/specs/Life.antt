@@ -5,7 +5,7 @@ use Rattle.std.specs.List.{AllByRecursion, flat_map}
 use Rattle.rohc_frame.specs.Laws.{IsOctet}
 use Rattle.rohc_concentrator.specs.declared.setting.LinkSetting.{LinkSetting}
 use Rattle.rohc_concentrator.specs.Seen.{seen_at, view_at}
-use Rattle.rohc_concentrator.specs.Calls.{CallAnswer}
+use Rattle.rohc_concentrator.specs.Calls.{CallAnswer, ForgetExpired}
 use Rattle.rohc_concentrator.specs.RunsCall.{Turn, Runs}
 use Rattle.rohc_concentrator.specs.OwnCalls.{calls_to, answers_to, IsIsolated}
 use Rattle.rohc_concentrator.specs.LinkCalls.{calls_on, answers_on, LinkRun}
@@ -21,18 +21,19 @@ use Rattle.rohc_station.specs.Told.{Told}
 use Rattle.rohc_station.specs.declared.limits.LinkLimits.{LinkLimits}
 use Rattle.rohc_station.specs.Taking.{Takes, TakesKnown, FailsSends, SetsLimits}
 use Rattle.rohc_station.specs.Reload.{Reloads, ReloadStays}
-use Rattle.rohc_station.specs.Reset.{reset_turn, Forgets}
+use Rattle.rohc_station.specs.Reset.{reset_call, forget_turn, Forgets}
 use Rattle.rohc_station.specs.Importing.{Imports}
 
 -- One call of a station, with what it told. In a second of the gateway's clock a datagram was taken, as it
--- was read, or was taken while no call is begun; records of a link were forgotten, or that of one CID; the
--- links of a file were taken, or not; a number of sends failed for a datagram of a link; a link was given
--- limits. A packet that is turned away is no call of the concentrator, and withheld feedback is still its
--- answer.
+-- was read, or was taken while no call is begun; records of a link were forgotten, or that of one CID, or
+-- those that had expired at a moment; the links of a file were taken, or not; a number of sends failed for a
+-- datagram of a link; a link was given limits. A packet that is turned away is no call of the concentrator,
+-- and withheld feedback is still its answer.
 pub data StationCall : Type 0 where
   Take : ℕ → Option TimedPacket → Told → StationCall
   TakeKnown : ℕ → Option TimedPacket → Told → StationCall
   Reset : ℕ → Option ℕ → CallAnswer → StationCall
+  Expire : ℕ → ℕ → CallAnswer → StationCall
   Reload : Lists → Result ReloadReport ReloadFault → StationCall
   Import : ℕ → List ℕ → Result Restored LinkFault → StationCall
   AddFailedSends : Option ℕ → ℕ → StationCall
@@ -48,7 +49,10 @@ abbrev pub IsTurn : Station → StationCall → List Turn → Station → Type 0
 IsTurn old (Take second read told) calls new = Takes old new second read told calls
 IsTurn old (TakeKnown second read told) calls new = TakesKnown old new second read told calls
 IsTurn old (Reset link cid answer) calls new =
-    Forgets old new link cid answer × (calls ≡ reset_turn link cid answer ∷ [])
+    Forgets old new link (reset_call cid) answer × (calls ≡ forget_turn link (reset_call cid) answer ∷ [])
+IsTurn old (Expire link moment answer) calls new =
+    Forgets old new link (ForgetExpired moment) answer
+    × (calls ≡ forget_turn link (ForgetExpired moment) answer ∷ [])
 IsTurn old (Reload file (Ok report)) calls new = Reloads old file report calls new
 IsTurn old (Reload file (Err fault)) calls new = ReloadStays old file fault calls new
 IsTurn old (Import link octets result) calls new = Imports old new link octets result calls

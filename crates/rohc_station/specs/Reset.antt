@@ -1,4 +1,4 @@
--- Records that are forgotten as asked. Words: reset_call, reset_turn; Forgets.
+-- Records that are forgotten. Words: reset_call, forget_turn; Forgets.
 use Rattle.std.specs.Prelude.{◌≡◌, ℕ, Option, Some, None}
 use Rattle.rohc_concentrator.specs.Calls.{Call, Reset, Forget, CallAnswer}
 use Rattle.rohc_concentrator.specs.RunsCall.{RunsCall, Turn}
@@ -11,12 +11,12 @@ abbrev pub reset_call : Option ℕ → Call
 reset_call None = Reset
 reset_call (Some cid) = Forget cid
 
-abbrev pub reset_turn : ℕ → Option ℕ → CallAnswer → Turn
-reset_turn link cid answer = record { link = link; call = reset_call cid; answer = answer }
+abbrev pub forget_turn : ℕ → Call → CallAnswer → Turn
+forget_turn link call answer = record { link = link; call = call; answer = answer }
 
 -- the concentrator is called so, the calls whose contexts stand keep their counts, and nothing else changes
-pub record Forgets (old new : Station) (link : ℕ) (cid : Option ℕ) (answer : CallAnswer) : Type 0 where
-  pub call : RunsCall old.concentrator link (reset_call cid) answer new.concentrator
+pub record Forgets (old new : Station) (link : ℕ) (call : Call) (answer : CallAnswer) : Type 0 where
+  pub runs : RunsCall old.concentrator link call answer new.concentrator
   pub counters : new.counters ≡ old.counters
   pub by_call : KeepsStanding new.concentrator (by_call_at old) (by_call_at new)
   pub totals : new.totals ≡ old.totals

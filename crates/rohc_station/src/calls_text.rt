@@ -43,7 +43,7 @@ pub(crate) fn put_call(line: &mut Vec<u8>, row: &CallRow<'_>) -> io::Result<()> 
     let mark = if row.is_silent() { "!" } else { " " };
     write!(line, "{mark} {}/{}", row.link, row.cid)?;
     pad_to(line, STATE)?;
-    write!(line, "{}", state_text(row.context.state()))?;
+    write!(line, "{}", state_text(row))?;
     pad_to(line, SILENT)?;
     match row.silent {
         Some(silent) => write_duration(line, silent)?,

@@ -18,6 +18,9 @@ pub(crate) fn profile_name(profile: Profile) -> &'static str {
     }
 }
 
+/// The name of the state of a context that has expired.
+pub(crate) const EXPIRED: &str = "expired";
+
 /// The name of a state, as JSON and the metrics show it.
 pub(crate) fn state_name(state: ContextState) -> &'static str {
     match state {
@@ -27,15 +30,29 @@ pub(crate) fn state_name(state: ContextState) -> &'static str {
     }
 }
 
-/// Writes the members of an object that has a context.
-fn write_context<W: Write>(out: &mut W, link: u16, cid: u16, context: &Context) -> io::Result<()> {
+/// Writes the members of an object that has a context in a state of this name.
+fn write_context<W: Write>(
+    out: &mut W,
+    link: u16,
+    cid: u16,
+    context: &Context,
+    state: &str,
+) -> io::Result<()> {
     write!(
         out,
-        "{{\"link\":{link},\"cid\":{cid},\"profile\":\"{}\",\"state\":\"{}\",\"accepted\":{}",
+        "{{\"link\":{link},\"cid\":{cid},\"profile\":\"{}\",\"state\":\"{state}\",\"accepted\":{}",
         profile_name(context.profile()),
-        state_name(context.state()),
         context.accepted()
     )
+}
+
+/// The name of the state of a call, as JSON shows it.
+fn state_in(row: &CallRow<'_>) -> &'static str {
+    if row.has_expired {
+        EXPIRED
+    } else {
+        state_name(row.context.state())
+    }
 }
 
 /// Writes the member that says for how long a call is silent.
@@ -99,7 +116,7 @@ fn write_refused<W: Write>(out: &mut W, counts: &CallCounts) -> io::Result<()> {
 
 /// Writes a call as an object.
 fn write_call<W: Write>(out: &mut W, row: &CallRow<'_>) -> io::Result<()> {
-    write_context(out, row.link, row.cid, row.context)?;
+    write_context(out, row.link, row.cid, row.context, state_in(row))?;
     write_silent(out, row)?;
     if let Some(fixed) = &row.fixed {
         write_fixed(out, fixed)?;
@@ -118,7 +135,7 @@ fn write_call<W: Write>(out: &mut W, row: &CallRow<'_>) -> io::Result<()> {
 pub fn write_contexts<W: Write>(out: &mut W, station: &Station, link: u16) -> io::Result<()> {
     if let Some(records) = station.concentrator().tables().get(&link) {
         for (cid, context) in &records.contexts {
-            write_context(out, link, *cid, context)?;
+            write_context(out, link, *cid, context, state_name(context.state()))?;
             writeln!(out, "}}")?;
         }
     }

@@ -1,7 +1,8 @@
 //! The metrics of a gateway in the text format of Prometheus.
 
 use crate::counters::{Octets, StationCounters};
-use crate::lists::state_name;
+use crate::lists::{EXPIRED, state_name};
+use crate::rows::{CallList, has_expired};
 use crate::station::Station;
 use rohc_concentrator::LinkRecords;
 use rohc_context::{ContextState, Refusal};
@@ -22,12 +23,16 @@ pub struct GatewayFigures {
     pub failed_receives: u64,
     /// Datagrams that the system dropped before they were received.
     pub dropped_datagrams: u64,
+    /// Sends that failed of datagrams that waited to be sent.
+    pub failed_late_sends: u64,
     /// Log lines that were lost, since their reader didn't take them.
     pub lost_lines: u64,
     /// How often the gateway woke.
     pub wakes: u64,
     /// The longest time that a wake took, in microseconds.
     pub longest_wake: u64,
+    /// Contexts that were forgotten, since they had expired.
+    pub expired: u64,
     /// Saves that were done.
     pub saves: u64,
     /// Saves that failed.
@@ -56,12 +61,18 @@ pub(crate) struct States {
     pub no: u64,
     pub fixed: u64,
     pub full: u64,
+    /// Those that have expired, and in no other count.
+    pub expired: u64,
 }
 
-/// Counts the contexts of a link by state.
-pub(crate) fn states_of(records: &LinkRecords) -> States {
+/// Counts the contexts of a link by state. Those that have expired by a clock are counted apart.
+pub(crate) fn states_of(records: &LinkRecords, clock: Option<u64>) -> States {
     let mut states = States::default();
     for (_, context) in &records.contexts {
+        if has_expired(&records.setting, context, clock) {
+            states.expired = states.expired.saturating_add(1);
+            continue;
+        }
         match context.state() {
             ContextState::NoContext => states.no = states.no.saturating_add(1),
             ContextState::StaticContext => states.fixed = states.fixed.saturating_add(1),
@@ -278,17 +289,17 @@ fn write_limited<W: Write>(out: &mut W, station: &Station) -> io::Result<()> {
 }
 
 /// Writes the contexts of each link by state.
-fn write_contexts<W: Write>(out: &mut W, station: &Station) -> io::Result<()> {
+fn write_contexts<W: Write>(out: &mut W, calls: &CallList<'_>) -> io::Result<()> {
     let name = "polorowan_contexts";
     write_head(out, name, "gauge", "Contexts, by link and state.")?;
-    for (link, records) in station.concentrator().tables() {
-        let states = states_of(records);
+    for (link, records) in calls.station.concentrator().tables() {
+        let states = states_of(records, calls.clock());
         for (state, count) in [
-            (ContextState::NoContext, states.no),
-            (ContextState::StaticContext, states.fixed),
-            (ContextState::FullContext, states.full),
+            (state_name(ContextState::NoContext), states.no),
+            (state_name(ContextState::StaticContext), states.fixed),
+            (state_name(ContextState::FullContext), states.full),
+            (EXPIRED, states.expired),
         ] {
-            let state = state_name(state);
             writeln!(out, "{name}{{link=\"{link}\",state=\"{state}\"}} {count}")?;
         }
     }
@@ -336,6 +347,11 @@ fn write_figures<W: Write>(out: &mut W, figures: &GatewayFigures) -> io::Result<
             figures.dropped_datagrams,
         ),
         (
+            "polorowan_failed_late_sends_total",
+            "Failed sends of relayed feedback that waited, since its datagram had too much of it.",
+            figures.failed_late_sends,
+        ),
+        (
             "polorowan_lost_log_lines_total",
             "Log lines that are lost, since nothing read them.",
             figures.lost_lines,
@@ -344,6 +360,11 @@ fn write_figures<W: Write>(out: &mut W, figures: &GatewayFigures) -> io::Result<
             "polorowan_wakes_total",
             "Times the gateway woke.",
             figures.wakes,
+        ),
+        (
+            "polorowan_expired_total",
+            "Expired contexts that were removed.",
+            figures.expired,
         ),
         ("polorowan_saves_total", "Completed saves.", figures.saves),
         (
@@ -405,10 +426,11 @@ fn write_times<W: Write>(out: &mut W, figures: &GatewayFigures) -> io::Result<()
 /// Writes all metrics.
 pub fn write_metrics<W: Write>(
     out: &mut W,
-    station: &Station,
+    calls: &CallList<'_>,
     figures: &GatewayFigures,
     version: &str,
 ) -> io::Result<()> {
+    let station = calls.station;
     write_packets(out, station)?;
     write_repaired(out, station)?;
     write_refusals(out, station)?;
@@ -416,7 +438,7 @@ pub fn write_metrics<W: Write>(
     write_octets(out, station)?;
     write_sends(out, station)?;
     write_limited(out, station)?;
-    write_contexts(out, station)?;
+    write_contexts(out, calls)?;
     write_totals(out, station)?;
     write_figures(out, figures)?;
     write_longest_wake(out, figures)?;

@@ -349,7 +349,7 @@ fn write_last<W: Write>(out: &mut W, row: &CallRow<'_>) -> io::Result<()> {
 /// Writes the row of a call.
 fn write_call<W: Write>(out: &mut W, row: &CallRow<'_>) -> io::Result<()> {
     let profile = profile_name(row.context.profile());
-    let state = state_text(row.context.state());
+    let state = state_text(row);
     write!(
         out,
         "<tr><th scope=\"row\">{}/{}</th><td class=\"text\">{profile}</td><td class=\"text\">{state}</td>",

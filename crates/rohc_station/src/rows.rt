@@ -5,6 +5,7 @@ use crate::counters::Octets;
 use crate::limits::second_of;
 use crate::metrics::{States, delivered, refused, states_of};
 use crate::station::Station;
+use rohc_concentrator::LinkSetting;
 use rohc_context::{Context, ContextState, Refusal, StateView};
 use rohc_header::Static;
 use std::alloc::{AllocError, Global};
@@ -52,6 +53,8 @@ pub(crate) struct CallRow<'a> {
     pub(crate) link: u16,
     pub(crate) cid: u16,
     pub(crate) context: &'a Context,
+    /// Whether it has expired, so that its packets are answered as if it weren't there.
+    pub(crate) has_expired: bool,
     /// For how many milliseconds it has no accepted packet, unless its moments may be no time since 1970.
     pub(crate) silent: Option<u64>,
     /// Its addresses, its ports and its SSRC, if its context keeps them.
@@ -126,13 +129,18 @@ pub(crate) fn is_listed(only: Option<u16>, link: u16) -> bool {
 pub(crate) type Standing = (u64, u16, usize);
 
 impl<'a> CallList<'a> {
+    /// Now, if the moments of all arrivals are of this clock.
+    pub(crate) fn clock(&self) -> Option<u64> {
+        if self.has_timed { None } else { Some(self.now) }
+    }
+
     /// A link, if it is there.
     pub(crate) fn link_row(&self, link: u16) -> Option<LinkRow> {
         let of_link = self.station.counters().get(&link)?;
         let records = self.station.concentrator().tables().get(&link)?;
         let [_, nacks, static_nacks, _] = of_link.answers.words;
         Some(LinkRow {
-            states: states_of(records),
+            states: states_of(records, self.clock()),
             per_second: of_link.limiter.packets_before(second_of(self.now)),
             delivered: delivered(&of_link.answers),
             refused: refused(&of_link.answers),
@@ -167,15 +175,15 @@ impl<'a> CallList<'a> {
         let (_, link, place) = *standing;
         let station = self.station;
         let (cid, context) = station.concentrator().context_at(link, place)?;
-        let silent = if self.has_timed {
-            None
-        } else {
-            Some(self.now.saturating_sub(context.accepted()))
-        };
+        let setting = &station.concentrator().tables().get(&link)?.setting;
+        let silent = self
+            .clock()
+            .map(|now| now.saturating_sub(context.accepted()));
         Some(CallRow {
             link,
             cid,
             context,
+            has_expired: has_expired(setting, context, self.clock()),
             silent,
             fixed: fixed_of(context),
             counts: station.counts_of(link, cid),
@@ -183,9 +191,20 @@ impl<'a> CallList<'a> {
     }
 }
 
-/// The name of a state, as people read it.
-pub(crate) fn state_text(state: ContextState) -> &'static str {
-    match state {
+/// Whether a context has expired by a clock, if that is the clock of its arrivals.
+pub(crate) fn has_expired(setting: &LinkSetting, context: &Context, clock: Option<u64>) -> bool {
+    match clock {
+        Some(now) => setting.has_expired(context, now),
+        None => false,
+    }
+}
+
+/// The state of a call, as people read it.
+pub(crate) fn state_text(row: &CallRow<'_>) -> &'static str {
+    if row.has_expired {
+        return "Expired";
+    }
+    match row.context.state() {
         ContextState::NoContext => "No Context",
         ContextState::StaticContext => "Static Context",
         ContextState::FullContext => "Full Context",

@@ -112,7 +112,7 @@ fn reset_link(concentrator: &mut Concentrator, link: u16) -> Result<usize, NoLin
 
 impl Station {
     ghost use Rattle.std.specs.Prelude.{◌≡◌, ℕ, List, None, IfOk, IfErr, option_map, false};
-    ghost use Rattle.rohc_concentrator.specs.Calls.{plain_answer};
+    ghost use Rattle.rohc_concentrator.specs.Calls.{ForgetExpired, plain_answer};
     ghost use Rattle.rohc_concentrator.specs.RunsCall.{Turn};
     ghost use Rattle.rohc_concentrator.specs.Leaving.{HaveGone};
     ghost use Rattle.rohc_concentrator.specs.Setup.{entry_of};
@@ -123,7 +123,7 @@ impl Station {
     ghost use Rattle.rohc_station.specs.Told.{told_of};
     ghost use Rattle.rohc_station.specs.Counting.{KeepsCounts, uncounted_station};
     ghost use Rattle.rohc_report.specs.Taken.{key_of};
-    ghost use Rattle.rohc_station.specs.Reset.{Forgets};
+    ghost use Rattle.rohc_station.specs.Reset.{reset_call, Forgets};
     ghost use Rattle.rohc_station.specs.Taking.{limiter_at, counters_at, by_call_at, turns_away, TakesPacket, TurnsAway, TakesIf, TakesWithin, Takes, TakesKnown, IsRefusedUnread, FailsSends, SetsLimits};
 
     /// A station of this concentrator and these links, with nothing counted. The error is lack of memory.
@@ -190,7 +190,7 @@ impl Station {
     /// Forgets the records of a link, or that of one CID of it, and no other. Returns how many went. The
     /// error is `NoLink`; then nothing changes.
     pub fn reset(&mut self, link: u16, cid: Option<u16>) -> Result<usize, NoLink>
-        ensures forgets { Forgets self.old self.new link cid (plain_answer result) }
+        ensures forgets { Forgets self.old self.new link (reset_call cid) (plain_answer result) }
         ensures gone { IfOk result (λ count. HaveGone count self.old.concentrator self.new.concentrator link) }
     {
         let gone = match cid {
@@ -198,6 +198,18 @@ impl Station {
             None => reset_link(&mut self.concentrator, link),
         };
         keep_standing(&mut self.by_call, &self.concentrator);
+        gone
+    }
+
+    /// Forgets the records of a link that have expired at a moment, in milliseconds, as its `idle_ms` says, and no other:
+    /// packets are answered as if they still stood. Returns how many went. The error is `NoLink`; then nothing changes.
+    pub fn expire(&mut self, link: u16, moment: u64) -> Result<usize, NoLink>
+        ensures forgets { Forgets self.old self.new link (ForgetExpired moment) (plain_answer result) }
+        ensures gone { IfOk result (λ count. HaveGone count self.old.concentrator self.new.concentrator link) }
+    {
+        let gone = self.concentrator.forget_expired(link, moment);
+        let (by_call, concentrator) = (&mut self.by_call, &self.concentrator);
+        keep_standing(by_call, concentrator);
         gone
     }
 

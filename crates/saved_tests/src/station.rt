@@ -263,16 +263,17 @@ fn saves_and_writes(rt: HostRuntime) {
     let line =
         "{\"link\":4,\"cid\":0,\"profile\":\"0x0001\",\"state\":\"full\",\"accepted\":1000}\n";
     assert!(rt; text.as_slice() == line.as_bytes());
-    let mut calls = Vec::new(rt.alloc());
-    write_calls(rt.alloc(), &mut calls, &list(&station, false), Some(4)).expect(&rt, "it works");
+    let mut lines = Vec::new(rt.alloc());
+    write_calls(rt.alloc(), &mut lines, &list(&station, false), Some(4)).expect(&rt, "it works");
     let line =
         "{\"link\":4,\"cid\":0,\"profile\":\"0x0001\",\"state\":\"full\",\"accepted\":1000,\"silent_ms\":190000,\"source\":\"10.0.0.1\",\"source_port\":5000,\"destination\":\"10.0.0.2\",\"destination_port\":5002,\"ssrc\":1,\"ssrc_text\":\"0x00000001\",\"since\":1000,\"delivered\":1,\"repaired\":0,\"lost\":0,\"late\":0,\"refused\":{},\"last_refused\":null}\n";
     assert_eq!(rt;
-        std::str::from_utf8(calls.as_slice()).expect(&rt, "text"),
+        std::str::from_utf8(lines.as_slice()).expect(&rt, "text"),
         line
     );
     let mut metrics = Vec::new(rt.alloc());
-    write_metrics(&mut metrics, &station, &GatewayFigures::default(), "1.0.0").expect(
+    let calls = list(&station, false);
+    write_metrics(&mut metrics, &calls, &GatewayFigures::default(), "1.0.0").expect(
         &rt, "it works",
     );
     let metrics = String::from_utf8(metrics).expect(&rt, "it works");
