@@ -8,21 +8,26 @@ import socket
 import struct
 import subprocess
 import time
-from collections.abc import Callable, Iterator
+from collections.abc import Callable, Iterable, Iterator
 from dataclasses import dataclass
 from pathlib import Path
 
+from cluster import Arrival
 from gateway_limits import first_ir
-from gateway_run import LOOPBACK, PROGRAM, WAIT_SECONDS, Gateway, Receivers, samples
+from gateway_run import LOOPBACK, PROGRAM, WAIT_SECONDS, Gateway, Receivers, replayed, samples, sends_of
 from trial import Trial
 
-LINK = 1
+LINK, OTHER = 1, 2
 # How often the service manager wants to be told, in microseconds, and for how long it listens, in seconds.
 WATCHED, LISTENED = 400_000, 2.0
 # More datagrams than fit into a socket's buffer.
 BURST = 60_000
 # How often a gateway looks for drops, in seconds.
 LOOK = 10.0
+# The piggybacked elements of the greatest datagram, how many of them are sent at once, and how many wait at most.
+ELEMENTS, AT_ONCE, MOST = 32_748, 4, 4096
+# How long it may take until expired contexts are removed, in seconds.
+EXPIRY = 70.0
 # More log lines than fit into a pipe.
 RELOADS = 1_500
 
@@ -215,8 +220,86 @@ def check_foreign(trial: Trial) -> None:
                 trial.demand(path.exists() and after == before, f"foreign: {name}: it was changed")
 
 
+def failed_sends(gateway: Gateway) -> int:
+    """How many sends of the link failed."""
+    found = (count for name, of, count in samples(gateway.metrics()) if name == "polorowan_failed_sends_total" and of["link"] == str(LINK))
+    return next(found)
+
+
+def relayed(receivers: Receivers) -> int:
+    """How many elements have come."""
+    receivers.take()
+    return len(receivers.found["relay"])
+
+
+def is_among(some: Iterable[bytes], all_of: Iterable[bytes]) -> bool:
+    """Whether some are among all in this order."""
+    left = iter(all_of)
+    return all(one in left for one in some)
+
+
+def check_relayed(trial: Trial) -> None:
+    """Of a datagram with thousands of elements the first go out, in order, the rest is counted, and nothing else is lost."""
+    with Receivers() as receivers:
+        gateway = Gateway(trial, trial.scratch / "relayed", receivers.links([LINK, OTHER]))
+        many = b"".join(b"\xf1" + bytes([at % 251]) for at in range(ELEMENTS))
+        arrivals = [Arrival(LINK, 0, many), Arrival(LINK, 1, b"\xf1\xff" * 2), Arrival(OTHER, 2, first_ir(1))]
+        answers = replayed(trial, gateway.folder / "links.toml", arrivals)
+        sends = [send for lines in answers for send in sends_of(lines)]
+        relays = [octets for kind, octets in sends if kind == "relay"]
+        packets = [octets for kind, octets in sends if kind == "deliver"]
+        with gateway:
+            for arrival in arrivals:
+                gateway.send(arrival)
+            gateway.wait_taken()
+            trial.demand(receivers.wait({"deliver": len(packets)}), "relayed: the call of another link is lost")
+            waits(lambda: relayed(receivers) + failed_sends(gateway) >= len(relays))
+            got, failed = receivers.found["relay"], failed_sends(gateway)
+            good = got[: AT_ONCE + MOST] == relays[: AT_ONCE + MOST] and is_among(got, relays)
+            trial.demand(good and len(got) + failed == len(relays), f"relayed: {len(got)} sent, {failed} failed of {len(relays)}")
+            trial.demand(receivers.found["deliver"] == packets, "relayed: another packet is delivered")
+            receivers.forget()
+            gateway.send(arrivals[0])
+            trial.demand(gateway.stop() == 0 and receivers.wait({"relay": AT_ONCE + MOST}), "relayed: a stop drops what waits")
+    trial.say(f"relayed: {len(got)} of {len(relays)} elements in order, {failed} counted, and a call beside them")
+
+
+def states(gateway: Gateway) -> dict[str, int]:
+    """How many contexts of the link are in each state, those in none left out."""
+    found = ((of, count) for name, of, count in samples(gateway.metrics()) if name == "polorowan_contexts" and count)
+    return {of["state"]: count for of, count in found if of["link"] == str(LINK)}
+
+
+@contextlib.contextmanager
+def expiring(trial: Trial) -> Iterator[None]:
+    """Calls that expire are shown as expired at once, answered as before, and removed within a minute, while other checks run."""
+    with Receivers() as receivers:
+        links = receivers.links([LINK]).replace("version = 1", "version = 2")
+        gateway = Gateway(trial, trial.scratch / "expiring", links.replace("static_nack_ms = 1000\n", "static_nack_ms = 1000\nidle_ms = 1000\n"))
+        gateway.file.write_text(gateway.file.read_text().replace(f"timed_port = {gateway.timed_port}\n", ""))
+        with gateway:
+            for cid in (1, 2):
+                gateway.sender.sendto(struct.pack(">H", LINK) + first_ir(cid), (LOOPBACK, gateway.port))
+            trial.demand(waits(lambda: states(gateway) == {"full": 2}), f"expiring: {states(gateway)}; wanted two in Full Context")
+            trial.demand(waits(lambda: states(gateway) == {"expired": 2}), f"expiring: {states(gateway)}; wanted two expired")
+            named = {row["state"] for row in gateway.ask("GET", "/calls").rows}
+            trial.demand(named == {"expired"}, f"expiring: the calls are {named}")
+            yield
+            trial.demand(waits(lambda: not states(gateway), EXPIRY), f"expiring: {states(gateway)}; wanted none")
+            gone = count_of(gateway, "polorowan_expired_total")
+            trial.demand(gone == 2 and not gateway.ask("GET", "/calls").rows, f"expiring: {gone} removed; wanted 2")
+    trial.say("expiring: contexts past idle_ms are shown as expired, and then removed")
+
+
 def check(trial: Trial) -> None:
     """All of it."""
+    with expiring(trial):
+        check_others(trial)
+
+
+def check_others(trial: Trial) -> None:
+    """What doesn't take a minute."""
+    check_relayed(trial)
     check_managers(trial)
     check_unread(trial)
     check_dropped(trial)

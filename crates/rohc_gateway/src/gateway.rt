@@ -3,7 +3,9 @@
 use crate::answers::{Kind, MOST_FAULTS, REFUSED, Reply};
 use crate::connection::{Connection, Progress};
 use crate::drops::Drops;
-use crate::front::SocketFront;
+use crate::expiry::Expiry;
+use crate::front::{Bound, SocketFront};
+use crate::late::Late;
 use crate::lines::Lines;
 use crate::links_file::{NoLinks, read_links_file};
 use crate::manager::Manager;
@@ -16,7 +18,6 @@ use crate::sockets::MOST_CONNECTIONS;
 use crate::stop::{Stop, is_asked_by};
 use crate::streams::Viewers;
 use crate::time::Time;
-use mio::net::UdpSocket;
 use rohc_concentrator::NoLink;
 use rohc_disk::RealDisk;
 use rohc_gateway_file::{Build, Config, Level, LinkNote, Log, Options, VERSION, civil_at};
@@ -70,6 +71,8 @@ pub(crate) struct Gateway<'a> {
     /// What the system drops.
     pub(crate) drops: Drops,
     pub(crate) manager: Manager,
+    /// What is sent later.
+    pub(crate) late: Late,
     pub(crate) time: Time,
     /// The saves of the run, if there is a state file.
     pub(crate) saves: Option<Saves>,
@@ -79,6 +82,8 @@ pub(crate) struct Gateway<'a> {
     pub(crate) awaited: Option<Awaited>,
     /// The stop that was asked for.
     pub(crate) stop: Option<Stop>,
+    /// Which links are looked through next for contexts that have expired.
+    pub(crate) expiry: Expiry,
     /// What the streams want to see.
     pub(crate) wish: Wish,
     /// Whether it was told to stop.
@@ -201,6 +206,11 @@ impl Gateway<'_> {
         self.frame.log.say(rt, Level::Warning, text);
     }
 
+    /// Whether the next wake should come at once, since something goes on by pieces.
+    pub(crate) fn is_busy(&self) -> bool {
+        self.is_saving() || self.is_late() || self.is_expiring()
+    }
+
     /// How datagrams are answered now.
     pub(crate) fn duty(&self) -> Duty {
         Duty {
@@ -210,10 +220,11 @@ impl Gateway<'_> {
     }
 
     /// Serves the datagrams that wait at a socket, but at most so many. Returns whether more may wait.
-    pub(crate) fn serve<R: Clock>(&mut self, rt: &R, socket: &UdpSocket, port: Port) -> bool {
+    pub(crate) fn serve<R: Clock>(&mut self, rt: &R, bound: Bound<'_>, port: Port) -> bool {
         let duty = self.duty();
         let clocks = self.time.clocks(rt);
-        let mut front = SocketFront::new(clocks, Some(socket), &mut self.time.moments);
+        let (moments, outbox) = (&mut self.time.moments, &mut self.late.outbox);
+        let mut front = SocketFront::new(clocks, Some(bound), moments, outbox);
         let mut viewers = Viewers {
             connections: self.connections.as_mut_slice(),
             wish: self.wish,
@@ -561,9 +572,10 @@ impl Gateway<'_> {
     }
 
     /// The metrics.
-    fn metrics<R: AllocGlobal>(&self, rt: &R) -> io::Result<Reply> {
+    fn metrics<R: Clock + AllocGlobal>(&mut self, rt: &R) -> io::Result<Reply> {
+        let now = self.now(rt);
         let mut body = Vec::new(rt.alloc());
-        write_metrics(&mut body, &self.service.station, &self.figures, VERSION)?;
+        write_metrics(&mut body, &self.call_list(now), &self.figures, VERSION)?;
         let concentrator = self.service.station.concentrator();
         write_link_info(&mut body, self.notes.as_slice(), concentrator)?;
         Ok(Reply {

@@ -2,10 +2,9 @@
 
 use crate::answers::{Kind, Reply};
 use crate::connection::{Connection, Progress};
-use crate::front::SocketFront;
+use crate::front::{Bound, SocketFront};
 use crate::gateway::Gateway;
 use crate::sockets::Sockets;
-use mio::net::UdpSocket;
 use rohc_gateway_file::Level;
 use rohc_saved::{LinkFault, Restored, saved_moment};
 use rohc_station::{Held, Moves, Request};
@@ -220,12 +219,14 @@ impl Gateway<'_> {
         rt: &R,
         held: &Held,
         restored: &Restored,
-        socket: Option<&UdpSocket>,
+        bound: Option<Bound<'_>>,
     ) -> io::Result<Reply> {
         let link = held.link();
         let duty = self.duty();
         let clocks = self.time.clocks(rt);
-        let mut front = SocketFront::new(clocks, socket, &mut self.time.moments);
+        let (moments, outbox) = (&mut self.time.moments, &mut self.late.outbox);
+        let mut front = SocketFront::new(clocks, bound, moments, outbox);
+        front.lift_limit();
         self.service.answer_held(&mut front, duty, held);
         let (contexts, count, dropped) = (restored.contexts, held.count(), held.dropped());
         let text = format_args!(
@@ -244,7 +245,7 @@ impl Gateway<'_> {
         rt: &R,
         place: usize,
         link: u16,
-        socket: Option<&UdpSocket>,
+        bound: Option<Bound<'_>>,
     ) -> io::Result<Reply> {
         let alloc = rt.alloc();
         if !self.service.moves.is_held(link) {
@@ -266,7 +267,7 @@ impl Gateway<'_> {
         self.end_records(alloc, "import");
         let service = &mut self.service;
         match service.moves.release() {
-            Some(held) => self.answer_held(rt, &held, &restored, socket),
+            Some(held) => self.answer_held(rt, &held, &restored, bound),
             None => Reply::no_link(alloc, link),
         }
     }

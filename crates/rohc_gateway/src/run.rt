@@ -2,7 +2,9 @@
 
 use crate::connection::{Connection, Stream};
 use crate::drops::Drops;
+use crate::expiry::Expiry;
 use crate::gateway::{Frame, Gateway};
+use crate::late::Late;
 use crate::lines::Lines;
 use crate::manager::Manager;
 use crate::saves::{SavePaths, Saves};
@@ -94,6 +96,7 @@ fn figures_of<R: Clock>(
 #[derive(Drop)]
 struct Room {
     manager: Manager,
+    late: Late,
     saves: Option<Saves>,
     connections: Vec<Option<Connection>>,
 }
@@ -109,6 +112,7 @@ fn gateway_of<'a>(
 ) -> Gateway<'a> {
     let Room {
         manager,
+        late,
         saves,
         connections,
     } = room;
@@ -122,9 +126,11 @@ fn gateway_of<'a>(
         figures,
         drops: Drops::default(),
         manager,
+        late,
         time,
         awaited: None,
         stop: None,
+        expiry: Expiry::default(),
         wish: Wish::Nothing,
         is_stopped: false,
         reload: None,
@@ -247,7 +253,8 @@ fn take_at_links<R: Clock>(rt: &R, gateway: &mut Gateway<'_>, sockets: &mut Sock
     let mut left = false;
     for one in sockets.links.iter_mut() {
         if one.is_waiting {
-            one.is_waiting = gateway.serve(rt, &one.socket, Port::Link(one.link));
+            let bound = one.bound();
+            one.is_waiting = gateway.serve(rt, bound, Port::Link(one.link));
             left = left || one.is_waiting;
         }
     }
@@ -262,11 +269,11 @@ fn take_waiting<R: Clock + Eprint + AllocGlobal>(
     waiting: Waiting,
 ) -> Waiting {
     let mut left = Waiting::default();
-    if let Some(socket) = &sockets.plain {
-        left.plain = waiting.plain && gateway.serve(rt, socket, Port::Plain);
+    if let Some(bound) = sockets.of_all(false) {
+        left.plain = waiting.plain && gateway.serve(rt, bound, Port::Plain);
     }
-    if let Some(socket) = &sockets.timed {
-        left.timed = waiting.timed && gateway.serve(rt, socket, Port::Timed);
+    if let Some(bound) = sockets.of_all(true) {
+        left.timed = waiting.timed && gateway.serve(rt, bound, Port::Timed);
     }
     left.links = waiting.links && take_at_links(rt, gateway, sockets);
     if let Some(listener) = &sockets.control {
@@ -310,7 +317,7 @@ fn wake<R>(
 where
     R: Files<File = File> + Net + Clock + Eprint + AllocGlobal,
 {
-    let timeout = if waiting.is_any() || gateway.is_saving() {
+    let timeout = if waiting.is_any() || gateway.is_busy() {
         Duration::ZERO
     } else {
         let every = gateway.manager.every.unwrap_or(LONGEST_WAIT);
@@ -326,9 +333,10 @@ where
         look_everywhere(sockets, waiting);
     }
     *waiting = take_waiting(rt, gateway, sockets, *waiting);
+    gateway.send_late(sockets);
     gateway.go_on_moving(rt, sockets, !waiting.is_datagram());
     let moment = gateway.now(rt);
-    gateway.stop_in_time(rt, moment, !waiting.is_datagram());
+    gateway.stop_in_time(rt, moment, !waiting.is_datagram() && !gateway.is_late());
     waiting.streams = gateway.pour_streams(rt.alloc(), moment);
     if gateway.is_stopped {
         return Ok(());
@@ -336,6 +344,7 @@ where
     gateway.note_step(rt, moment);
     gateway.drop_late(moment);
     gateway.save_on(rt, moment);
+    gateway.expire_on(moment);
     gateway.note_drops(rt, sockets, moment);
     gateway.manager.go_on(moment);
     gateway.figures.lost_lines = gateway.frame.log.lost.count();
@@ -466,6 +475,7 @@ fn room_of<R: AllocGlobal>(rt: &R, manager: Manager, paths: Option<SavePaths>) -
     };
     Some(Room {
         manager,
+        late: Late::new(rt.alloc()).ok()?,
         saves,
         connections: empty_places(rt.alloc()).ok()?,
     })

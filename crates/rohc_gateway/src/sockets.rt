@@ -1,5 +1,6 @@
 //! The sockets of a gateway. Only 127.0.0.1 is bound.
 
+use crate::front::Bound;
 use libc::fchmod;
 use libc::net::{SO_RCVBUF, SOL_SOCKET, getsockopt, listen, setsockopt};
 use mio::event::Source;
@@ -39,18 +40,28 @@ pub(crate) const LINKS: usize = 1000;
 #[derive(Drop)]
 pub(crate) struct LinkSocket {
     pub(crate) link: u16,
-    port: u16,
+    pub(crate) port: u16,
     pub(crate) socket: UdpSocket,
     /// Whether more may wait there.
     pub(crate) is_waiting: bool,
+}
+
+impl LinkSocket {
+    /// The socket and its port.
+    pub(crate) fn bound(&self) -> Bound<'_> {
+        Bound {
+            port: self.port,
+            socket: &self.socket,
+        }
+    }
 }
 
 /// The sockets of a gateway.
 #[derive(Drop)]
 pub(crate) struct Sockets {
     pub(crate) poll: Poll,
-    pub(crate) plain: Option<UdpSocket>,
-    pub(crate) timed: Option<UdpSocket>,
+    plain: Option<UdpSocket>,
+    timed: Option<UdpSocket>,
     pub(crate) links: Vec<LinkSocket>,
     /// The ports of those for datagrams of all links; 0: there is none.
     ports: [u16; 2],
@@ -356,18 +367,44 @@ impl Sockets {
         bind_links(&mut binder, &mut self.links, notes)
     }
 
-    /// A socket for datagrams, if there is one.
-    pub(crate) fn any(&self) -> Option<&UdpSocket> {
-        if self.plain.is_some() {
-            return self.plain.as_ref();
-        }
-        if self.timed.is_some() {
-            return self.timed.as_ref();
-        }
-        match self.links.first() {
-            Some(one) => Some(&one.socket),
+    /// The socket for datagrams of all links, timed or not, if it is open.
+    pub(crate) fn of_all(&self, is_timed: bool) -> Option<Bound<'_>> {
+        let [plain, timed] = self.ports;
+        let (port, socket) = if is_timed {
+            (timed, &self.timed)
+        } else {
+            (plain, &self.plain)
+        };
+        match socket {
+            Some(socket) => Some(Bound { port, socket }),
             None => None,
         }
+    }
+
+    /// A socket for datagrams, if there is one.
+    pub(crate) fn any(&self) -> Option<Bound<'_>> {
+        let of_all = self.of_all(false).or(self.of_all(true));
+        if of_all.is_some() {
+            return of_all;
+        }
+        self.links.first().map(|one| one.bound())
+    }
+
+    /// The socket for datagrams at a port; another one if it is closed.
+    pub(crate) fn at(&self, port: u16) -> Option<Bound<'_>> {
+        for of_all in [self.of_all(false), self.of_all(true)] {
+            if let Some(bound) = of_all
+                && bound.port == port
+            {
+                return of_all;
+            }
+        }
+        for one in &self.links {
+            if one.port == port {
+                return Some(one.bound());
+            }
+        }
+        self.any()
     }
 
     /// Whether datagrams come in at this port.
