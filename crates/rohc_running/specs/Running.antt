@@ -62,8 +62,8 @@ pub record Stops (old new : RunningSave) (acts : List Act) : Type 0 where
   pub removed : old.is_open ≡ true → IsRemovedAtEnd (string_bytes old.unfinished) acts
   pub nothing : old.is_open ≡ false → acts ≡ []
 
--- A save begins with an empty file, and with the links that stand. If the file can't be created, nothing more is
--- asked. If it was created and the save can't begin, the last act asks to remove it.
+-- A save begins with an empty file, and with the links that stand. If the file can't be created, nothing
+-- more is asked. If it was created and the save can't begin, the last act asks to remove it.
 abbrev pub EndsBegin : Begin → Concentrator → (old new : RunningSave) → Result ⊤ Unwritten → List Act → Type 0
 EndsBegin begin k old new (Ok done) acts =
     (acts ≡ Created (string_bytes old.unfinished) (Ok tt) ∷ [])

@@ -1,5 +1,5 @@
--- What is counted. Words: uncounted_station, with_fault, with_datagram; IsUncounted; rebuilt_octets, with_packet; CountsAnswer;
--- with_failed_sends; limiter_in, with_limiter; KeepsCounts.
+-- What is counted. Words: uncounted_station, with_fault, with_datagram; IsUncounted; rebuilt_octets,
+-- with_packet; CountsAnswer; with_failed_sends; limiter_in, with_limiter; KeepsCounts.
 use Rattle.std.specs.Prelude.{◌≡◌, ℕ, ◌+◌, [], length, Bool, Option, Some, None, option_map, slice_index}
 use Rattle.rohc_context.specs.Response.{Packet}
 use Rattle.rohc_concentrator.specs.Report.{Report, Arrived, OnlyFront, Refused}

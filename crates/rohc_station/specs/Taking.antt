@@ -1,6 +1,7 @@
 -- What a station does with a datagram. Words: counters_at, limiter_at a link; by_call_at; trimmed_by,
--- trimmed_at; arrival, fault_at, TakesPacket; IsRefusedUnread; dated; begins_call; CountsChange; turns_away, TurnsAway;
--- made_on, LimitsFeedback; TakesIf, TakesWithin; Takes; TakesUnless, TakesKnown; FailsSends, SetsLimits.
+-- trimmed_at; arrival, fault_at, TakesPacket; IsRefusedUnread; dated; begins_call; CountsChange; turns_away,
+-- TurnsAway; made_on, LimitsFeedback; TakesIf, TakesWithin; Takes; TakesUnless, TakesKnown; FailsSends,
+-- SetsLimits.
 use Rattle.std.specs.Prelude.{◌≡◌, ◌≢◌, ℕ, ◌-◌, ◌&&◌, List, [], ◌∷◌, length, Option, Some, None, nat_eq, not, is_some, Bool, true, false}
 use Rattle.std.specs.Option.{option_map}
 use Rattle.indexmap.specs.IndexMap.{get}
