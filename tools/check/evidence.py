@@ -24,7 +24,7 @@ from pathlib import Path
 from program import Word
 from trial import LEFT_OUT, Trial
 
-SECONDS = 1200
+SECONDS = 2400
 ROHCTL = "crates/rohctl/out/rohctl"
 # The version of Wireshark whose readings are known. Another's may differ.
 VERSION = re.compile(r"Wireshark\) (\d+\.\d+)")
