@@ -4,7 +4,7 @@ ghost use Rattle.std.specs.Prelude.{◌≡◌, vec_len};
 
 use crate::gateway::Gateway;
 use crate::sockets::Sockets;
-use rohc_outbox::{Outbox, ROOM};
+use rohc_outbox::{Outbox, ROOM, Waiting};
 use std::alloc::{AllocError, Global};
 
 /// How many datagrams that wait are sent in a wake.
@@ -27,6 +27,21 @@ impl Late {
             buffer: vec![in alloc; 0u8; ROOM]?,
         })
     }
+
+    /// Takes out the next datagram that waits; its octets are at the front of the buffer.
+    fn next(&mut self) -> Option<Waiting> {
+        let (outbox, buffer) = (&mut self.outbox, &mut self.buffer);
+        outbox.take(buffer.as_mut_slice())
+    }
+
+    /// Takes out the next datagram that waits, and sends it from the port at which the one came that it belongs to, or from another
+    /// one if that is closed. Returns whether it went out; `None` if nothing waits, or no socket is open.
+    fn send_next(&mut self, sockets: &Sockets) -> Option<bool> {
+        let head = self.next()?;
+        let octets = self.buffer.get(..head.length)?;
+        let bound = sockets.at(head.from)?;
+        Some(bound.send(head.to, octets))
+    }
 }
 
 impl Gateway<'_> {
@@ -35,20 +50,17 @@ impl Gateway<'_> {
         !self.late.outbox.is_empty()
     }
 
-    /// Sends what waits, but at most so many datagrams, each from the port at which the one came that it belongs to, or from
-    /// another one if that is closed.
+    /// Sends what waits, but at most so many datagrams.
     pub(crate) fn send_late(&mut self, sockets: &Sockets) {
         for _ in 0..MOST_LATE {
-            let Some(head) = self.late.outbox.take(self.late.buffer.as_mut_slice()) else {
-                return;
-            };
-            let octets = self.late.buffer.get(..head.length).unwrap_or(&[]);
-            let is_sent = match sockets.at(head.from) {
-                Some(bound) => bound.send(head.to, octets),
-                None => false,
-            };
-            let failed = self.figures.failed_late_sends;
-            self.figures.failed_late_sends = failed.saturating_add(u64::from(!is_sent));
+            match self.late.send_next(sockets) {
+                Some(true) => {}
+                Some(false) => {
+                    let failed = self.figures.failed_late_sends;
+                    self.figures.failed_late_sends = failed.saturating_add(1);
+                }
+                None => return,
+            }
         }
     }
 }
