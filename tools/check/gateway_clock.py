@@ -68,6 +68,11 @@ def send(gateway: Gateway, packet: bytes) -> None:
     gateway.wait_taken()
 
 
+def moment_in(state: bytes) -> int:
+    """The moment of what was saved."""
+    return int.from_bytes(state[MOMENT], "big")
+
+
 def silences(gateway: Gateway) -> list[int]:
     """For how many milliseconds each call is silent."""
     return [int(str(row["silent_ms"])) for row in gateway.ask("GET", f"/calls?link={LINK}").rows if "silent_ms" in row]
@@ -129,11 +134,16 @@ def check_restarts(trial: Trial, gateway: Gateway, clock: Clock) -> None:
     time.sleep(1.0)
     for absent, least, most in ((0, 0, IDLE), (-HOUR, 0, IDLE), (HOUR, HOUR, HOUR + IDLE), (100 * YEAR, 2**32 - 1, 2**32 - 1 + IDLE)):
         trial.demand(gateway.stop() == 0, f"clock: it doesn't stop: {gateway.said}")
+        before = moment_in((gateway.folder / "calls").read_bytes())
         clock.set(absent)
         gateway.start()
+        passed = moment_in(gateway.ask("GET", "/state").body) - before
+        trial.demand(least <= passed <= most, f"clock: absent for {absent} ms, {passed} passed; wanted {least} to {most}")
+        # After IDLE they have expired, and are removed.
+        wanted = CALLS if least < IDLE else 0
         found = silences(gateway)
-        good = len(found) == CALLS and all(least <= silent <= most for silent in found)
-        trial.demand(good, f"clock: absent for {absent} ms, silent for {found} ms; wanted {least} to {most}")
+        good = len(found) == wanted and all(silent <= most for silent in found)
+        trial.demand(good, f"clock: absent for {absent} ms, silent for {found} ms; wanted {wanted} calls of at most {most}")
         for cid in range(1, CALLS + 1):
             send(gateway, first_ir(cid))
         clock.set(0)
@@ -149,13 +159,15 @@ def check_moment(trial: Trial, gateway: Gateway) -> None:
         front = good[: MOMENT.start] + struct.pack(">Q", moment) + good[MOMENT.stop : -DIGEST]
         file.write_bytes(front + hashlib.sha256(front).digest())
         os.utime(file)
+        before = gateway.said
         try:
             gateway.start()
         except RuntimeError:
             wanted = f"its moment is {moment}; expected one below 2^63 (run --fresh starts without it)"
             trial.demand(not is_good and wanted in gateway.said, f"clock: moment {moment}: {gateway.said}")
         else:
-            trial.demand(is_good and len(silences(gateway)) == CALLS, f"clock: moment {moment} was accepted")
+            said = gateway.said.removeprefix(before)
+            trial.demand(is_good and f", {CALLS} contexts restored" in said, f"clock: moment {moment} was accepted: {said}")
             gateway.kill()
     file.write_bytes(good)
 
