@@ -82,7 +82,7 @@ impl Gateway<'_> {
         }
     }
 
-    /// Counts drops, of which the sockets have so many now.
+    /// Counts the drops since the last look. `seen` is the total at the sockets now.
     fn count_drops<R: Clock + Eprint + AllocGlobal>(&mut self, rt: &R, seen: u64) {
         let (log, buffer) = (self.frame.log, self.frame.config.receive_buffer);
         let dropped = seen.saturating_sub(self.drops.seen);

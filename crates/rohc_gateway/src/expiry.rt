@@ -1,6 +1,7 @@
 //! Contexts that have expired: they are forgotten, so that their memory comes back.
 
 use crate::gateway::Gateway;
+use rohc_concentrator::LinkRecords;
 
 /// How often all links are looked through, in milliseconds.
 const EVERY: u64 = 60_000;
@@ -12,6 +13,16 @@ pub(crate) struct Expiry {
     next: u64,
     /// The place of the next one, while some are left.
     place: Option<usize>,
+}
+
+/// Whether a context of a link has expired at a moment.
+fn has_expired(records: &LinkRecords, moment: u64) -> bool {
+    for (_, context) in &records.contexts {
+        if records.setting.has_expired(context, moment) {
+            return true;
+        }
+    }
+    false
 }
 
 impl Gateway<'_> {
@@ -37,16 +48,17 @@ impl Gateway<'_> {
         self.expiry.place = self.expire_at(place, moment);
     }
 
-    /// Forgets the contexts of the link at a place that have expired. Returns the place of the next link that may have some.
+    /// Forgets the contexts of the link at a place that have expired. Returns the place of the next link that may have some. A link
+    /// without any is only looked through, since to forget takes time for the calls of all links.
     fn expire_at(&mut self, place: usize, moment: u64) -> Option<usize> {
         let tables = self.service.station.concentrator().tables();
         for at in place..tables.len() {
             let (link, records) = tables.get_index(at)?;
-            if records.setting.settings.idle_ms == 0 || records.contexts.is_empty() {
+            if records.setting.settings.idle_ms == 0 {
                 continue;
             }
-            let link = *link;
-            if let Ok(gone) = self.service.station.expire(link, moment) {
+            let (link, is_due) = (*link, has_expired(records, moment));
+            if is_due && let Ok(gone) = self.service.station.expire(link, moment) {
                 self.figures.expired = self.figures.expired.saturating_add(gone as u64);
             }
             return Some(at + 1);

@@ -7,7 +7,7 @@ use crate::sockets::Sockets;
 use rohc_outbox::{Outbox, ROOM, Waiting};
 use std::alloc::{AllocError, Global};
 
-/// How many datagrams that wait are sent in a wake.
+/// The most datagrams that are sent late in a wake.
 const MOST_LATE: u32 = 64;
 
 /// What is sent later.
@@ -35,12 +35,14 @@ impl Late {
     }
 
     /// Takes out the next datagram that waits, and sends it from the port at which the one came that it belongs to, or from another
-    /// one if that is closed. Returns whether it went out; `None` if nothing waits, or no socket is open.
+    /// one if that is closed. Returns whether it went out; `None` if nothing waits.
     fn send_next(&mut self, sockets: &Sockets) -> Option<bool> {
         let head = self.next()?;
         let octets = self.buffer.get(..head.length)?;
-        let bound = sockets.at(head.from)?;
-        Some(bound.send(head.to, octets))
+        match sockets.at(head.from) {
+            Some(bound) => Some(bound.send(head.to, octets)),
+            None => Some(false),
+        }
     }
 }
 
@@ -50,7 +52,7 @@ impl Gateway<'_> {
         !self.late.outbox.is_empty()
     }
 
-    /// Sends what waits, but at most so many datagrams.
+    /// Sends the next 64 datagrams that wait, or all if there are fewer.
     pub(crate) fn send_late(&mut self, sockets: &Sockets) {
         for _ in 0..MOST_LATE {
             match self.late.send_next(sockets) {

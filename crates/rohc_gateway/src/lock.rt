@@ -10,7 +10,7 @@ use std::fs::{File, OpenOptions, TryLockError};
 use std::io::{self, ErrorKind, Read, Seek, Write};
 use std::rt::Files;
 
-/// What stands in a lock in front of its holder's gateway file.
+/// The text of a lock, before the path of the gateway file.
 const MARK: &str = "rohc-gateway ";
 
 /// The longest text of a lock that is read, in octets.

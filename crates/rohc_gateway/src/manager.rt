@@ -23,8 +23,8 @@ pub(crate) struct Manager {
     next: u64,
 }
 
-/// Writes the address of a Unix socket (unix(7)): its family, and its name, in which `@` in front stands for the octet 0. Returns
-/// how many octets it has; 0 if the name is too long.
+/// Writes the address of a Unix socket (unix(7)): the family and the name. A leading `@` stands for the octet 0. Returns the length
+/// in octets, 0 if the name is too long.
 fn put_address(address: &mut [u8; ROOM], name: &str) -> u32 {
     let name = name.as_bytes();
     if name.is_empty() || name.len() > LONGEST {

@@ -265,7 +265,7 @@ impl Gateway<'_> {
         }
     }
 
-    /// Tells where the newest save of this run stands, and where its copy belongs.
+    /// Answers with two paths: that of this run's newest save, and that of its copy.
     pub(crate) fn keep<R: Files + AllocGlobal>(&self, rt: &R) -> io::Result<Reply> {
         let alloc = rt.alloc();
         let Some(saves) = &self.saves else {
