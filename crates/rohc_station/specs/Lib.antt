@@ -20,3 +20,4 @@ pub mod Moves
 pub mod Service
 pub mod Moving
 pub mod Stream
+pub mod Scan

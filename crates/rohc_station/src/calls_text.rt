@@ -3,7 +3,7 @@
 use crate::calls::CallCounts;
 use crate::counters::LinkCounters;
 use crate::page::write_duration;
-use crate::rows::{CallList, CallRow, First, is_listed, refusals_of, state_text};
+use crate::rows::{CallRow, refusals_of, state_text};
 use rohc_context::Refusal;
 use rohc_header::Static;
 use std::alloc::{AllocError, Global};
@@ -85,8 +85,12 @@ fn put_fixed(line: &mut Vec<u8>, fixed: &Static) -> io::Result<()> {
     write!(line, "0x{:08x}", fixed.ssrc)
 }
 
-/// The line of a call.
-fn line_of(alloc: Global, row: &CallRow<'_>) -> io::Result<Vec<u8>> {
+/// Writes the line of a call: a mark if it is silent, its state, its counts, and whose call it is.
+pub(crate) fn write_call_line<W: Write>(
+    alloc: Global,
+    out: &mut W,
+    row: &CallRow<'_>,
+) -> io::Result<()> {
     let mut line = Vec::new(alloc);
     put_call(&mut line, row)?;
     put_counts(&mut line, row.counts)?;
@@ -96,7 +100,8 @@ fn line_of(alloc: Global, row: &CallRow<'_>) -> io::Result<Vec<u8>> {
     if let Some(fixed) = &row.fixed {
         put_fixed(&mut line, fixed)?;
     }
-    Ok(line)
+    out.write_all(&line)?;
+    writeln!(out, "")
 }
 
 /// What the third column of a list of calls has.
@@ -119,8 +124,12 @@ pub(crate) fn put_call_columns(line: &mut Vec<u8>, has_timed: bool) -> io::Resul
     Ok(())
 }
 
-/// The line of the columns.
-fn columns(alloc: Global, has_timed: bool) -> io::Result<Vec<u8>> {
+/// Writes the line of the columns.
+pub(crate) fn write_call_columns<W: Write>(
+    alloc: Global,
+    out: &mut W,
+    has_timed: bool,
+) -> io::Result<()> {
     let mut line = Vec::new(alloc);
     put_call_columns(&mut line, has_timed)?;
     write!(
@@ -131,11 +140,12 @@ fn columns(alloc: Global, has_timed: bool) -> io::Result<Vec<u8>> {
         pad_to(&mut line, column)?;
         write!(&mut line, "{name}")?;
     }
-    Ok(line)
+    out.write_all(&line)?;
+    writeln!(out, "")
 }
 
 /// Writes the CIDs of a link without a context whose packets were refused for that, the newest last.
-fn write_unknown<W: Write>(
+pub(crate) fn write_unknown_lines<W: Write>(
     alloc: Global,
     out: &mut W,
     link: u16,
@@ -151,31 +161,6 @@ fn write_unknown<W: Write>(
             "CID without a context; packets refused: {packets} {no_context}"
         )?;
         out.write_all(&line)?;
-    }
-    Ok(())
-}
-
-/// Writes the calls of one link, or of all, as a table: those that were longest without an accepted packet first, and
-/// silent ones with a mark. Behind them follow the CIDs without a context whose packets were refused for that, the newest
-/// of each link last.
-pub fn write_calls_text<W: Write>(
-    alloc: Global,
-    out: &mut W,
-    calls: &CallList<'_>,
-    only: Option<u16>,
-) -> io::Result<()> {
-    out.write_all(&columns(alloc, calls.has_timed)?)?;
-    writeln!(out, "")?;
-    for place in &calls.sorted(alloc, First::Silent, only)? {
-        if let Some(row) = calls.row_at(place) {
-            out.write_all(&line_of(alloc, &row)?)?;
-            writeln!(out, "")?;
-        }
-    }
-    for (link, of_link) in calls.station.counters() {
-        if is_listed(only, *link) {
-            write_unknown(alloc, out, *link, of_link)?;
-        }
     }
     Ok(())
 }

@@ -2,11 +2,9 @@
 
 use crate::calls::CallCounts;
 use crate::counters::LinkCounters;
-use crate::rows::{CallList, CallRow, First, is_listed};
-use crate::station::Station;
+use crate::rows::CallRow;
 use rohc_context::{Context, ContextState, Profile, Refusal};
 use rohc_header::Static;
-use std::alloc::Global;
 use std::io;
 use std::io::Write;
 
@@ -114,8 +112,9 @@ fn write_refused<W: Write>(out: &mut W, counts: &CallCounts) -> io::Result<()> {
     write!(out, "}}")
 }
 
-/// Writes a call as an object.
-fn write_call<W: Write>(out: &mut W, row: &CallRow<'_>) -> io::Result<()> {
+/// Writes a call as an object, in a line: its context, the call that it is of, and what is counted of one that had packets
+/// in this run.
+pub(crate) fn write_call<W: Write>(out: &mut W, row: &CallRow<'_>) -> io::Result<()> {
     write_context(out, row.link, row.cid, row.context, state_in(row))?;
     write_silent(out, row)?;
     if let Some(fixed) = &row.fixed {
@@ -130,21 +129,20 @@ fn write_call<W: Write>(out: &mut W, row: &CallRow<'_>) -> io::Result<()> {
     }
 }
 
-/// Writes the contexts of a link, one object per line, in the order of their first IRs. Nothing is written for
-/// a link that isn't there.
-pub fn write_contexts<W: Write>(out: &mut W, station: &Station, link: u16) -> io::Result<()> {
-    if let Some(records) = station.concentrator().tables().get(&link) {
-        for (cid, context) in &records.contexts {
-            write_context(out, link, *cid, context, state_name(context.state()))?;
-            writeln!(out, "}}")?;
-        }
-    }
-    Ok(())
+/// Writes a context as an object, in a line.
+pub(crate) fn write_context_line<W: Write>(out: &mut W, row: &CallRow<'_>) -> io::Result<()> {
+    let state = state_name(row.context.state());
+    write_context(out, row.link, row.cid, row.context, state)?;
+    writeln!(out, "}}")
 }
 
 /// Writes the CIDs of a link that have no context, whose packets were refused for that, one object per line, the newest
 /// last.
-fn write_unknown<W: Write>(out: &mut W, link: u16, of_link: &LinkCounters) -> io::Result<()> {
+pub(crate) fn write_unknown<W: Write>(
+    out: &mut W,
+    link: u16,
+    of_link: &LinkCounters,
+) -> io::Result<()> {
     for unknown in &of_link.unknown {
         let no_context = Refusal::NoContext;
         writeln!(
@@ -152,29 +150,6 @@ fn write_unknown<W: Write>(out: &mut W, link: u16, of_link: &LinkCounters) -> io
             "{{\"link\":{link},\"cid\":{},\"profile\":null,\"state\":null,\"refused\":{{\"{no_context}\":{}}}}}",
             unknown.cid, unknown.packets
         )?;
-    }
-    Ok(())
-}
-
-/// Writes the calls of one link, or of all, one object per line, those that were longest without an accepted packet
-/// first: each context as `write_contexts` does, the call that it is of, and what is counted of one that had packets in
-/// this run. Behind them follow the CIDs without a context whose packets were refused for that, the newest of each link
-/// last.
-pub fn write_calls<W: Write>(
-    alloc: Global,
-    out: &mut W,
-    calls: &CallList<'_>,
-    only: Option<u16>,
-) -> io::Result<()> {
-    for place in &calls.sorted(alloc, First::Silent, only)? {
-        if let Some(row) = calls.row_at(place) {
-            write_call(out, &row)?;
-        }
-    }
-    for (link, of_link) in calls.station.counters() {
-        if is_listed(only, *link) {
-            write_unknown(out, *link, of_link)?;
-        }
     }
     Ok(())
 }

@@ -1,10 +1,11 @@
 //! The metrics of a gateway in the text format of Prometheus.
 
-use crate::counters::{Octets, StationCounters};
+use crate::counters::{LinkCounters, StationCounters};
 use crate::lists::{EXPIRED, state_name};
-use crate::rows::{CallList, has_expired};
+use crate::page::Page;
+use crate::part::Part;
+use crate::scan::{Scan, States};
 use crate::station::Station;
-use rohc_concentrator::LinkRecords;
 use rohc_context::{ContextState, Refusal};
 use rohc_counts::Counts;
 use std::io;
@@ -55,33 +56,6 @@ pub struct GatewayFigures {
     pub draining: bool,
 }
 
-/// How many contexts of a link are in each state.
-#[derive(Clone, Copy, Default)]
-pub(crate) struct States {
-    pub no: u64,
-    pub fixed: u64,
-    pub full: u64,
-    /// Those that have expired, and in no other count.
-    pub expired: u64,
-}
-
-/// Counts the contexts of a link by state. Those that have expired by a clock are counted apart.
-pub(crate) fn states_of(records: &LinkRecords, clock: Option<u64>) -> States {
-    let mut states = States::default();
-    for (_, context) in &records.contexts {
-        if has_expired(&records.setting, context, clock) {
-            states.expired = states.expired.saturating_add(1);
-            continue;
-        }
-        match context.state() {
-            ContextState::NoContext => states.no = states.no.saturating_add(1),
-            ContextState::StaticContext => states.fixed = states.fixed.saturating_add(1),
-            ContextState::FullContext => states.full = states.full.saturating_add(1),
-        }
-    }
-    states
-}
-
 /// Writes the two lines before a metric.
 fn write_head<W: Write>(out: &mut W, name: &str, kind: &str, help: &str) -> io::Result<()> {
     writeln!(out, "# HELP {name} {help}")?;
@@ -122,188 +96,191 @@ fn outcome_count(counts: &Counts, number: u8) -> u64 {
     }
 }
 
-/// Writes the packets of each link by outcome.
-fn write_packets<W: Write>(out: &mut W, station: &Station) -> io::Result<()> {
-    let name = "polorowan_packets_total";
-    write_head(out, name, "counter", "Packets, by link and outcome.")?;
-    for (link, of_link) in station.counters() {
-        let counts = &of_link.answers;
-        for (outcome, count) in [
-            ("delivered", delivered(counts)),
-            ("stored", outcome_count(counts, STORED)),
-            ("front", counts.fronts),
-            ("refused", refused(counts)),
-        ] {
-            writeln!(
-                out,
-                "{name}{{link=\"{link}\",outcome=\"{outcome}\"}} {count}"
-            )?;
-        }
-    }
-    Ok(())
-}
-
-/// Writes the refusals of each link, by name.
-fn write_refusals<W: Write>(out: &mut W, station: &Station) -> io::Result<()> {
-    let name = "polorowan_refused_total";
-    write_head(
-        out,
-        name,
-        "counter",
-        "Refused packets, by link and refusal.",
-    )?;
-    for (link, of_link) in station.counters() {
-        for refusal in Refusal::all() {
-            let count = outcome_count(&of_link.answers, refusal.number());
-            writeln!(
-                out,
-                "{name}{{link=\"{link}\",refusal=\"{refusal}\"}} {count}"
-            )?;
-        }
-    }
-    Ok(())
-}
-
-/// Writes the feedback of each link for its peer, by kind.
-fn write_feedback<W: Write>(out: &mut W, station: &Station) -> io::Result<()> {
-    let name = "polorowan_feedback_total";
-    write_head(
-        out,
-        name,
-        "counter",
-        "Feedback elements for the compressor, by link and kind, sent or withheld by a limit.",
-    )?;
-    for (link, of_link) in station.counters() {
-        let [acks, nacks, static_nacks, plain] = of_link.answers.words;
-        for (kind, count) in [
-            ("ack", acks),
-            ("nack", nacks),
-            ("static_nack", static_nacks),
-            ("plain", plain),
-        ] {
-            writeln!(out, "{name}{{link=\"{link}\",kind=\"{kind}\"}} {count}")?;
-        }
-    }
-    Ok(())
-}
-
-/// Which octets of a link are shown.
+/// A metric that has samples of each link.
 #[derive(Clone, Copy)]
-enum Shown {
+enum Family {
+    Packets,
+    Repaired,
+    Refused,
+    Feedback,
     Received,
     Compressed,
     Rebuilt,
+    Relayed,
+    FailedSends,
+    ContextsLimited,
+    FeedbackLimited,
+    Contexts,
 }
 
-impl Shown {
-    /// Their count.
-    fn of(self, octets: Octets) -> u64 {
-        match self {
-            Shown::Received => octets.received,
-            Shown::Compressed => octets.compressed,
-            Shown::Rebuilt => octets.rebuilt,
-        }
-    }
-}
+/// All of them, in the order in which they are written.
+const FAMILIES: [Family; 12] = [
+    Family::Packets,
+    Family::Repaired,
+    Family::Refused,
+    Family::Feedback,
+    Family::Received,
+    Family::Compressed,
+    Family::Rebuilt,
+    Family::Relayed,
+    Family::FailedSends,
+    Family::ContextsLimited,
+    Family::FeedbackLimited,
+    Family::Contexts,
+];
 
-/// Writes the octets of each link.
-fn write_octets<W: Write>(out: &mut W, station: &Station) -> io::Result<()> {
-    for (name, help, shown) in [
-        (
-            "polorowan_received_bytes_total",
-            "Octets of received packets, feedback included.",
-            Shown::Received,
-        ),
-        (
-            "polorowan_compressed_bytes_total",
-            "Octets of delivered packets, as they were received.",
-            Shown::Compressed,
-        ),
-        (
-            "polorowan_delivered_bytes_total",
-            "Octets of delivered packets, as IP packets.",
-            Shown::Rebuilt,
-        ),
+/// Writes the packets of a link by outcome.
+fn write_packets<W: Write>(out: &mut W, name: &str, link: u16, counts: &Counts) -> io::Result<()> {
+    for (outcome, count) in [
+        ("delivered", delivered(counts)),
+        ("stored", outcome_count(counts, STORED)),
+        ("front", counts.fronts),
+        ("refused", refused(counts)),
     ] {
-        write_head(out, name, "counter", help)?;
-        for (link, of_link) in station.counters() {
-            let count = shown.of(of_link.octets);
-            writeln!(out, "{name}{{link=\"{link}\"}} {count}")?;
-        }
-    }
-    Ok(())
-}
-
-/// Writes the repaired packets of each link.
-fn write_repaired<W: Write>(out: &mut W, station: &Station) -> io::Result<()> {
-    let name = "polorowan_repaired_total";
-    let help = "Packets delivered by the second or the third try.";
-    write_head(out, name, "counter", help)?;
-    for (link, of_link) in station.counters() {
-        writeln!(out, "{name}{{link=\"{link}\"}} {}", of_link.repaired)?;
-    }
-    Ok(())
-}
-
-/// Writes what each link relayed, and its failed sends.
-fn write_sends<W: Write>(out: &mut W, station: &Station) -> io::Result<()> {
-    let relayed = "polorowan_relayed_total";
-    write_head(
-        out,
-        relayed,
-        "counter",
-        "Feedback elements relayed to the compressor on this side.",
-    )?;
-    for (link, of_link) in station.counters() {
         writeln!(
             out,
-            "{relayed}{{link=\"{link}\"}} {}",
-            of_link.answers.relayed
+            "{name}{{link=\"{link}\",outcome=\"{outcome}\"}} {count}"
         )?;
     }
-    let failed = "polorowan_failed_sends_total";
-    write_head(out, failed, "counter", "Failed sends.")?;
-    for (link, of_link) in station.counters() {
-        writeln!(out, "{failed}{{link=\"{link}\"}} {}", of_link.failed_sends)?;
+    Ok(())
+}
+
+/// Writes the refusals of a link, by name.
+fn write_refused<W: Write>(out: &mut W, name: &str, link: u16, counts: &Counts) -> io::Result<()> {
+    for refusal in Refusal::all() {
+        let count = outcome_count(counts, refusal.number());
+        writeln!(
+            out,
+            "{name}{{link=\"{link}\",refusal=\"{refusal}\"}} {count}"
+        )?;
     }
     Ok(())
 }
 
-/// Writes what the limits of each link did.
-fn write_limited<W: Write>(out: &mut W, station: &Station) -> io::Result<()> {
-    let contexts = "polorowan_contexts_limited_total";
-    let help = "Packets of new calls turned away above new_contexts_per_second.";
-    write_head(out, contexts, "counter", help)?;
-    for (link, of_link) in station.counters() {
-        let count = of_link.limiter.contexts_limited;
-        writeln!(out, "{contexts}{{link=\"{link}\"}} {count}")?;
-    }
-    let feedback = "polorowan_feedback_limited_total";
-    let help = "Feedback elements for the peer not sent, above feedback_per_second.";
-    write_head(out, feedback, "counter", help)?;
-    for (link, of_link) in station.counters() {
-        let count = of_link.limiter.feedback_limited;
-        writeln!(out, "{feedback}{{link=\"{link}\"}} {count}")?;
+/// Writes the feedback of a link for its peer, by kind.
+fn write_feedback<W: Write>(out: &mut W, name: &str, link: u16, counts: &Counts) -> io::Result<()> {
+    let [acks, nacks, static_nacks, plain] = counts.words;
+    for (kind, count) in [
+        ("ack", acks),
+        ("nack", nacks),
+        ("static_nack", static_nacks),
+        ("plain", plain),
+    ] {
+        writeln!(out, "{name}{{link=\"{link}\",kind=\"{kind}\"}} {count}")?;
     }
     Ok(())
 }
 
-/// Writes the contexts of each link by state.
-fn write_contexts<W: Write>(out: &mut W, calls: &CallList<'_>) -> io::Result<()> {
-    let name = "polorowan_contexts";
-    write_head(out, name, "gauge", "Contexts, by link and state.")?;
-    for (link, records) in calls.station.concentrator().tables() {
-        let states = states_of(records, calls.clock());
-        for (state, count) in [
-            (state_name(ContextState::NoContext), states.no),
-            (state_name(ContextState::StaticContext), states.fixed),
-            (state_name(ContextState::FullContext), states.full),
-            (EXPIRED, states.expired),
-        ] {
-            writeln!(out, "{name}{{link=\"{link}\",state=\"{state}\"}} {count}")?;
+/// Writes the contexts of a link by state.
+fn write_contexts<W: Write>(out: &mut W, name: &str, link: u16, states: States) -> io::Result<()> {
+    for (state, count) in [
+        (state_name(ContextState::NoContext), states.no),
+        (state_name(ContextState::StaticContext), states.fixed),
+        (state_name(ContextState::FullContext), states.full),
+        (EXPIRED, states.expired),
+    ] {
+        writeln!(out, "{name}{{link=\"{link}\",state=\"{state}\"}} {count}")?;
+    }
+    Ok(())
+}
+
+impl Family {
+    /// Its name.
+    fn name(self) -> &'static str {
+        match self {
+            Family::Packets => "polorowan_packets_total",
+            Family::Repaired => "polorowan_repaired_total",
+            Family::Refused => "polorowan_refused_total",
+            Family::Feedback => "polorowan_feedback_total",
+            Family::Received => "polorowan_received_bytes_total",
+            Family::Compressed => "polorowan_compressed_bytes_total",
+            Family::Rebuilt => "polorowan_delivered_bytes_total",
+            Family::Relayed => "polorowan_relayed_total",
+            Family::FailedSends => "polorowan_failed_sends_total",
+            Family::ContextsLimited => "polorowan_contexts_limited_total",
+            Family::FeedbackLimited => "polorowan_feedback_limited_total",
+            Family::Contexts => "polorowan_contexts",
         }
     }
-    Ok(())
+
+    /// What it has.
+    fn help(self) -> &'static str {
+        match self {
+            Family::Packets => "Packets, by link and outcome.",
+            Family::Repaired => "Packets delivered by the second or the third try.",
+            Family::Refused => "Refused packets, by link and refusal.",
+            Family::Feedback => {
+                "Feedback elements for the compressor, by link and kind, sent or withheld by a limit."
+            }
+            Family::Received => "Octets of received packets, feedback included.",
+            Family::Compressed => "Octets of delivered packets, as they were received.",
+            Family::Rebuilt => "Octets of delivered packets, as IP packets.",
+            Family::Relayed => "Feedback elements relayed to the compressor on this side.",
+            Family::FailedSends => "Failed sends.",
+            Family::ContextsLimited => {
+                "Packets of new calls turned away above new_contexts_per_second."
+            }
+            Family::FeedbackLimited => {
+                "Feedback elements for the peer not sent, above feedback_per_second."
+            }
+            Family::Contexts => "Contexts, by link and state.",
+        }
+    }
+
+    /// Whether it only grows, or has the number of now.
+    fn kind(self) -> &'static str {
+        match self {
+            Family::Contexts => "gauge",
+            _ => "counter",
+        }
+    }
+
+    /// Writes the samples of a link.
+    fn write_of<W: Write>(
+        self,
+        out: &mut W,
+        link: u16,
+        of_link: &LinkCounters,
+        states: States,
+    ) -> io::Result<()> {
+        let (name, counts) = (self.name(), &of_link.answers);
+        let count = match self {
+            Family::Packets => return write_packets(out, name, link, counts),
+            Family::Refused => return write_refused(out, name, link, counts),
+            Family::Feedback => return write_feedback(out, name, link, counts),
+            Family::Contexts => return write_contexts(out, name, link, states),
+            Family::Repaired => of_link.repaired,
+            Family::Received => of_link.octets.received,
+            Family::Compressed => of_link.octets.compressed,
+            Family::Rebuilt => of_link.octets.rebuilt,
+            Family::Relayed => counts.relayed,
+            Family::FailedSends => of_link.failed_sends,
+            Family::ContextsLimited => of_link.limiter.contexts_limited,
+            Family::FeedbackLimited => of_link.limiter.feedback_limited,
+        };
+        writeln!(out, "{name}{{link=\"{link}\"}} {count}")
+    }
+
+    /// Writes the samples of the links of a part.
+    fn write<W: Write>(
+        self,
+        out: &mut W,
+        station: &Station,
+        scan: &Scan,
+        part: Part,
+    ) -> io::Result<()> {
+        if part.is_first() {
+            write_head(out, self.name(), self.kind(), self.help())?;
+        }
+        for place in part.places(scan) {
+            if let Some(seen) = scan.link_at(place)
+                && let Some(of_link) = station.counters().get(&seen.link)
+            {
+                self.write_of(out, seen.link, of_link, seen.states)?;
+            }
+        }
+        Ok(())
+    }
 }
 
 /// Writes the datagrams that were refused, by reason.
@@ -423,22 +400,13 @@ fn write_times<W: Write>(out: &mut W, figures: &GatewayFigures) -> io::Result<()
     )
 }
 
-/// Writes all metrics.
-pub fn write_metrics<W: Write>(
+/// Writes the metrics that are of no link.
+fn write_rest<W: Write>(
     out: &mut W,
-    calls: &CallList<'_>,
+    station: &Station,
     figures: &GatewayFigures,
     version: &str,
 ) -> io::Result<()> {
-    let station = calls.station;
-    write_packets(out, station)?;
-    write_repaired(out, station)?;
-    write_refusals(out, station)?;
-    write_feedback(out, station)?;
-    write_octets(out, station)?;
-    write_sends(out, station)?;
-    write_limited(out, station)?;
-    write_contexts(out, calls)?;
     write_totals(out, station)?;
     write_figures(out, figures)?;
     write_longest_wake(out, figures)?;
@@ -454,4 +422,24 @@ pub fn write_metrics<W: Write>(
     let build = "polorowan_build_info";
     write_head(out, build, "gauge", "The version.")?;
     writeln!(out, "{build}{{version=\"{version}\"}} 1")
+}
+
+/// Writes a part of the metrics. Returns the part that follows, if one does.
+pub(crate) fn write_metrics<W: Write>(
+    out: &mut W,
+    page: &Page<'_>,
+    scan: &Scan,
+    part: Part,
+) -> io::Result<Option<Part>> {
+    let station = page.calls.station;
+    match FAMILIES.get(part.section) {
+        Some(family) => {
+            family.write(out, station, scan, part)?;
+            Ok(Some(part.next(scan)))
+        }
+        None => {
+            write_rest(out, station, page.figures, page.version)?;
+            Ok(None)
+        }
+    }
 }

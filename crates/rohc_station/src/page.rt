@@ -5,7 +5,10 @@ use crate::calls_text::last_column;
 use crate::counters::LinkCounters;
 use crate::lists::profile_name;
 use crate::metrics::{GatewayFigures, delivered, refused};
-use crate::rows::{CallList, CallRow, First, MOST_WORST, state_text};
+use crate::part::Part;
+use crate::ranking::Ranking;
+use crate::rows::{CallList, CallRow, MOST_WORST, state_text};
+use crate::scan::{LinkStates, Scan};
 use crate::shown::write_shown;
 use crate::station::Station;
 use rohc_context::Refusal;
@@ -202,11 +205,16 @@ fn write_link_header<W: Write>(
 }
 
 /// Writes the row of a link: its contexts and its packets.
-fn write_link<W: Write>(alloc: Global, out: &mut W, page: &Page<'_>, link: u16) -> io::Result<()> {
-    let Some(row) = page.calls.link_row(link) else {
+fn write_link<W: Write>(
+    alloc: Global,
+    out: &mut W,
+    page: &Page<'_>,
+    seen: &LinkStates,
+) -> io::Result<()> {
+    let Some(row) = page.calls.link_row(seen) else {
         return Ok(());
     };
-    write_link_header(alloc, out, page, link)?;
+    write_link_header(alloc, out, page, seen.link)?;
     for number in [
         row.states.full,
         row.states.fixed,
@@ -222,30 +230,18 @@ fn write_link<W: Write>(alloc: Global, out: &mut W, page: &Page<'_>, link: u16) 
     writeln!(out, "</tr>")
 }
 
-/// Writes the table of links.
-fn write_links<W: Write>(alloc: Global, out: &mut W, page: &Page<'_>) -> io::Result<()> {
-    write_columns(
-        out,
-        "Links",
-        "links",
-        1,
-        &[
-            "Link",
-            "Full Context",
-            "Static Context",
-            "No Context",
-            "Packets per second",
-            "Delivered",
-            "Refused",
-            "NACKs",
-            "Saved",
-        ],
-    )?;
-    for (link, _) in page.calls.station.counters() {
-        write_link(alloc, out, page, *link)?;
-    }
-    write_end(out)
-}
+/// The columns of the table of links.
+const LINK_COLUMNS: [&str; 9] = [
+    "Link",
+    "Full Context",
+    "Static Context",
+    "No Context",
+    "Packets per second",
+    "Delivered",
+    "Refused",
+    "NACKs",
+    "Saved",
+];
 
 /// Writes the row of a link's octets, and what was not sent.
 fn write_traffic_of<W: Write>(
@@ -268,22 +264,15 @@ fn write_traffic_of<W: Write>(
     writeln!(out, "</tr>")
 }
 
-/// Writes the table of what came and went on each link.
-fn write_traffic<W: Write>(alloc: Global, out: &mut W, page: &Page<'_>) -> io::Result<()> {
-    let columns = [
-        "Link",
-        "Octets received",
-        "Octets delivered",
-        "Failed sends",
-        "New calls turned away",
-        "Feedback withheld",
-    ];
-    write_columns(out, "Traffic and limits", "traffic", 1, &columns)?;
-    for (link, of_link) in page.calls.station.counters() {
-        write_traffic_of(alloc, out, page, *link, of_link)?;
-    }
-    write_end(out)
-}
+/// The columns of the table of what came and went on each link.
+const TRAFFIC_COLUMNS: [&str; 6] = [
+    "Link",
+    "Octets received",
+    "Octets delivered",
+    "Failed sends",
+    "New calls turned away",
+    "Feedback withheld",
+];
 
 /// Writes the row of a refusal on a link.
 fn write_refusal<W: Write>(
@@ -304,22 +293,23 @@ fn write_refusal<W: Write>(
     writeln!(out, "</tr>")
 }
 
-/// Writes the table of refusals.
-fn write_refusals<W: Write>(alloc: Global, out: &mut W, station: &Station) -> io::Result<()> {
-    let columns = ["Link", "Refusal", "Usual cause", "Packets"];
-    write_columns(out, "Refusals", "refusals", 3, &columns)?;
-    for (link, of_link) in station.counters() {
-        for refusal in Refusal::all() {
-            let number = usize::from(refusal.number());
-            match of_link.answers.outcomes.get(number) {
-                Some(count) if *count > 0 => {
-                    write_refusal(alloc, out, *link, refusal, *count)?;
-                }
-                _ => {}
+/// Writes the rows of the refusals on a link.
+fn write_refusals<W: Write>(
+    alloc: Global,
+    out: &mut W,
+    link: u16,
+    of_link: &LinkCounters,
+) -> io::Result<()> {
+    for refusal in Refusal::all() {
+        let number = usize::from(refusal.number());
+        match of_link.answers.outcomes.get(number) {
+            Some(count) if *count > 0 => {
+                write_refusal(alloc, out, link, refusal, *count)?;
             }
+            _ => {}
         }
     }
-    write_end(out)
+    Ok(())
 }
 
 /// Writes the refusals of a call, by name.
@@ -337,7 +327,7 @@ pub(crate) fn write_reasons<W: Write>(out: &mut W, counts: &CallCounts) -> io::R
 
 /// Writes the cell of a call's last accepted packet: how long ago it was, or its moment where that may be no time
 /// since 1970.
-fn write_last<W: Write>(out: &mut W, row: &CallRow<'_>) -> io::Result<()> {
+fn write_accepted<W: Write>(out: &mut W, row: &CallRow<'_>) -> io::Result<()> {
     write!(out, "<td>")?;
     match row.silent {
         Some(silent) => write_duration(out, silent)?,
@@ -355,7 +345,7 @@ fn write_call<W: Write>(out: &mut W, row: &CallRow<'_>) -> io::Result<()> {
         "<tr><th scope=\"row\">{}/{}</th><td class=\"text\">{profile}</td><td class=\"text\">{state}</td>",
         row.link, row.cid
     )?;
-    write_last(out, row)?;
+    write_accepted(out, row)?;
     match row.counts {
         Some(counts) => {
             write_cell(out, counts.delivered)?;
@@ -374,22 +364,22 @@ fn write_call<W: Write>(out: &mut W, row: &CallRow<'_>) -> io::Result<()> {
     writeln!(out, "</tr>")
 }
 
-/// Writes a table of at most so many calls in this order.
+/// Writes a table of the first of these calls, at most so many.
 fn write_calls<W: Write>(
-    alloc: Global,
     out: &mut W,
-    page: &Page<'_>,
-    first: First,
+    calls: &CallList<'_>,
+    ranking: &mut Ranking,
     most: usize,
 ) -> io::Result<()> {
-    let places = page.calls.sorted(alloc, first, None)?;
-    for place in places.iter().take(most) {
-        if let Some(row) = page.calls.row_at(place) {
+    for _ in 0..most {
+        if let Some((link, cid)) = ranking.next()
+            && let Some(row) = calls.row_of(link, cid)
+        {
             write_call(out, &row)?;
         }
     }
     write_end(out)?;
-    let left_out = places.len().saturating_sub(most);
+    let left_out = ranking.len();
     if left_out > 0 {
         writeln!(out, "<p>{left_out} more calls are not shown.</p>")?;
     }
@@ -411,44 +401,161 @@ fn call_columns(has_timed: bool) -> [&'static str; 9] {
     ]
 }
 
-/// Writes the tables of calls.
-fn write_both<W: Write>(alloc: Global, out: &mut W, page: &Page<'_>) -> io::Result<()> {
-    let (worst, silent) = (
-        "Calls with the most refusals",
-        "Calls that are silent longest",
-    );
-    let columns = call_columns(page.calls.has_timed);
-    write_columns(out, worst, "worst", 3, &columns)?;
-    write_calls(alloc, out, page, First::Refused, MOST_WORST)?;
-    write_columns(out, silent, "silent", 3, &columns)?;
-    write_calls(alloc, out, page, First::Silent, MOST_SILENT)
+/// A section of the page.
+#[derive(Clone, Copy)]
+enum Section {
+    /// The start of the page, and the totals.
+    Start,
+    Links,
+    Traffic,
+    Refusals,
+    /// The calls with the most refusals.
+    Worst,
+    /// Those that are silent longest.
+    Silent,
+    /// The CIDs that only got NoContext.
+    Unknown,
 }
 
-/// Writes the table of CIDs without a context whose packets were refused for that, the newest of each link first.
-fn write_unknown<W: Write>(out: &mut W, station: &Station) -> io::Result<()> {
-    let title = "CIDs that only got NoContext";
-    write_columns(out, title, "unknown", 1, &["Link/CID", "Packets"])?;
-    for (link, of_link) in station.counters() {
-        for unknown in of_link.unknown.iter().rev() {
-            write!(out, "<tr><th scope=\"row\">{link}/{}</th>", unknown.cid)?;
-            write_cell(out, unknown.packets)?;
-            writeln!(out, "</tr>")?;
+/// All of them, in their order.
+const SECTIONS: [Section; 7] = [
+    Section::Start,
+    Section::Links,
+    Section::Traffic,
+    Section::Refusals,
+    Section::Worst,
+    Section::Silent,
+    Section::Unknown,
+];
+
+/// The place of the calls with the most refusals among the rankings of the page, and that of the silent ones.
+pub(crate) const WORST: usize = 0;
+
+pub(crate) const SILENT: usize = 1;
+
+/// Writes the rows of the CIDs of a link without a context whose packets were refused for that, the newest first.
+fn write_unknown<W: Write>(out: &mut W, link: u16, of_link: &LinkCounters) -> io::Result<()> {
+    for unknown in of_link.unknown.iter().rev() {
+        write!(out, "<tr><th scope=\"row\">{link}/{}</th>", unknown.cid)?;
+        write_cell(out, unknown.packets)?;
+        writeln!(out, "</tr>")?;
+    }
+    Ok(())
+}
+
+impl Section {
+    /// Writes the columns of a section that has rows of each link.
+    fn write_columns<W: Write>(self, out: &mut W) -> io::Result<()> {
+        match self {
+            Section::Links => write_columns(out, "Links", "links", 1, &LINK_COLUMNS),
+            Section::Traffic => {
+                write_columns(out, "Traffic and limits", "traffic", 1, &TRAFFIC_COLUMNS)
+            }
+            Section::Refusals => {
+                let columns = ["Link", "Refusal", "Usual cause", "Packets"];
+                write_columns(out, "Refusals", "refusals", 3, &columns)
+            }
+            _ => {
+                let title = "CIDs that only got NoContext";
+                write_columns(out, title, "unknown", 1, &["Link/CID", "Packets"])
+            }
         }
     }
-    write_end(out)
+
+    /// Writes the rows of a link.
+    fn write_of<W: Write>(
+        self,
+        alloc: Global,
+        out: &mut W,
+        page: &Page<'_>,
+        seen: &LinkStates,
+        of_link: &LinkCounters,
+    ) -> io::Result<()> {
+        let link = seen.link;
+        match self {
+            Section::Links => write_link(alloc, out, page, seen),
+            Section::Traffic => write_traffic_of(alloc, out, page, link, of_link),
+            Section::Refusals => write_refusals(alloc, out, link, of_link),
+            _ => write_unknown(out, link, of_link),
+        }
+    }
+
+    /// Writes a part of a section that has rows of each link. Returns the part that follows.
+    fn write_by_link<W: Write>(
+        self,
+        alloc: Global,
+        out: &mut W,
+        page: &Page<'_>,
+        scan: &Scan,
+        part: Part,
+    ) -> io::Result<Part> {
+        if part.is_first() {
+            self.write_columns(out)?;
+        }
+        for place in part.places(scan) {
+            if let Some(seen) = scan.link_at(place)
+                && let Some(of_link) = page.calls.station.counters().get(&seen.link)
+            {
+                self.write_of(alloc, out, page, &seen, of_link)?;
+            }
+        }
+        if part.is_last(scan) {
+            write_end(out)?;
+        }
+        Ok(part.next(scan))
+    }
 }
 
-/// Writes the page. Nothing in it comes from elsewhere, and no script runs in it.
-pub fn write_page<W: Write>(alloc: Global, out: &mut W, page: &Page<'_>) -> io::Result<()> {
-    write_start(out, page)?;
-    write_totals(out, page)?;
-    write_links(alloc, out, page)?;
-    write_traffic(alloc, out, page)?;
-    write_refusals(alloc, out, page.calls.station)?;
-    write_both(alloc, out, page)?;
-    write_unknown(out, page.calls.station)?;
+/// Writes a table of calls under a title.
+fn write_call_table<W: Write>(
+    out: &mut W,
+    calls: &CallList<'_>,
+    scan: &mut Scan,
+    ranking: usize,
+) -> io::Result<()> {
+    let (title, anchor, most) = if ranking == WORST {
+        ("Calls with the most refusals", "worst", MOST_WORST)
+    } else {
+        ("Calls that are silent longest", "silent", MOST_SILENT)
+    };
+    write_columns(out, title, anchor, 3, &call_columns(calls.has_timed))?;
+    match scan.rankings.get_mut(ranking) {
+        Some(ranking) => write_calls(out, calls, ranking, most),
+        None => write_end(out),
+    }
+}
+
+/// Writes the end of the page.
+fn write_foot<W: Write>(out: &mut W) -> io::Result<()> {
     writeln!(
         out,
         "</main>\n<footer><p class=\"quiet\">This page reloads every {REFRESH} seconds. Counts begin with the start of the gateway, those of a call with its first packet. Packets per second are those of the last whole second. At most the last 64 CIDs of a link that only got NoContext are shown.</p></footer>\n</body>\n</html>"
     )
+}
+
+/// Writes a part of the page. Returns the part that follows, if one does. Nothing in the page comes from elsewhere, and no script
+/// runs in it.
+pub(crate) fn write_page<W: Write>(
+    alloc: Global,
+    out: &mut W,
+    page: &Page<'_>,
+    scan: &mut Scan,
+    part: Part,
+) -> io::Result<Option<Part>> {
+    let Some(section) = SECTIONS.get(part.section) else {
+        write_foot(out)?;
+        return Ok(None);
+    };
+    match section {
+        Section::Start => {
+            write_start(out, page)?;
+            write_totals(out, page)?;
+        }
+        Section::Worst => write_call_table(out, &page.calls, scan, WORST)?,
+        Section::Silent => write_call_table(out, &page.calls, scan, SILENT)?,
+        _ => {
+            return Ok(Some(section.write_by_link(alloc, out, page, scan, part)?));
+        }
+    }
+    Ok(Some(part.next_section()))
 }

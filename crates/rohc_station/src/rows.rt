@@ -1,14 +1,14 @@
-//! The links and the calls of a station, as its lists and its page show them, and which calls come first.
+//! The links and the calls of a station, as its lists and its page show them.
 
 use crate::calls::CallCounts;
 use crate::counters::Octets;
 use crate::limits::second_of;
-use crate::metrics::{States, delivered, refused, states_of};
+use crate::metrics::{delivered, refused};
+use crate::scan::{LinkStates, States};
 use crate::station::Station;
 use rohc_concentrator::LinkSetting;
 use rohc_context::{Context, ContextState, Refusal, StateView};
 use rohc_header::Static;
-use std::alloc::{AllocError, Global};
 
 /// For how long a call has no accepted packet before it counts as silent, in milliseconds.
 const SILENT_AFTER: u64 = 2_000;
@@ -86,28 +86,6 @@ fn fixed_of(context: &Context) -> Option<Static> {
     }
 }
 
-/// Which calls come first in a list.
-#[derive(Clone, Copy)]
-pub(crate) enum First {
-    /// Those that were silent for the longest time.
-    Silent,
-    /// Those with the most refusals. One without any is not listed.
-    Refused,
-}
-
-impl First {
-    /// What a call is sorted by, if it is listed: the least come first.
-    fn key(self, station: &Station, link: u16, cid: u16, context: &Context) -> Option<u64> {
-        match self {
-            First::Silent => Some(context.accepted()),
-            First::Refused => match refusals_of(station.counts_of(link, cid)?) {
-                0 => None,
-                refusals => Some(u64::MAX - refusals),
-            },
-        }
-    }
-}
-
 /// How many packets of a call were refused.
 pub(crate) fn refusals_of(counts: &CallCounts) -> u64 {
     let mut sum = 0u64;
@@ -125,22 +103,18 @@ pub(crate) fn is_listed(only: Option<u16>, link: u16) -> bool {
     }
 }
 
-/// Where a call stands: what it is sorted by, its link, and its place there.
-pub(crate) type Standing = (u64, u16, usize);
-
 impl<'a> CallList<'a> {
     /// Now, if the moments of all arrivals are of this clock.
     pub(crate) fn clock(&self) -> Option<u64> {
         if self.has_timed { None } else { Some(self.now) }
     }
 
-    /// A link, if it is there.
-    pub(crate) fn link_row(&self, link: u16) -> Option<LinkRow> {
-        let of_link = self.station.counters().get(&link)?;
-        let records = self.station.concentrator().tables().get(&link)?;
+    /// A link with these contexts, if it is there.
+    pub(crate) fn link_row(&self, seen: &LinkStates) -> Option<LinkRow> {
+        let of_link = self.station.counters().get(&seen.link)?;
         let [_, nacks, static_nacks, _] = of_link.answers.words;
         Some(LinkRow {
-            states: states_of(records, self.clock()),
+            states: seen.states,
             per_second: of_link.limiter.packets_before(second_of(self.now)),
             delivered: delivered(&of_link.answers),
             refused: refused(&of_link.answers),
@@ -149,33 +123,11 @@ impl<'a> CallList<'a> {
         })
     }
 
-    /// Where the calls of one link stand, or those of all, in this order.
-    pub(crate) fn sorted(
-        &self,
-        alloc: Global,
-        first: First,
-        only: Option<u16>,
-    ) -> Result<Vec<Standing>, AllocError> {
-        let mut places = Vec::new(alloc);
-        for (link, records) in self.station.concentrator().tables() {
-            if is_listed(only, *link) {
-                for (place, (cid, context)) in records.contexts.iter().enumerate() {
-                    if let Some(key) = first.key(self.station, *link, *cid, context) {
-                        places.push((key, *link, place))?;
-                    }
-                }
-            }
-        }
-        places.sort()?;
-        Ok(places)
-    }
-
-    /// The call that stands there.
-    pub(crate) fn row_at(&self, standing: &Standing) -> Option<CallRow<'a>> {
-        let (_, link, place) = *standing;
+    /// The call of a CID, if the CID has a context.
+    pub(crate) fn row_of(&self, link: u16, cid: u16) -> Option<CallRow<'a>> {
         let station = self.station;
-        let (cid, context) = station.concentrator().context_at(link, place)?;
-        let setting = &station.concentrator().tables().get(&link)?.setting;
+        let records = station.concentrator().tables().get(&link)?;
+        let context = records.contexts.get(&cid)?;
         let silent = self
             .clock()
             .map(|now| now.saturating_sub(context.accepted()));
@@ -183,7 +135,7 @@ impl<'a> CallList<'a> {
             link,
             cid,
             context,
-            has_expired: has_expired(setting, context, self.clock()),
+            has_expired: has_expired(&records.setting, context, self.clock()),
             silent,
             fixed: fixed_of(context),
             counts: station.counts_of(link, cid),

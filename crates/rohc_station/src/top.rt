@@ -1,8 +1,9 @@
 //! The links of a gateway and its worst calls, as text for people.
 
 use crate::calls_text::{pad_to, put_call, put_call_columns};
-use crate::page::{Page, write_duration, write_reasons};
-use crate::rows::{CallRow, First, LinkRow, MOST_WORST, refusals_of};
+use crate::page::{Page, WORST, write_duration, write_reasons};
+use crate::rows::{CallRow, LinkRow, MOST_WORST, refusals_of};
+use crate::scan::Scan;
 use std::alloc::Global;
 use std::io;
 use std::io::Write;
@@ -42,14 +43,16 @@ fn write_link<W: Write>(
 }
 
 /// Writes the links.
-fn write_links<W: Write>(out: &mut W, page: &Page<'_>) -> io::Result<()> {
+fn write_links<W: Write>(out: &mut W, page: &Page<'_>, scan: &Scan) -> io::Result<()> {
     writeln!(
         out,
         "  Link  Packets/s   Full Static     No  Delivered   Refused  Saved  Name"
     )?;
-    for (link, _) in page.calls.station.counters() {
-        if let Some(row) = page.calls.link_row(*link) {
-            write_link(out, *link, &row, page.name_of(*link))?;
+    for place in 0..scan.link_count() {
+        if let Some(seen) = scan.link_at(place)
+            && let Some(row) = page.calls.link_row(&seen)
+        {
+            write_link(out, seen.link, &row, page.name_of(seen.link))?;
         }
     }
     Ok(())
@@ -79,14 +82,23 @@ fn write_call<W: Write>(alloc: Global, out: &mut W, row: &CallRow<'_>) -> io::Re
 }
 
 /// Writes the calls with the most refusals.
-fn write_worst<W: Write>(alloc: Global, out: &mut W, page: &Page<'_>) -> io::Result<()> {
+fn write_worst<W: Write>(
+    alloc: Global,
+    out: &mut W,
+    page: &Page<'_>,
+    scan: &mut Scan,
+) -> io::Result<()> {
     let mut columns = Vec::new(alloc);
     put_call_columns(&mut columns, page.calls.has_timed)?;
     out.write_all(&columns)?;
     writeln!(out, "Delivered Repaired   Lost  Refused")?;
-    let places = page.calls.sorted(alloc, First::Refused, None)?;
-    for place in places.iter().take(MOST_WORST) {
-        if let Some(row) = page.calls.row_at(place) {
+    let Some(ranking) = scan.rankings.get_mut(WORST) else {
+        return Ok(());
+    };
+    for _ in 0..MOST_WORST {
+        if let Some((link, cid)) = ranking.next()
+            && let Some(row) = page.calls.row_of(link, cid)
+        {
             write_call(alloc, out, &row)?;
         }
     }
@@ -94,9 +106,14 @@ fn write_worst<W: Write>(alloc: Global, out: &mut W, page: &Page<'_>) -> io::Res
 }
 
 /// Writes the links, and the calls with the most refusals, the worst first: what the page shows of them.
-pub fn write_top<W: Write>(alloc: Global, out: &mut W, page: &Page<'_>) -> io::Result<()> {
+pub(crate) fn write_top<W: Write>(
+    alloc: Global,
+    out: &mut W,
+    page: &Page<'_>,
+    scan: &mut Scan,
+) -> io::Result<()> {
     write_start(out, page)?;
-    write_links(out, page)?;
+    write_links(out, page, scan)?;
     writeln!(out, "")?;
-    write_worst(alloc, out, page)
+    write_worst(alloc, out, page, scan)
 }

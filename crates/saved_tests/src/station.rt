@@ -7,9 +7,8 @@ use rohc_links::{Links, read_links};
 use rohc_saved::restore;
 use rohc_serve::{Front, PacketBuffer};
 use rohc_station::{
-    Asked, CallCounts, CallList, Duty, Form, GatewayFigures, LinkName, Page, ReloadReport, Request,
-    RequestFault, Station, arrival_in, read_request, timed_datagram, write_calls, write_calls_text,
-    write_contexts, write_metrics, write_page,
+    Asked, CallCounts, CallList, Duty, Form, GatewayFigures, LinkName, Listing, Page, ReloadReport,
+    Request, RequestFault, Station, Subject, arrival_in, read_request, timed_datagram,
 };
 use std::alloc::Global;
 use std::mem;
@@ -246,6 +245,36 @@ fn replaces_as_many_links_as_there_may_be(rt: HostRuntime) {
     assert!(rt; station.concentrator().tables().contains_key(&511));
 }
 
+/// What long answers show of a station.
+fn page<'a>(
+    station: &'a Station,
+    has_timed: bool,
+    figures: &'a GatewayFigures,
+    names: &'a [LinkName<'a>],
+) -> Page<'a> {
+    Page {
+        calls: list(station, has_timed),
+        figures,
+        names,
+        version: "1.0.0",
+    }
+}
+
+/// A long answer, whole.
+fn whole(rt: &(impl AllocGlobal + Abort), page: &Page<'_>, subject: Subject) -> String {
+    let mut listing = Listing::new(rt.alloc(), &page.calls, subject).expect(rt, "no memory");
+    let mut text = Vec::new(rt.alloc());
+    for _ in 0..1000 {
+        if !listing
+            .go_on(rt.alloc(), &mut text, page)
+            .expect(rt, "it works")
+        {
+            return String::from_utf8(text).expect(rt, "it is text");
+        }
+    }
+    panic!(rt; "it goes on for ever");
+}
+
 #[test]
 fn saves_and_writes(rt: HostRuntime) {
     let mut station = station(&rt, 4, 5);
@@ -258,25 +287,18 @@ fn saves_and_writes(rt: HostRuntime) {
         saved.as_slice(),
     ).expect(&rt, "it works");
     assert!(rt; told.moment == 2000 && concentrator.has_context(4, 0));
-    let mut text = Vec::new(rt.alloc());
-    write_contexts(&mut text, &station, 4).expect(&rt, "it works");
+    let figures = GatewayFigures::default();
+    let shown = page(&station, false, &figures, &[]);
+    let text = whole(&rt, &shown, Subject::Contexts { link: 4 });
     let line =
         "{\"link\":4,\"cid\":0,\"profile\":\"0x0001\",\"state\":\"full\",\"accepted\":1000}\n";
-    assert!(rt; text.as_slice() == line.as_bytes());
-    let mut lines = Vec::new(rt.alloc());
-    write_calls(rt.alloc(), &mut lines, &list(&station, false), Some(4)).expect(&rt, "it works");
+    assert!(rt; text.as_str() == line);
+    let (link, form) = (Some(4), Form::Json);
+    let lines = whole(&rt, &shown, Subject::Calls { link, form });
     let line =
         "{\"link\":4,\"cid\":0,\"profile\":\"0x0001\",\"state\":\"full\",\"accepted\":1000,\"silent_ms\":190000,\"source\":\"10.0.0.1\",\"source_port\":5000,\"destination\":\"10.0.0.2\",\"destination_port\":5002,\"ssrc\":1,\"ssrc_text\":\"0x00000001\",\"since\":1000,\"delivered\":1,\"repaired\":0,\"lost\":0,\"late\":0,\"refused\":{},\"last_refused\":null}\n";
-    assert_eq!(rt;
-        std::str::from_utf8(lines.as_slice()).expect(&rt, "text"),
-        line
-    );
-    let mut metrics = Vec::new(rt.alloc());
-    let calls = list(&station, false);
-    write_metrics(&mut metrics, &calls, &GatewayFigures::default(), "1.0.0").expect(
-        &rt, "it works",
-    );
-    let metrics = String::from_utf8(metrics).expect(&rt, "it works");
+    assert_eq!(rt; lines.as_str(), line);
+    let metrics = whole(&rt, &shown, Subject::Metrics);
     assert!(rt;
         metrics.as_str().contains("polorowan_packets_total{link=\"4\",outcome=\"delivered\"} 1\n")
     );
@@ -302,6 +324,7 @@ fn lists_calls_for_people(rt: HostRuntime) {
     let _ = station.take(1000, arrival_in(false, 1000, DATAGRAM));
     let _ = station.take(1500, arrival_in(false, 1500, &[0, 4, 0x01]));
     let _ = station.take(2000, arrival_in(false, 2000, &[0, 5, 0x00]));
+    let figures = GatewayFigures::default();
     let unknown = "  5/0         CID without a context; packets refused: 1 NoContext\n";
     for (has_timed, only, first, last, more) in [
         (
@@ -319,17 +342,13 @@ fn lists_calls_for_people(rt: HostRuntime) {
             "",
         ),
     ] {
-        let mut text = Vec::new(rt.alloc());
-        write_calls_text(rt.alloc(), &mut text, &list(&station, has_timed), only).expect(
-            &rt, "it works",
-        );
+        let (link, form) = (only, Form::Text);
+        let shown = page(&station, has_timed, &figures, &[]);
+        let text = whole(&rt, &shown, Subject::Calls { link, form });
         let wanted = format!(in rt.alloc();
             "{first} Repaired   Lost   Late Refused  Last refusal    From                  To                    SSRC\n{last}        0      0      0       1  Check           10.0.0.1:5000         10.0.0.2:5002         0x00000001\n{more}"
         ).expect(&rt, "no memory");
-        assert_eq!(rt;
-            std::str::from_utf8(text.as_slice()).expect(&rt, "text"),
-            wanted.as_str()
-        );
+        assert_eq!(rt; text.as_str(), wanted.as_str());
     }
 }
 
@@ -342,18 +361,12 @@ fn shows_a_page(rt: HostRuntime) {
         has_state: true,
         ..GatewayFigures::default()
     };
-    let shown = Page {
-        calls: list(&station, false),
-        figures: &figures,
-        names: &[LinkName {
-            link: 4,
-            name: "Nörd <1>",
-        }],
-        version: "1.0.0",
-    };
-    let mut page = Vec::new(rt.alloc());
-    write_page(rt.alloc(), &mut page, &shown).expect(&rt, "it works");
-    let page = String::from_utf8(page).expect(&rt, "it works");
+    let names = [LinkName {
+        link: 4,
+        name: "Nörd <1>",
+    }];
+    let shown = page(&station, false, &figures, &names);
+    let page = whole(&rt, &shown, Subject::Page);
     for part in [
         "<p class=\"quiet\">Version 1.0.0, running for 3 min 11 s.</p>",
         "<tr><th scope=\"row\">4 Nörd &lt;1&gt;</th><td>1</td><td>0</td><td>0</td><td>0</td><td>1</td><td>0</td><td>0</td><td>none</td></tr>",
