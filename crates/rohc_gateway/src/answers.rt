@@ -9,6 +9,9 @@ use std::io::Write;
 /// How many faults of a links file are shown and logged.
 pub(crate) const MOST_FAULTS: usize = 20;
 
+/// How many octets are written at once.
+const MOST_WRITTEN: usize = 65_536;
+
 /// What follows when a links file is refused.
 pub(crate) const REFUSED: &str =
     "the gateway continues with the old links; its next start will refuse this file";
@@ -180,21 +183,89 @@ impl Reply {
             body,
         })
     }
+}
 
-    /// The octets to be sent; `is_head` leaves out the body.
-    pub(crate) fn octets(&self, alloc: Global, is_head: bool) -> io::Result<Vec<u8>> {
-        let mut text = Vec::new(alloc);
-        write!(
-            &mut text,
-            "HTTP/1.1 {} {}\r\nContent-Type: {}\r\nContent-Length: {}\r\nConnection: close\r\n\r\n",
-            self.status,
-            phrase(self.status),
-            self.kind.name(),
-            self.body.len()
-        )?;
+/// The head of an answer with a body of so many octets.
+fn head_of(alloc: Global, status: u16, kind: Kind, size: usize) -> io::Result<Vec<u8>> {
+    let mut text = Vec::new(alloc);
+    write!(
+        &mut text,
+        "HTTP/1.1 {status} {}\r\nContent-Type: {}\r\nContent-Length: {size}\r\nConnection: close\r\n\r\n",
+        phrase(status),
+        kind.name()
+    )?;
+    Ok(text)
+}
+
+/// The octets of an answer that wait to be sent.
+#[derive(Drop)]
+pub(crate) struct Outgoing {
+    blocks: Vec<Vec<u8>>,
+    /// How many blocks are sent, and how many octets of the next.
+    place: usize,
+    sent: usize,
+}
+
+impl Outgoing {
+    /// The octets of one block.
+    pub(crate) fn of(alloc: Global, block: Vec<u8>) -> io::Result<Outgoing> {
+        let mut blocks = Vec::new(alloc);
+        blocks.push(block)?;
+        Ok(Outgoing {
+            blocks,
+            place: 0,
+            sent: 0,
+        })
+    }
+
+    /// A short answer; `is_head` leaves out its body.
+    pub(crate) fn short(alloc: Global, reply: &Reply, is_head: bool) -> io::Result<Outgoing> {
+        let mut text = head_of(alloc, reply.status, reply.kind, reply.body.len())?;
         if !is_head {
-            text.extend_from_slice(self.body.as_slice())?;
+            text.extend_from_slice(reply.body.as_slice())?;
         }
-        Ok(text)
+        Outgoing::of(alloc, text)
+    }
+
+    /// A long answer, whose body is in blocks; `is_head` leaves it out.
+    pub(crate) fn long(
+        alloc: Global,
+        kind: Kind,
+        blocks: Vec<Vec<u8>>,
+        is_head: bool,
+    ) -> io::Result<Outgoing> {
+        let mut size = 0usize;
+        for block in &blocks {
+            size = size.saturating_add(block.len());
+        }
+        let mut outgoing = Outgoing::of(alloc, head_of(alloc, 200, kind, size)?)?;
+        if !is_head {
+            for block in blocks {
+                outgoing.blocks.push(block)?;
+            }
+        }
+        Ok(outgoing)
+    }
+
+    /// The octets that are to be written now, at most `MOST_WRITTEN`; none if all are sent.
+    pub(crate) fn next(&self) -> &[u8] {
+        let rest = match self.blocks.get(self.place) {
+            Some(block) => block.get(self.sent..).unwrap_or(&[]),
+            None => &[],
+        };
+        rest.get(..MOST_WRITTEN).unwrap_or(rest)
+    }
+
+    /// Notes how many of these octets were written.
+    pub(crate) fn wrote(&mut self, count: usize) {
+        self.sent = self.sent.saturating_add(count);
+        if let Some(block) = self.blocks.get_mut(self.place)
+            && block.len() <= self.sent
+        {
+            block.clear();
+            block.shrink_to_fit();
+            self.place = self.place.saturating_add(1);
+            self.sent = 0;
+        }
     }
 }

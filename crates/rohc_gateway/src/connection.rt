@@ -1,6 +1,7 @@
 //! A connection: one request, and its answer.
 
-use crate::answers::Reply;
+use crate::answers::{Kind, Outgoing, Reply};
+use crate::long::Long;
 use crate::saves::Wanted;
 use crate::stream::{Flow, HEAD};
 use mio::net::{TcpStream, UnixStream};
@@ -22,7 +23,7 @@ const MOST_READS: u32 = 4_096;
 /// How long a connection may take, in milliseconds.
 const LONGEST_TIME: u64 = 10_000;
 
-/// How many pieces of a stream are written before datagrams are looked at again.
+/// How many pieces of a stream or an answer are written before datagrams are looked at again.
 const MOST_PIECES: u32 = 16;
 
 /// How long a reader may take for what waits at the end of a stream, in milliseconds.
@@ -95,8 +96,11 @@ pub(crate) struct Connection {
     unfinished: Option<Request>,
     /// Where the body begins and ends.
     body: (usize, usize),
-    answer: Option<Vec<u8>>,
-    sent: usize,
+    /// A long answer that isn't whole yet.
+    pub(crate) long: Option<Long>,
+    answer: Option<Outgoing>,
+    /// Whether its peer may take more of the answer now.
+    is_writable: bool,
     /// What is streamed in place of an answer.
     pub(crate) flow: Option<Flow>,
     /// The save that it waits for.
@@ -112,8 +116,9 @@ impl Connection {
             head: Vec::new(alloc),
             unfinished: None,
             body: (0, 0),
+            long: None,
             answer: None,
-            sent: 0,
+            is_writable: false,
             flow: None,
             wanted: None,
             end: moment.saturating_add(LONGEST_TIME),
@@ -154,7 +159,7 @@ impl Connection {
 
     /// Goes on: reads the request, or writes the rest of the answer.
     pub(crate) fn go_on(&mut self) -> Progress {
-        if self.flow.is_some() {
+        if self.flow.is_some() || self.long.is_some() {
             self.read_end()
         } else if self.answer.is_some() {
             self.write_rest()
@@ -230,7 +235,7 @@ impl Connection {
         Progress::Ended
     }
 
-    /// Looks whether the reader of a stream has ended the connection.
+    /// Looks whether the reader of a stream, or of an answer that isn't whole yet, has ended the connection.
     fn read_end(&mut self) -> Progress {
         let mut buffer = [0u8; 1024];
         for _ in 0..16u8 {
@@ -252,12 +257,15 @@ impl Connection {
             return self.pour();
         }
         match Vec::from_slice(alloc, HEAD) {
-            Ok(head) => {
-                self.answer = Some(head);
-                self.write_rest()
-            }
+            Ok(head) => self.send(Outgoing::of(alloc, head)),
             Err(_) => Progress::Ended,
         }
+    }
+
+    /// Makes a long answer from now on, however long that takes.
+    pub(crate) fn begin_long(&mut self, long: Long) {
+        self.long = Some(long);
+        self.end = u64::MAX;
     }
 
     /// Writes to the stream until its reader takes no more, or until 16 pieces are written.
@@ -284,34 +292,63 @@ impl Connection {
         Progress::Goes
     }
 
-    /// Writes as much of the answer as the peer takes now.
-    fn write_rest(&mut self) -> Progress {
-        for _ in 0..u32::MAX {
-            let rest = match &self.answer {
-                Some(answer) => answer.get(self.sent..).unwrap_or(&[]),
-                None => return Progress::Ended,
-            };
-            if rest.is_empty() {
+    /// Whether the peer may take more of an answer now.
+    pub(crate) fn can_write(&self) -> bool {
+        self.is_writable && self.answer.is_some()
+    }
+
+    /// Writes as much of the answer as the peer takes now, but at most 16 pieces.
+    pub(crate) fn write_rest(&mut self) -> Progress {
+        self.is_writable = true;
+        let Some(answer) = &mut self.answer else {
+            return Progress::Ended;
+        };
+        for _ in 0..MOST_PIECES {
+            let next = answer.next();
+            if next.is_empty() {
                 return Progress::Ended;
             }
-            match self.stream.write(rest) {
+            match self.stream.write(next) {
                 Ok(0) => return Progress::Ended,
-                Ok(size) => self.sent = self.sent.saturating_add(size),
-                Err(e) if e.kind() == ErrorKind::WouldBlock => return Progress::Waits,
+                Ok(size) => answer.wrote(size),
+                Err(e) if e.kind() == ErrorKind::WouldBlock => {
+                    self.is_writable = false;
+                    return Progress::Waits;
+                }
                 Err(_) => return Progress::Ended,
             }
         }
-        Progress::Ended
+        Progress::Goes
     }
 
-    /// Answers, without a body if the method is HEAD, and writes as much of that as the peer takes now.
-    pub(crate) fn answer(&mut self, alloc: Global, reply: &Reply) -> Progress {
-        match reply.octets(alloc, is_head(self.head.as_slice())) {
-            Ok(octets) => {
-                self.answer = Some(octets);
+    /// Sends an answer, if there was memory for it.
+    fn send(&mut self, outgoing: io::Result<Outgoing>) -> Progress {
+        match outgoing {
+            Ok(outgoing) => {
+                self.answer = Some(outgoing);
                 self.write_rest()
             }
             Err(_) => Progress::Ended,
         }
+    }
+
+    /// Answers, without a body if the method is HEAD.
+    pub(crate) fn answer(&mut self, alloc: Global, reply: &Reply) -> Progress {
+        let is_head = is_head(self.head.as_slice());
+        self.send(Outgoing::short(alloc, reply, is_head))
+    }
+
+    /// Answers with these blocks, without them if the method is HEAD. It may take as long as the answer of a connection that
+    /// begins at this moment.
+    pub(crate) fn answer_blocks(
+        &mut self,
+        alloc: Global,
+        kind: Kind,
+        blocks: Vec<Vec<u8>>,
+        moment: u64,
+    ) -> Progress {
+        self.end = moment.saturating_add(LONGEST_TIME);
+        let is_head = is_head(self.head.as_slice());
+        self.send(Outgoing::long(alloc, kind, blocks, is_head))
     }
 }

@@ -8,11 +8,10 @@ use crate::front::{Bound, SocketFront};
 use crate::late::Late;
 use crate::lines::Lines;
 use crate::links_file::{NoLinks, read_links_file};
+use crate::long::subject_of;
 use crate::manager::Manager;
 use crate::moving::{Awaited, awaits, forget, waits, write_moves};
-use crate::names::{
-    Shown, limits_of, name_of, read_notes, write_link_info, write_names, write_unknown_links,
-};
+use crate::names::{Shown, limits_of, name_of, read_notes, write_names, write_unknown_links};
 use crate::saves::{Saves, save_reply};
 use crate::sockets::MOST_CONNECTIONS;
 use crate::stop::{Stop, is_asked_by};
@@ -24,11 +23,10 @@ use rohc_gateway_file::{Build, Config, Level, LinkNote, Log, Options, VERSION, c
 use rohc_loop::{Step, Unwritten, replace_file};
 use rohc_running::Begin;
 use rohc_station::{
-    Asked, CallList, Duty, Form, GatewayFigures, LinkName, Page, Port, Preview, ReloadFault,
-    ReloadReport, Request, RequestFault, Service, Wish, write_calls, write_calls_text,
-    write_contexts, write_metrics, write_page, write_top,
+    Asked, CallList, Duty, GatewayFigures, Port, Preview, ReloadFault, ReloadReport, Request,
+    RequestFault, Scan, Service, Wish,
 };
-use std::alloc::{AllocError, Global};
+use std::alloc::Global;
 use std::fmt::Display;
 use std::io;
 use std::io::Write;
@@ -94,6 +92,8 @@ pub(crate) struct Gateway<'a> {
     pub(crate) is_reloaded: bool,
     /// The connections, by their tokens.
     pub(crate) connections: Vec<Option<Connection>>,
+    /// The place of the connection whose long answer goes on next.
+    pub(crate) turn: usize,
 }
 
 /// A file that a reload refuses.
@@ -433,15 +433,6 @@ impl Gateway<'_> {
         Reply::object(200, format!(in rt.alloc(); "{{\"draining\":false}}\n"))
     }
 
-    /// How many contexts there are.
-    fn context_count(&self) -> u64 {
-        let mut contexts = 0u64;
-        for (_, records) in self.service.station.concentrator().tables() {
-            contexts = contexts.saturating_add(records.contexts.len() as u64);
-        }
-        contexts
-    }
-
     /// Writes what the limits of all links did.
     fn write_limited<W: Write>(&self, out: &mut W) -> io::Result<()> {
         let (mut contexts, mut feedback) = (0u64, 0u64);
@@ -455,13 +446,18 @@ impl Gateway<'_> {
         )
     }
 
-    /// Writes what stands, in a few numbers, and the names of links.
-    fn write_status<W: Write>(&self, out: &mut W) -> io::Result<()> {
+    /// Writes the status in a few numbers, those of contexts as they were looked at, and the names of links.
+    pub(crate) fn write_status<W: Write>(&self, out: &mut W, scan: &Scan) -> io::Result<()> {
+        let states = scan.states();
+        let contexts = states
+            .no
+            .saturating_add(states.fixed)
+            .saturating_add(states.full);
         write!(
             out,
-            "{{\"version\":\"{VERSION}\",\"links\":{},\"contexts\":{},\"draining\":{},\"streams\":{}",
+            "{{\"version\":\"{VERSION}\",\"links\":{},\"contexts\":{contexts},\"expired\":{},\"draining\":{},\"streams\":{}",
             self.service.station.concentrator().tables().len(),
-            self.context_count(),
+            states.expired,
             self.figures.draining,
             self.stream_count()
         )?;
@@ -478,17 +474,6 @@ impl Gateway<'_> {
         writeln!(out, "}}}}")
     }
 
-    /// What stands, in a few numbers.
-    fn status<R: AllocGlobal>(&self, rt: &R) -> io::Result<Reply> {
-        let mut body = Vec::new(rt.alloc());
-        self.write_status(&mut body)?;
-        Ok(Reply {
-            status: 200,
-            kind: Kind::Object,
-            body,
-        })
-    }
-
     /// Whether the links file has a link.
     pub(crate) fn has_link(&self, link: u16) -> bool {
         self.service
@@ -498,61 +483,13 @@ impl Gateway<'_> {
             .contains_key(&link)
     }
 
-    /// The contexts of a link, in the order of their first IRs.
-    fn contexts<R: AllocGlobal>(&self, rt: &R, link: u16) -> io::Result<Reply> {
-        let alloc = rt.alloc();
-        if !self.has_link(link) {
-            return Reply::no_link(alloc, link);
-        }
-        let mut body = Vec::new(alloc);
-        write_contexts(&mut body, &self.service.station, link)?;
-        Ok(Reply {
-            status: 200,
-            kind: Kind::Lines,
-            body,
-        })
-    }
-
     /// The calls, as they are at this moment.
-    fn call_list(&self, now: u64) -> CallList<'_> {
+    pub(crate) fn call_list(&self, now: u64) -> CallList<'_> {
         CallList {
             station: &self.service.station,
             now,
             has_timed: self.frame.config.timed_port.is_some(),
         }
-    }
-
-    /// The calls of one link, or of all, the longest silent first.
-    fn calls<R: Clock + AllocGlobal>(
-        &mut self,
-        rt: &R,
-        only: Option<u16>,
-        form: Form,
-    ) -> io::Result<Reply> {
-        let alloc = rt.alloc();
-        if let Some(link) = only
-            && !self.has_link(link)
-        {
-            return Reply::no_link(alloc, link);
-        }
-        let now = self.now(rt);
-        let calls = self.call_list(now);
-        let mut body = Vec::new(alloc);
-        let kind = match form {
-            Form::Json => {
-                write_calls(alloc, &mut body, &calls, only)?;
-                Kind::Lines
-            }
-            Form::Text => {
-                write_calls_text(alloc, &mut body, &calls, only)?;
-                Kind::Text
-            }
-        };
-        Ok(Reply {
-            status: 200,
-            kind,
-            body,
-        })
     }
 
     /// Shows the contexts as a save would write them now.
@@ -571,72 +508,6 @@ impl Gateway<'_> {
         }
     }
 
-    /// The metrics.
-    fn metrics<R: Clock + AllocGlobal>(&mut self, rt: &R) -> io::Result<Reply> {
-        let now = self.now(rt);
-        let mut body = Vec::new(rt.alloc());
-        write_metrics(&mut body, &self.call_list(now), &self.figures, VERSION)?;
-        let concentrator = self.service.station.concentrator();
-        write_link_info(&mut body, self.notes.as_slice(), concentrator)?;
-        Ok(Reply {
-            status: 200,
-            kind: Kind::Metrics,
-            body,
-        })
-    }
-
-    /// The names of the links that have one.
-    fn link_names(&self, alloc: Global) -> Result<Vec<LinkName<'_>>, AllocError> {
-        let mut names = Vec::new(alloc);
-        for note in &self.notes {
-            if let Some(name) = &note.name {
-                names.push(LinkName {
-                    link: note.number,
-                    name: name.as_str(),
-                })?;
-            }
-        }
-        Ok(names)
-    }
-
-    /// What the page shows at this moment.
-    fn shown<'p>(&'p self, names: &'p [LinkName<'p>], now: u64) -> Page<'p> {
-        Page {
-            calls: self.call_list(now),
-            figures: &self.figures,
-            names,
-            version: VERSION,
-        }
-    }
-
-    /// The page for people.
-    fn page<R: Clock + AllocGlobal>(&mut self, rt: &R) -> io::Result<Reply> {
-        let alloc = rt.alloc();
-        let now = self.now(rt);
-        let names = self.link_names(alloc)?;
-        let mut body = Vec::new(alloc);
-        write_page(alloc, &mut body, &self.shown(names.as_slice(), now))?;
-        Ok(Reply {
-            status: 200,
-            kind: Kind::Page,
-            body,
-        })
-    }
-
-    /// The links and the worst calls of the page, as text.
-    fn top<R: Clock + AllocGlobal>(&mut self, rt: &R) -> io::Result<Reply> {
-        let alloc = rt.alloc();
-        let now = self.now(rt);
-        let names = self.link_names(alloc)?;
-        let mut body = Vec::new(alloc);
-        write_top(alloc, &mut body, &self.shown(names.as_slice(), now))?;
-        Ok(Reply {
-            status: 200,
-            kind: Kind::Text,
-            body,
-        })
-    }
-
     /// Does what is asked, and answers.
     fn answer<R>(&mut self, rt: &R, request: Request) -> io::Result<Reply>
     where
@@ -653,36 +524,51 @@ impl Gateway<'_> {
             Request::Export { link, .. } => self.export_off(rt, link),
             Request::Import { link } => Reply::no_link(rt.alloc(), link),
             Request::Ready => Reply::object(200, format!(in rt.alloc(); "{{\"ready\":true}}\n")),
-            Request::Status => self.status(rt),
-            Request::Metrics => self.metrics(rt),
             Request::State => self.show_state(rt),
-            Request::Page => self.page(rt),
-            Request::Top => self.top(rt),
-            Request::Contexts { link } => self.contexts(rt, link),
-            Request::Calls { link, form } => self.calls(rt, link, form),
+            Request::Preview => self.preview(rt),
             Request::Stop
             | Request::Save
             | Request::Reload
+            | Request::Status
+            | Request::Metrics
+            | Request::Page
+            | Request::Top
+            | Request::Contexts { .. }
+            | Request::Calls { .. }
             | Request::Follow { .. }
             | Request::Record { .. } => Reply::refused(rt.alloc(), RequestFault::NotFound),
-            Request::Preview => self.preview(rt),
         }
     }
 
-    /// The answer to what a connection asks for. The metrics port shows the metrics and whether the gateway is ready, and
-    /// nothing else.
+    /// The short answer to what a connection asks for. The metrics port shows whether the gateway is ready, and nothing else that
+    /// is short.
     fn reply_to<R>(&mut self, rt: &R, asked: Asked, is_control: bool) -> io::Result<Reply>
     where
         R: Files + Clock + Eprint + AllocGlobal,
     {
         let alloc = rt.alloc();
         match asked {
-            Asked::Whole(request @ (Request::Metrics | Request::Page | Request::Ready)) =>
-                self.answer(rt, request),
+            Asked::Whole(Request::Ready) => self.answer(rt, Request::Ready),
             Asked::Whole(request) if is_control => self.answer(rt, request),
             Asked::Whole(_) => Reply::refused(alloc, RequestFault::NotFound),
             Asked::Faulty(fault) => Reply::refused(alloc, fault),
             Asked::Unfinished => Reply::refused(alloc, RequestFault::BadRequest),
+        }
+    }
+
+    /// Begins to answer what the connection at a place asks for.
+    fn begin_answer<R>(&mut self, rt: &R, place: usize, asked: Asked, is_control: bool) -> Progress
+    where
+        R: Files + Clock + Eprint + AllocGlobal,
+    {
+        if let Asked::Whole(request) = asked
+            && let Some(subject) = subject_of(request, is_control)
+        {
+            return self.begin_long(rt, place, subject);
+        }
+        match self.reply_to(rt, asked, is_control) {
+            Ok(reply) => self.send_answer(rt.alloc(), place, &reply),
+            Err(_) => Progress::Ended,
         }
     }
 
@@ -714,10 +600,7 @@ impl Gateway<'_> {
             Progress::Asks(
                 Asked::Whole(request @ (Request::Follow { .. } | Request::Record { .. })),
             ) if is_control => self.begin_stream(rt, place, request),
-            Progress::Asks(asked) => match self.reply_to(rt, asked, is_control) {
-                Ok(reply) => self.send_answer(rt.alloc(), place, &reply),
-                Err(_) => Progress::Ended,
-            },
+            Progress::Asks(asked) => self.begin_answer(rt, place, asked, is_control),
             progress => progress,
         };
         if let Progress::Ended = progress {

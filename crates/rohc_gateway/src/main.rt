@@ -14,6 +14,7 @@ mod late;
 mod lines;
 mod links_file;
 mod lock;
+mod long;
 mod manager;
 mod moving;
 mod names;

@@ -51,6 +51,8 @@ struct Waiting {
     metrics: bool,
     /// A reader of a stream takes more.
     streams: bool,
+    /// A long answer isn't whole yet, or a reader of an answer takes more.
+    answers: bool,
 }
 
 impl Waiting {
@@ -61,7 +63,7 @@ impl Waiting {
 
     /// Whether something may wait anywhere.
     fn is_any(self) -> bool {
-        self.is_datagram() || self.control || self.metrics || self.streams
+        self.is_datagram() || self.control || self.metrics || self.streams || self.answers
     }
 }
 
@@ -136,6 +138,7 @@ fn gateway_of<'a>(
         reload: None,
         is_reloaded: false,
         connections,
+        turn: 0,
     }
 }
 
@@ -338,6 +341,7 @@ where
     let moment = gateway.now(rt);
     gateway.stop_in_time(rt, moment, !waiting.is_datagram() && !gateway.is_late());
     waiting.streams = gateway.pour_streams(rt.alloc(), moment);
+    waiting.answers = gateway.go_on_answers(rt, moment);
     if gateway.is_stopped {
         return Ok(());
     }
