@@ -42,6 +42,7 @@ pub record KeepsCounted (old new : Station) : Type 0 where
   pub counters : new.counters ≡ old.counters
   pub by_call : new.by_call ≡ old.by_call
   pub totals : new.totals ≡ old.totals
+  pub unknown_links : new.unknown_links ≡ old.unknown_links
   pub links : new.links ≡ old.links
 
 pub record Imports (old new : Station) (link : ℕ) (octets : List ℕ) (result : Result Restored LinkFault)

@@ -86,11 +86,12 @@ pub record Tells (old : Concentrator) (numbers : List ℕ) (file : List LinkSett
       (sum_by (contexts_on old) (removed file numbers) + sum_by (gone_on old new) (changed old file))
 
 -- Beside the concentrator: the ports are those of the file, and a link that stays keeps its counts, and so do
--- the calls whose contexts stand.
+-- the calls whose contexts stand. A link that was named before it was there stays in the list of those.
 pub record TakesFile (old : Station) (file : Lists) (new : Station) : Type 0 where
   pub counts : (l : ℕ) → KeepsCounts (counters_at old l) (entry_of l file.settings) (counters_at new l)
   pub by_call : KeepsStanding new.concentrator (by_call_at old) (by_call_at new)
   pub totals : new.totals ≡ old.totals
+  pub unknown_links : new.unknown_links ≡ old.unknown_links
   pub links : new.links ≡ file
 
 -- the links of a file are taken: all its calls are done, in their order

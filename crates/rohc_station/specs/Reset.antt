@@ -20,4 +20,5 @@ pub record Forgets (old new : Station) (link : ℕ) (call : Call) (answer : Call
   pub counters : new.counters ≡ old.counters
   pub by_call : KeepsStanding new.concentrator (by_call_at old) (by_call_at new)
   pub totals : new.totals ≡ old.totals
+  pub unknown_links : new.unknown_links ≡ old.unknown_links
   pub links : new.links ≡ old.links

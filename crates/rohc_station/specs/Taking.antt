@@ -25,6 +25,7 @@ use Rattle.rohc_station.specs.declared.station.Station.{Station}
 use Rattle.rohc_station.specs.declared.calls.CallCounts.{CallCounts}
 use Rattle.rohc_station.specs.Limits.{is_full, is_silent, with_work, with_turned_away, with_limits}
 use Rattle.rohc_station.specs.Counting.{CountsAnswer, with_datagram, with_failed_sends, limiter_in, with_limiter}
+use Rattle.rohc_station.specs.Unknown.{links_after}
 use Rattle.rohc_station.specs.ByCall.{CountsForCall, stands}
 use Rattle.rohc_station.specs.Timed.{TimedPacket}
 use Rattle.rohc_station.specs.Told.{Told, told_unread, told_for, told_within}
@@ -78,6 +79,8 @@ pub record TakesPacket (old new : Station) (link moment : ℕ) (packet : List �
   pub counts_call : CountsForCall (stands new.concentrator) link moment report is_repaired is_uncounted
       (by_call_at old) (by_call_at new)
   pub totals : new.totals ≡ with_datagram (fault_at (ports_of link old.links)) is_uncounted old.totals
+  pub unknown_links : new.unknown_links.items
+      ≡ links_after (ports_of link old.links) link old.unknown_links.items
   pub links : new.links ≡ old.links
 
 -- a datagram with this fault is refused unread: nothing is called or sent, and no link's counts change
@@ -89,6 +92,7 @@ pub record IsRefusedUnread (fault : DatagramFault) (old new : Station) (told : T
   pub counters : new.counters ≡ old.counters
   pub by_call : new.by_call ≡ old.by_call
   pub totals : new.totals ≡ with_datagram (Some fault) false old.totals
+  pub unknown_links : new.unknown_links ≡ old.unknown_links
   pub links : new.links ≡ old.links
 
 -- a datagram that came at this moment: the link that it names, if it names one, the moment and the packet
@@ -113,6 +117,7 @@ pub record CountsChange (old new : Station) (link : ℕ) (change : LinkCounters 
   pub by_call : new.by_call ≡ old.by_call
   pub concentrator : new.concentrator ≡ old.concentrator
   pub totals : new.totals ≡ old.totals
+  pub unknown_links : new.unknown_links ≡ old.unknown_links
   pub links : new.links ≡ old.links
 
 -- A packet is turned away in a second: it begins a call on a link that makes no more contexts then. The limit

@@ -14,6 +14,8 @@ use crate::reload::{counters_for, setting_of};
 use crate::sending::{Taken, answered, unread, withhold_if};
 use crate::timed::Timed;
 use crate::trimming::trimmed_by;
+use crate::unknown::{UnknownLink, notice_link};
+use arrayvec::ArrayVec;
 use indexmap::IndexMap;
 use rohc_concentrator::{Concentrator, LinkSetting, NoLink};
 use rohc_frame::cut;
@@ -47,6 +49,8 @@ pub struct Station {
     pub(crate) by_call: IndexMap<u32, CallCounts>,
     /// The counts over all links.
     pub(crate) totals: StationCounters,
+    /// The last links that datagrams named and that weren't there, the newest last.
+    pub(crate) unknown_links: ArrayVec<UnknownLink, 16>,
 }
 
 /// The CID that a packet bears on a link, if the link is there and the packet bears one.
@@ -111,7 +115,7 @@ fn reset_link(concentrator: &mut Concentrator, link: u16) -> Result<usize, NoLin
 }
 
 impl Station {
-    ghost use Rattle.std.specs.Prelude.{◌≡◌, ℕ, List, None, IfOk, IfErr, option_map, false};
+    ghost use Rattle.std.specs.Prelude.{◌≡◌, ℕ, List, [], None, IfOk, IfErr, option_map, false};
     ghost use Rattle.rohc_concentrator.specs.Calls.{ForgetExpired, plain_answer};
     ghost use Rattle.rohc_concentrator.specs.RunsCall.{Turn};
     ghost use Rattle.rohc_concentrator.specs.Leaving.{HaveGone};
@@ -137,6 +141,7 @@ impl Station {
         ensures counters { IfOk result (λ station. (l : ℕ) → KeepsCounts None (entry_of l links.settings) (counters_at station l)) }
         ensures by_call { IfOk result (λ station. (key : ℕ) → by_call_at station key ≡ None) }
         ensures totals { IfOk result (λ station. station.totals ≡ uncounted_station) }
+        ensures unknown_links { IfOk result (λ station. station.unknown_links.items ≡ []) }
     {
         let counters = counters_for(alloc, &IndexMap::new(alloc), links.settings())?;
         Ok(Station {
@@ -145,6 +150,7 @@ impl Station {
             counters,
             by_call: IndexMap::new(alloc),
             totals: StationCounters::new(),
+            unknown_links: ArrayVec::new(),
         })
     }
 
@@ -174,6 +180,14 @@ impl Station {
         ensures { result ≡ self.now.totals }
     {
         self.totals
+    }
+
+    /// The last 16 links that datagrams named and that weren't there, the newest last, each with how many of its datagrams
+    /// came since it is in the list. One that a reload adds stays in the list.
+    pub fn unknown_links(&self) -> &[UnknownLink]
+        ensures { result.now ≡ self.now.unknown_links.items }
+    {
+        self.unknown_links.as_slice()
     }
 
     /// Writes the concentrator that stands, as `rohc_saved::save` does: what `rohc_saved::restore` reads.
@@ -247,6 +261,7 @@ impl Station {
         let is_uncounted = count_call(&mut self.by_call, &self.concentrator, link, moment, &marked);
         let ports = ports_of(&self.links, link);
         self.totals.add(fault_at(ports), is_uncounted);
+        notice_link(&mut self.unknown_links, ports, link);
         answered(ports, marked.answer)
     }
 

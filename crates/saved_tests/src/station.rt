@@ -8,7 +8,7 @@ use rohc_saved::restore;
 use rohc_serve::{Front, PacketBuffer};
 use rohc_station::{
     Asked, CallCounts, CallList, Duty, Form, GatewayFigures, LinkName, Listing, Page, ReloadReport,
-    Request, RequestFault, Station, Subject, arrival_in, read_request, timed_datagram,
+    Request, RequestFault, Station, Subject, UnknownLink, arrival_in, read_request, timed_datagram,
 };
 use std::alloc::Global;
 use std::mem;
@@ -198,6 +198,11 @@ fn takes_and_reloads(rt: HostRuntime) {
             == Some(Refusal::NoLink)
     );
     assert!(rt; station.totals().datagrams == 2 && station.totals().unknown_link == 1);
+    let unknown = UnknownLink {
+        link: 5,
+        datagrams: 1,
+    };
+    assert!(rt; station.unknown_links() == [unknown].as_slice());
     assert!(rt;
         station
             .take_known(1000, arrival_in(false, 1000, &[0, 6, 0xfd, 0x01]))
@@ -205,6 +210,19 @@ fn takes_and_reloads(rt: HostRuntime) {
             .refused
     );
     assert!(rt; station.reset(4, Some(0)).expect(&rt, "it works") == 1);
+}
+
+// The last 16 links that aren't there, each with its datagrams: 17 come, and then the second once more.
+#[test]
+fn keeps_the_last_unknown_links(rt: HostRuntime) {
+    let mut station = station(&rt, 4, 5);
+    for link in 10..27u8 {
+        let _ = station.take(1000, arrival_in(false, 1000, &[0, link, 1]));
+    }
+    let _ = station.take(1000, arrival_in(false, 1000, &[0, 11, 1]));
+    let unknown = station.unknown_links();
+    assert!(rt; unknown.len() == 16 && unknown[0].link == 12 && unknown[0].datagrams == 1);
+    assert!(rt; unknown[14].link == 26 && unknown[15].link == 11 && unknown[15].datagrams == 2);
 }
 
 #[test]

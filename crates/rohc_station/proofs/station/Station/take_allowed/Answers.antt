@@ -18,6 +18,7 @@ returns c =
             by_call = refl;
             concentrator = refl;
             totals = refl;
+            unknown_links = refl;
             links = refl;
           };
         },

@@ -19,6 +19,7 @@ returns c =
         is_uncounted = c.count_call-is_uncounted.result;
         counts_call = search rules;
         totals = search rules;
+        unknown_links = search rules;
         links = search rules;
       },
     )

@@ -13,6 +13,7 @@ returns c =
           by_call = refl;
           concentrator = refl;
           totals = refl;
+          unknown_links = refl;
           links = refl;
         },
         refused.1,
