@@ -39,9 +39,11 @@ KILLS, STOPS = 20, 10
 ARRIVAL, ANSWER = struct.Struct("<BHQH"), struct.Struct("<HBBHBHBH")
 WAIT_SECONDS = 60.0
 ALIVE_MS = 600
-PARTS = ("twins", "redis", "whole", "hosts", "up", "controls")
+PARTS = ("twins", "redis", "whole", "burst", "hosts", "up", "controls")
 # The kinds of ports of a link, in their order there, and the words of what goes to them.
 WORDS = {"deliver": "ip", "feedback": "feedback", "relay": "relay"}
+# The relayed elements of an answer that has thousands, and how many of them an outlet sends: at once, and later.
+ELEMENTS, AT_ONCE, LATER = 21_000, 4, 4096
 
 
 Item = TypeVar("Item")
@@ -463,6 +465,40 @@ def check_whole(trial: Trial, made: "Made") -> None:
             trial.demand(process.wait(WAIT_SECONDS) == 0, f"whole: {name} ends with {process.returncode} at SIGTERM")
 
 
+def counted(cluster: Cluster) -> dict[str, int]:
+    """What an outlet says that it sent, and what failed."""
+    with cluster.server.client() as client:
+        return {name: int(client.ask("HGET", "outlet:counts", name) or 0) for name in ("sent", "failed")}  # type: ignore[arg-type]
+
+
+def check_burst(trial: Trial, made: "Made") -> None:
+    """An answer with thousands of relayed elements, and right after it one of another link, which goes out first."""
+    elements = [place.to_bytes(2, "big") for place in range(ELEMENTS)]
+    relayed = b"".join(b"\x02" + one for one in elements)
+    answers = ANSWER.pack(1, 0, 0, 0, 0, 0, 0, len(relayed)) + relayed + ANSWER.pack(2, 0, 0, 0, 1, 1, 0, 0) + b"x"
+    wanted = {"sent": AT_ONCE + LATER + 1, "failed": ELEMENTS - AT_ONCE - LATER}
+    with Cluster(trial, made.built, trial.scratch / "burst", made.lines) as cluster, contextlib.ExitStack() as stack:
+        sockets = [stack.enter_context(socket.socket(socket.AF_INET, socket.SOCK_DGRAM)) for _ in range(2)]
+        for one in sockets:
+            one.bind(("127.0.0.1", 0))
+        relay, deliver = sockets
+        lines = f"ports 1 0 0 {relay.getsockname()[1]}\nports 2 {deliver.getsockname()[1]} 0 0\n"
+        cluster.start("outlet", "rohc-outlet", "--ports", trial.write("burst/ports", lines))
+        with cluster.server.client() as client:
+            client.ask("XADD", "out:0", "1-0", "a", answers)
+        found = []
+        while deliver not in (ready := select.select(sockets, [], [], WAIT_SECONDS)[0]) and ready:
+            found.append(relay.recv(65_535))
+        before = len(found)
+        while select.select([relay], [], [], 0.5)[0]:
+            found.append(relay.recv(65_535))
+        trial.demand(before < 100, f"burst: {before} elements before the packet of another link")
+        trial.demand(found == sorted(found) and set(found) <= set(elements[: AT_ONCE + LATER]), "burst: elements out of order")
+        cluster.wait(until=lambda: counted(cluster) == wanted)
+        trial.demand(counted(cluster) == wanted, f"burst: {counted(cluster)}, {wanted} wanted")
+    trial.say(f"burst: {before} of {len(found)} elements before a packet of another link, {wanted['failed']} counted")
+
+
 SERVICE = """
 foreground = yes
 pid =
@@ -663,6 +699,6 @@ def check(trial: Trial) -> None:
         trial.leave_out("hiredis or libcrypto is not installed, cluster/ was not run")
         return
     made = make(trial)
-    parts = dict(zip(PARTS, (check_twins, check_redis, check_whole, check_hosts, check_up, check_controls), strict=True))
+    parts = dict(zip(PARTS, (check_twins, check_redis, check_whole, check_burst, check_hosts, check_up, check_controls), strict=True))
     for name in trial.chosen(PARTS):
         parts[name](trial, made)
