@@ -44,14 +44,14 @@ module _ (old new : Station) (calls : List Turn) where
       subst RunsThem (sym p.these) (mid.concentrator, p.call, limits.counts.concentrator)
 
   taken_runs : (second : ℕ) (t : TimedPacket) (told : Told) → TakesWithin old new second t told calls → RunsThem calls
-  taken_runs second t told p = within_runs (turns_away old second t.link t.packet) second t told p
+  taken_runs second t told p = within_runs (turns_away old second t) second t told p
 
   known_runs : (begins : Bool) (second : ℕ) (t : TimedPacket) (told : Told) → TakesUnless begins old new second t told calls → RunsThem calls
   known_runs true second t told p = unread_runs NewCall told p
   known_runs false second t told p = taken_runs second t told p
 
   standing_runs : (second : ℕ) (t : TimedPacket) (told : Told) → TakesStanding old new second t told calls → RunsThem calls
-  standing_runs second t told p = known_runs (begins_call old.concentrator t.link t.packet) second t told p
+  standing_runs second t told p = known_runs (begins_call old.concentrator t) second t told p
 
   none_runs : new ≡ old → calls ≡ [] → RunsThem calls
   none_runs stays none = subst RunsThem (sym none) (ap (λ (s : Station). s.concentrator) stays)
@@ -131,14 +131,14 @@ module _ (old new : Station) (calls : List Turn) where
   within_fit false second t told fit (mid, whole, p, limits) = subst AreFit (sym p.these) (fit, tt)
 
   taken_fit : (second : ℕ) (t : TimedPacket) (told : Told) → IsFitPacket (Some t) → TakesWithin old new second t told calls → AreFit calls
-  taken_fit second t told fit p = within_fit (turns_away old second t.link t.packet) second t told fit p
+  taken_fit second t told fit p = within_fit (turns_away old second t) second t told fit p
 
   known_fit : (begins : Bool) (second : ℕ) (t : TimedPacket) (told : Told) → IsFitPacket (Some t) → TakesUnless begins old new second t told calls → AreFit calls
   known_fit true second t told fit p = subst AreFit (sym p.none) tt
   known_fit false second t told fit p = taken_fit second t told fit p
 
   standing_fit : (second : ℕ) (t : TimedPacket) (told : Told) → IsFitPacket (Some t) → TakesStanding old new second t told calls → AreFit calls
-  standing_fit second t told fit p = known_fit (begins_call old.concentrator t.link t.packet) second t told fit p
+  standing_fit second t told fit p = known_fit (begins_call old.concentrator t) second t told fit p
 
   turn_fit : (call : StationCall) → IsFit call → IsTurn old call calls new → AreFit calls
   turn_fit (Take second None told) fit p = subst AreFit (sym p.none) tt

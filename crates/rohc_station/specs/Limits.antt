@@ -1,5 +1,6 @@
 -- What a link does in a second, and how much it may. Words: one_if; no_limits; second_of, in_second;
--- is_reached, is_full, is_silent; packets_before; unlimited; with_work, with_turned_away, with_limits.
+-- is_reached, limits_contexts, is_full, is_silent; packets_before; unlimited; with_work, with_turned_away,
+-- with_limits.
 use Rattle.std.specs.Prelude.{ℕ, ◌+◌, ◌/◌, ◌==◌, ◌&&◌, not, Bool, nat_lt, nat_le, if◌then◌else◌, None}
 use Rattle.rohc_links.specs.Limits.{counted}
 use Rattle.rohc_station.specs.declared.limits.LinkLimits.{LinkLimits}
@@ -24,6 +25,10 @@ in_second number s =
 -- so many reach a limit; 0 is no limit
 abbrev pub is_reached : (limit count : ℕ) → Bool
 is_reached limit count = nat_lt 0 limit && nat_le limit count
+
+-- a link may make only so many contexts in a second
+abbrev pub limits_contexts : Limiter → Bool
+limits_contexts x = nat_lt 0 x.limits.new_contexts
 
 -- a link makes no more contexts in a second, and sends no more feedback
 abbrev pub is_full : (number : ℕ) → Limiter → Bool
@@ -69,6 +74,6 @@ with_work number made has_feedback x = record {
 abbrev pub with_turned_away : Limiter → Limiter
 with_turned_away x = record x { contexts_limited = counted x.contexts_limited 1 }
 
--- other limits, for what was done and is done
+-- Other limits, for what was done and is done. Contexts that were made without a limit weren't counted.
 abbrev pub with_limits : LinkLimits → Limiter → Limiter
 with_limits limits x = record x { limits = limits }

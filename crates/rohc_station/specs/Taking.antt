@@ -1,14 +1,16 @@
 -- What a station does with a datagram. Words: counters_at, limiter_at a link; by_call_at; trimmed_by,
--- trimmed_at; arrival, fault_at, TakesPacket; IsRefusedUnread; dated; begins_call; CountsChange; turns_away,
--- TurnsAway; made_on, LimitsFeedback; TakesIf, TakesWithin; Takes; TakesUnless, TakesKnown; FailsSends,
--- SetsLimits.
-use Rattle.std.specs.Prelude.{◌≡◌, ◌≢◌, ℕ, ◌-◌, ◌&&◌, List, [], ◌∷◌, length, Option, Some, None, nat_eq, not, is_some, Bool, true, false}
+-- trimmed_at; arrival, fault_at, TakesPacket; IsRefusedUnread; dated; is_live, begins_call; CountsChange;
+-- begins_limited, turns_away, TurnsAway; makes_context, LimitsFeedback; TakesIf, TakesWithin; Takes;
+-- TakesUnless, TakesKnown; FailsSends, SetsLimits.
+use Rattle.std.specs.Prelude.{◌≡◌, ◌≢◌, ℕ, ◌&&◌, List, [], ◌∷◌, length, Option, Some, None, nat_eq, not, is_some, Bool, true, false}
 use Rattle.std.specs.Option.{option_map}
 use Rattle.indexmap.specs.IndexMap.{get}
 use Rattle.rohc_context.specs.Record.{Record}
 use Rattle.rohc_concentrator.specs.declared.concentrator.Concentrator.{Concentrator}
-use Rattle.rohc_concentrator.specs.Tables.{setting_at, record_at, identifiers_at}
-use Rattle.rohc_concentrator.specs.Bears.{borne}
+use Rattle.rohc_concentrator.specs.Tables.{setting_at, record_at}
+use Rattle.rohc_concentrator.specs.declared.setting.LinkSetting.{LinkSetting}
+use Rattle.rohc_concentrator.specs.Bears.{cid_in, header_on}
+use Rattle.rohc_concentrator.specs.Leaving.{is_expired}
 use Rattle.rohc_concentrator.specs.Trimmed.{trimmed}
 use Rattle.rohc_concentrator.specs.Report.{Report}
 use Rattle.rohc_concentrator.specs.Repaired.{IsRepaired}
@@ -23,9 +25,9 @@ use Rattle.rohc_station.specs.declared.counters.DatagramFault.TheVariants.{Short
 use Rattle.rohc_station.specs.declared.counters.LinkCounters.{LinkCounters}
 use Rattle.rohc_station.specs.declared.station.Station.{Station}
 use Rattle.rohc_station.specs.declared.calls.CallCounts.{CallCounts}
-use Rattle.rohc_station.specs.Limits.{is_full, is_silent, with_work, with_turned_away, with_limits}
-use Rattle.rohc_station.specs.Counting.{CountsAnswer, with_datagram, with_failed_sends, limiter_in, with_limiter}
+use Rattle.rohc_station.specs.Limits.{one_if, limits_contexts, is_full, is_silent, with_work, with_turned_away, with_limits}
 use Rattle.rohc_station.specs.Unknown.{links_after}
+use Rattle.rohc_station.specs.Counting.{CountsAnswer, with_datagram, with_failed_sends, limiter_in, with_limiter}
 use Rattle.rohc_station.specs.ByCall.{CountsForCall, stands}
 use Rattle.rohc_station.specs.Timed.{TimedPacket}
 use Rattle.rohc_station.specs.Told.{Told, told_unread, told_for, told_within}
@@ -101,14 +103,25 @@ dated moment octets =
     option_map (λ link. record { link = link; moment = moment; packet = datagram_packet octets })
     (named_link octets)
 
--- this CID, if there is one, has no record
-abbrev pub is_unknown : Option ℕ → (ℕ → Option Record) → Bool
-is_unknown None records = false
-is_unknown (Some cid) records = not (is_some (records cid))
+-- a record counts at a moment: it is there, and hasn't expired
+abbrev pub is_live : (idle_ms moment : ℕ) → Option Record → Bool
+is_live idle_ms moment None = false
+is_live idle_ms moment (Some r) = not (is_expired idle_ms moment r)
 
--- a packet begins a call: it bears a CID that has no record
-abbrev pub begins_call : Concentrator → ℕ → List ℕ → Bool
-begins_call k link packet = is_unknown (borne (setting_at k link) packet) (record_at k link)
+-- this CID, if there is one, has no record that counts at a moment
+abbrev pub is_unknown : (idle_ms moment : ℕ) → Option ℕ → (ℕ → Option Record) → Bool
+is_unknown idle_ms moment None records = false
+is_unknown idle_ms moment (Some cid) records = not (is_live idle_ms moment (records cid))
+
+-- the same of the CID that a packet bears on a link, if the link is there
+abbrev pub begins_on : Option LinkSetting → (ℕ → Option Record) → (moment : ℕ) → List ℕ → Bool
+begins_on None records moment packet = false
+begins_on (Some s) records moment packet =
+    is_unknown s.settings.idle_ms moment (cid_in (header_on s packet)) records
+
+-- a packet begins a call: it bears a CID that has no record, or one that has expired at the packet's moment
+abbrev pub begins_call : Concentrator → TimedPacket → Bool
+begins_call k t = begins_on (setting_at k t.link) (record_at k t.link) t.moment t.packet
 
 -- The counts of one link change so, if it has some, and nothing else.
 pub record CountsChange (old new : Station) (link : ℕ) (change : LinkCounters → LinkCounters) : Type 0 where
@@ -120,27 +133,31 @@ pub record CountsChange (old new : Station) (link : ℕ) (change : LinkCounters 
   pub unknown_links : new.unknown_links ≡ old.unknown_links
   pub links : new.links ≡ old.links
 
--- A packet is turned away in a second: it begins a call on a link that makes no more contexts then. The limit
--- is that of its link alone.
-abbrev pub turns_away : Station → (second link : ℕ) → List ℕ → Bool
-turns_away s second link packet =
-    is_full second (limiter_at s link) && begins_call s.concentrator link packet
+-- A packet begins a call on a link whose contexts are limited. The limit is that of its link alone.
+abbrev pub begins_limited : Station → TimedPacket → Bool
+begins_limited s t = limits_contexts (limiter_at s t.link) && begins_call s.concentrator t
+
+-- it is turned away in a second in which its link makes no more contexts
+abbrev pub turns_away : Station → (second : ℕ) → TimedPacket → Bool
+turns_away s second t = begins_limited s t && is_full second (limiter_at s t.link)
 
 -- It is counted for its link, and as a datagram that is refused unread.
 abbrev pub TurnsAway : (old new : Station) → (link : ℕ) → Told → List Turn → Type 0
 TurnsAway old new link told calls = (mid : Station)
     × CountsChange old mid link (with_limiter with_turned_away) × IsRefusedUnread NewCall mid new told calls
 
--- how many contexts a link has more
-abbrev pub made_on : (old new : Concentrator) → ℕ → ℕ
-made_on old new link = length (identifiers_at new link) - length (identifiers_at old link)
+-- A packet made a context on a link whose contexts are limited: it would begin a call before it was taken,
+-- and not after.
+abbrev pub makes_context : (old new : Station) → TimedPacket → Bool
+makes_context old new t = begins_limited old t && not (begins_call new.concentrator t)
 
 -- A packet was taken, which told the whole. Feedback that its link may send no more in this second is
 -- withheld; what the packet made and had is counted for the link.
-pub record LimitsFeedback (old mid new : Station) (second link : ℕ) (whole told : Told) : Type 0 where
-  pub tells : told ≡ told_within (is_silent second (limiter_at old link)) whole
-  pub counts : CountsChange mid new link (with_limiter (with_work second
-      (made_on old.concentrator mid.concentrator link) (is_some whole.outgoing.feedback)))
+pub record LimitsFeedback (old mid new : Station) (second : ℕ) (t : TimedPacket) (whole told : Told)
+    : Type 0 where
+  pub tells : told ≡ told_within (is_silent second (limiter_at old t.link)) whole
+  pub counts : CountsChange mid new t.link (with_limiter (with_work second
+      (one_if (makes_context old mid t)) (is_some whole.outgoing.feedback)))
 
 -- so a packet is turned away exactly if it is to be, and otherwise it is taken
 abbrev pub TakesIf : (is_away : Bool) → Station → Station → (second : ℕ) → TimedPacket → Told → List Turn
@@ -148,11 +165,11 @@ abbrev pub TakesIf : (is_away : Bool) → Station → Station → (second : ℕ)
 TakesIf true old new second t told calls = TurnsAway old new t.link told calls
 TakesIf false old new second t told calls = (mid : Station) × (whole : Told)
     × TakesPacket old mid t.link t.moment t.packet whole calls
-    × LimitsFeedback old mid new second t.link whole told
+    × LimitsFeedback old mid new second t whole told
 
 abbrev pub TakesWithin : Station → Station → (second : ℕ) → TimedPacket → Told → List Turn → Type 0
 TakesWithin old new second t told calls =
-    TakesIf (turns_away old second t.link t.packet) old new second t told calls
+    TakesIf (turns_away old second t) old new second t told calls
 
 -- A datagram is taken in a second of the gateway's clock, as it was read: a packet with its link and its
 -- moment, if it could be read. What a layer below added behind the packet goes first.
@@ -167,7 +184,7 @@ TakesUnless false old new second t told calls = TakesWithin old new second t tol
 
 abbrev pub TakesStanding : Station → Station → (second : ℕ) → TimedPacket → Told → List Turn → Type 0
 TakesStanding old new second t told calls =
-    TakesUnless (begins_call old.concentrator t.link t.packet) old new second t told calls
+    TakesUnless (begins_call old.concentrator t) old new second t told calls
 
 abbrev pub TakesKnown : Station → Station → (second : ℕ) → Option TimedPacket → Told → List Turn → Type 0
 TakesKnown old new second None told calls = IsRefusedUnread Short old new told calls

@@ -209,7 +209,7 @@ pub(crate) fn count_turned_away(counters: &mut IndexMap<u16, LinkCounters>, link
 /// Counts what came of a packet for the limits of its link, if the link has counts.
 pub(crate) fn count_work(counters: &mut IndexMap<u16, LinkCounters>, link: u16, work: Work)
     ensures own { get nat_eq counters.new link
-        ≡ option_map (with_limiter (with_work work.second work.new_contexts work.has_feedback)) (get nat_eq counters.old link) }
+        ≡ option_map (with_limiter (with_work work.second (one_if work.makes_context) work.has_feedback)) (get nat_eq counters.old link) }
     ensures others { (l : ℕ) → l ≢ link → get nat_eq counters.new l ≡ get nat_eq counters.old l }
 {
     if let Some(of_link) = counters.get_mut(&link) {

@@ -37,7 +37,7 @@ pub struct Second {
     pub number: u64,
     /// Packets that were taken.
     pub packets: u64,
-    /// Contexts that were made.
+    /// Contexts that were made while they were limited.
     pub new_contexts: u64,
     /// Feedback elements for the compressor that were sent.
     pub feedback: u64,
@@ -69,8 +69,8 @@ impl Second {
 pub(crate) struct Work {
     /// The second of its arrival.
     pub(crate) second: u64,
-    /// Contexts that it made.
-    pub(crate) new_contexts: u64,
+    /// Whether it made a context, on a link whose contexts are limited.
+    pub(crate) makes_context: bool,
     /// Whether there was feedback for the compressor.
     pub(crate) has_feedback: bool,
 }
@@ -90,8 +90,8 @@ pub struct Limiter {
 }
 
 impl Limiter {
-    ghost use Rattle.std.specs.Prelude.{◌≡◌};
-    ghost use Rattle.rohc_station.specs.Limits.{unlimited, is_full, is_silent, packets_before, with_work};
+    ghost use Rattle.std.specs.Prelude.{◌≡◌, ◌&&◌};
+    ghost use Rattle.rohc_station.specs.Limits.{one_if, unlimited, limits_contexts, is_full, is_silent, packets_before, with_work};
 
     /// Without limits. Nothing is counted yet.
     pub fn new() -> Limiter
@@ -111,6 +111,13 @@ impl Limiter {
         }
     }
 
+    /// Whether the link may make only so many contexts in a second.
+    pub(crate) fn limits_contexts(&self) -> bool
+        ensures { result ≡ limits_contexts self.now }
+    {
+        self.limits.new_contexts > 0
+    }
+
     /// Whether the link may make no more contexts in a second.
     pub(crate) fn is_full(&self, second: u64) -> bool
         ensures { result ≡ is_full second self.now }
@@ -119,6 +126,13 @@ impl Limiter {
             self.limits.new_contexts,
             self.second.at(second).new_contexts,
         )
+    }
+
+    /// Whether a packet is turned away in a second: it begins a call, and the link may make no more contexts then.
+    pub(crate) fn turns_away(&self, second: u64, begins: bool) -> bool
+        ensures { result ≡ (begins && is_full second self.now) }
+    {
+        begins && self.is_full(second)
     }
 
     /// Whether the link may send no more feedback in a second.
@@ -143,19 +157,20 @@ impl Limiter {
 
     /// Counts what came of a packet.
     pub(crate) fn count(&mut self, work: Work)
-        ensures { self.new ≡ with_work work.second work.new_contexts work.has_feedback self.old }
+        ensures { self.new ≡ with_work work.second (one_if work.makes_context) work.has_feedback self.old }
     {
         let is_silent = self.is_silent(work.second);
         let before = self.packets_before(work.second);
         let second = self.second.at(work.second);
         let sent = u64::from(work.has_feedback && !is_silent);
         let withheld = u64::from(work.has_feedback && is_silent);
+        let made = u64::from(work.makes_context);
         *self = Limiter {
             limits: self.limits,
             second: Second {
                 number: second.number,
                 packets: second.packets.saturating_add(1),
-                new_contexts: second.new_contexts.saturating_add(work.new_contexts),
+                new_contexts: second.new_contexts.saturating_add(made),
                 feedback: second.feedback.saturating_add(sent),
             },
             before,

@@ -10,14 +10,14 @@ use crate::counters::{
 };
 use crate::limits::{Limiter, LinkLimits, Work, second_of};
 use crate::marked::Marked;
-use crate::reload::{counters_for, setting_of};
+use crate::reload::counters_for;
 use crate::sending::{Taken, answered, unread, withhold_if};
 use crate::timed::Timed;
 use crate::trimming::trimmed_by;
 use crate::unknown::{UnknownLink, notice_link};
 use arrayvec::ArrayVec;
 use indexmap::IndexMap;
-use rohc_concentrator::{Concentrator, LinkSetting, NoLink};
+use rohc_concentrator::{Concentrator, LinkRecords, LinkSetting, NoLink};
 use rohc_frame::cut;
 use rohc_links::{Links, Ports};
 use rohc_report::key_of;
@@ -53,16 +53,6 @@ pub struct Station {
     pub(crate) unknown_links: ArrayVec<UnknownLink, 16>,
 }
 
-/// The CID that a packet bears on a link, if the link is there and the packet bears one.
-fn borne(concentrator: &Concentrator, link: u16, packet: &[u8]) -> Option<u16>
-    ensures { result ≡ borne (setting_at concentrator.now link) packet.now }
-{
-    match setting_of(concentrator, link) {
-        Some(setting) => borne_on(setting, packet),
-        None => None,
-    }
-}
-
 /// The CID that a packet bears on a link with this setting, if it bears one.
 fn borne_on(setting: &LinkSetting, packet: &[u8]) -> Option<u16>
     ensures { result ≡ cid_in (header_on setting.now packet.now) }
@@ -76,14 +66,41 @@ fn borne_on(setting: &LinkSetting, packet: &[u8]) -> Option<u16>
     }
 }
 
-/// Whether a packet would begin a call: it bears a CID that has no record.
-fn begins_call(concentrator: &Concentrator, link: u16, packet: &[u8]) -> bool
-    ensures { result ≡ begins_call concentrator.now link packet.now }
+/// Whether a CID of a link has a record that hasn't expired at a moment.
+fn is_live(records: &LinkRecords, moment: u64, cid: u16) -> bool
+    ensures { result ≡ is_live records.now.setting.settings.idle_ms moment (record_in records.now cid) }
 {
-    match borne(concentrator, link, packet) {
-        Some(cid) => !concentrator.has_context(link, cid),
+    match records.contexts.get(&cid) {
+        Some(context) => !records.setting.has_expired(context, moment),
         None => false,
     }
+}
+
+/// Whether a packet that arrives at this link would begin a call.
+fn begins_on(records: &LinkRecords, moment: u64, packet: &[u8]) -> bool
+    ensures { result ≡ begins_on (Some records.now.setting) (record_in records.now) moment packet.now }
+{
+    match borne_on(&records.setting, packet) {
+        Some(cid) => !is_live(records, moment, cid),
+        None => false,
+    }
+}
+
+/// Whether a packet would begin a call: it bears a CID that has no record, or one that has expired at the packet's moment.
+fn begins_call(concentrator: &Concentrator, arrival: &Timed<'_>) -> bool
+    ensures { result ≡ begins_call concentrator.now (plain_timed arrival.now) }
+{
+    match concentrator.tables().get(&arrival.link) {
+        Some(records) => begins_on(records, arrival.moment, arrival.packet),
+        None => false,
+    }
+}
+
+/// Whether a packet that was taken made a context: it began a call, and would begin none now.
+fn has_made(concentrator: &Concentrator, begins: bool, arrival: &Timed<'_>) -> bool
+    ensures { result ≡ (begins && not (begins_call concentrator.now (plain_timed arrival.now))) }
+{
+    begins && !begins_call(concentrator, arrival)
 }
 
 /// How many records a link has.
@@ -96,13 +113,14 @@ pub(crate) fn context_count(concentrator: &Concentrator, link: u16) -> usize
     }
 }
 
-ghost use Rattle.std.specs.Prelude.{length, IfOk};
+ghost use Rattle.std.specs.Prelude.{◌&&◌, not, length, IfOk, Some};
 ghost use Rattle.rohc_concentrator.specs.Calls.{Reset, plain_answer};
 ghost use Rattle.rohc_concentrator.specs.RunsCall.{RunsCall};
 ghost use Rattle.rohc_concentrator.specs.Leaving.{HaveGone};
-ghost use Rattle.rohc_concentrator.specs.Tables.{setting_at, identifiers_at};
-ghost use Rattle.rohc_concentrator.specs.Bears.{borne, cid_in, header_on};
-ghost use Rattle.rohc_station.specs.Taking.{begins_call};
+ghost use Rattle.rohc_concentrator.specs.Tables.{record_in, identifiers_at};
+ghost use Rattle.rohc_concentrator.specs.Bears.{cid_in, header_on};
+ghost use Rattle.rohc_station.specs.Timed.{plain_timed};
+ghost use Rattle.rohc_station.specs.Taking.{is_live, begins_on, begins_call};
 
 /// Forgets all records of a link. Returns the number of records removed. The error is `NoLink`.
 fn reset_link(concentrator: &mut Concentrator, link: u16) -> Result<usize, NoLink>
@@ -128,7 +146,7 @@ impl Station {
     ghost use Rattle.rohc_station.specs.Counting.{KeepsCounts, uncounted_station};
     ghost use Rattle.rohc_report.specs.Taken.{key_of};
     ghost use Rattle.rohc_station.specs.Reset.{reset_call, Forgets};
-    ghost use Rattle.rohc_station.specs.Taking.{limiter_at, counters_at, by_call_at, turns_away, TakesPacket, TurnsAway, TakesIf, TakesWithin, Takes, TakesKnown, IsRefusedUnread, FailsSends, SetsLimits};
+    ghost use Rattle.rohc_station.specs.Taking.{limiter_at, counters_at, by_call_at, begins_limited, TakesPacket, TurnsAway, TakesIf, TakesWithin, Takes, TakesKnown, IsRefusedUnread, FailsSends, SetsLimits};
 
     /// A station of this concentrator and these links, with nothing counted. The error is lack of memory.
     pub fn new(
@@ -273,15 +291,6 @@ impl Station {
         unread()
     }
 
-    /// Whether a packet of a link with these limits is turned away in a second: it begins a call, and the link makes no more
-    /// contexts then.
-    fn turns_away(&self, limiter: &Limiter, second: u64, arrival: Timed<'_>) -> bool
-        requires { limiter.now ≡ limiter_at self.now arrival.link }
-        ensures { result ≡ turns_away self.now second arrival.entry.link arrival.entry.packet.now }
-    {
-        limiter.is_full(second) && begins_call(&self.concentrator, arrival.link, arrival.packet)
-    }
-
     /// Turns a packet of a link away.
     fn turn_away<'a>(&mut self, link: u16) -> Taken<'a>
         ensures { (calls : List Turn) × TurnsAway self.old self.new link (told_of result) calls }
@@ -290,34 +299,47 @@ impl Station {
         self.refuse(DatagramFault::NewCall)
     }
 
-    /// Takes a packet of a link, and withholds its feedback if the link is silent: it sends no more in this second.
-    fn take_allowed<'a>(&mut self, is_withheld: bool, second: u64, arrival: Timed<'a>) -> Taken<'a>
-        requires { is_withheld ≡ is_silent second (limiter_at self.old arrival.link) }
+    /// Takes a packet of a link, and withholds its feedback if the link is silent: it sends no more in this second. `begins` is
+    /// whether it begins a call on a link whose contexts are limited.
+    fn take_allowed<'a>(
+        &mut self,
+        is_withheld: bool,
+        second: u64,
+        begins: bool,
+        arrival: Timed<'a>,
+    ) -> Taken<'a>
+        requires withheld { is_withheld ≡ is_silent second (limiter_at self.old arrival.link) }
+        requires begins { begins ≡ begins_limited self.old (plain_timed arrival) }
         ensures { (calls : List Turn) × TakesIf false self.old self.new second (plain_timed arrival.entry) (told_of result) calls }
     {
-        let link = arrival.link;
-        let before = context_count(&self.concentrator, link);
         let mut taken = self.take_packet(arrival);
-        let after = context_count(&self.concentrator, link);
         let work = Work {
             second,
-            new_contexts: after.saturating_sub(before) as u64,
+            makes_context: has_made(&self.concentrator, begins, &arrival),
             has_feedback: taken.sends.feedback.is_some(),
         };
-        count_work(&mut self.counters, link, work);
+        count_work(&mut self.counters, arrival.link, work);
         withhold_if(&mut taken, is_withheld);
         taken
     }
 
-    /// Takes a packet of a link within the limits of the link in a second.
-    fn take_within<'a>(&mut self, limiter: &Limiter, second: u64, arrival: Timed<'a>) -> Taken<'a>
-        requires { limiter.now ≡ limiter_at self.old arrival.link }
+    /// Takes a packet of a link within the limits of the link in a second. `begins` is whether it begins a call on a link whose
+    /// contexts are limited: it is turned away if the link makes no more contexts then.
+    fn take_within<'a>(
+        &mut self,
+        limiter: &Limiter,
+        second: u64,
+        begins: bool,
+        arrival: Timed<'a>,
+    ) -> Taken<'a>
+        requires limiter { limiter.now ≡ limiter_at self.old arrival.link }
+        requires begins { begins ≡ begins_limited self.old (plain_timed arrival) }
         ensures { (calls : List Turn) × TakesWithin self.old self.new second (plain_timed arrival.entry) (told_of result) calls }
     {
-        if self.turns_away(limiter, second, arrival) {
+        if limiter.turns_away(second, begins) {
             self.turn_away(arrival.link)
         } else {
-            self.take_allowed(limiter.is_silent(second), second, arrival)
+            self.take_allowed(limiter.is_silent(second), second, begins, arrival)
         }
     }
 
@@ -338,12 +360,12 @@ impl Station {
         };
         let limiter = limiter_of(&self.counters, arrival.link);
         let arrival = trimmed_by(&self.concentrator, limiter.limits.payload, arrival);
-        let second = second_of(now);
-        self.take_within(&limiter, second, arrival)
+        let begins = limiter.limits_contexts() && begins_call(&self.concentrator, &arrival);
+        self.take_within(&limiter, second_of(now), begins, arrival)
     }
 
     /// Takes a datagram as `take` does, but refuses one that would begin a call: whose packet bears a CID
-    /// that has no record. Calls that stand go on.
+    /// that has no record, or one that has expired at the packet's moment. Calls that stand go on.
     pub fn take_known<'a>(&mut self, now: u64, read: Option<Timed<'a>>) -> Taken<'a>
         ensures { (calls : List Turn) × TakesKnown self.old self.new (second_of now) (option_map plain_timed read.entry)
             (told_of result) calls }
@@ -353,10 +375,10 @@ impl Station {
         };
         let limiter = limiter_of(&self.counters, arrival.link);
         let arrival = trimmed_by(&self.concentrator, limiter.limits.payload, arrival);
-        if begins_call(&self.concentrator, arrival.link, arrival.packet) {
+        if begins_call(&self.concentrator, &arrival) {
             self.refuse(DatagramFault::NewCall)
         } else {
-            self.take_within(&limiter, second_of(now), arrival)
+            self.take_within(&limiter, second_of(now), false, arrival)
         }
     }
 }

@@ -7,8 +7,9 @@ use rohc_links::{Links, read_links};
 use rohc_saved::restore;
 use rohc_serve::{Front, PacketBuffer};
 use rohc_station::{
-    Asked, CallCounts, CallList, Duty, Form, GatewayFigures, LinkName, Listing, Page, ReloadReport,
-    Request, RequestFault, Station, Subject, UnknownLink, arrival_in, read_request, timed_datagram,
+    Asked, CallCounts, CallList, Duty, Form, GatewayFigures, LinkLimits, LinkName, Listing, Page,
+    ReloadReport, Request, RequestFault, Station, Subject, Timed, UnknownLink, arrival_in,
+    read_request, timed_datagram,
 };
 use std::alloc::Global;
 use std::mem;
@@ -223,6 +224,49 @@ fn keeps_the_last_unknown_links(rt: HostRuntime) {
     let unknown = station.unknown_links();
     assert!(rt; unknown.len() == 16 && unknown[0].link == 12 && unknown[0].datagrams == 1);
     assert!(rt; unknown[14].link == 26 && unknown[15].link == 11 && unknown[15].datagrams == 2);
+}
+
+// A packet under an expired CID begins a call: none while the gateway drains, and no more than the limit of the link. The
+// last one is expired by its sender's moment.
+#[test]
+fn counts_expired_calls_as_none(rt: HostRuntime) {
+    let text = format!(in rt.alloc();
+        "version = 2\n[[link]]\nnumber = 4{REST}idle_ms = 1000\n"
+    ).expect(&rt, "no memory");
+    let links = read_links(rt.alloc(), text.as_str()).expect(&rt, "no memory");
+    let concentrator = Concentrator::new(rt.alloc(), links.settings()).expect(&rt, "no memory");
+    let mut station = Station::new(rt.alloc(), concentrator, links).expect(&rt, "no memory");
+    let limits = LinkLimits {
+        new_contexts: 1,
+        feedback: 0,
+        payload: None,
+    };
+    station.set_limits(4, limits);
+    for (now, is_draining, is_refused) in [
+        (1000, true, true),
+        (1000, false, false),
+        (1500, true, false),
+        (1900, false, false),
+        (2900, true, true),
+        (2900, false, false),
+    ] {
+        let read = arrival_in(false, now, DATAGRAM);
+        let taken = if is_draining {
+            station.take_known(now, read)
+        } else {
+            station.take(now, read)
+        };
+        assert!(rt; taken.sends.refused == is_refused, "{now}");
+    }
+    let later = Timed {
+        link: 4,
+        moment: 9000,
+        packet: &DATAGRAM[2..],
+    };
+    assert!(rt; station.take(2950, Some(later)).sends.refused);
+    assert!(rt; station.totals().new_call == 3);
+    assert!(rt; station.counters().get(&4).unwrap().limiter.contexts_limited == 1);
+    assert!(rt; !station.take(3000, Some(later)).sends.refused);
 }
 
 #[test]
