@@ -446,6 +446,21 @@ impl Gateway<'_> {
         )
     }
 
+    /// Writes the last links that datagrams named and that aren't there, the newest last.
+    fn write_unknown_links<W: Write>(&self, out: &mut W) -> io::Result<()> {
+        write!(out, ",\"unknown_links\":[")?;
+        let mut comma = "";
+        for unknown in self.service.station.unknown_links() {
+            write!(
+                out,
+                "{comma}{{\"link\":{},\"datagrams\":{}}}",
+                unknown.link, unknown.datagrams
+            )?;
+            comma = ",";
+        }
+        write!(out, "]")
+    }
+
     /// Writes the status in a few numbers, those of contexts as they were looked at, and the names of links.
     pub(crate) fn write_status<W: Write>(&self, out: &mut W, scan: &Scan) -> io::Result<()> {
         let states = scan.states();
@@ -464,6 +479,7 @@ impl Gateway<'_> {
         write_time(out, "started", self.figures.started)?;
         write_time(out, "saved", self.figures.last_save)?;
         self.write_limited(out)?;
+        self.write_unknown_links(out)?;
         write_moves(out, &self.service.moves)?;
         let Build { sources, logic } = self.frame.build;
         write!(

@@ -76,7 +76,7 @@ fn write_start<W: Write>(out: &mut W, page: &Page<'_>) -> io::Result<()> {
     };
     write!(
         out,
-        ".{draining}</p>\n<nav aria-label=\"Sections\"><a href=\"#links\">Links</a><a href=\"#traffic\">Traffic</a><a href=\"#refusals\">Refusals</a><a href=\"#worst\">Refused calls</a><a href=\"#silent\">Silent calls</a><a href=\"#unknown\">Unknown CIDs</a></nav>\n</header>\n<main>\n"
+        ".{draining}</p>\n<nav aria-label=\"Sections\"><a href=\"#links\">Links</a><a href=\"#traffic\">Traffic</a><a href=\"#refusals\">Refusals</a><a href=\"#worst\">Refused calls</a><a href=\"#silent\">Silent calls</a><a href=\"#unknown\">Unknown CIDs</a><a href=\"#unknown-links\">Unknown links</a></nav>\n</header>\n<main>\n"
     )
 }
 
@@ -415,10 +415,12 @@ enum Section {
     Silent,
     /// The CIDs that only got NoContext.
     Unknown,
+    /// The links that aren't there.
+    UnknownLinks,
 }
 
 /// All of them, in their order.
-const SECTIONS: [Section; 7] = [
+const SECTIONS: [Section; 8] = [
     Section::Start,
     Section::Links,
     Section::Traffic,
@@ -426,6 +428,7 @@ const SECTIONS: [Section; 7] = [
     Section::Worst,
     Section::Silent,
     Section::Unknown,
+    Section::UnknownLinks,
 ];
 
 /// The place of the calls with the most refusals among the rankings of the page, and that of the silent ones.
@@ -525,11 +528,23 @@ fn write_call_table<W: Write>(
     }
 }
 
+/// Writes the table of the last links that datagrams named and the links file doesn't have, the newest first.
+fn write_unknown_links<W: Write>(out: &mut W, station: &Station) -> io::Result<()> {
+    let title = "Links that are not in the links file";
+    write_columns(out, title, "unknown-links", 1, &["Link", "Datagrams"])?;
+    for unknown in station.unknown_links().iter().rev() {
+        write!(out, "<tr><th scope=\"row\">{}</th>", unknown.link)?;
+        write_cell(out, unknown.datagrams)?;
+        writeln!(out, "</tr>")?;
+    }
+    write_end(out)
+}
+
 /// Writes the end of the page.
 fn write_foot<W: Write>(out: &mut W) -> io::Result<()> {
     writeln!(
         out,
-        "</main>\n<footer><p class=\"quiet\">This page reloads every {REFRESH} seconds. Counts begin with the start of the gateway, those of a call with its first packet. Packets per second are those of the last whole second. At most the last 64 CIDs of a link that only got NoContext are shown.</p></footer>\n</body>\n</html>"
+        "</main>\n<footer><p class=\"quiet\">This page reloads every {REFRESH} seconds. Counts begin with the start of the gateway, those of a call with its first packet. Packets per second are those of the last whole second. At most the last 64 CIDs of a link that only got NoContext are shown, and the last 16 unknown links.</p></footer>\n</body>\n</html>"
     )
 }
 
@@ -553,6 +568,7 @@ pub(crate) fn write_page<W: Write>(
         }
         Section::Worst => write_call_table(out, &page.calls, scan, WORST)?,
         Section::Silent => write_call_table(out, &page.calls, scan, SILENT)?,
+        Section::UnknownLinks => write_unknown_links(out, page.calls.station)?,
         _ => {
             return Ok(Some(section.write_by_link(alloc, out, page, scan, part)?));
         }
