@@ -159,7 +159,10 @@ impl Connection {
 
     /// Goes on: reads the request, or writes the rest of the answer.
     pub(crate) fn go_on(&mut self) -> Progress {
-        if self.flow.is_some() || self.long.is_some() {
+        if self.long.is_some() {
+            // A peer may end what it sends behind its request, so only a write tells that it has gone.
+            Progress::Waits
+        } else if self.flow.is_some() {
             self.read_end()
         } else if self.answer.is_some() {
             self.write_rest()
@@ -235,7 +238,7 @@ impl Connection {
         Progress::Ended
     }
 
-    /// Looks whether the reader of a stream, or of an answer that isn't whole yet, has ended the connection.
+    /// Looks whether the reader of a stream has ended the connection.
     fn read_end(&mut self) -> Progress {
         let mut buffer = [0u8; 1024];
         for _ in 0..16u8 {
