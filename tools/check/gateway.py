@@ -27,6 +27,7 @@ import gateway_clock
 import gateway_container
 import gateway_edges
 import gateway_limits
+import gateway_long
 import gateway_owner
 import gateway_recipe
 import gateway_saves
@@ -40,7 +41,7 @@ from rohctl_survey import WHOLE_IR
 from trial import Trial
 
 ROHCTL = "crates/rohctl/out/rohctl"
-PARTS = ("words", "wrong", "heads", "whole", "numbered", "ported", "padded", "killed", "stopped", "reloaded", "asked", "calls", "streamed", "logged", "named", "limited", "hostile", "flood", "poor", "files", "contained", "recipe", "clock", "saved", "owned", "edges")
+PARTS = ("words", "wrong", "heads", "whole", "numbered", "ported", "padded", "killed", "stopped", "reloaded", "asked", "calls", "streamed", "logged", "named", "limited", "hostile", "flood", "poor", "files", "contained", "recipe", "clock", "saved", "owned", "edges", "long")
 LINKS = range(1, 21)
 # The octets of the shortest Ethernet frame, without its check, and those of its head.
 SHORTEST_FRAME, ETHERNET_HEAD = 60, 14
@@ -155,6 +156,11 @@ def check_saved(trial: Trial) -> None:
 def check_edges(trial: Trial) -> None:
     """Its service manager, a log that nobody reads, what the system drops, and locks that are none."""
     gateway_edges.check(trial)
+
+
+def check_long(trial: Trial) -> None:
+    """Answers that are made in many pieces."""
+    gateway_long.check(trial)
 
 
 def check_owned(trial: Trial) -> None:
