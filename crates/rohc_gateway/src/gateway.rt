@@ -8,7 +8,7 @@ use crate::front::{Bound, SocketFront};
 use crate::late::Late;
 use crate::lines::Lines;
 use crate::links_file::{NoLinks, read_links_file};
-use crate::long::subject_of;
+use crate::long::topic_of;
 use crate::manager::Manager;
 use crate::moving::{Awaited, awaits, forget, waits, write_moves};
 use crate::names::{Shown, limits_of, name_of, read_notes, write_names, write_unknown_links};
@@ -28,6 +28,7 @@ use rohc_station::{
 };
 use std::alloc::Global;
 use std::fmt::Display;
+use std::fs::{self, File};
 use std::io;
 use std::io::Write;
 use std::rt::Files;
@@ -84,6 +85,9 @@ pub(crate) struct Gateway<'a> {
     pub(crate) expiry: Expiry,
     /// What the streams want to see.
     pub(crate) wish: Wish,
+    /// A file that is open for nothing. A stop closes it before it saves, so that it can open a file even if connections use all
+    /// others.
+    pub(crate) spare: Option<File>,
     /// Whether it was told to stop.
     pub(crate) is_stopped: bool,
     /// The place of the connection that asked for a reload.
@@ -390,6 +394,7 @@ impl Gateway<'_> {
         rt: &R,
     ) -> io::Result<Reply> {
         let alloc = rt.alloc();
+        self.spare = None;
         let saved = match self.save(rt) {
             Ok(saved) => saved,
             Err(unwritten) => {
@@ -404,6 +409,13 @@ impl Gateway<'_> {
             None => format!(in alloc; "{{\"stopped\":true,\"saved\":null}}\n"),
         };
         Reply::object(200, text)
+    }
+
+    /// Keeps a file open for the save of a stop, if none is.
+    pub(crate) fn keep_spare<R: Files<File = File>>(&mut self, rt: &R) {
+        if self.spare.is_none() {
+            self.spare = fs::open(rt, "/").ok();
+        }
     }
 
     /// Forgets the records of a link, or that of one CID.
@@ -508,22 +520,6 @@ impl Gateway<'_> {
         }
     }
 
-    /// Shows the contexts as a save would write them now.
-    fn show_state<R: Clock + AllocGlobal>(&mut self, rt: &R) -> io::Result<Reply> {
-        let moment = self.now(rt);
-        match self.state(rt.alloc(), moment) {
-            Ok(body) => Ok(Reply {
-                status: 200,
-                kind: Kind::State,
-                body,
-            }),
-            Err(unwritten) => {
-                let text = format!(in rt.alloc(); "{unwritten}")?;
-                Reply::fault(rt.alloc(), 500, "NoMemory", text.as_str())
-            }
-        }
-    }
-
     /// Does what is asked, and answers.
     fn answer<R>(&mut self, rt: &R, request: Request) -> io::Result<Reply>
     where
@@ -540,7 +536,6 @@ impl Gateway<'_> {
             Request::Export { link, .. } => self.export_off(rt, link),
             Request::Import { link } => Reply::no_link(rt.alloc(), link),
             Request::Ready => Reply::object(200, format!(in rt.alloc(); "{{\"ready\":true}}\n")),
-            Request::State => self.show_state(rt),
             Request::Preview => self.preview(rt),
             Request::Stop
             | Request::Save
@@ -549,6 +544,7 @@ impl Gateway<'_> {
             | Request::Metrics
             | Request::Page
             | Request::Top
+            | Request::State
             | Request::Contexts { .. }
             | Request::Calls { .. }
             | Request::Follow { .. }
@@ -578,9 +574,9 @@ impl Gateway<'_> {
         R: Files + Clock + Eprint + AllocGlobal,
     {
         if let Asked::Whole(request) = asked
-            && let Some(subject) = subject_of(request, is_control)
+            && let Some(topic) = topic_of(request, is_control)
         {
-            return self.begin_long(rt, place, subject);
+            return self.begin_long(rt, place, topic);
         }
         match self.reply_to(rt, asked, is_control) {
             Ok(reply) => self.send_answer(rt.alloc(), place, &reply),

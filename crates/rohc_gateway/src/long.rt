@@ -4,17 +4,35 @@ use crate::answers::{Kind, Reply};
 use crate::connection::Progress;
 use crate::gateway::Gateway;
 use crate::names::write_link_info;
+use rohc_concentrator::Concentrator;
 use rohc_gateway_file::VERSION;
+use rohc_piecewise::Saver;
 use rohc_station::{Form, LinkName, Listing, Page, Request, Subject};
 use std::alloc::{AllocError, Global};
 use std::io;
 use std::io::Write;
 use std::time::Clock;
 
+/// What a long answer shows.
+#[derive(Clone, Copy)]
+pub(crate) enum Topic {
+    Shown(Subject),
+    /// The contexts as they are saved.
+    State,
+}
+
+/// What makes a long answer.
+#[derive(Drop)]
+enum Maker {
+    Listing(Listing),
+    Saver(Saver),
+}
+
 /// A long answer, as far as it is made.
 #[derive(Drop)]
 pub(crate) struct Long {
-    listing: Listing,
+    kind: Kind,
+    maker: Maker,
     blocks: Vec<Vec<u8>>,
 }
 
@@ -26,17 +44,19 @@ enum Begun {
 }
 
 /// What a request shows, if its answer is long. The metrics port shows the metrics and the page, and nothing else that is long.
-pub(crate) fn subject_of(request: Request, is_control: bool) -> Option<Subject> {
-    match request {
-        Request::Metrics => Some(Subject::Metrics),
-        Request::Page => Some(Subject::Page),
-        _ if !is_control => None,
-        Request::Status => Some(Subject::States),
-        Request::Top => Some(Subject::Top),
-        Request::Contexts { link } => Some(Subject::Contexts { link }),
-        Request::Calls { link, form } => Some(Subject::Calls { link, form }),
-        _ => None,
-    }
+pub(crate) fn topic_of(request: Request, is_control: bool) -> Option<Topic> {
+    let subject = match request {
+        Request::Metrics => Subject::Metrics,
+        Request::Page => Subject::Page,
+        _ if !is_control => return None,
+        Request::State => return Some(Topic::State),
+        Request::Status => Subject::States,
+        Request::Top => Subject::Top,
+        Request::Contexts { link } => Subject::Contexts { link },
+        Request::Calls { link, form } => Subject::Calls { link, form },
+        _ => return None,
+    };
+    Some(Topic::Shown(subject))
 }
 
 /// The kind of content that shows a subject.
@@ -55,12 +75,29 @@ fn kind_of(subject: Subject) -> Kind {
 }
 
 /// The link whose contexts or calls are shown, if it isn't all.
-fn link_of(subject: Subject) -> Option<u16> {
-    match subject {
-        Subject::Contexts { link } => Some(link),
-        Subject::Calls { link, .. } => link,
+fn link_of(topic: Topic) -> Option<u16> {
+    match topic {
+        Topic::Shown(Subject::Contexts { link }) => Some(link),
+        Topic::Shown(Subject::Calls { link, .. }) => link,
         _ => None,
     }
+}
+
+/// Appends the next piece of the saved contexts, or looks at contexts for it. Returns whether more follow.
+fn save_on(
+    saver: &mut Saver,
+    concentrator: &Concentrator,
+    block: &mut Vec<u8>,
+) -> Result<bool, AllocError> {
+    let piece = saver.piece();
+    let count = piece.len();
+    if count == 0 {
+        saver.gather(concentrator);
+    } else {
+        block.extend_from_slice(piece)?;
+        saver.take(count);
+    }
+    Ok(saver.is_busy())
 }
 
 impl Gateway<'_> {
@@ -88,15 +125,32 @@ impl Gateway<'_> {
         }
     }
 
+    /// What makes a long answer that begins now.
+    fn maker_of(&self, alloc: Global, topic: Topic, now: u64) -> Result<(Kind, Maker), AllocError> {
+        match topic {
+            Topic::Shown(subject) => {
+                let listing = Listing::new(alloc, &self.call_list(now), subject)?;
+                Ok((kind_of(subject), Maker::Listing(listing)))
+            }
+            Topic::State => {
+                let mut saver = Saver::new(alloc)?;
+                saver.begin(alloc, self.service.station.concentrator(), now)?;
+                Ok((Kind::State, Maker::Saver(saver)))
+            }
+        }
+    }
+
     /// A long answer of which nothing is made, or why there is none.
-    fn long_of(&self, alloc: Global, subject: Subject, now: u64) -> io::Result<Begun> {
-        if let Some(link) = link_of(subject)
+    fn long_of(&self, alloc: Global, topic: Topic, now: u64) -> io::Result<Begun> {
+        if let Some(link) = link_of(topic)
             && !self.has_link(link)
         {
             return Ok(Begun::Refused(Reply::no_link(alloc, link)?));
         }
+        let (kind, maker) = self.maker_of(alloc, topic, now)?;
         Ok(Begun::Long(Long {
-            listing: Listing::new(alloc, &self.call_list(now), subject)?,
+            kind,
+            maker,
             blocks: Vec::new(alloc),
         }))
     }
@@ -106,10 +160,10 @@ impl Gateway<'_> {
         &mut self,
         rt: &R,
         place: usize,
-        subject: Subject,
+        topic: Topic,
     ) -> Progress {
         let now = self.now(rt);
-        match self.long_of(rt.alloc(), subject, now) {
+        match self.long_of(rt.alloc(), topic, now) {
             Ok(Begun::Long(long)) => match self.connections.get_mut(place) {
                 Some(Some(connection)) => {
                     connection.begin_long(long);
@@ -148,15 +202,31 @@ impl Gateway<'_> {
         }
     }
 
+    /// Makes the next piece of a list, the metrics or the page. Returns whether more follow.
+    fn list_on(
+        &self,
+        alloc: Global,
+        listing: &mut Listing,
+        block: &mut Vec<u8>,
+        now: u64,
+    ) -> io::Result<bool> {
+        let names = self.link_names(alloc)?;
+        let left = listing.go_on(alloc, block, &self.shown(names.as_slice(), now))?;
+        if !left {
+            self.write_end(block, listing)?;
+        }
+        Ok(left)
+    }
+
     /// Makes the next piece of a long answer. Returns whether more follow.
     fn make_piece(&self, alloc: Global, long: &mut Long, now: u64) -> io::Result<bool> {
-        let names = self.link_names(alloc)?;
         let mut block = Vec::new(alloc);
-        let page = self.shown(names.as_slice(), now);
-        let left = long.listing.go_on(alloc, &mut block, &page)?;
-        if !left {
-            self.write_end(&mut block, &long.listing)?;
-        }
+        let left = match &mut long.maker {
+            Maker::Listing(listing) => self.list_on(alloc, listing, &mut block, now)?,
+            Maker::Saver(saver) => {
+                save_on(saver, self.service.station.concentrator(), &mut block)?
+            }
+        };
         if !block.is_empty() {
             long.blocks.push(block)?;
         }
@@ -181,10 +251,7 @@ impl Gateway<'_> {
                 connection.long = Some(long);
                 Progress::Goes
             }
-            Ok(false) => {
-                let kind = kind_of(long.listing.subject());
-                connection.answer_blocks(alloc, kind, long.blocks, moment)
-            }
+            Ok(false) => connection.answer_blocks(alloc, long.kind, long.blocks, moment),
             Err(_) => Progress::Ended,
         }
     }

@@ -53,6 +53,8 @@ struct Waiting {
     streams: bool,
     /// A long answer isn't whole yet, or a reader of an answer takes more.
     answers: bool,
+    /// A connection couldn't be accepted, as when this process can open no more files. The next wake tries again.
+    is_refused: bool,
 }
 
 impl Waiting {
@@ -134,6 +136,7 @@ fn gateway_of<'a>(
         stop: None,
         expiry: Expiry::default(),
         wish: Wish::Nothing,
+        spare: None,
         is_stopped: false,
         reload: None,
         is_reloaded: false,
@@ -162,37 +165,85 @@ fn take_connection<R: Clock + AllocGlobal>(
     }
 }
 
-/// Takes the connections that wait on the control socket, but at most so many. Returns whether more may
-/// wait.
+/// What comes of looking for connections.
+#[derive(Clone, Copy)]
+enum Accepted {
+    /// More may wait.
+    More,
+    /// None waits.
+    All,
+    /// One waits that couldn't be accepted.
+    Refused,
+}
+
+impl Accepted {
+    /// What an error means.
+    fn ended_by(error: &io::Error) -> Accepted {
+        match error.kind() {
+            io::ErrorKind::WouldBlock => Accepted::All,
+            _ => Accepted::Refused,
+        }
+    }
+}
+
+/// Takes the connections that wait on the control socket, but at most so many.
 fn accept_control<R: Clock + AllocGlobal>(
     rt: &R,
     gateway: &mut Gateway<'_>,
     poll: &Poll,
     listener: &UnixListener,
-) -> bool {
+) -> Accepted {
     for _ in 0..MOST_ACCEPTED {
         match listener.accept() {
             Ok((stream, _)) => take_connection(rt, gateway, poll, Stream::Control(stream)),
-            Err(_) => return false,
+            Err(e) => return Accepted::ended_by(&e),
         }
     }
-    true
+    Accepted::More
 }
 
-/// Takes the connections that wait on the metrics port, but at most so many. Returns whether more may wait.
+/// Takes the connections that wait on the metrics port, but at most so many.
 fn accept_metrics<R: Clock + AllocGlobal>(
     rt: &R,
     gateway: &mut Gateway<'_>,
     poll: &Poll,
     listener: &TcpListener,
-) -> bool {
+) -> Accepted {
     for _ in 0..MOST_ACCEPTED {
         match listener.accept() {
             Ok((stream, _)) => take_connection(rt, gateway, poll, Stream::Metrics(stream)),
-            Err(_) => return false,
+            Err(e) => return Accepted::ended_by(&e),
         }
     }
-    true
+    Accepted::More
+}
+
+/// Takes the connections that wait, a batch from each socket. Notes where more may wait.
+fn accept_waiting<R: Clock + AllocGlobal>(
+    rt: &R,
+    gateway: &mut Gateway<'_>,
+    sockets: &Sockets,
+    waiting: Waiting,
+    left: &mut Waiting,
+) {
+    if let Some(listener) = &sockets.control
+        && (waiting.control || waiting.is_refused)
+    {
+        match accept_control(rt, gateway, &sockets.poll, listener) {
+            Accepted::More => left.control = true,
+            Accepted::All => {}
+            Accepted::Refused => left.is_refused = true,
+        }
+    }
+    if let Some(listener) = &sockets.metrics
+        && (waiting.metrics || waiting.is_refused)
+    {
+        match accept_metrics(rt, gateway, &sockets.poll, listener) {
+            Accepted::More => left.metrics = true,
+            Accepted::All => {}
+            Accepted::Refused => left.is_refused = true,
+        }
+    }
 }
 
 /// Reloads, if that was asked for. Ports are opened and closed as the gateway file says now, before the answer; one that can't
@@ -279,12 +330,7 @@ fn take_waiting<R: Clock + Eprint + AllocGlobal>(
         left.timed = waiting.timed && gateway.serve(rt, bound, Port::Timed);
     }
     left.links = waiting.links && take_at_links(rt, gateway, sockets);
-    if let Some(listener) = &sockets.control {
-        left.control = waiting.control && accept_control(rt, gateway, &sockets.poll, listener);
-    }
-    if let Some(listener) = &sockets.metrics {
-        left.metrics = waiting.metrics && accept_metrics(rt, gateway, &sockets.poll, listener);
-    }
+    accept_waiting(rt, gateway, sockets, waiting, &mut left);
     left
 }
 
@@ -345,6 +391,7 @@ where
     if gateway.is_stopped {
         return Ok(());
     }
+    gateway.keep_spare(rt);
     gateway.note_step(rt, moment);
     gateway.drop_late(moment);
     gateway.save_on(rt, moment);
