@@ -117,7 +117,7 @@ pub(crate) fn names_link(settings: &[LinkSetting], link: u16) -> bool
 }
 
 /// The setting of a link, if it is there.
-pub(crate) fn setting_of(concentrator: &Concentrator, link: u16) -> Option<&LinkSetting>
+fn setting_of(concentrator: &Concentrator, link: u16) -> Option<&LinkSetting>
     ensures { option_map (λ s. s.now) result ≡ setting_at concentrator.now link }
 {
     match concentrator.tables().get(&link) {

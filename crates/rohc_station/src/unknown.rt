@@ -10,9 +10,6 @@ use rohc_links::Ports;
 /// How many CIDs of a link are kept.
 pub const MOST_UNKNOWN: usize = 64;
 
-/// How many links are kept.
-pub const MOST_UNKNOWN_LINKS: usize = 16;
-
 /// A CID without a context.
 #[derive(Clone, Copy, Default, PartialEq, Eq)]
 pub struct UnknownCid {
