@@ -466,7 +466,7 @@ impl Gateway<'_> {
             write!(
                 out,
                 "{comma}{{\"link\":{},\"datagrams\":{}}}",
-                unknown.link, unknown.datagrams
+                unknown.number, unknown.packets
             )?;
             comma = ",";
         }

@@ -153,7 +153,7 @@ pub(crate) fn write_unknown_lines<W: Write>(
 ) -> io::Result<()> {
     for unknown in &of_link.unknown {
         let mut line = Vec::new(alloc);
-        write!(&mut line, "  {link}/{}", unknown.cid)?;
+        write!(&mut line, "  {link}/{}", unknown.number)?;
         pad_to(&mut line, STATE)?;
         let (packets, no_context) = (unknown.packets, Refusal::NoContext);
         writeln!(

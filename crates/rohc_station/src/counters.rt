@@ -12,7 +12,7 @@ ghost use Rattle.rohc_station.specs.Counting.{CountsAnswer, limiter_in, rebuilt_
 use crate::limits::{Limiter, LinkLimits, Work};
 use crate::marked::Marked;
 use crate::sending::refusal_of;
-use crate::unknown::{UnknownCid, copied, is_no_context, notice};
+use crate::unknown::{Unknown, copied, is_no_context, notice};
 use arrayvec::ArrayVec;
 use indexmap::IndexMap;
 use rohc_concentrator::{Answer, Concentrator};
@@ -59,7 +59,7 @@ pub struct LinkCounters {
     /// Its limits, and what they did.
     pub limiter: Limiter,
     /// The last CIDs without a context whose packets were refused for that, the newest last.
-    pub unknown: ArrayVec<UnknownCid, 64>,
+    pub unknown: ArrayVec<Unknown, 64>,
 }
 
 impl LinkCounters {
@@ -239,7 +239,7 @@ fn rebuilt_octets(answer: &Answer<'_>) -> Option<u64>
 
 /// Takes notice of an answer for the list of CIDs without a context on its link.
 fn notice_unknown(
-    list: &mut ArrayVec<UnknownCid, 64>,
+    list: &mut ArrayVec<Unknown, 64>,
     concentrator: &Concentrator,
     link: u16,
     answer: &Answer<'_>,

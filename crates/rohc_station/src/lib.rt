@@ -63,4 +63,4 @@ pub use shown::write_shown;
 pub use station::Station;
 pub use stream::Backlog;
 pub use timed::{Timed, timed_datagram};
-pub use unknown::{MOST_UNKNOWN, UnknownCid, UnknownLink};
+pub use unknown::{MOST_UNKNOWN, Unknown};

@@ -148,7 +148,7 @@ pub(crate) fn write_unknown<W: Write>(
         writeln!(
             out,
             "{{\"link\":{link},\"cid\":{},\"profile\":null,\"state\":null,\"refused\":{{\"{no_context}\":{}}}}}",
-            unknown.cid, unknown.packets
+            unknown.number, unknown.packets
         )?;
     }
     Ok(())

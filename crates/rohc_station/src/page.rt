@@ -439,7 +439,7 @@ pub(crate) const SILENT: usize = 1;
 /// Writes the rows of the CIDs of a link without a context whose packets were refused for that, the newest first.
 fn write_unknown<W: Write>(out: &mut W, link: u16, of_link: &LinkCounters) -> io::Result<()> {
     for unknown in of_link.unknown.iter().rev() {
-        write!(out, "<tr><th scope=\"row\">{link}/{}</th>", unknown.cid)?;
+        write!(out, "<tr><th scope=\"row\">{link}/{}</th>", unknown.number)?;
         write_cell(out, unknown.packets)?;
         writeln!(out, "</tr>")?;
     }
@@ -533,8 +533,8 @@ fn write_unknown_links<W: Write>(out: &mut W, station: &Station) -> io::Result<(
     let title = "Links that are not in the links file";
     write_columns(out, title, "unknown-links", 1, &["Link", "Datagrams"])?;
     for unknown in station.unknown_links().iter().rev() {
-        write!(out, "<tr><th scope=\"row\">{}</th>", unknown.link)?;
-        write_cell(out, unknown.datagrams)?;
+        write!(out, "<tr><th scope=\"row\">{}</th>", unknown.number)?;
+        write_cell(out, unknown.packets)?;
         writeln!(out, "</tr>")?;
     }
     write_end(out)

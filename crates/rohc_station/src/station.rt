@@ -14,7 +14,7 @@ use crate::reload::counters_for;
 use crate::sending::{Taken, answered, unread, withhold_if};
 use crate::timed::Timed;
 use crate::trimming::trimmed_by;
-use crate::unknown::{UnknownLink, notice_link};
+use crate::unknown::{Unknown, notice_link};
 use arrayvec::ArrayVec;
 use indexmap::IndexMap;
 use rohc_concentrator::{Concentrator, LinkRecords, LinkSetting, NoLink};
@@ -50,7 +50,7 @@ pub struct Station {
     /// The counts over all links.
     pub(crate) totals: StationCounters,
     /// The last links that datagrams named and that weren't there, the newest last.
-    pub(crate) unknown_links: ArrayVec<UnknownLink, 16>,
+    pub(crate) unknown_links: ArrayVec<Unknown, 16>,
 }
 
 /// The CID that a packet bears on a link with this setting, if it bears one.
@@ -202,7 +202,7 @@ impl Station {
 
     /// The last 16 links that datagrams named and that weren't there, the newest last, each with how many of its datagrams
     /// came since it is in the list. One that a reload adds stays in the list.
-    pub fn unknown_links(&self) -> &[UnknownLink]
+    pub fn unknown_links(&self) -> &[Unknown]
         ensures { result.now ≡ self.now.unknown_links.items }
     {
         self.unknown_links.as_slice()

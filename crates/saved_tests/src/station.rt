@@ -8,7 +8,7 @@ use rohc_saved::restore;
 use rohc_serve::{Front, PacketBuffer};
 use rohc_station::{
     Asked, CallCounts, CallList, Duty, Form, GatewayFigures, LinkLimits, LinkName, Listing, Page,
-    ReloadReport, Request, RequestFault, Station, Subject, Timed, UnknownLink, arrival_in,
+    ReloadReport, Request, RequestFault, Station, Subject, Timed, Unknown, arrival_in,
     read_request, timed_datagram,
 };
 use std::alloc::Global;
@@ -199,9 +199,9 @@ fn takes_and_reloads(rt: HostRuntime) {
             == Some(Refusal::NoLink)
     );
     assert!(rt; station.totals().datagrams == 2 && station.totals().unknown_link == 1);
-    let unknown = UnknownLink {
-        link: 5,
-        datagrams: 1,
+    let unknown = Unknown {
+        number: 5,
+        packets: 1,
     };
     assert!(rt; station.unknown_links() == [unknown].as_slice());
     assert!(rt;
@@ -222,8 +222,8 @@ fn keeps_the_last_unknown_links(rt: HostRuntime) {
     }
     let _ = station.take(1000, arrival_in(false, 1000, &[0, 11, 1]));
     let unknown = station.unknown_links();
-    assert!(rt; unknown.len() == 16 && unknown[0].link == 12 && unknown[0].datagrams == 1);
-    assert!(rt; unknown[14].link == 26 && unknown[15].link == 11 && unknown[15].datagrams == 2);
+    assert!(rt; unknown.len() == 16 && unknown[0].number == 12 && unknown[0].packets == 1);
+    assert!(rt; unknown[14].number == 26 && unknown[15].number == 11 && unknown[15].packets == 2);
 }
 
 // A packet under an expired CID begins a call: none while the gateway drains, and no more than the limit of the link. The
