@@ -211,7 +211,8 @@ impl Gateway<'_> {
         now: u64,
     ) -> io::Result<bool> {
         let names = self.link_names(alloc)?;
-        let left = listing.go_on(alloc, block, &self.shown(names.as_slice(), now))?;
+        let page = (&*self).shown(names.as_slice(), now);
+        let left = listing.go_on(alloc, block, &page)?;
         if !left {
             self.write_end(block, listing)?;
         }
