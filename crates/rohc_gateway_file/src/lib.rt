@@ -6,6 +6,7 @@ pub mod civil;
 pub mod command;
 pub mod config;
 pub mod ending;
+pub mod line;
 pub mod link_tables;
 pub mod log;
 
@@ -14,5 +15,6 @@ pub use civil::{Civil, civil_at};
 pub use command::{Options, Request, VERSION, read_request};
 pub use config::{Config, ConfigFault, Place, Reading, Unread, Wrong, read_config, write_place};
 pub use ending::Ending;
+pub use line::shortened;
 pub use link_tables::LinkNote;
 pub use log::{Level, Log, LogFormat, LostLines};

@@ -1,11 +1,10 @@
 //! The log: lines on standard error.
 
 use crate::civil::civil_at;
+use crate::line::Line;
 use libc::net::{POLLOUT, poll};
 use libc::types::pollfd;
 use rohc_disk::milliseconds;
-use rohc_text::write_json_text;
-use std::alloc::Global;
 use std::cell::Cell;
 use std::io::Write;
 use std::time::{Clock, SystemTime, UNIX_EPOCH};
@@ -141,62 +140,45 @@ fn date<R: Clock>(rt: &R) -> SystemTime {
     SystemTime::now(rt).unwrap_or(UNIX_EPOCH)
 }
 
-/// Writes a text as an object, without a line feed.
-fn write_object<W: Write>(out: &mut W, moment: u64, level: Level, text: &str) -> io::Result<()> {
+/// A text as an object.
+fn object_of<D: fmt::Display>(moment: u64, level: Level, text: &D) -> io::Result<Line> {
+    let mut shown = Line::new();
+    write!(shown, "{text}")?;
+    let mut line = Line::new();
     let (time, level) = (civil_at(moment), level.name());
-    write!(out, "{{\"time\":\"{time}\",\"level\":\"{level}\",\"text\":")?;
-    write_json_text(out, text)?;
-    write!(out, "}}")
-}
-
-/// A text as an object. The error is lack of memory.
-fn object_of<D: fmt::Display>(
-    alloc: Global,
-    moment: u64,
-    level: Level,
-    text: &D,
-) -> io::Result<String> {
-    let text = format!(in alloc; "{text}")?;
-    let mut line = Vec::new(alloc);
-    write_object(&mut line, moment, level, text.as_str())?;
-    String::from_utf8(line).map_err(|_| io::Error::from(io::ErrorKind::InvalidData))
-}
-
-/// What stands in place of a text for whose object there is no memory.
-const NO_MEMORY: &str = "no memory for this line";
-
-/// Writes a text as a line of JSON.
-fn say_object<R: Eprint + AllocGlobal, D: fmt::Display>(
-    rt: &R,
-    moment: u64,
-    level: Level,
-    text: &D,
-) -> io::Result<()> {
-    match object_of(rt.alloc(), moment, level, text) {
-        Ok(line) => eprintln!(rt; "{line}"),
-        Err(_) => {
-            let (time, level) = (civil_at(moment), level.name());
-            eprintln!(rt; "{{\"time\":\"{time}\",\"level\":\"{level}\",\"text\":\"{NO_MEMORY}\"}}")
-        }
-    }
+    write!(
+        line,
+        "{{\"time\":\"{time}\",\"level\":\"{level}\",\"text\":"
+    )?;
+    line.write_json(shown.as_str())?;
+    write!(line, "}}")?;
+    Ok(line)
 }
 
 impl Log<'_> {
-    /// Writes a line.
-    fn write<R: Clock + Eprint + AllocGlobal, D: fmt::Display + Drop>(
+    /// The line of a text.
+    fn line_of<D: fmt::Display>(&self, moment: u64, level: Level, text: &D) -> io::Result<Line> {
+        if self.format == LogFormat::Json {
+            return object_of(moment, level, text);
+        }
+        let mut line = Line::new();
+        if self.is_journal {
+            write!(line, "<{}>rohc-gateway: {text}", level.number())?;
+        } else {
+            write!(line, "{} rohc-gateway: {text}", civil_at(moment))?;
+        }
+        Ok(line)
+    }
+
+    /// Writes a line. What is longer than a pipe accepts at once is cut.
+    fn write<R: Clock + Eprint, D: fmt::Display>(
         &self,
         rt: &R,
         level: Level,
-        text: D,
+        text: &D,
     ) -> io::Result<()> {
-        let moment = milliseconds(date(rt));
-        match self.format {
-            LogFormat::Json => say_object(rt, moment, level, &text),
-            LogFormat::Text if self.is_journal => {
-                eprintln!(rt; "<{}>rohc-gateway: {text}", level.number())
-            }
-            LogFormat::Text => eprintln!(rt; "{} rohc-gateway: {text}", civil_at(moment)),
-        }
+        let line = self.line_of(milliseconds(date(rt)), level, text)?;
+        eprintln!(rt; "{}", line.as_str())
     }
 
     /// Writes how many lines were lost since the log told of some last.
@@ -204,7 +186,7 @@ impl Log<'_> {
         let lost = self.lost.untold.replace(0);
         if lost > 0 {
             let text = format_args!("{lost} log lines are lost, since nothing read them");
-            let _ = self.write(rt, Level::Warning, text);
+            let _ = self.write(rt, Level::Warning, &text);
         }
     }
 
@@ -219,7 +201,7 @@ impl Log<'_> {
             return self.lost.add();
         }
         self.tell_lost(rt);
-        if self.write(rt, level, text).is_err() {
+        if self.write(rt, level, &text).is_err() {
             self.lost.add();
         }
     }
