@@ -6,8 +6,8 @@ use crate::time::{milliseconds, time_of};
 use crate::trouble::{answer_of, trouble_of};
 use rohc_text::Reason;
 use rohc_world::{Disk, Traced, Trouble};
-use std::fs::{self, FileTimes, OpenFile};
-use std::io::{Read, Write};
+use std::fs::{self, FileTimes, OpenFile, OpenOptions};
+use std::io::{ErrorKind, Read, Write};
 use std::rt::Files;
 
 /// The files of the system.
@@ -16,6 +16,8 @@ pub struct RealDisk<'a, R: Files> {
     rt: &'a R,
     /// The open file.
     file: Option<R::File>,
+    /// Whether what is no regular file is opened too.
+    opens_any: bool,
 }
 
 impl<'a, R: Files> RealDisk<'a, R> {
@@ -23,14 +25,33 @@ impl<'a, R: Files> RealDisk<'a, R> {
     pub fn of(rt: &'a R) -> Self
         ensures { result.file ≡ None }
     {
-        RealDisk { rt, file: None }
+        RealDisk {
+            rt,
+            file: None,
+            opens_any: false,
+        }
+    }
+
+    /// The files of a system, with none open. What is no regular file is opened too: a FIFO once it has a writer.
+    pub fn waiting(rt: &'a R) -> Self
+        ensures { result.file ≡ None }
+    {
+        RealDisk {
+            rt,
+            file: None,
+            opens_any: true,
+        }
     }
 
     /// The files of a system, with this one open if there is one.
     pub fn with(rt: &'a R, file: Option<R::File>) -> Self
         ensures { result.file ≡ file }
     {
-        RealDisk { rt, file }
+        RealDisk {
+            rt,
+            file,
+            opens_any: false,
+        }
     }
 
     /// The open file, if there is one.
@@ -41,6 +62,39 @@ impl<'a, R: Files> RealDisk<'a, R> {
     }
 }
 
+/// Opens a regular file. An open of a FIFO would wait for a writer, and a device has no end.
+fn open_regular<R: Files>(rt: &R, path: &str) -> Result<R::File, Trouble> {
+    let found = answer_of(fs::metadata(rt, path))?;
+    if found.is_dir() {
+        return Err(Trouble::Failed(Reason::Directory));
+    }
+    if !found.is_file() {
+        return Err(Trouble::Failed(Reason::Invalid));
+    }
+    let file = answer_of(fs::open(rt, path))?;
+    if answer_of(file.metadata())?.is_file() {
+        Ok(file)
+    } else {
+        Err(Trouble::Failed(Reason::Changed))
+    }
+}
+
+/// Removes a file, if it is there.
+fn remove_any<R: Files>(rt: &R, path: &str) -> Result<(), Trouble> {
+    match fs::remove_file(rt, path) {
+        Err(e) if e.kind() != ErrorKind::NotFound => Err(trouble_of(&e)),
+        _ => Ok(()),
+    }
+}
+
+/// Creates a new file in the place of one that is there. A symbolic link there is replaced, not followed.
+fn create_new<R: Files>(rt: &R, path: &str) -> Result<R::File, Trouble> {
+    remove_any(rt, path)?;
+    let mut options = OpenOptions::new();
+    let _ = options.write(true).create_new(true);
+    answer_of(options.open(rt, path))
+}
+
 impl<R: Files> Traced for RealDisk<'_, R> {}
 
 /// The trouble of a call that needs an open file.
@@ -48,7 +102,11 @@ const NO_FILE: Trouble = Trouble::Failed(Reason::Other(0));
 
 impl<R: Files> Disk for RealDisk<'_, R> {
     fn open(&mut self, path: &str) -> Result<(), Trouble> {
-        self.file = Some(answer_of(fs::open(self.rt, path))?);
+        self.file = Some(if self.opens_any {
+            answer_of(fs::open(self.rt, path))?
+        } else {
+            open_regular(self.rt, path)?
+        });
         Ok(())
     }
 
@@ -63,7 +121,7 @@ impl<R: Files> Disk for RealDisk<'_, R> {
     }
 
     fn create(&mut self, path: &str) -> Result<(), Trouble> {
-        self.file = Some(answer_of(fs::create(self.rt, path))?);
+        self.file = Some(create_new(self.rt, path)?);
         Ok(())
     }
 

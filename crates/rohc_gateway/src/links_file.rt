@@ -1,6 +1,7 @@
 //! The links file: its links, or why they aren't accepted.
 
 use crate::lines::Lines;
+use crate::regular::write_unread;
 use rohc_disk::RealDisk;
 use rohc_faults::write_faults;
 use rohc_links::{Links, LinksFault, read_links};
@@ -10,6 +11,10 @@ use std::alloc::Global;
 use std::io;
 use std::io::Write;
 use std::rt::Files;
+
+/// What is expected where no links file can be read.
+const A_LINKS_FILE: &str =
+    "expected a links file that this user can read (rohctl links --new writes one)";
 
 /// Why the links of a file aren't accepted.
 #[derive(Drop)]
@@ -48,11 +53,7 @@ fn links_text<R: Files + AllocGlobal>(rt: &R, path: &str) -> Result<String, NoLi
         Err(reason) => reason,
     };
     let mut lines = Lines::new(rt.alloc());
-    let expected = "expected a links file that this user can read";
-    match writeln!(
-        &mut lines,
-        "{path}: {reason}; {expected} (rohctl links --new writes one)"
-    ) {
+    match write_unread(rt, &mut lines, path, reason, A_LINKS_FILE) {
         Ok(()) => Err(NoLinks::Refused("Unreadable", lines)),
         Err(_) => Err(NoLinks::Memory),
     }

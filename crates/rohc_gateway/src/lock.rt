@@ -6,8 +6,9 @@ use crate::saves::SavePaths;
 use rohc_gateway_file::Config;
 use rohc_text::shown_word;
 use std::alloc::Global;
-use std::fs::{File, OpenOptions, TryLockError};
+use std::fs::{self, File, OpenOptions, TryLockError};
 use std::io::{self, ErrorKind, Read, Seek, Write};
+use std::os::unix::fs::MetadataExt;
 use std::rt::Files;
 
 /// The text of a lock, before the path of the gateway file.
@@ -62,15 +63,28 @@ fn write_holder(file: &mut File, holder: &str) -> io::Result<()> {
     file.write_all(b"\n")
 }
 
-/// Opens the file of a lock, which is made if it isn't there; `None` if something else stands at its path.
-fn opened<R: Files<File = File>>(rt: &R, path: &str) -> io::Result<Option<File>> {
+/// Opens the file of a lock: one that is there, or a new one.
+fn opened_at<R: Files<File = File>>(rt: &R, path: &str, is_new: bool) -> io::Result<File> {
     let mut options = OpenOptions::new();
-    let _ = options.read(true).write(true).create(true);
-    match options.open(rt, path) {
-        Ok(file) if file.metadata()?.is_file() => Ok(Some(file)),
-        Ok(_) => Ok(None),
-        Err(e) if e.kind() == ErrorKind::IsADirectory => Ok(None),
-        Err(e) => Err(e),
+    let _ = options.read(true).write(true).create_new(is_new);
+    options.open(rt, path)
+}
+
+/// Opens the file of a lock, which is made if it isn't there; `None` if something else is at its path, be it a symbolic
+/// link. It is compared with what was found before, so that no link that comes between is followed.
+fn opened<R: Files<File = File>>(rt: &R, path: &str) -> io::Result<Option<File>> {
+    let found = match fs::symlink_metadata(rt, path) {
+        Ok(found) if found.is_file() => found,
+        Ok(_) => return Ok(None),
+        Err(e) if e.kind() == ErrorKind::NotFound => return Ok(Some(opened_at(rt, path, true)?)),
+        Err(e) => return Err(e),
+    };
+    let file = opened_at(rt, path, false)?;
+    let opened = file.metadata()?;
+    if (opened.dev(), opened.ino()) == (found.dev(), found.ino()) {
+        Ok(Some(file))
+    } else {
+        Ok(None)
     }
 }
 

@@ -19,6 +19,7 @@ mod manager;
 mod moving;
 mod names;
 mod outputs;
+mod regular;
 mod restoring;
 mod run;
 mod saves;

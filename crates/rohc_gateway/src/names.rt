@@ -2,6 +2,7 @@
 
 use crate::lines::Lines;
 use crate::links_file::NoLinks;
+use crate::regular::write_unread;
 use crate::setup::A_FILE;
 use rohc_concentrator::Concentrator;
 use rohc_disk::RealDisk;
@@ -66,7 +67,7 @@ fn notes_of<R: Files + AllocGlobal>(
         Ok(text) => notes_in(rt.alloc(), file, text.as_str(), options, lines),
         Err(Reason::Memory) => Err(no_memory()),
         Err(reason) => {
-            writeln!(lines, "{file}: {reason}; {A_FILE}")?;
+            write_unread(rt, lines, file, reason, A_FILE)?;
             Ok(None)
         }
     }

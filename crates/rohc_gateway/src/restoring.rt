@@ -1,12 +1,13 @@
 //! What a start takes of the saves that stand: the newest one that is whole.
 
 use crate::lines::Lines;
+use crate::regular::{is_longer, write_unread};
 use crate::saves::SavePaths;
 use crate::time::Time;
 use rohc_concentrator::Concentrator;
 use rohc_disk::RealDisk;
 use rohc_links::Links;
-use rohc_loop::{Before, is_stale, read_state};
+use rohc_loop::{Before, LONGEST_STATE, is_stale, read_state};
 use rohc_saved::{Restored, SavedFault, restore, restore_fallen, saved_moment};
 use rohc_text::{Reason, shown_word};
 use rohc_world::Disk;
@@ -17,6 +18,9 @@ use std::time::Clock;
 
 /// What starts a gateway in spite of its saves.
 const FRESH: &str = "run --fresh starts without it";
+
+/// What is expected where no save can be read.
+const A_STATE_FILE: &str = "expected a state file that this user can read, or none";
 
 /// How many octets of a save tell its moment.
 const FRONT: usize = 32;
@@ -89,15 +93,16 @@ fn save_at<'a, R: Files + AllocGlobal>(
 ) -> io::Result<Option<Save<'a>>> {
     let mut disk = RealDisk::of(rt);
     let mut front = [0u8; FRONT];
-    let size = match front_of(&mut disk, path, &mut front) {
+    let read = if is_longer(rt, path, LONGEST_STATE) {
+        Err(Reason::TooLong(LONGEST_STATE))
+    } else {
+        front_of(&mut disk, path, &mut front)
+    };
+    let size = match read {
         Ok(size) => size,
         Err(Reason::Missing) => return Ok(None),
         Err(reason) => {
-            let (path, expected) = (
-                shown_word(path),
-                "expected a state file that this user can read, or none",
-            );
-            writeln!(lines, "{path}: {reason}; {expected}")?;
+            write_unread(rt, lines, path, reason, A_STATE_FILE)?;
             return Ok(None);
         }
     };

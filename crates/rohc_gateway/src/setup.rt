@@ -4,6 +4,7 @@ use crate::lines::Lines;
 use crate::links_file::{NoLinks, read_links_file};
 use crate::lock::Locks;
 use crate::outputs::write_overwritten;
+use crate::regular::{write_linked, write_unread};
 use crate::restoring::{Back, move_aside, restore_newest};
 use crate::saves::SavePaths;
 use crate::time::Time;
@@ -12,7 +13,7 @@ use rohc_disk::RealDisk;
 use rohc_gateway_file::{Config, LogFormat, Options, Reading, read_config};
 use rohc_links::Links;
 use rohc_loop::{Before, read_text};
-use rohc_text::{Reason, shown_word};
+use rohc_text::Reason;
 use std::alloc::Global;
 use std::fs::File;
 use std::io::{self, ErrorKind, Write};
@@ -22,6 +23,9 @@ use std::time::Clock;
 /// What is expected where no gateway file can be read.
 pub(crate) const A_FILE: &str =
     "expected a gateway file that this user can read (man rohc-gateway)";
+
+/// The system's list of groups (group(5)).
+const GROUPS: &str = "/etc/group";
 
 /// How a start is made.
 #[derive(Clone, Copy, PartialEq, Eq)]
@@ -85,7 +89,7 @@ fn config_in<R: Files + AllocGlobal>(
     }
 }
 
-/// What was read of a gateway file, without a state file that is something else. The lines say what is wrong.
+/// What was read of a gateway file, without a state file that is something else or a symbolic link. The lines say what is wrong.
 fn judged<R: Files + AllocGlobal>(
     rt: &R,
     file: &str,
@@ -95,7 +99,8 @@ fn judged<R: Files + AllocGlobal>(
     for fault in &reading.faults {
         fault.write(lines, file)?;
     }
-    let is_other = write_overwritten(rt, lines, file, &reading)?;
+    let is_other = write_overwritten(rt, lines, file, &reading)?
+        || write_linked(rt, lines, file, &reading)?;
     let mut config = reading.config;
     if is_other {
         config.state = None;
@@ -110,12 +115,12 @@ fn config_of<R: Files + AllocGlobal>(
     options: &Options<'_>,
     lines: &mut Lines,
 ) -> io::Result<Option<Config>> {
-    match read_text(&mut RealDisk::of(rt), rt.alloc(), file) {
+    // A shell gives what a command writes as a FIFO: rohc-gateway check <(COMMAND).
+    match read_text(&mut RealDisk::waiting(rt), rt.alloc(), file) {
         Ok(text) => config_in(rt, file, text.as_str(), options, lines),
         Err(Reason::Memory) => Err(no_memory()),
         Err(reason) => {
-            let file = shown_word(file);
-            writeln!(lines, "{file}: {reason}; {A_FILE}")?;
+            write_unread(rt, lines, file, reason, A_FILE)?;
             Ok(None)
         }
     }
