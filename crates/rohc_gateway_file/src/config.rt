@@ -1,8 +1,10 @@
 //! The gateway file, with the options that win over it.
 
 use crate::command::Options;
+use crate::key_lines::KeyLines;
 use crate::link_tables::{LINK_KEYS, LinkNote};
 use crate::log::LogFormat;
+use indexmap::IndexMap;
 use rohc_text::{error_line, nearest_name, write_quoted, write_toml_reason, write_value};
 use std::alloc::{AllocError, Global};
 use std::io;
@@ -270,8 +272,10 @@ impl ConfigFault {
 #[derive(Drop)]
 pub struct Reading<'a> {
     pub(crate) alloc: Global,
-    /// The text of the file.
-    pub(crate) text: &'a str,
+    /// Where the file has its keys.
+    pub(crate) lines: KeyLines<'a>,
+    /// The tables [[link]] that were read, by their numbers of links.
+    pub(crate) tables: IndexMap<u16, usize>,
     /// The options, which win.
     options: Options<'a>,
     /// What the gateway is to do, as far as it can be read.
@@ -307,22 +311,6 @@ impl From<AllocError> for Unread {
     }
 }
 
-/// The number of the line at which a key stands, counted from 1: the first before all tables that begins with it and an
-/// equals sign.
-fn line_of(text: &str, key: &str) -> Option<usize> {
-    for (place, line) in text.split("\n").enumerate() {
-        if line.trim().starts_with("[") {
-            return None;
-        }
-        if let Some((front, _)) = line.split_once("=")
-            && front.trim() == key
-        {
-            return Some(place.saturating_add(1));
-        }
-    }
-    None
-}
-
 /// The text of a value, as a reader sees it.
 fn value_text(alloc: Global, value: &Value) -> Result<String, AllocError> {
     let mut text = Vec::new(alloc);
@@ -335,7 +323,7 @@ fn value_text(alloc: Global, value: &Value) -> Result<String, AllocError> {
 impl Reading<'_> {
     /// Where the file has a key.
     fn place_in_file(&self, key: &str) -> Place {
-        match line_of(self.text, key) {
+        match self.lines.line_of(key) {
             Some(line) => Place::Line(line),
             None => Place::File,
         }
@@ -659,7 +647,8 @@ pub fn read_config<'a>(
     };
     let mut reading = Reading {
         alloc,
-        text,
+        lines: KeyLines::of(alloc, text)?,
+        tables: IndexMap::new(alloc),
         options: *options,
         config,
         faults: Vec::new(alloc),

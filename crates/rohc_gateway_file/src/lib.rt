@@ -6,6 +6,7 @@ pub mod civil;
 pub mod command;
 pub mod config;
 pub mod ending;
+mod key_lines;
 pub mod line;
 pub mod link_tables;
 pub mod log;

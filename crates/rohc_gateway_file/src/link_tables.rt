@@ -1,6 +1,7 @@
 //! The tables `[[link]]` of a gateway file: what it says of links beside the links file.
 
 use crate::config::{A_PORT, Place, Reading, Wrong};
+use indexmap::IndexMap;
 use rohc_text::nearest_name;
 use std::alloc::{AllocError, Global};
 use toml::{Table, Value};
@@ -164,42 +165,10 @@ fn nearest_key(alloc: Global, name: &str) -> Result<Option<&'static str>, AllocE
     nearest_name(alloc, name, names.as_slice())
 }
 
-/// Whether a line is the header of a table `[[link]]`.
-fn is_header(line: &str) -> bool {
-    match line.trim().strip_prefix("[[") {
-        Some(rest) => match rest.split_once("]]") {
-            Some((name, _)) => name.trim() == "link",
-            None => false,
-        },
-        None => false,
-    }
-}
-
-/// The number of the line at which a key of a table stands, or else its header; both are counted from 1.
-fn line_in_table(text: &str, table: usize, key: &str) -> Option<usize> {
-    let mut tables = 0usize;
-    let mut header = None;
-    for (place, line) in text.split("\n").enumerate() {
-        let number = place.saturating_add(1);
-        if is_header(line) {
-            tables = tables.saturating_add(1);
-            if tables == table {
-                header = Some(number);
-            }
-        } else if tables == table
-            && let Some((front, _)) = line.split_once("=")
-            && front.trim() == key
-        {
-            return Some(number);
-        }
-    }
-    header
-}
-
 impl Reading<'_> {
     /// Where a key of a table stands.
     fn place_in_table(&self, table: usize, key: &str) -> Place {
-        match line_in_table(self.text, table, key) {
+        match self.lines.line_in_table(table, key) {
             Some(line) => Place::Line(line),
             None => Place::File,
         }
@@ -229,16 +198,6 @@ impl Reading<'_> {
         self.add_of_link(table, key, wrong)
     }
 
-    /// The table before it that has the number of a link.
-    fn table_of(&self, number: u16) -> Option<usize> {
-        for note in &self.config.notes {
-            if note.number == number {
-                return Some(note.table);
-            }
-        }
-        None
-    }
-
     /// Reads the table of this number.
     fn read_link(&mut self, table: usize, members: &Table) -> Result<(), AllocError> {
         let mut found = Found::new();
@@ -251,9 +210,10 @@ impl Reading<'_> {
             }
             return Ok(());
         };
-        if let Some(other) = self.table_of(number) {
+        if let Some(other) = self.tables.get(&number).copied() {
             return self.add_of_link(table, "number", Wrong::SameNumber(number, other));
         }
+        let _ = self.tables.insert(number, table)?;
         let place = self.place_in_table(table, "number");
         self.config.notes.push(LinkNote {
             number,
@@ -268,27 +228,28 @@ impl Reading<'_> {
         Ok(())
     }
 
-    /// What is wrong with the port of the note at this place, and its table: another key or an earlier table has it.
-    fn clash_at(&self, place: usize) -> Option<(usize, Wrong)> {
+    /// The port of the note at this place, if it has one, and its table.
+    fn port_of_note(&self, place: usize) -> Option<(u16, usize)> {
         let note = self.config.notes.get(place)?;
-        let port = note.port?;
-        if let Some(key) = self.config.key_of_port(port) {
-            return Some((note.table, Wrong::SamePort(key)));
-        }
-        for other in self.config.notes.iter().take(place) {
-            if other.port == Some(port) {
-                return Some((note.table, Wrong::SameNumber(port, other.table)));
-            }
-        }
-        None
+        Some((note.port?, note.table))
     }
 
-    /// Judges the ports of the tables.
+    /// Judges the ports of the tables: none is that of another key, or of an earlier table.
     pub(crate) fn judge_link_ports(&mut self) -> Result<(), AllocError> {
+        let mut tables: IndexMap<u16, usize> = IndexMap::new(self.alloc);
         for place in 0..self.config.notes.len() {
-            if let Some((table, wrong)) = self.clash_at(place) {
-                self.add_of_link(table, "port", wrong)?;
-            }
+            let Some((port, table)) = self.port_of_note(place) else {
+                continue;
+            };
+            let wrong = if let Some(key) = self.config.key_of_port(port) {
+                Wrong::SamePort(key)
+            } else if let Some(other) = tables.get(&port) {
+                Wrong::SameNumber(port, *other)
+            } else {
+                let _ = tables.insert(port, table)?;
+                continue;
+            };
+            self.add_of_link(table, "port", wrong)?;
         }
         Ok(())
     }
