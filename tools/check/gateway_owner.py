@@ -3,6 +3,7 @@
 The gateway's mask is 0, so that only what it does itself keeps others out.
 """
 
+import grp
 import multiprocessing
 import os
 import socket
@@ -16,6 +17,8 @@ from nobody import NOBODY
 from trial import Trial
 
 STARTS = 50
+# A group of each system.
+GROUP = 1
 # Processes of a fork go on with another user's rights where no program could be started with them.
 FORKED = multiprocessing.get_context("fork")
 
@@ -46,12 +49,47 @@ class Intruder:
                     pass
 
 
+def entered(folder: Path, groups: list[int], result: "Synchronized[int]") -> None:
+    """Whether another user who is in these groups is let in: 1 or 2, if not."""
+    os.chdir(folder)
+    os.setgroups(groups)
+    os.setgid(int(NOBODY))
+    os.setuid(int(NOBODY))
+    with socket.socket(socket.AF_UNIX) as one:
+        result.value = 1 if one.connect_ex("control") == 0 else 2
+
+
+def is_entered(folder: Path, groups: list[int]) -> bool:
+    """Whether another user who is in these groups is let in."""
+    result: "Synchronized[int]" = FORKED.Value("i", 0)
+    process = FORKED.Process(target=entered, args=(folder, groups, result))
+    process.start()
+    process.join(WAIT_SECONDS)
+    return result.value == 1
+
+
+def check_group(trial: Trial) -> None:
+    """With control_group its members are let in, and nobody else."""
+    group = grp.getgrgid(GROUP).gr_name
+    for kind, value in (("name", f'"{group}"'), ("number", str(GROUP))):
+        with Receivers() as receivers:
+            gateway = Gateway(trial, trial.scratch / f"group-{kind}", receivers.links([1]))
+            gateway.file.write_text(gateway.file.read_text() + f"control_group = {value}\n")
+            with gateway:
+                found = gateway.control.stat()
+                good = found.st_gid == GROUP and found.st_mode & 0o777 == 0o660
+                trial.demand(good, f"group: {value}: group {found.st_gid}, mode {found.st_mode:o}")
+                trial.demand(is_entered(gateway.folder, [GROUP]), f"group: {value}: a member isn't let in")
+                trial.demand(not is_entered(gateway.folder, []), f"group: {value}: somebody else is let in")
+
+
 def check_owner(trial: Trial) -> None:
     """Somebody else gets in at no moment of any start."""
     if os.geteuid() != 0:
         trial.leave_out("the control socket under another user, since only root can become one")
         return
     trial.scratch.chmod(0o755)
+    check_group(trial)
     mask = os.umask(0)
     try:
         with Receivers() as receivers:

@@ -53,8 +53,9 @@ MISSING = "no such file or directory"
 NO_DIRECTORY = "a part of the path is not a directory"
 NO_LINKS_FILE = f"{MISSING}; {READABLE}"
 A_GATEWAY_FILE = "expected a gateway file that this user can read (man rohc-gateway)"
-KEYS = "links, port, timed_port, state, save_seconds, scratch, stale_ms, control, metrics_port, log_format, numbered_feedback, receive_buffer, link"
+KEYS = "links, port, timed_port, state, save_seconds, scratch, stale_ms, control, control_group, metrics_port, log_format, numbered_feedback, receive_buffer, link"
 OWN = "expected a path of its own"
+A_GROUP = "expected the name of a group in quotes, or its number"
 WRITABLE = "expected a path in a directory that this user may write"
 WHOLE = "expected a complete state file of this version (run --fresh starts without it)"
 LONG = "/" + "a" * 103
@@ -84,6 +85,11 @@ GATEWAY_FILES: tuple[tuple[bytes | str, tuple[str, ...]], ...] = (
     (GOOD + 'log_format = "xml"\n', ('FILE:3: log_format is "xml"; expected "text" or "json"',)),
     (GOOD + "log_format = 1\n", ('FILE:3: log_format is 1; expected "text" or "json"',)),
     (GOOD + "numbered_feedback = 1\n", ("FILE:3: numbered_feedback is 1; expected true or false",)),
+    (GOOD + 'control = "c"\ncontrol_group = true\n', (f"FILE:4: control_group is true; {A_GROUP}",)),
+    (GOOD + 'control = "c"\ncontrol_group = ""\n', (f'FILE:4: control_group is ""; {A_GROUP}',)),
+    (GOOD + 'control = "c"\ncontrol_group = 4294967295\n', (f"FILE:4: control_group is 4294967295; {A_GROUP}",)),
+    (GOOD + 'control = "c"\ncontrol_group = "no such"\n', ('FILE:4: control_group is "no such"; expected a group in /etc/group, or its number',)),
+    (GOOD + "control_group = 1\n", ('FILE:3: control_group needs control; expected control = "PATH"',)),
     (GOOD + "receive_buffer = 0\n", ("FILE:3: receive_buffer is 0; expected a number of octets from 1 to 1073741824",)),
     (GOOD + 'log_fromat = "json"\n', ('FILE:3: unknown key "log_fromat"; did you mean log_format?',)),
     (GOOD + "[[link]]\n", (f"FILE:3: link table 1: number is missing; {NUMBER}",)),

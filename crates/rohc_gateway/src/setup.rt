@@ -10,7 +10,7 @@ use crate::saves::SavePaths;
 use crate::time::Time;
 use rohc_concentrator::{Concentrator, SetupFault};
 use rohc_disk::RealDisk;
-use rohc_gateway_file::{Config, LogFormat, Options, Reading, read_config};
+use rohc_gateway_file::{Config, Group, LogFormat, Options, Reading, read_config};
 use rohc_links::Links;
 use rohc_loop::{Before, read_text};
 use rohc_text::Reason;
@@ -93,9 +93,17 @@ fn config_in<R: Files + AllocGlobal>(
 fn judged<R: Files + AllocGlobal>(
     rt: &R,
     file: &str,
-    reading: Reading<'_>,
+    mut reading: Reading<'_>,
     lines: &mut Lines,
 ) -> io::Result<Config> {
+    if let Some(Group::Named(_)) = &reading.config.control_group {
+        let list = read_text(&mut RealDisk::of(rt), rt.alloc(), GROUPS);
+        let list = match &list {
+            Ok(list) => list.as_str(),
+            Err(_) => "",
+        };
+        reading.number_group(list, GROUPS)?;
+    }
     for fault in &reading.faults {
         fault.write(lines, file)?;
     }

@@ -6,12 +6,15 @@ use libc::net::{SO_RCVBUF, SOL_SOCKET, getsockopt, listen, setsockopt};
 use mio::event::Source;
 use mio::net::{TcpListener, UdpSocket, UnixListener};
 use mio::{Interest, Poll, Token};
-use rohc_gateway_file::{Config, LinkNote};
+use rohc_gateway_file::{Config, Group, LinkNote};
 use rohc_text::Reason;
+use std::alloc::Global;
+use std::fs::Permissions;
 use std::io::ErrorKind;
 use std::net::{Ipv4Addr, Net, SocketAddr};
-use std::os::fd::{AsFd, AsRawFd};
+use std::os::fd::{AsFd, AsRawFd, OwnedFd};
 use std::os::unix;
+use std::os::unix::fs::PermissionsExt;
 use std::rt::Files;
 use std::{fmt, fs, io};
 
@@ -82,6 +85,8 @@ pub(crate) enum Opened<'a> {
     Tcp(u16),
     /// The control socket at this path.
     Control(&'a str),
+    /// That socket for a group.
+    Group(&'a str),
 }
 
 /// Why a socket isn't opened.
@@ -139,6 +144,10 @@ impl fmt::Display for SocketFault<'_> {
             Opened::Control(path) => {
                 let expected = expected_path(&self.error);
                 write!(f, "control: {path}: {why}; {expected}")
+            }
+            Opened::Group(path) => {
+                let expected = "expected a group of which this user is a member";
+                write!(f, "control_group: {path}: {why}; {expected}")
             }
         }
     }
@@ -266,12 +275,31 @@ fn is_done(status: i32) -> io::Result<()> {
     }
 }
 
-/// Binds a socket to a path. Its mode is set first, so that only its owner can ever open it.
-fn bind_owned<R: Files + Net>(rt: &R, poll: &Poll, path: &str) -> io::Result<UnixListener> {
+/// Binds a socket to a path. Its mode is set first, so that only its owner can ever open it. Nobody can connect yet.
+fn bind_owned<R: Files + Net>(rt: &R, path: &str) -> io::Result<OwnedFd> {
     remove_control(rt, path)?;
     let socket = rt.unix_socket()?;
     is_done(fchmod(socket.as_raw_fd(), 0o600))?;
     rt.bind_unix(socket.as_fd(), &unix::net::SocketAddr::from_pathname(path)?)?;
+    Ok(socket)
+}
+
+/// The number of a group that is known.
+fn number_of(group: &Option<Group>) -> Option<u32> {
+    match group {
+        Some(Group::Numbered(number)) => Some(*number),
+        _ => None,
+    }
+}
+
+/// Lets the members of a group open the socket at a path. The group comes first: before, nobody else may.
+fn share_with<R: Files>(rt: &R, path: &str, group: u32) -> io::Result<()> {
+    unix::fs::lchown(rt, path, None, Some(group))?;
+    fs::set_permissions(rt, path, Permissions::from_mode(0o660))
+}
+
+/// Lets programs connect to a socket that is bound.
+fn listening(poll: &Poll, socket: OwnedFd) -> io::Result<UnixListener> {
     is_done(listen(socket.as_raw_fd(), WAITING_CONNECTIONS))?;
     let listener = unix::net::UnixListener::from(socket);
     listener.set_nonblocking(true)?;
@@ -280,16 +308,26 @@ fn bind_owned<R: Files + Net>(rt: &R, poll: &Poll, path: &str) -> io::Result<Uni
     Ok(listener)
 }
 
-/// Binds the control socket, which its owner alone may open. It is bound under another name first, so that it is there only
-/// when it can be used.
-fn bind_control<R: Files + Net + AllocGlobal>(
+/// The path at which the control socket is bound first, so that it is at its own only when it can be used.
+fn beside(alloc: Global, path: &str) -> io::Result<String> {
+    Ok(format!(in alloc; "{path}.new")?)
+}
+
+/// Binds the control socket, which its owner alone may open, or the members of this group too.
+fn bind_control<'a, R: Files + Net + AllocGlobal>(
     rt: &R,
     poll: &Poll,
-    path: &str,
-) -> io::Result<UnixListener> {
-    let beside = format!(in rt.alloc(); "{path}.new")?;
-    let listener = bind_owned(rt, poll, beside.as_str())?;
-    fs::rename(rt, beside.as_str(), path)?;
+    path: &'a str,
+    group: Option<u32>,
+) -> Result<UnixListener, SocketFault<'a>> {
+    let opened = Opened::Control(path);
+    let new = at(opened, beside(rt.alloc(), path))?;
+    let socket = at(opened, bind_owned(rt, new.as_str()))?;
+    if let Some(group) = group {
+        at(Opened::Group(path), share_with(rt, new.as_str(), group))?;
+    }
+    let listener = at(opened, listening(poll, socket))?;
+    at(opened, fs::rename(rt, new.as_str(), path))?;
     Ok(listener)
 }
 
@@ -331,7 +369,7 @@ impl Sockets {
         let control = match &config.control {
             Some(path) => {
                 let path = path.as_str();
-                Some(at(Opened::Control(path), bind_control(rt, &poll, path))?)
+                Some(bind_control(rt, &poll, path, number_of(&config.control_group))?)
             }
             None => None,
         };

@@ -1,6 +1,7 @@
 //! The gateway file, with the options that win over it.
 
 use crate::command::Options;
+use crate::group::{A_GROUP, Group, group_number_in, group_of};
 use crate::key_lines::KeyLines;
 use crate::link_tables::{LINK_KEYS, LinkNote};
 use crate::log::LogFormat;
@@ -12,7 +13,7 @@ use std::io::{ErrorKind, Write};
 use toml::{Table, Value};
 
 /// The keys of a gateway file.
-const KEYS: [&str; 13] = [
+const KEYS: [&str; 14] = [
     "links",
     "port",
     "timed_port",
@@ -21,6 +22,7 @@ const KEYS: [&str; 13] = [
     "scratch",
     "stale_ms",
     "control",
+    "control_group",
     "metrics_port",
     "log_format",
     "numbered_feedback",
@@ -106,6 +108,8 @@ pub struct Config {
     pub stale_ms: Option<u32>,
     /// The control socket.
     pub control: Option<String>,
+    /// The group whose members may open it; otherwise only its owner may.
+    pub control_group: Option<Group>,
     /// The port for metrics.
     pub metrics_port: Option<u16>,
     /// The format of log lines.
@@ -157,6 +161,10 @@ pub enum Wrong {
     SamePort(&'static str),
     /// Without a state file there is nothing to save.
     NeedsState,
+    /// Without a control socket nobody opens it.
+    NeedsControl,
+    /// The system's list of groups at this path has no group of this name.
+    UnknownGroup(String, &'static str),
     /// At `timed_port` moments are the sender's, so the age of a saved call isn't known.
     NotTimed,
     /// The path of a socket has this many octets, which are too many.
@@ -254,6 +262,14 @@ impl ConfigFault {
                     out,
                     "{key} needs state; expected state = \"FILE\" for the saved calls"
                 )?
+            }
+            Wrong::NeedsControl => {
+                write!(out, "{key} needs control; expected control = \"PATH\"")?
+            }
+            Wrong::UnknownGroup(name, list) => {
+                write!(out, "{key} is ")?;
+                write_quoted(out, name.as_str())?;
+                write!(out, "; expected a group in {list}, or its number")?
             }
             Wrong::NotTimed => write!(
                 out,
@@ -375,6 +391,24 @@ impl Reading<'_> {
         Ok(Wrong::WrongValue(value_text(self.alloc, value)?, expected))
     }
 
+    /// Gives the group for the control socket its number, from the text of the system's list of groups at this path, or
+    /// adds a fault.
+    pub fn number_group(&mut self, list: &str, path: &'static str) -> Result<(), AllocError> {
+        let Some(Group::Named(name)) = &self.config.control_group else {
+            return Ok(());
+        };
+        match group_number_in(list, name.as_str()) {
+            Some(number) => {
+                self.config.control_group = Some(Group::Numbered(number));
+                Ok(())
+            }
+            None => {
+                let name = String::from_str(self.alloc, name.as_str())?;
+                self.add("control_group", Wrong::UnknownGroup(name, path))
+            }
+        }
+    }
+
     /// Adds that the file was expected to have another value at a key.
     pub(crate) fn add_value(
         &mut self,
@@ -476,6 +510,18 @@ impl Reading<'_> {
         }
     }
 
+    /// The group at a key that is there, or a fault.
+    fn group_at(&mut self, table: &Table, key: &'static str) -> Result<Option<Group>, AllocError> {
+        let Some(value) = table.get(key) else {
+            return Ok(None);
+        };
+        let group = group_of(self.alloc, value)?;
+        if group.is_none() {
+            self.add_value(key, value, A_GROUP)?;
+        }
+        Ok(group)
+    }
+
     /// Reads the table of a gateway file.
     fn read_table(&mut self, table: &Table, folder: &str) -> Result<(), AllocError> {
         for (key, _) in table {
@@ -492,6 +538,7 @@ impl Reading<'_> {
         self.config.scratch = self.path_at(table, "scratch", folder)?;
         self.config.stale_ms = self.number_at(table, "stale_ms", STALE)?;
         self.config.control = self.path_at(table, "control", folder)?;
+        self.config.control_group = self.group_at(table, "control_group")?;
         self.config.metrics_port = self.port_at(table, "metrics_port")?;
         self.config.log_format = self.format_at(table, "log_format")?;
         self.config.numbered_feedback = self.flag_at(table, "numbered_feedback")?;
@@ -528,7 +575,7 @@ impl Reading<'_> {
             .any(|fault| fault.table.is_none() && fault.key.as_str() == key)
     }
 
-    /// Judges the length of the control socket's path.
+    /// Judges the length of the control socket's path, and that there is one for a group.
     fn judge_control(&mut self) -> Result<(), AllocError> {
         let size = match &self.config.control {
             Some(path) => path.len(),
@@ -536,6 +583,10 @@ impl Reading<'_> {
         };
         if size > LONGEST_SOCKET {
             self.add("control", Wrong::LongPath(size))?;
+        }
+        let has_control = self.config.control.is_some() || self.is_faulty("control");
+        if self.config.control_group.is_some() && !has_control {
+            self.add("control_group", Wrong::NeedsControl)?;
         }
         Ok(())
     }
@@ -639,6 +690,7 @@ pub fn read_config<'a>(
         scratch: None,
         stale_ms: None,
         control: None,
+        control_group: None,
         metrics_port: None,
         log_format: LogFormat::Text,
         numbered_feedback: false,
