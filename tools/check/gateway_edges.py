@@ -1,6 +1,7 @@
 """A gateway among other programs: its service manager, the reader of its log, the system's sockets, and files that aren't its own."""
 
 import contextlib
+import json
 import os
 import select
 import signal
@@ -15,6 +16,7 @@ from pathlib import Path
 from cluster import Arrival
 from gateway_limits import first_ir
 from gateway_run import LOOPBACK, PROGRAM, WAIT_SECONDS, Gateway, Receivers, replayed, samples, sends_of
+from program import Ended
 from trial import Trial
 
 LINK, OTHER = 1, 2
@@ -30,6 +32,8 @@ ELEMENTS, AT_ONCE, MOST = 32_748, 4, 4096
 EXPIRY = 70.0
 # More log lines than fit into a pipe.
 RELOADS = 1_500
+# How many keys, or tables, a gateway file has.
+MANY = (1_000, 4_000)
 
 
 @contextlib.contextmanager
@@ -220,6 +224,110 @@ def check_foreign(trial: Trial) -> None:
                 trial.demand(path.exists() and after == before, f"foreign: {name}: it was changed")
 
 
+def checked(gateway: Gateway) -> Ended:
+    """What `check` says of a gateway's file, within a time in which nothing waits."""
+    return gateway.trial.ran(gateway.trial.top / PROGRAM, "check", gateway.file, seconds=20)
+
+
+def sparse(path: Path) -> None:
+    """A file of 10 GB of nothing."""
+    with path.open("wb") as file:
+        file.truncate(10 << 30)
+
+
+def check_irregular(trial: Trial) -> None:
+    """A FIFO, a device and 10 GB of nothing are refused at once where a file is read, and at a reload no call waits."""
+    device = "it is a device; expected a regular file"
+    fifo = "it is a FIFO; expected a regular file"
+    cases: tuple[tuple[str, Callable[[Path], object], str], ...] = (
+        ("links.toml", os.mkfifo, fifo),
+        ("links.toml", lambda path: path.symlink_to("/dev/zero"), device),
+        ("links.toml", sparse, "it is longer than 1048576 octets; "),
+        ("calls", os.mkfifo, fifo),
+        ("calls", sparse, "it is longer than 1073741824 octets; "),
+        ("calls.latest", os.mkfifo, fifo),
+        ("calls.kept", os.mkfifo, fifo),
+    )
+    for at, (name, make, wanted) in enumerate(cases):
+        with made(trial, f"irregular-{at}") as gateway:
+            path = gateway.folder / name
+            path.unlink(missing_ok=True)
+            make(path)
+            told = checked(gateway)
+            good = told.status == 1 and told.text.startswith(f"{path}: {wanted}")
+            trial.demand(good, f"irregular: {name}: {told.end()}, {told.text}", told.call)
+    with made(trial, "irregular-reload") as gateway:
+        gateway.start()
+        for file in (gateway.folder / "links.toml", gateway.file):
+            text = file.read_bytes()
+            file.unlink()
+            os.mkfifo(file)
+            answer = gateway.ask("POST", "/reload")
+            trial.demand(answer.status == 409 and fifo.encode() in answer.body, f"irregular: a reload: {answer.body!r}")
+            file.unlink()
+            file.write_bytes(text)
+        trial.demand(gateway.ask("POST", "/reload").status == 200, "irregular: a reload after it")
+
+
+def check_linked(trial: Trial) -> None:
+    """A save writes through no symbolic link, and no lock is made through one."""
+    with made(trial, "linked") as gateway:
+        victim = gateway.folder / "victim"
+        victim.write_text("not yours\n")
+        for name in ("calls.new", "calls.latest.new"):
+            (gateway.folder / name).symlink_to(victim)
+        gateway.start()
+        trial.demand(gateway.ask("POST", "/save").status == 200 and gateway.stop() == 0, "linked: a save fails")
+        trial.demand(victim.read_bytes() == b"not yours\n", "linked: a save wrote over another file")
+        saves = [gateway.folder / name for name in ("calls", "calls.latest")]
+        trial.demand(all(path.is_file() and not path.is_symlink() for path in saves), "linked: a save is a link")
+        saves[0].rename(gateway.folder / "moved")
+        saves[0].symlink_to("moved")
+        told = checked(gateway)
+        wanted = f"state {saves[0]} is a symbolic link, which a save would replace; expected a regular file, or none\n"
+        trial.demand(told.status == 1 and told.text.endswith(wanted), f"linked: {told.end()}, {told.text}", told.call)
+    for key, name in (("state", "calls.lock"), ("control", "control.lock")):
+        with made(trial, f"linked-{key}") as gateway:
+            (gateway.folder / name).symlink_to("nowhere")
+            told = trial.ran(trial.top / PROGRAM, "run", gateway.file, seconds=20)
+            wanted = f"{key}: {gateway.folder / name}: not the lock of a gateway; expected no other file there"
+            trial.demand(told.status == 3 and wanted in told.said, f"linked: {key}: {told.end()}", told.call)
+            trial.demand(not (gateway.folder / "nowhere").exists(), f"linked: {key}: a lock was made elsewhere")
+
+
+def check_many(trial: Trial) -> None:
+    """The time of `check` grows as the gateway file does: with its keys, and with its tables."""
+    for name, line in (("keys", "key_{} = 1\n"), ("tables", "[[link]]\nnumber = {}\n")):
+        with made(trial, f"many-{name}") as gateway:
+            front, seconds = gateway.file.read_text(), []
+            for count in MANY:
+                gateway.file.write_text(front + "".join(line.format(at) for at in range(count)))
+                start = time.monotonic()
+                told = checked(gateway)
+                seconds.append(time.monotonic() - start)
+                wanted = count if name == "keys" else count - 1
+                trial.demand(told.text.count("\n") >= wanted, f"many: {count} {name}: {told.end()}", told.call)
+            trial.demand(seconds[1] < 10 * seconds[0] + 1, f"many: {MANY} {name} take {seconds} seconds")
+
+
+def check_long(trial: Trial) -> None:
+    """No log line is longer than what a pipe accepts at once, be it text or JSON, and one that is cut says so."""
+    with made(trial, "long") as gateway:
+        folder = gateway.folder.resolve()
+        while len(os.fsencode(folder)) < 3800:
+            folder /= "é" * 100
+            folder.mkdir()
+        (folder / "gateway.toml").write_text(f'links = "{"n" * 150}"\nport = {gateway.port}\n')
+        for kind in ("text", "json"):
+            call = (trial.top / PROGRAM, "run", "--log-format", kind, folder / "gateway.toml")
+            told = trial.ran(*call, seconds=20)
+            octets = told.error
+            good = told.status == 3 and 3900 < len(octets) <= 4096 and octets.endswith(b"\n")
+            trial.demand(good, f"long: {kind}: {told.status}, {len(octets)} octets", told.call)
+            text = json.loads(octets)["text"] if kind == "json" else told.said
+            trial.demand(text.endswith("…"), f"long: {kind}: ends in {text[-20:]!r}", told.call)
+
+
 def failed_sends(gateway: Gateway) -> int:
     """How many sends of the link failed."""
     found = (count for name, of, count in samples(gateway.metrics()) if name == "polorowan_failed_sends_total" and of["link"] == str(LINK))
@@ -304,3 +412,7 @@ def check_others(trial: Trial) -> None:
     check_unread(trial)
     check_dropped(trial)
     check_foreign(trial)
+    check_irregular(trial)
+    check_linked(trial)
+    check_many(trial)
+    check_long(trial)
