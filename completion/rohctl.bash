@@ -59,8 +59,8 @@ _rohctl() {
         plain='--link --vlan --port --ethertype --linktype --offset --to --from --pace' files='' takes_files='yes'
         ;;
     report)
-        options='--link --vlan --port --ethertype --linktype --offset --links --output --payload --call --since --until --color --help'
-        plain='--link --vlan --port --ethertype --linktype --offset --payload --call --since --until' files='--links -o --output' takes_files='yes'
+        options='--link --vlan --port --ethertype --linktype --offset --links --output --payload --call --since --until --state --color --help'
+        plain='--link --vlan --port --ethertype --linktype --offset --payload --call --since --until' files='--links -o --output --state' takes_files='yes'
         ;;
     survey)
         options='--link --vlan --port --ethertype --linktype --offset --links --json --color --help'

@@ -42,7 +42,7 @@ complete -c rohctl -l follow -n "__fish_seen_subcommand_from totals" -d 'On a te
 complete -c rohctl -l color -x -a 'auto always never' -n "__fish_seen_subcommand_from totals run trace links diff explain plan decompress script feed report survey find spread verify status stop save drain resume top reload reset watch record contexts hold export import keep calls" -d 'Use colors'
 complete -c rohctl -s h -l help -n "__fish_seen_subcommand_from totals run trace links diff explain plan decompress script feed report survey find spread verify status stop save drain resume top reload reset watch record contexts hold export import keep calls" -d 'Print help'
 complete -c rohctl -l links -r -F -n "__fish_seen_subcommand_from run trace decompress report find" -d 'The links file'
-complete -c rohctl -l state -r -F -n "__fish_seen_subcommand_from run explain find" -d 'Begin with the contexts of this state file of rohc-gateway'
+complete -c rohctl -l state -r -F -n "__fish_seen_subcommand_from run explain report find" -d 'Begin with the contexts of this state file of rohc-gateway'
 complete -c rohctl -l new -n "__fish_seen_subcommand_from links" -d 'Write a links file of N links to start from, 1 if N isn\'t given'
 complete -c rohctl -l link -x -n "__fish_seen_subcommand_from explain" -d 'The link of ROHC packets in Ethernet, Linux cooked or PPP frames, or of packets in hexadecimal digits'
 complete -c rohctl -l vlan -x -n "__fish_seen_subcommand_from explain decompress script feed report survey find" -d 'Map a VLAN to a link'

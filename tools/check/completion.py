@@ -33,7 +33,7 @@ ROHCTL: tuple[Row, ...] = (
     ("--color --follow --help --json --prometheus", ("totals", "--")),
     ("--back --call --color --ethertype --from --help --lines --link --links --linktype --offset --other --payload --pcapng --port --since --until --vlan", ("script", "--")),
     ("--call --color --ethertype --feedback --help --link --links --linktype --offset --padded --payload --pcapng --port --since --stats --until --vlan", ("decompress", "--")),
-    ("--call --color --ethertype --help --link --links --linktype --offset --output --payload --port --since --until --vlan", ("report", "--")),
+    ("--call --color --ethertype --help --link --links --linktype --offset --output --payload --port --since --state --until --vlan", ("report", "--")),
     ("--color --ethertype --from --help --link --linktype --now --offset --pace --port --to --vlan", ("feed", "--")),
     ("--color --ethertype --help --json --link --links --linktype --offset --port --vlan", ("survey", "--")),
     ("--color --control --ethertype --help --input --json --link --links --linktype --name --offset --port --state --vlan", ("find", "--")),

@@ -11,6 +11,7 @@ import time
 from pathlib import Path
 from typing import IO
 
+import rohctl_report
 from cluster import Arrival, made_arrivals
 from gateway_run import LOOPBACK, WAIT_SECONDS, Gateway, Receivers, read_answer, replayed, samples
 from program import Ended
@@ -129,6 +130,8 @@ def check_again(trial: Trial, gateway: Gateway, name: Path, arrivals: list[Arriv
     again = trial.ran(trial.top / ROHCTL, "run", "--links", gateway.folder / "links.toml", *files)
     answers = [line for part in wanted for line in part]
     trial.same(f"{name.name}: the answers", "".join(f"{line}\n" for line in answers), again.text, again.call)
+    shown = rohctl_report.report(trial, "--links", gateway.folder / "links.toml", *files)
+    rohctl_report.check_totals(trial, f"{name.name}: report", rohctl_report.page_in(trial, shown), again.output)
 
 
 def check_record(trial: Trial) -> None:

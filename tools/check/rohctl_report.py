@@ -170,6 +170,13 @@ def explained(trial: Trial, links: Path, script: Path) -> dict[str, str]:
     return {told.split(":")[0].split()[1]: told + "\n\n" for told in text.split("\n\n") if told}
 
 
+def check_totals(trial: Trial, name: str, page: Page, answers: bytes) -> None:
+    """The totals of a page are those of these answers."""
+    totals = run(Call((trial.top / PROGRAM, "totals", "--json", "-"), answers, {}, trial.top))
+    differ = (counted(page) - told(totals.text), told(totals.text) - counted(page))
+    trial.demand(not any(differ), f"{name}: has more {differ[0]}, lacks {differ[1]}", totals.call)
+
+
 def check_scripts(trial: Trial) -> None:
     """Each script of the examples: the totals are those of its answers, and each text is what is explained of its line."""
     for script, links in rohctl_explain.scripts(trial):
@@ -178,9 +185,7 @@ def check_scripts(trial: Trial) -> None:
             trial.demand(ended.status == 6 and not ended.output, f"{script.name}: {ended.end()}; wanted 6", ended.call)
             continue
         page = page_in(trial, ended)
-        totals = run(Call((trial.top / PROGRAM, "totals", "--json", script.with_suffix(".answers")), b"", {}, trial.top))
-        differ = (counted(page) - told(totals.text), told(totals.text) - counted(page))
-        trial.demand(not any(differ), f"{script.name}: has more {differ[0]}, lacks {differ[1]}", ended.call)
+        check_totals(trial, script.name, page, script.with_suffix(".answers").read_bytes())
         texts = explained(trial, links, script)
         wrong = [name for name, text in page.texts.items() if text != texts.get(name.split("-")[3])]
         trial.demand(not wrong, f"{script.name}: another text at {wrong}", ended.call)

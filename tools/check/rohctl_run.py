@@ -5,6 +5,7 @@ import re
 from pathlib import Path
 
 import rohctl_explain
+import rohctl_report
 from program import Call, Ended, run
 from trial import Trial
 
@@ -18,6 +19,7 @@ FULL = "0000000000000000" + "03" + STATIC + FIELDS + "000100" + "01000000a0" + "
 # Those of first-uo-0, which may follow it.
 NEXT = b"arrive 1 20 10ac\n"
 NEXT_ANSWER = "1 0 ip 4500002900020000401166c00a0000010a0000021388138a00150000800000020000014000000001ac\n"
+NO_CONTEXT = "1 0 refused NoContext\n"
 WHOLE = "expected a complete state file of this version"
 
 
@@ -54,7 +56,13 @@ def check_states(trial: Trial) -> None:
     ended = ran(trial, "--links", LINKS, "--state", whole, given=NEXT)
     trial.demand((ended.status, ended.text, ended.said) == (0, NEXT_ANSWER, ""), f"a saved context: {ended.end()}, {ended.text}", ended.call)
     ended = ran(trial, "--links", LINKS, given=NEXT)
-    trial.demand((ended.status, ended.text) == (0, "1 0 refused NoContext\n"), f"without it: {ended.end()}, {ended.text}", ended.call)
+    trial.demand((ended.status, ended.text) == (0, NO_CONTEXT), f"without it: {ended.end()}, {ended.text}", ended.call)
+    for words, answers, status in ((("--state", whole), NEXT_ANSWER, 0), ((), NO_CONTEXT, 1)):
+        ended = rohctl_report.report(trial, "--links", LINKS, *words, given=NEXT)
+        trial.demand((ended.status, ended.said) == (status, ""), f"report {words}: {ended.end()}; wanted {status}", ended.call)
+        page = rohctl_report.page_in(trial, ended)
+        rohctl_report.check_totals(trial, f"report {words}", page, answers.encode())
+        trial.demand(("NoContext" in ended.text) == bool(status), f"report {words}: NoContext", ended.call)
     words = (trial.top / PROGRAM, "explain", "--links", LINKS, "--state", whole)
     told = run(Call(words, NEXT, {}, trial.top))
     trial.demand(told.status == 0 and "SN 2" in told.text and " was 160\n" in told.text, f"an explained saved context: {told.end()}, {told.text}", told.call)
@@ -65,6 +73,8 @@ def check_states(trial: Trial) -> None:
         ended = ran(trial, "--links", LINKS, "--state", other, given=NEXT)
         said = f"rohctl: {other}: left out {contexts} contexts and {count} links; the links file has not their link, its CID kind or their CIDs"
         trial.demand((ended.status, ended.text, ended.said) == (0, NEXT_ANSWER, said), f"left out: {ended.end()}, {ended.text}; wanted {said}", ended.call)
+        ended = rohctl_report.report(trial, "--links", LINKS, "--state", other, given=NEXT)
+        trial.demand((ended.status, ended.said) == (0, said), f"report, left out: {ended.end()}; wanted {said}", ended.call)
 
 
 def check_refused(trial: Trial) -> None:

@@ -2,11 +2,12 @@
 
 use crate::asked::{Asked, Source};
 use crate::assumed::{Assumed, LINK, assumed_link};
+use crate::decoding::Decoding;
 use crate::falls::Falls;
 use crate::input::{Wanted, explain_input, keep_to_unit};
 use crate::run::{Run, Seen};
 use rohc_concentrator::Concentrator;
-use rohctl_captures::{Narrow, Unit, Which};
+use rohctl_captures::{Narrow, Unit, Which, payloads_of};
 use rohctl_ground::{
     Ending, Misuse, Nothing, STREAM, Screen, Stop, concentrator_from, read_packets,
 };
@@ -28,13 +29,13 @@ fn take_text<'a, W: Write + Drop>(
     words: &[&str],
     run: &mut Run<W>,
 ) -> Result<(), Ending<'a>> {
-    let Some(step) = step_of(&run.concentrator, link) else {
+    let Some(step) = step_of(&run.decoding.concentrator, link) else {
         return Err(Ending::Nothing(links, Nothing::NoLink(link)));
     };
-    let Ok(packets) = words.join(run.alloc, " ") else {
+    let Ok(packets) = words.join(run.decoding.alloc, " ") else {
         return Err(Ending::Memory);
     };
-    let ran = read_packets(run.alloc, link, step, packets.as_str(), run);
+    let ran = read_packets(run.decoding.alloc, link, step, packets.as_str(), run);
     ran.map_err(|stop| stop.ending(STREAM, STREAM))
 }
 
@@ -55,11 +56,11 @@ where
     if let [STREAM] = words {
         return Err(Ending::Misuse(Misuse::Script(STREAM)));
     }
-    let Ok(packets) = words.join(run.alloc, " ") else {
+    let Ok(packets) = words.join(run.decoding.alloc, " ") else {
         return Err(Ending::Memory);
     };
-    let step = step_of(&run.concentrator, LINK).unwrap_or(0);
-    match read_packets(run.alloc, LINK, step, packets.as_str(), run) {
+    let step = step_of(&run.decoding.concentrator, LINK).unwrap_or(0);
+    match read_packets(run.decoding.alloc, LINK, step, packets.as_str(), run) {
         Ok(()) => Ok(()),
         Err(Stop::Words(fault)) => match script_in(rt, words) {
             Some(path) => Err(Ending::Misuse(Misuse::Script(path))),
@@ -136,7 +137,7 @@ where
             words,
             rules,
         } => {
-            keep_to_links(links, which, &run.concentrator)?;
+            keep_to_links(links, which, &run.decoding.concentrator)?;
             let wanted = Wanted {
                 links,
                 path: STREAM,
@@ -147,7 +148,7 @@ where
             take_linked(rt, &wanted, *link, words.as_slice(), screen, run)
         }
         Source::Input { links, path, rules } => {
-            keep_to_links(links, which, &run.concentrator)?;
+            keep_to_links(links, which, &run.decoding.concentrator)?;
             let wanted = Wanted {
                 links,
                 path,
@@ -194,11 +195,14 @@ where
         return Err(Ending::Memory);
     };
     let mut run = Run {
-        alloc: rt.alloc(),
-        concentrator,
+        decoding: Decoding {
+            alloc: rt.alloc(),
+            concentrator,
+            payloads: payloads_of(rt.alloc(), None)?,
+            falls: Falls::new(rt.alloc()),
+        },
         assumed,
         narrow: Narrow::new(asked.which, asked.times, false),
-        falls: Falls::new(rt.alloc()),
         telling: asked.telling,
         out,
         unit: Unit::Packet,

@@ -55,8 +55,8 @@ fn rules_for<'a, W: Write + Drop>(
     if !is_capture {
         return Ok(None);
     }
-    let rules = rules_of(run.alloc, &wanted.rules)?;
-    check_links(&run.concentrator, wanted.links, rules.as_slice())?;
+    let rules = rules_of(run.decoding.alloc, &wanted.rules)?;
+    check_links(&run.decoding.concentrator, wanted.links, rules.as_slice())?;
     Ok(Some(rules))
 }
 
@@ -145,7 +145,7 @@ where
     let carriage = Carriage::of(&rules, framing_of(&wanted.rules)?);
     let taken = {
         let mut whole = front.as_slice().chain(&mut *source);
-        take_source(run.alloc, &mut whole, carriage.as_ref(), run)
+        take_source(run.decoding.alloc, &mut whole, carriage.as_ref(), run)
     };
     let rest = taken.map_err(|stop| stop.ending(wanted.path, STREAM))?;
     if let Some(fault) = rest.fault {

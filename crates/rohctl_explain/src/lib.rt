@@ -5,6 +5,7 @@
 mod annotate;
 mod asked;
 mod assumed;
+mod decoding;
 mod element;
 mod element_text;
 mod expected;
@@ -23,6 +24,7 @@ mod run;
 pub use annotate::Explainer;
 pub use asked::{Asked, Source, Telling};
 pub use assumed::size_word;
+pub use decoding::Decoding;
 pub use element::{Meaning, ToldElement};
 pub use explain::run_explain;
 pub use explain_text::{format_name, state_name, state_word, write_flow, write_whole};

@@ -2,26 +2,22 @@
 
 use crate::asked::Telling;
 use crate::assumed::{Assumed, fits_better, write_assumed, write_assumed_json};
+use crate::decoding::Decoding;
 use crate::explain_json::write_object;
 use crate::explain_text::{write_brief, write_whole};
-use crate::falls::Falls;
 use crate::packet::{Explained, Got, explain_packet};
-use rohc_concentrator::Concentrator;
 use rohctl_captures::{Narrow, Place, Unit};
 use rohctl_ground::{Ending, Line, Reason, Stop, Taker, unprinted};
-use std::alloc::Global;
 use std::io;
 use std::io::Write;
 
 /// A run through packets, which are told to a writer.
 #[derive(Drop)]
 pub(crate) struct Run<W: Write + Drop> {
-    pub(crate) alloc: Global,
-    pub(crate) concentrator: Concentrator,
+    pub(crate) decoding: Decoding,
     /// What is assumed of the link, if no links file is given.
     pub(crate) assumed: Option<Assumed>,
     pub(crate) narrow: Narrow,
-    pub(crate) falls: Falls,
     pub(crate) telling: Telling,
     pub(crate) out: W,
     /// What has the numbers of the packets.
@@ -89,18 +85,10 @@ impl<W: Write + Drop> Run<W> {
         moment: u64,
         packet: &[u8],
     ) -> Result<Explained, Stop> {
-        let mut explained = explain_packet(
-            self.alloc,
-            &mut self.concentrator,
-            link,
-            moment,
-            packet,
-        )?;
-        if self.falls.take(number, &mut explained).is_err() {
-            return Err(Stop::Memory);
-        }
+        let mut explained = self.decoding.arrive(number, link, moment, packet)?;
         if let Some(assumed) = &mut self.assumed {
-            let other = explain_packet(self.alloc, &mut assumed.other, link, moment, packet)?;
+            let alloc = self.decoding.alloc;
+            let other = explain_packet(alloc, &mut assumed.other, link, moment, packet)?;
             explained.better = fits_better(&assumed.settings, explained.got, other.got);
         }
         Ok(explained)
@@ -135,7 +123,7 @@ impl<W: Write + Drop> Taker for Run<W> {
                 }
             }
             Line::Reset { link } => {
-                let _ = self.concentrator.reset(link);
+                let _ = self.decoding.concentrator.reset(link);
             }
             Line::Bad => {}
         }

@@ -19,7 +19,7 @@ pub use ending::{
 pub use lines::{Line, Stop, Taker, read_packets, read_script};
 pub use links::{concentrator_of, good_links, links_text, text_at};
 pub use rohc_text::{Reason, nearest_name, shown_word, write_octets, write_quoted, write_value};
-pub use state::{concentrator_from, octets_at, restored};
+pub use state::{Beginning, concentrator_from, octets_at, restored};
 pub use streams::{
     Reading, Screen, Source, Target, Told, Written, is_capture_front, make_target, open_file,
     open_source, open_told, size_of, target_of,

@@ -1,7 +1,7 @@
 //! A state file, as rohc-gateway writes it: the contexts with which a run begins.
 
 use crate::ending::{Ending, unread};
-use crate::links::{concentrator_of, good_links};
+use crate::links::good_links;
 use crate::streams::{open_file, open_source};
 use rohc_concentrator::Concentrator;
 use rohc_links::Links;
@@ -49,6 +49,14 @@ fn tell_left_out<R: Eprint>(rt: &R, path: &str, restored: &Restored) {
     }
 }
 
+/// How a run ends whose state file is refused.
+fn refused(name: &str, fault: SavedFault) -> Ending<'_> {
+    match fault {
+        SavedFault::NoMemory => Ending::Memory,
+        fault => Ending::State(name, fault),
+    }
+}
+
 /// A concentrator with these links and the contexts of the octets of a state file, which messages call by this name.
 pub fn restored<'a, R>(
     rt: &R,
@@ -64,19 +72,72 @@ where
             tell_left_out(rt, name, &restored);
             Ok(concentrator)
         }
-        Err(SavedFault::NoMemory) => Err(Ending::Memory),
-        Err(fault) => Err(Ending::State(name, fault)),
+        Err(fault) => Err(refused(name, fault)),
     }
 }
 
-/// A concentrator with these links and the contexts of a state file.
-fn restored_from<'a, R>(rt: &R, links: &Links, path: &'a str) -> Result<Concentrator, Ending<'a>>
+/// A state file.
+#[derive(Drop)]
+struct StateFile<'a> {
+    path: &'a str,
+    octets: Vec<u8>,
+}
+
+/// Reads a state file.
+fn read_state<'a, R>(rt: &R, path: &'a str) -> Result<StateFile<'a>, Ending<'a>>
 where
-    R: Files + Eprint + AllocGlobal,
+    R: Files + AllocGlobal,
 {
     let file = open_file(rt, path)?;
-    let octets = octets_of(rt.alloc(), file).map_err(|reason| unread(path, reason))?;
-    restored(rt, links, path, octets.as_slice())
+    match octets_of(rt.alloc(), file) {
+        Ok(octets) => Ok(StateFile { path, octets }),
+        Err(reason) => Err(unread(path, reason)),
+    }
+}
+
+/// What a run begins with: links and, if a state file is given, its contexts.
+#[derive(Drop)]
+pub struct Beginning<'a> {
+    links: Links,
+    state: Option<StateFile<'a>>,
+}
+
+impl<'a> Beginning<'a> {
+    /// Reads a links file and, if one is given, a state file.
+    pub fn read<R>(rt: &R, links: &'a str, state: Option<&'a str>) -> Result<Self, Ending<'a>>
+    where
+        R: Files + Input + Eprint + AllocGlobal,
+    {
+        let links = good_links(rt, links)?;
+        let state = match state {
+            Some(path) => Some(read_state(rt, path)?),
+            None => None,
+        };
+        Ok(Beginning { links, state })
+    }
+
+    /// The concentrator of the first run. How much of the state file is left out is printed.
+    pub fn concentrator<R>(&self, rt: &R) -> Result<Concentrator, Ending<'a>>
+    where
+        R: Eprint + AllocGlobal,
+    {
+        match &self.state {
+            Some(state) => restored(rt, &self.links, state.path, state.octets.as_slice()),
+            None => self.again(rt.alloc()),
+        }
+    }
+
+    /// The same concentrator, for another run over the same input.
+    pub fn again(&self, alloc: Global) -> Result<Concentrator, Ending<'a>> {
+        let settings = self.links.settings();
+        let Some(state) = &self.state else {
+            return Concentrator::new(alloc, settings).map_err(|_| Ending::Memory);
+        };
+        match restore(alloc, settings, state.octets.as_slice()) {
+            Ok((concentrator, _)) => Ok(concentrator),
+            Err(fault) => Err(refused(state.path, fault)),
+        }
+    }
 }
 
 /// A concentrator with the links of a file and, if a state file is given, its contexts.
@@ -88,8 +149,5 @@ pub fn concentrator_from<'a, R>(
 where
     R: Files + Input + Eprint + AllocGlobal,
 {
-    match state {
-        None => concentrator_of(rt, links),
-        Some(path) => restored_from(rt, &good_links(rt, links)?, path),
-    }
+    Beginning::read(rt, links, state)?.concentrator(rt)
 }

@@ -2,6 +2,7 @@
 
 use crate::capture_words::rules_of;
 use crate::narrow_words::{times_of, which_call};
+use crate::replaying::state_in;
 use crate::words_in::{input_of, keep_streams_apart, value_of};
 use clap::ArgMatches;
 use rohctl_ground::Ending;
@@ -17,6 +18,7 @@ pub(crate) fn report_of<'a>(
     keep_streams_apart(links, "INPUT", input)?;
     Ok(Asked {
         links,
+        state: state_in(options)?,
         input,
         output: value_of(options, "output")?,
         rules: rules_of(options),

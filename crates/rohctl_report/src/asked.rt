@@ -7,6 +7,8 @@ use rohctl_captures::{RuleWords, Times, Which};
 pub struct Asked<'a> {
     /// The links file.
     pub links: &'a str,
+    /// The state file whose contexts are there before the first packet.
+    pub state: Option<&'a str>,
     /// The script or the capture; `-` is standard input.
     pub input: &'a str,
     /// The page that is written; `-` is standard output.

@@ -2,19 +2,16 @@
 
 use crate::seen::{became_of, feedback_of, state_of};
 use indexmap::IndexMap;
-use rohc_concentrator::Concentrator;
 use rohc_report::{Axis, CallRow, Calls, Drawn, key_of};
-use rohctl_captures::{Narrow, Payloads, Place, Unit};
-use rohctl_explain::{Explained, Falls, explain_packet, write_whole};
+use rohctl_captures::{Narrow, Place, Unit};
+use rohctl_explain::{Decoding, Explained, write_whole};
 use rohctl_ground::{Line, Stop, Taker};
 use std::alloc::{AllocError, Global};
 
 /// The run that counts.
 #[derive(Drop)]
 pub(crate) struct Counting {
-    pub(crate) alloc: Global,
-    pub(crate) concentrator: Concentrator,
-    pub(crate) payloads: Payloads,
+    pub(crate) decoding: Decoding,
     pub(crate) calls: Calls,
     /// The lines or frames that are events.
     pub(crate) events: u64,
@@ -55,20 +52,13 @@ impl Taker for Counting {
                 moment,
                 packet,
             } => {
-                let packet = self.payloads.trimmed(&self.concentrator, link, packet);
-                let explained = explain_packet(
-                    self.alloc,
-                    &mut self.concentrator,
-                    link,
-                    moment,
-                    packet,
-                )?;
+                let explained = self.decoding.arrive(number, link, moment, packet)?;
                 if self.narrow.shows(&explained.seen(number)) {
                     self.count(number, &explained).map_err(|_| Stop::Memory)?;
                 }
             }
             Line::Reset { link } => {
-                if self.concentrator.reset(link).is_err() {
+                if self.decoding.concentrator.reset(link).is_err() {
                     self.calls.take_reset();
                 }
             }
@@ -131,12 +121,9 @@ impl DrawnCalls {
 /// The run that draws.
 #[derive(Drop)]
 pub(crate) struct Drawing {
-    pub(crate) alloc: Global,
-    pub(crate) concentrator: Concentrator,
-    pub(crate) payloads: Payloads,
+    pub(crate) decoding: Decoding,
     pub(crate) unit: Unit,
     pub(crate) narrow: Narrow,
-    pub(crate) falls: Falls,
     pub(crate) calls: DrawnCalls,
 }
 
@@ -177,7 +164,7 @@ impl Drawing {
             number,
         };
         match self.calls.call_of(explained) {
-            Some(drawn) => draw(self.alloc, drawn, number, at, explained),
+            Some(drawn) => draw(self.decoding.alloc, drawn, number, at, explained),
             None => Ok(()),
         }
     }
@@ -191,23 +178,13 @@ impl Taker for Drawing {
                 moment,
                 packet,
             } => {
-                let packet = self.payloads.trimmed(&self.concentrator, link, packet);
-                let mut explained = explain_packet(
-                    self.alloc,
-                    &mut self.concentrator,
-                    link,
-                    moment,
-                    packet,
-                )?;
-                if self.falls.take(number, &mut explained).is_err() {
-                    return Err(Stop::Memory);
-                }
+                let explained = self.decoding.arrive(number, link, moment, packet)?;
                 if self.narrow.shows(&explained.seen(number)) {
                     self.draw(number, &explained)?;
                 }
             }
             Line::Reset { link } => {
-                let _ = self.concentrator.reset(link);
+                let _ = self.decoding.concentrator.reset(link);
             }
             Line::Bad => {}
         }

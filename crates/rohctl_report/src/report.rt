@@ -4,14 +4,13 @@ use crate::asked::Asked;
 use crate::passes::{Counting, Drawing, DrawnCalls};
 use rohc_capture::Rule;
 use rohc_concentrator::Concentrator;
-use rohc_links::Links;
 use rohc_report::{CallRow, Calls, Report, worst_first, write_page};
 use rohctl_captures::{
     Carriage, Held, Narrow, Rest, Unit, capture_end, check_links, framing_of, hold, nothing_end,
     payloads_of, rules_of, take_all, unshown_end,
 };
-use rohctl_explain::Falls;
-use rohctl_ground::{Ending, Reason, Screen, good_links, keep_apart, make_target, unread};
+use rohctl_explain::{Decoding, Falls};
+use rohctl_ground::{Beginning, Ending, Reason, Screen, keep_apart, make_target, unread};
 use std::alloc::Global;
 use std::io::Write;
 use std::rt::{Env, Files};
@@ -20,17 +19,12 @@ use std::time::Clock;
 /// How many calls are drawn at most.
 const MOST_DRAWN: usize = 100;
 
-/// A concentrator with these links, without a record.
-fn fresh(alloc: Global, links: &Links) -> Result<Concentrator, Ending<'static>> {
-    Concentrator::new(alloc, links.settings()).map_err(|_| Ending::Memory)
-}
-
 /// The rules for a capture; a script has none.
 fn rules_for<'a, R>(
     rt: &R,
     held: &Held<'a, R::File>,
     asked: &Asked<'a>,
-    links: &Links,
+    concentrator: &Concentrator,
 ) -> Result<Option<Vec<Rule>>, Ending<'a>>
 where
     R: Files + AllocGlobal,
@@ -39,7 +33,7 @@ where
         return Ok(None);
     }
     let rules = rules_of(rt.alloc(), &asked.rules)?;
-    check_links(&fresh(rt.alloc(), links)?, asked.links, rules.as_slice())?;
+    check_links(concentrator, asked.links, rules.as_slice())?;
     Ok(Some(rules))
 }
 
@@ -84,6 +78,8 @@ fn end_of<'a>(
 #[derive(Drop)]
 struct Source<'a, 'p, F> {
     held: &'a Held<'p, F>,
+    /// The links and the contexts with which a pass over it begins.
+    beginning: &'a Beginning<'p>,
     /// Only a capture has one.
     carriage: Option<Carriage<'a>>,
     /// Which packets are shown, before the first one.
@@ -93,19 +89,31 @@ struct Source<'a, 'p, F> {
     screen: Screen,
 }
 
+/// The packets of an input, to be explained from this concentrator on.
+fn decoding_of<'p, F>(
+    alloc: Global,
+    source: &Source<'_, 'p, F>,
+    concentrator: Concentrator,
+) -> Result<Decoding, Ending<'p>> {
+    Ok(Decoding {
+        alloc,
+        concentrator,
+        payloads: payloads_of(alloc, source.payload)?,
+        falls: Falls::new(alloc),
+    })
+}
+
 /// Counts the packets of an input that are shown.
 fn count_all<'p, R>(
     rt: &R,
-    links: &Links,
     source: &Source<'_, 'p, R::File>,
+    concentrator: Concentrator,
 ) -> Result<(Counting, Rest), Ending<'p>>
 where
     R: Files + Eprint + Clock + AllocGlobal,
 {
     let mut counting = Counting {
-        alloc: rt.alloc(),
-        concentrator: fresh(rt.alloc(), links)?,
-        payloads: payloads_of(rt.alloc(), source.payload)?,
+        decoding: decoding_of(rt.alloc(), source, concentrator)?,
         calls: Calls::new(rt.alloc()),
         events: 0,
         narrow: source.narrow,
@@ -123,24 +131,20 @@ where
 /// A run that draws the calls of these rows.
 fn drawing_of<'p, F>(
     alloc: Global,
-    links: &Links,
     source: &Source<'_, 'p, F>,
     rows: &[CallRow],
 ) -> Result<Drawing, Ending<'p>> {
-    let concentrator = fresh(alloc, links)?;
-    let payloads = payloads_of(alloc, source.payload)?;
+    let concentrator = source.beginning.again(alloc)?;
+    let decoding = decoding_of(alloc, source, concentrator)?;
     match DrawnCalls::new(alloc, rows) {
         Ok(calls) => Ok(Drawing {
-            alloc,
-            concentrator,
-            payloads,
+            decoding,
             unit: if source.carriage.is_some() {
                 Unit::Frame
             } else {
                 Unit::Line
             },
             narrow: source.narrow,
-            falls: Falls::new(alloc),
             calls,
         }),
         Err(_) => Err(Ending::Memory),
@@ -150,7 +154,6 @@ fn drawing_of<'p, F>(
 /// Draws the calls of these rows. The input has to end as it did when it was counted.
 fn draw_all<'p, R>(
     rt: &R,
-    links: &Links,
     source: &Source<'_, 'p, R::File>,
     rows: &[CallRow],
     rest: Rest,
@@ -158,7 +161,7 @@ fn draw_all<'p, R>(
 where
     R: Files + Eprint + Clock + AllocGlobal,
 {
-    let mut drawing = drawing_of(rt.alloc(), links, source, rows)?;
+    let mut drawing = drawing_of(rt.alloc(), source, rows)?;
     let again = take_all(
         rt,
         source.held,
@@ -177,7 +180,6 @@ where
 fn report_rows<'p, R>(
     rt: &R,
     asked: &Asked<'p>,
-    links: &Links,
     source: &Source<'_, 'p, R::File>,
     calls: &Calls,
     rows: &[CallRow],
@@ -186,7 +188,7 @@ fn report_rows<'p, R>(
 where
     R: Files + Print + Eprint + Clock + AllocGlobal,
 {
-    let drawing = draw_all(rt, links, source, front_of(rows), rest)?;
+    let drawing = draw_all(rt, source, front_of(rows), rest)?;
     let report = Report {
         input: asked.input,
         links: asked.links,
@@ -204,7 +206,6 @@ where
 fn report_calls<'p, R>(
     rt: &R,
     asked: &Asked<'p>,
-    links: &Links,
     source: &Source<'_, 'p, R::File>,
     calls: &Calls,
     rest: Rest,
@@ -213,7 +214,7 @@ where
     R: Files + Print + Eprint + Clock + AllocGlobal,
 {
     match worst_first(rt.alloc(), calls) {
-        Ok(rows) => report_rows(rt, asked, links, source, calls, &rows, rest),
+        Ok(rows) => report_rows(rt, asked, source, calls, &rows, rest),
         Err(_) => Err(Ending::Memory),
     }
 }
@@ -222,13 +223,13 @@ where
 fn report_on<'p, R>(
     rt: &R,
     asked: &Asked<'p>,
-    links: &Links,
     source: &Source<'_, 'p, R::File>,
+    concentrator: Concentrator,
 ) -> Result<Ending<'p>, Ending<'p>>
 where
     R: Files + Print + Eprint + Clock + AllocGlobal,
 {
-    let (counting, rest) = count_all(rt, links, source)?;
+    let (counting, rest) = count_all(rt, source, concentrator)?;
     if rest.fault.is_none() && counting.events == 0 {
         let lines = counting.calls.bad;
         return Err(nothing_end(rt, source.held, source.carriage, lines));
@@ -237,30 +238,32 @@ where
         return Err(unshown_end(rt, asked.input, &counting.narrow));
     }
     let Counting { calls, .. } = counting;
-    report_calls(rt, asked, links, source, &calls, rest)
+    report_calls(rt, asked, source, &calls, rest)
 }
 
 /// Writes the report on the input that is asked for.
 fn report_input<'p, R>(
     rt: &R,
     asked: &Asked<'p>,
-    links: &Links,
+    beginning: &Beginning<'p>,
     screen: Screen,
 ) -> Result<Ending<'p>, Ending<'p>>
 where
     R: Files + Input + Print + Eprint + Env + Clock + AllocGlobal,
 {
+    let concentrator = beginning.concentrator(rt)?;
     let held = hold(rt, asked.input, screen)?;
-    let rules = rules_for(rt, &held, asked, links)?;
+    let rules = rules_for(rt, &held, asked, &concentrator)?;
     let carriage = Carriage::of(&rules, framing_of(&asked.rules)?);
     let source = Source {
         held: &held,
+        beginning,
         carriage,
         narrow: Narrow::new(asked.which, asked.times, rules.is_some()),
         payload: asked.payload,
         screen,
     };
-    report_on(rt, asked, links, &source)
+    report_on(rt, asked, &source, concentrator)
 }
 
 /// Writes the report that is asked for.
@@ -272,7 +275,8 @@ pub fn run_report<'p, R>(
 where
     R: Files + Input + Print + Eprint + Env + Clock + AllocGlobal,
 {
-    keep_apart(rt, &[asked.links, asked.input], &[Some(asked.output)])?;
-    let links = good_links(rt, asked.links)?;
-    report_input(rt, asked, &links, screen)
+    let inputs = [asked.links, asked.input, asked.state.unwrap_or("")];
+    keep_apart(rt, &inputs, &[Some(asked.output)])?;
+    let beginning = Beginning::read(rt, asked.links, asked.state)?;
+    report_input(rt, asked, &beginning, screen)
 }

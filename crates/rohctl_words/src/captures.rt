@@ -193,6 +193,15 @@ fn call() -> Word {
     valued("call", "L/C", "Narrow to the packets of this link and CID")
 }
 
+/// The option that names a state file.
+pub(crate) fn state() -> Word {
+    valued(
+        "state",
+        "FILE",
+        "Begin with the contexts of this state file of rohc-gateway",
+    )
+}
+
 /// The subcommand `report`.
 pub(crate) fn report_words<'a>(given: Given<'_>) -> Result<Command<'a>, AllocError> {
     with_rules(
@@ -208,6 +217,7 @@ pub(crate) fn report_words<'a>(given: Given<'_>) -> Result<Command<'a>, AllocErr
             call(),
             since(),
             until(),
+            state(),
             argument(
                 "INPUT",
                 "The script or the capture, pcap or pcapng; - or none is standard input",
@@ -244,12 +254,7 @@ pub(crate) fn explain_words<'a>(given: Given<'_>) -> Result<Command<'a>, AllocEr
             call(),
             since().with("links"),
             until().with("links"),
-            valued(
-                "state",
-                "FILE",
-                "Begin with the contexts of this state file of rohc-gateway",
-            )
-            .with("links"),
+            state().with("links"),
             flag(
                 "large",
                 "Without --links: the link has large CIDs, and not small ones",

@@ -1,6 +1,8 @@
 //! The command line as a whole, and the subcommands that read answers and links files.
 
-use crate::captures::{decompress_words, explain_words, feed_words, report_words, script_words};
+use crate::captures::{
+    decompress_words, explain_words, feed_words, report_words, script_words, state,
+};
 use crate::gateway::with_gateway;
 use crate::options::{Given, argument, arguments, color, flag, subcommand, valued};
 use crate::seeking::{find_words, survey_words};
@@ -115,11 +117,7 @@ fn run_words<'a>(given: Given<'_>) -> Result<Command<'a>, AllocError> {
         "Run a script as rohcd replay does, also from the contexts of a state file",
         &[
             valued("links", "FILE", "The links file").required(),
-            valued(
-                "state",
-                "FILE",
-                "Begin with the contexts of this state file of rohc-gateway",
-            ),
+            state(),
             argument("SCRIPT", "The script; - or none is standard input"),
         ],
     )
