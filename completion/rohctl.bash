@@ -39,8 +39,8 @@ _rohctl() {
         plain='' files='' takes_files='yes'
         ;;
     explain)
-        options='--link --vlan --port --ethertype --linktype --offset --links --line --lines --frame --frames --call --since --until --state --large --brief --json --color --help'
-        plain='--link --vlan --port --ethertype --linktype --offset --line --lines --frame --frames --call --since --until' files='--links --state' takes_files='yes'
+        options='--link --vlan --port --ethertype --linktype --offset --links --line --lines --frame --frames --payload --call --since --until --state --large --brief --json --color --help'
+        plain='--link --vlan --port --ethertype --linktype --offset --line --lines --frame --frames --payload --call --since --until' files='--links --state' takes_files='yes'
         ;;
     plan)
         options='--damage --packet-ms --window --calls --split --links --json --color --help'

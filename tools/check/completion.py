@@ -37,7 +37,7 @@ ROHCTL: tuple[Row, ...] = (
     ("--color --ethertype --from --help --link --linktype --now --offset --pace --port --to --vlan", ("feed", "--")),
     ("--color --ethertype --help --json --link --links --linktype --offset --port --vlan", ("survey", "--")),
     ("--color --control --ethertype --help --input --json --link --links --linktype --name --offset --port --state --vlan", ("find", "--")),
-    ("--brief --call --color --ethertype --frame --frames --help --json --large --line --lines --link --links --linktype --offset --port --since --state --until --vlan", ("explain", "--")),
+    ("--brief --call --color --ethertype --frame --frames --help --json --large --line --lines --link --links --linktype --offset --payload --port --since --state --until --vlan", ("explain", "--")),
     ("--color --help --json", ("diff", "--")),
     ("--color --help --links", ("trace", "--")),
     ("--color --help --links --state", ("run", "--")),

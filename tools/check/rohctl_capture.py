@@ -591,8 +591,10 @@ def check_padded(trial: Trial) -> None:
     ended = scripted(trial, padded, "--link", "1", "--links", LINKS, "--payload", "1=1", "-", script)
     packets = [bytes.fromhex(line.split()[3]) for line in script.read_text().splitlines()]
     trial.demand(packets == CALL, f"the script of padded frames: {ended.end()}", ended.call)
-    pages = [run(Call((trial.top / PROGRAM, "report", "--links", LINKS, "--link", "1", *words), given, {}, trial.top)) for given, words in ((plain, ()), (padded, ("--payload", "1=1")))]
-    trial.same("the report of padded frames", pages[0].text, pages[1].text, pages[1].call)
+    for name in ("explain", "report"):
+        shown = [run(Call((trial.top / PROGRAM, name, "--links", LINKS, "--link", "1", *words), given, {}, trial.top)) for given, words in ((plain, ()), (padded, ("--payload", "1=1")))]
+        trial.demand(shown[0].status == 0, f"{name} of frames without padding: {shown[0].end()}", shown[0].call)
+        trial.same(f"{name} of padded frames", shown[0].text, shown[1].text, shown[1].call)
     wrong = decompress(trial, padded, "--link", "1", "--payload", "1")
     trial.demand(wrong.status == 2 and "--payload" in wrong.said and "LINK=OCTETS" in wrong.said, f"--payload 1: {wrong.said}", wrong.call)
 

@@ -43,6 +43,8 @@ pub struct Asked<'a> {
     /// The state file whose contexts are there before the first packet.
     pub state: Option<&'a str>,
     pub source: Source<'a>,
+    /// How long the payloads of links are, as LINK=N with commas between them.
+    pub payload: Option<&'a str>,
     pub which: Which,
     /// Between which times packets are told.
     pub times: Times,

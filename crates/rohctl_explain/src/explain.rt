@@ -198,7 +198,7 @@ where
         decoding: Decoding {
             alloc: rt.alloc(),
             concentrator,
-            payloads: payloads_of(rt.alloc(), None)?,
+            payloads: payloads_of(rt.alloc(), asked.payload)?,
             falls: Falls::new(rt.alloc()),
         },
         assumed,

@@ -188,6 +188,7 @@ pub(crate) fn explain_of<'a>(
     Ok(Asked {
         state: state_in(options)?,
         source: source_of(alloc, options, is_terminal)?,
+        payload: options.get_str("payload"),
         which: which_of(options)?,
         times: times_of(options)?,
         telling,

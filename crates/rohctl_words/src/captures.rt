@@ -251,6 +251,7 @@ pub(crate) fn explain_words<'a>(given: Given<'_>) -> Result<Command<'a>, AllocEr
                 "Show only the packet in this frame of a capture",
             ),
             valued("frames", "A-B", "Show only the packets in these frames"),
+            payload().with("links"),
             call(),
             since().with("links"),
             until().with("links"),
