@@ -17,14 +17,12 @@ SCRIPTS = (
     ("examples/worked/two-calls-and-noise", "examples/worked/links-1.toml", ("1 0", "2 300")),
     ("examples/memory/growing-tables", "examples/memory/growing-tables.toml", ("1 0", "1 9", "2 300")),
 )
+SCRIPT = "examples/plain-call.script"
 MEMORY, HINT = "memory", "a hint"
 # Calls of the other programs: the program, its words, and the line with which it ends.
+ROHCTL, NO_MEMORY = "crates/rohctl/out/rohctl", "rohctl: out of memory; try a smaller input, or raise the limit (ulimit -v)"
 TOOLS = (
-    (
-        "crates/rohctl/out/rohctl",
-        ("links", "examples/links.toml"),
-        "rohctl: out of memory; try a smaller input, or raise the limit (ulimit -v)",
-    ),
+    (ROHCTL, ("links", "examples/links.toml"), NO_MEMORY),
     (
         "crates/rohc_gateway/out/rohc_gateway",
         ("check", "crates/rohc_gateway/data/gateway.toml"),
@@ -82,7 +80,7 @@ def refuse_each(trial: Trial, refuse: Path, name: str, links: str, pairs: tuple[
     trial.say(f"{name}: {request - 1} requests refused in turn, {kinds[MEMORY]} of them before the first line")
 
 
-def refuse_tool(trial: Trial, refuse: Path, program: str, words: tuple[str, ...], said: str) -> None:
+def refuse_tool(trial: Trial, refuse: Path, program: str, words: tuple[str | Path, ...], said: str) -> None:
     """Every request of another program is refused in turn: it must do all, or say that there is no memory."""
     whole = trial.ran(trial.top / program, *words)
     count = trial.scratch / "made"
@@ -105,7 +103,10 @@ def refuse_tool(trial: Trial, refuse: Path, program: str, words: tuple[str, ...]
 def check(trial: Trial) -> None:
     """Refuses each request of two scripts, and of the other programs."""
     refuse = trial.compiled("tools/refuse_request.c")
-    for program, words, said in TOOLS:
+    capture = trial.scratch / "call.pcap"
+    trial.ran(trial.top / ROHCTL, "script", "--back", "--port", "7000", SCRIPT, capture)
+    reports = [(ROHCTL, ("report", "--links", "examples/links.toml", *words), NO_MEMORY) for words in ((SCRIPT,), ("--port", "7000", capture))]
+    for program, words, said in (*TOOLS, *reports):
         refuse_tool(trial, refuse, program, words, said)
     for name, links, pairs in SCRIPTS:
         refuse_each(trial, refuse, name, links, pairs)

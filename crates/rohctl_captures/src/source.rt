@@ -1,7 +1,7 @@
 //! The packets of a source, one after another: of a script, or of a capture.
 
 use crate::carriage::Carriage;
-use rohc_capture::{Capture, CaptureFault};
+use rohc_capture::{Capture, CaptureFault, FaultKind};
 use rohctl_ground::{Line, Reason, Stop, Taker, is_capture_front, read_script};
 use std::alloc::Global;
 use std::io::Read;
@@ -13,6 +13,18 @@ pub struct Rest {
     pub left_out: u64,
     /// Why a capture was read no further.
     pub fault: Option<CaptureFault>,
+}
+
+/// What there was beside the packets of a capture that is read no further for this fault. Without memory more than the rest of
+/// it is missing.
+fn rest_before(left_out: u64, fault: CaptureFault) -> Result<Rest, Stop> {
+    if fault.kind == FaultKind::NoMemory {
+        return Err(Stop::Memory);
+    }
+    Ok(Rest {
+        left_out,
+        fault: Some(fault),
+    })
 }
 
 /// Has the packets of a capture taken.
@@ -29,10 +41,7 @@ fn take_frames<S: Read, T: Taker>(
         let record = match capture.next() {
             Ok(Some(record)) => record,
             Ok(None) => break,
-            Err(fault) => {
-                rest.fault = Some(fault);
-                break;
-            }
+            Err(fault) => return rest_before(rest.left_out, fault),
         };
         let octets = capture.frame();
         let Some((link, packet)) = carriage.packet_of(&record, octets) else {
@@ -69,10 +78,7 @@ pub fn take_source<S: Read, T: Taker>(
     };
     match Capture::new(alloc, source) {
         Ok(mut capture) => take_frames(&mut capture, carriage, taker),
-        Err(fault) => Ok(Rest {
-            left_out: 0,
-            fault: Some(fault),
-        }),
+        Err(fault) => rest_before(0, fault),
     }
 }
 

@@ -2,11 +2,28 @@
 
 use crate::seen::{became_of, feedback_of, state_of};
 use indexmap::IndexMap;
+use rohc_context::Refusal;
 use rohc_report::{Axis, CallRow, Calls, Drawn, key_of};
 use rohctl_captures::{Narrow, Place, Unit};
-use rohctl_explain::{Decoding, Explained, write_whole};
+use rohctl_explain::{Decoding, Explained, Got, write_whole};
 use rohctl_ground::{Line, Stop, Taker};
 use std::alloc::{AllocError, Global};
+
+/// Runs a packet in the line or frame with this number, and explains it. Without memory for its context the two runs would
+/// differ, so neither goes on.
+fn explain(
+    decoding: &mut Decoding,
+    number: u64,
+    link: u16,
+    moment: u64,
+    packet: &[u8],
+) -> Result<Explained, Stop> {
+    let explained = decoding.arrive(number, link, moment, packet)?;
+    if explained.got == Got::Refused(Refusal::NoMemory) {
+        return Err(Stop::Memory);
+    }
+    Ok(explained)
+}
 
 /// The run that counts.
 #[derive(Drop)]
@@ -52,7 +69,7 @@ impl Taker for Counting {
                 moment,
                 packet,
             } => {
-                let explained = self.decoding.arrive(number, link, moment, packet)?;
+                let explained = explain(&mut self.decoding, number, link, moment, packet)?;
                 if self.narrow.shows(&explained.seen(number)) {
                     self.count(number, &explained).map_err(|_| Stop::Memory)?;
                 }
@@ -178,7 +195,7 @@ impl Taker for Drawing {
                 moment,
                 packet,
             } => {
-                let explained = self.decoding.arrive(number, link, moment, packet)?;
+                let explained = explain(&mut self.decoding, number, link, moment, packet)?;
                 if self.narrow.shows(&explained.seen(number)) {
                     self.draw(number, &explained)?;
                 }

@@ -151,8 +151,11 @@ pub(crate) struct Counted {
 }
 
 impl Counted {
-    /// Counts a packet of a link that the run has.
+    /// Counts a packet of a link that the run has. Without memory for its context the counts would be wrong.
     fn take_packet(&mut self, explained: &Explained) -> Result<(), Stop> {
+        if explained.got == Got::Refused(Refusal::NoMemory) {
+            return Err(Stop::Memory);
+        }
         let Some(counts) = self.links.get_mut(&explained.link) else {
             return Ok(());
         };

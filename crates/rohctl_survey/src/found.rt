@@ -3,7 +3,7 @@
 use crate::address::{Endpoint, is_between};
 use indexmap::IndexMap;
 use rohc_concentrator::{Answer, Concentrator};
-use rohc_context::{ContextState, View};
+use rohc_context::{ContextState, Outcome, Refusal, View};
 use rohc_header::Static;
 use rohctl_explain::{fixed_in, state_in};
 use rohctl_ground::{Line, Stop, Taker};
@@ -158,7 +158,7 @@ impl Finding {
         Some(records.contexts.get(&cid)?.view())
     }
 
-    /// Takes a packet.
+    /// Takes a packet. Without memory for its context a call of it would not be found.
     fn take_packet(
         &mut self,
         number: u64,
@@ -166,10 +166,13 @@ impl Finding {
         moment: u64,
         packet: &[u8],
     ) -> Result<(), Stop> {
-        let cid = match self.concentrator.arrive(link, moment, packet) {
-            Answer::Arrived { cid, .. } => cid,
+        let (cid, outcome) = match self.concentrator.arrive(link, moment, packet) {
+            Answer::Arrived { cid, reply, .. } => (cid, reply.outcome),
             Answer::OnlyFront { .. } | Answer::Refused(_) => return Ok(()),
         };
+        if outcome == Outcome::Refused(Refusal::NoMemory) {
+            return Err(Stop::Memory);
+        }
         match self.view_of(link, cid) {
             Some(view) => self
                 .take_view(number, link, cid, &view)
