@@ -22,6 +22,8 @@ PLAIN = "examples/plain-call.script"
 TWO_LINKS = "examples/two-links.toml"
 TWO_HOSTS = "examples/two-hosts.toml"
 
+# A word with control characters, of C0 and of C1, and how it is shown.
+HOSTILE, ESCAPED = "\x1b[31m\x07\x9b", "\\u{1b}[31m\\u{7}\\u{9b}"
 # A head of pcap for Ethernet frames, a frame of ROHC and one of ARP (RFC 826).
 HEAD = struct.pack(">IHHiIII", 0xA1B2C3D4, 2, 4, 0, 0, 262_144, 1)
 ROHC_FRAME = bytes.fromhex("020000000001" "020000000002" "22f1" "fc00b745aa")
@@ -633,6 +635,26 @@ def check_lists(trial: Trial, folder: Path) -> None:
         trial.demand((ended.status, ended.text, ended.said) == (status, told, ""), f"verify {text!r}: {ended.end()}, {ended.text}; wanted {told}", ended.call)
 
 
+def check_hostile(trial: Trial, folder: Path) -> None:
+    """Names of files and words with control characters, and a script with some: no output has one, and errors name them by their escapes."""
+    links, bad, script, capture = (f"{HOSTILE}{name}" for name in ("links.toml", "bad.toml", "call.script", "rohc.pcap"))
+    for name, octets in ((links, b""), (bad, b"version = 3\n"), (script, b"# \x1b[2J\narrive 1 0 \x1b[1m\narrive 1 0 fc00b745aa\n"), (capture, b"")):
+        (folder / name).write_bytes(octets or (folder / name.removeprefix(HOSTILE)).read_bytes())
+    linked = ("--links", links)
+    named = [("links", bad), ("links", links, bad), ("links", HOSTILE), ("run", "--links", bad, script), ("run", *linked, "--state", script, script)]
+    named += [("trace", *linked, capture), ("explain", *linked, "--call", HOSTILE, script), ("explain", *linked, capture, "--vlan", "5=1"), ("report", *linked, script, "-o", script)]
+    named += [("find", *linked, "--input", script, "10.0.0.1"), ("find", *linked, "--input", script, HOSTILE), ("script", *LINK_1, *linked, "--since", "99", capture)]
+    named += [("totals", HOSTILE), ("spread", links, "--hosts", bad), ("verify", script), ("plan", "--window", HOSTILE), ("status", "--control", HOSTILE)]
+    shown = [("trace", *linked, script), ("explain", *linked, script), ("explain", HOSTILE), ("survey", script), ("diff", script, script)]
+    for words in (*named, *shown):
+        ended = run(Call((trial.top / PROGRAM, *words), b"", {}, folder))
+        found = [one for one in ended.all if one not in "\n\t" and (one < " " or "\x7f" <= one < "\xa0")]
+        trial.demand(not found, f"{words}: shows {found}", ended.call)
+        trial.demand(words in shown or ESCAPED in ended.all, f"{words}: doesn't name it: {ended.all}", ended.call)
+    for name in (links, bad, script, capture):
+        (folder / name).unlink()
+
+
 def check_terminals(trial: Trial, folder: Path) -> None:
     """On a terminal a missing word is asked for, and a capture isn't written."""
     ours, theirs = pty.openpty()
@@ -711,6 +733,7 @@ def check(trial: Trial) -> None:
     check_answers(trial, folder)
     check_systems(trial, folder)
     check_changed(trial, folder)
+    check_hostile(trial, folder)
     check_terminals(trial, folder)
     check_reader(trial, folder)
     check_forbidden(trial)

@@ -2,8 +2,8 @@
 
 use rohc_trace::{TraceFault, trace};
 use rohctl_ground::{
-    CAPTURE, Ending, STREAM, Screen, concentrator_of, input_name, is_capture_front, make_target,
-    open_told,
+    CAPTURE, Ending, Printable, STREAM, Screen, concentrator_of, input_name, is_capture_front,
+    make_target, open_told,
 };
 use std::io::{self, Write};
 use std::rt::Files;
@@ -58,7 +58,7 @@ impl<W: Write + Drop> Write for Noticing<W> {
 
 /// Prints why a script may have lines that are no events: it is a capture, or they end with a carriage return.
 fn hint<R: Eprint>(rt: &R, script: &str, is_capture: bool, has_carriage: bool) {
-    let name = input_name(script);
+    let name = Printable(input_name(script));
     let _ = if is_capture {
         eprintln!(rt; "rohctl: {name}: {CAPTURE}")
     } else if has_carriage {

@@ -7,7 +7,7 @@ ghost use Rattle.rohctl_ground.specs.Ending.{status_of};
 
 use crate::place::{Span, is_within};
 use crate::time_text::Shown;
-use rohctl_ground::{Ending, Nothing, input_name};
+use rohctl_ground::{Ending, Nothing, Printable, input_name};
 
 /// How many milliseconds a day has.
 const DAY: u64 = 86_400_000;
@@ -239,7 +239,7 @@ pub fn no_packet_between<R: Eprint>(
 ) -> Ending<'static>
     ensures { result ≡ Ending.NoFrame }
 {
-    let name = input_name(path);
+    let name = Printable(input_name(path));
     let earliest = Shown::new(span.0, is_capture);
     let latest = Shown::new(span.1, is_capture);
     let _ = eprintln!(rt;

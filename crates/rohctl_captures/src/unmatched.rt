@@ -4,7 +4,7 @@
 ghost use Rattle.std.specs.Prelude.{◌≡◌};
 
 use rohc_capture::{Capture, Carrier, FrameFault, Framing, Protocol, carried_in, network_under};
-use rohctl_ground::{Ending, STREAM, input_name, open_file};
+use rohctl_ground::{Ending, Printable, STREAM, input_name, open_file};
 use std::alloc::Global;
 use std::fmt;
 use std::io::Read;
@@ -179,7 +179,7 @@ fn finds_of<R: Files + AllocGlobal>(rt: &R, path: &str, framing: &Framing) -> Op
 
 /// Prints what there is in place of a packet of a link.
 fn tell<R: Eprint>(rt: &R, path: &str, whose: &str, finds: &Finds) {
-    let name = input_name(path);
+    let name = Printable(input_name(path));
     let _ = if finds.kinds.is_empty() {
         eprintln!(rt; "rohctl: {name}: nothing to show: the capture has no frame")
     } else {

@@ -5,6 +5,7 @@ ghost use Rattle.std.specs.IoError.{error_kind};
 ghost use Rattle.std.specs.Str.{bytes_eq};
 
 use crate::hex_word::HexFault;
+use crate::printable::Printable;
 use rohc_capture::{CaptureFault, FaultKind};
 use rohc_saved::SavedFault;
 use rohc_text::{Reason, shown_word};
@@ -230,7 +231,11 @@ impl fmt::Display for Misuse<'_> {
                 word,
                 given,
                 expected,
-            } => write!(f, "{word} {}: expected {expected}", shown_word(given)),
+            } => write!(
+                f,
+                "{word} {}: expected {expected}",
+                Printable(shown_word(given))
+            ),
             Misuse::Missing { word, expected } => write!(
                 f,
                 "{word} is missing; expected {expected}"
@@ -239,7 +244,7 @@ impl fmt::Display for Misuse<'_> {
             Misuse::Script(path) => write!(
                 f,
                 "{}: a script or a capture needs --links; without it packets in hexadecimal digits are expected, as fc00b745aa",
-                input_name(path)
+                Printable(input_name(path))
             ),
             Misuse::NotUtf8 => f.write_str(
                 "a word of the command line is not UTF-8; expected UTF-8, also in file names",
@@ -247,13 +252,13 @@ impl fmt::Display for Misuse<'_> {
             Misuse::Overwrites { output, input } => write!(
                 f,
                 "{}: refusing to overwrite the input {}; choose another output",
-                output_name(output),
-                input_name(input)
+                Printable(output_name(output)),
+                Printable(input_name(input))
             ),
             Misuse::OneOutput(output) => write!(
                 f,
                 "{}: two outputs would be written to it; choose another for one of them",
-                output_name(output)
+                Printable(output_name(output))
             ),
             Misuse::Terminal => f.write_str(
                 "refusing to write a capture to a terminal; name a file, or pipe it into another program",
@@ -352,7 +357,7 @@ fn write_capture<W: fmt::Write>(
     fault: &CaptureFault,
 ) -> fmt::Result {
     let octet = fault.place;
-    write!(f, "rohctl: {}: ", input_name(path))?;
+    write!(f, "rohctl: {}: ", Printable(input_name(path)))?;
     match fault.kind {
         FaultKind::NotACapture => return f.write_str("not a capture; expected pcap or pcapng\n"),
         FaultKind::CutOff => write!(f, "the capture is cut off in the record at octet {octet}")?,
@@ -378,7 +383,7 @@ fn write_state<W: fmt::Write>(
     path: &str,
     fault: &SavedFault,
 ) -> fmt::Result {
-    write!(f, "rohctl: {path}: ")?;
+    write!(f, "rohctl: {}: ", Printable(path))?;
     match fault {
         SavedFault::NotSaved => f.write_str("it is not a state file")?,
         SavedFault::Version { place } => write!(f, "it has an unknown version, at octet {place}")?,
@@ -400,7 +405,7 @@ fn write_at<W: fmt::Write, T: fmt::Display>(
     what: &str,
     why: &T,
 ) -> fmt::Result {
-    write!(f, "rohctl: {place}: {what}: {why}\n")
+    write!(f, "rohctl: {}: {what}: {why}\n", Printable(place))
 }
 
 impl fmt::Display for Ending<'_> {
@@ -418,7 +423,7 @@ impl fmt::Display for Ending<'_> {
             Ending::LinksUnread(path, reason) => write!(
                 f,
                 "rohctl: links file {}: cannot read it: {reason}\n",
-                input_name(path)
+                Printable(input_name(path))
             ),
             Ending::Differs => f.write_str(
                 "rohctl: internal error: rohctl and the decompressor disagree; please report this\n",

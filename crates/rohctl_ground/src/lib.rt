@@ -7,6 +7,7 @@ mod ending;
 mod hex_word;
 mod lines;
 mod links;
+mod printable;
 mod progress;
 mod state;
 mod streams;
@@ -18,6 +19,7 @@ pub use ending::{
 };
 pub use lines::{Line, Stop, Taker, read_packets, read_script};
 pub use links::{concentrator_of, good_links, links_text, text_at};
+pub use printable::{Printable, printed};
 pub use rohc_text::{Reason, nearest_name, shown_word, write_octets, write_quoted, write_value};
 pub use state::{Beginning, concentrator_from, octets_at, restored};
 pub use streams::{

@@ -1,6 +1,7 @@
 //! The links file, from the path to the concentrator, as rohcd takes it. Its faults are printed.
 
 use crate::ending::{Ending, STREAM};
+use crate::printable::printed;
 use rohc_concentrator::{Concentrator, SetupFault};
 use rohc_faults::{Finding, all_faults, findings, no_toml, write_sentence};
 use rohc_links::{Links, LinksFault, read_links};
@@ -97,7 +98,10 @@ fn fault_lines(alloc: Global, path: &str, text: &str) -> Result<Vec<u8>, AllocEr
 
 /// Prints the first faults of a refused text. Returns how the run ends.
 fn refused<R: Eprint + AllocGlobal>(rt: &R, path: &str, text: &str) -> Ending<'static> {
-    let Ok(lines) = fault_lines(rt.alloc(), path, text) else {
+    let Ok(path) = printed(rt.alloc(), path) else {
+        return Ending::Memory;
+    };
+    let Ok(lines) = fault_lines(rt.alloc(), path.as_str(), text) else {
         return Ending::Memory;
     };
     let _ = match String::from_utf8(lines) {

@@ -2,6 +2,7 @@
 
 use crate::ending::{Ending, unread};
 use crate::links::good_links;
+use crate::printable::Printable;
 use crate::streams::{open_file, open_source};
 use rohc_concentrator::Concentrator;
 use rohc_links::Links;
@@ -43,6 +44,7 @@ fn tell_left_out<R: Eprint>(rt: &R, path: &str, restored: &Restored) {
         .saturating_add(restored.high_contexts);
     let links = restored.unknown_links.saturating_add(restored.other_links);
     if contexts > 0 || links > 0 {
+        let path = Printable(path);
         let _ = eprintln!(rt;
             "rohctl: {path}: left out {contexts} contexts and {links} links; the links file has not their link, its CID kind or their CIDs"
         );

@@ -4,7 +4,7 @@ use crate::settings::{write_links, write_links_json};
 use rohc_concentrator::{Concentrator, SetupFault};
 use rohc_faults::{Finding, Wrong, all_faults, findings, no_toml, write_sentence};
 use rohc_links::{Links, LinksFault, read_links};
-use rohctl_ground::{Ending, links_text, unprinted, write_quoted, write_value};
+use rohctl_ground::{Ending, Printable, links_text, printed, unprinted, write_quoted, write_value};
 use std::alloc::{AllocError, Global};
 use std::io;
 use std::io::{BufWriter, Write};
@@ -142,6 +142,8 @@ fn write_refused<W: Write>(
     name: &str,
     json: bool,
 ) -> Result<Ending<'static>, Ending<'static>> {
+    let path = printed(alloc, path).map_err(|_| Ending::Memory)?;
+    let path = path.as_str();
     match toml::table_from_str(alloc, text) {
         Ok(table) => write_table(out, alloc, path, text, &table, name, json)?,
         Err(error) if error.is_memory() => return Err(Ending::Memory),
@@ -219,7 +221,7 @@ fn write_brief<W: Write>(
     let good = matches!(&verdict, Verdict::Taken(_));
     let written = match (json, good) {
         (true, good) => write_file_object(out, path, good),
-        (false, true) => writeln!(out, "{path}: good"),
+        (false, true) => writeln!(out, "{}: good", Printable(path)),
         (false, false) => Ok(()),
     };
     written.map_err(|error| unprinted(&error))?;

@@ -6,8 +6,8 @@ use crate::settings::write_entry;
 use rohc_faults::{no_toml, write_sentence};
 use rohc_links::Links;
 use rohctl_ground::{
-    Ending, Misuse, Reason, good_links, nearest_name, overwritten, text_at, unprinted, unread,
-    unwritten, write_quoted, write_value,
+    Ending, Misuse, Reason, good_links, nearest_name, overwritten, printed, text_at, unprinted,
+    unread, unwritten, write_quoted, write_value,
 };
 use std::alloc::{AllocError, Global};
 use std::fs;
@@ -503,10 +503,11 @@ where
     R: Files + AllocGlobal,
     W: Write,
 {
+    let path = printed(rt.alloc(), asked.hosts).map_err(|_| Ending::Memory)?;
     let written = match toml::table_from_str(rt.alloc(), text) {
         Ok(table) => return write_hosts(rt, out, asked, text, &table, links),
         Err(error) if error.is_memory() => return Err(Ending::Memory),
-        Err(error) => write_sentence(out, asked.hosts, &no_toml(text, &error)),
+        Err(error) => write_sentence(out, path.as_str(), &no_toml(text, &error)),
     };
     match written {
         Ok(()) => Ok(Ending::Findings),
@@ -527,10 +528,11 @@ where
     R: Files + AllocGlobal,
     W: Write,
 {
+    let path = printed(rt.alloc(), asked.hosts).map_err(|_| Ending::Memory)?;
     let written = match hosts_in(rt.alloc(), table) {
         Ok(hosts) => return write_rules(rt, out, asked, text, &hosts, links),
         Err(HostsFault::NoMemory) => return Err(Ending::Memory),
-        Err(fault) => write_fault(out, rt.alloc(), asked.hosts, text, table, fault),
+        Err(fault) => write_fault(out, rt.alloc(), path.as_str(), text, table, fault),
     };
     match written {
         Ok(()) => Ok(Ending::Findings),
@@ -553,7 +555,8 @@ where
 {
     let target = target_of(asked)?;
     let processes = hosts.processes.as_slice();
-    let Some(owners) = owners(out, rt.alloc(), asked.hosts, text, processes, links)? else {
+    let path = printed(rt.alloc(), asked.hosts).map_err(|_| Ending::Memory)?;
+    let Some(owners) = owners(out, rt.alloc(), path.as_str(), text, processes, links)? else {
         return Ok(Ending::Findings);
     };
     if let Some(folder) = asked.out {

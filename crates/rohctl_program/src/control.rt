@@ -5,7 +5,7 @@ ghost use Rattle.rohctl_program.specs.declared.control.Body.{Body};
 
 use rohc_text::Reason;
 use rohctl_answers::clear;
-use rohctl_ground::{Ending, Screen, shown_word, unprinted};
+use rohctl_ground::{Ending, Printable, Screen, shown_word, unprinted};
 use std::alloc::Global;
 use std::io::{self, Read, Write};
 use std::net::Net;
@@ -114,7 +114,7 @@ impl Fault {
             Fault::Output(error) => unprinted(error),
             Fault::Memory => Ending::Memory,
             _ => {
-                let control = shown_word(control);
+                let control = Printable(shown_word(control));
                 let _ = eprintln!(rt; "rohctl: {control}: {self}");
                 Ending::NoGateway
             }

@@ -1,7 +1,7 @@
 //! The subcommand `verify`: whether files are as they were packed.
 
 use hex::encode_to_slice;
-use rohctl_ground::{Ending, Nothing, Reason, open_file, unprinted, unread};
+use rohctl_ground::{Ending, Nothing, Printable, Reason, open_file, unprinted, unread};
 use sha2::{Digest, Sha256};
 use std::alloc::{AllocError, Global};
 use std::fs;
@@ -120,7 +120,8 @@ fn verify_line<R: Files + AllocGlobal, W: Write>(
     let Some((digits, path)) = digest_in(line) else {
         return match writeln!(
             out,
-            "{list}:{number}: not a digest and a path; expected a line as sha256sum writes it"
+            "{}:{number}: not a digest and a path; expected a line as sha256sum writes it",
+            Printable(list)
         ) {
             Ok(()) => Ok(false),
             Err(error) => Err(unprinted(&error)),

@@ -10,7 +10,8 @@ use rohctl_captures::{
     take_all,
 };
 use rohctl_ground::{
-    Ending, Reason, Screen, concentrator_from, good_links, input_name, restored, unprinted, unread,
+    Ending, Printable, Reason, Screen, concentrator_from, good_links, input_name, restored,
+    unprinted, unread,
 };
 use std::io;
 use std::io::{BufWriter, Write};
@@ -65,7 +66,7 @@ where
     R: Print + Eprint + Clock + AllocGlobal,
 {
     if finding.calls.is_empty() {
-        let path = input_name(asked.input.or(asked.state).unwrap_or(RUNNING));
+        let path = Printable(input_name(asked.input.or(asked.state).unwrap_or(RUNNING)));
         let _ = eprintln!(rt;
             "rohctl: {path}: nothing to show: no call has these addresses; expected those of its IP packets, as 'rohctl explain' shows them"
         );
