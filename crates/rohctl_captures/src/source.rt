@@ -15,8 +15,8 @@ pub struct Rest {
     pub fault: Option<CaptureFault>,
 }
 
-/// What there was beside the packets of a capture that is read no further for this fault. Without memory more than the rest of
-/// it is missing.
+/// What there was beside the packets of a capture that is read no further for this fault. Lack of memory is no fault of
+/// the capture, so it stops the run.
 fn rest_before(left_out: u64, fault: CaptureFault) -> Result<Rest, Stop> {
     if fault.kind == FaultKind::NoMemory {
         return Err(Stop::Memory);

@@ -9,8 +9,8 @@ use rohctl_explain::{Decoding, Explained, Got, write_whole};
 use rohctl_ground::{Line, Stop, Taker};
 use std::alloc::{AllocError, Global};
 
-/// Runs a packet in the line or frame with this number, and explains it. Without memory for its context the two runs would
-/// differ, so neither goes on.
+/// Runs a packet in the line or frame with this number, and explains it. Without memory for its context the two runs
+/// would differ, so neither continues.
 fn explain(
     decoding: &mut Decoding,
     number: u64,
