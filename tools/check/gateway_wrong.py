@@ -61,6 +61,7 @@ WHOLE = "expected a complete state file of this version (run --fresh starts with
 LONG = "/" + "a" * 103
 TOO_MANY = "Too many open files (os error 24); expected free file descriptors (ulimit -n)"
 A_DOCUMENT = "expected a TOML document (toml.io)"
+A_FOLDER = "expected a directory that this user may write"
 
 # A gateway file, and what is wrong with it.
 GATEWAY_FILES: tuple[tuple[bytes | str, tuple[str, ...]], ...] = (
@@ -90,6 +91,9 @@ GATEWAY_FILES: tuple[tuple[bytes | str, tuple[str, ...]], ...] = (
     (GOOD + 'control = "c"\ncontrol_group = 4294967295\n', (f"FILE:4: control_group is 4294967295; {A_GROUP}",)),
     (GOOD + 'control = "c"\ncontrol_group = "no such"\n', ('FILE:4: control_group is "no such"; expected a group in /etc/group, or its number',)),
     (GOOD + "control_group = 1\n", ('FILE:3: control_group needs control; expected control = "PATH"',)),
+    (GOOD + 'state = "none/calls"\n', (f"FILE:3: state: DIR/none is missing; {A_FOLDER}",)),
+    (GOOD + 'state = "calls"\nscratch = "none"\n', (f"FILE:4: scratch: DIR/none is missing; {A_FOLDER}",)),
+    (GOOD + 'control = "links.toml/control"\n', (f"FILE:3: control: DIR/links.toml is not a directory; {A_FOLDER}",)),
     (GOOD + "receive_buffer = 0\n", ("FILE:3: receive_buffer is 0; expected a number of octets from 1 to 1073741824",)),
     (GOOD + 'log_fromat = "json"\n', ('FILE:3: unknown key "log_fromat"; did you mean log_format?',)),
     (GOOD + "[[link]]\n", (f"FILE:3: link table 1: number is missing; {NUMBER}",)),
@@ -501,10 +505,10 @@ def check_sockets(trial: Trial) -> None:
     busy = "address already in use; expected a free port (ss -anp shows who uses it)"
     program, file = trial.top / PROGRAM, folder / "gateway.toml"
 
-    def ends(words: Sequence[Word], line: str) -> None:
+    def ends(words: Sequence[Word], line: str, status: int = 4) -> None:
         told = trial.ran(program, "run", *words, file, seconds=20)
         wanted = placed(LINE + line, folder)
-        trial.demand((told.status, dated(told.said)) == (4, wanted), f"{told.end()}; wanted 4, {wanted}", told.call)
+        trial.demand((told.status, dated(told.said)) == (status, wanted), f"{told.end()}; wanted {status}, {wanted}", told.call)
 
     with taken(socket.SOCK_DGRAM) as port:
         ends(("--port", str(port)), f"port: UDP {LOOPBACK}:{port}: {busy}")
@@ -515,8 +519,9 @@ def check_sockets(trial: Trial) -> None:
         free.close()
         file.write_text(f'links = "links.toml"\nport = {plain}\n')
         ends(("--metrics-port", str(port)), f"metrics_port: TCP {LOOPBACK}:{port}: {busy}")
-        for path, why in ("none/control", MISSING), ("notes/control", NO_DIRECTORY):
-            ends(("--control", str(folder / path)), f"control: DIR/{path}: {why}; {WRITABLE}")
+        for name, why in ("none", "is missing"), ("notes", "is not a directory"):
+            line = f"command line: control: DIR/{name} {why}; {A_FOLDER}"
+            ends(("--control", str(folder / name / "control")), line, 3)
     check_descriptors(trial, folder)
 
 

@@ -1,8 +1,9 @@
-//! Files that are none: what a gateway reads or saves must be a regular file.
+//! Files that are none: what a gateway reads or saves must be a regular file, and what it writes needs a folder.
 
 use crate::lines::Lines;
 use crate::saves::SavePaths;
 use rohc_gateway_file::{Reading, write_place};
+use rohc_loop::folder_of;
 use rohc_text::{Reason, shown_word};
 use std::fs;
 use std::io::{self, Write};
@@ -78,4 +79,55 @@ pub(crate) fn write_linked<R: Files + AllocGlobal, W: Write>(
         }
     }
     Ok(is_any)
+}
+
+/// What is wrong with the folder of a path, if anything is.
+fn lack_of<R: Files>(rt: &R, path: &str) -> Option<&'static str> {
+    match fs::metadata(rt, folder_of(path)) {
+        Ok(found) if found.is_dir() => None,
+        Ok(_) => Some("is not a directory"),
+        Err(_) => Some("is missing"),
+    }
+}
+
+/// Writes what is wrong with the folder of a path, if anything is. The path is that of this key.
+fn write_lacking<R: Files, W: Write>(
+    rt: &R,
+    out: &mut W,
+    file: &str,
+    reading: &Reading<'_>,
+    key: &str,
+    path: &str,
+) -> io::Result<()> {
+    let Some(lack) = lack_of(rt, path) else {
+        return Ok(());
+    };
+    let folder = shown_word(folder_of(path));
+    write_place(out, file, reading.place_of(key))?;
+    writeln!(
+        out,
+        "{key}: {folder} {lack}; expected a directory that this user may write"
+    )
+}
+
+/// Writes which of the folders of saves and of the control socket aren't there.
+pub(crate) fn write_no_folders<R: Files + AllocGlobal, W: Write>(
+    rt: &R,
+    out: &mut W,
+    file: &str,
+    reading: &Reading<'_>,
+) -> io::Result<()> {
+    let config = &reading.config;
+    if let Some(state) = &config.state {
+        write_lacking(rt, out, file, reading, "state", state.as_str())?;
+    }
+    if config.scratch.is_some()
+        && let Some(paths) = SavePaths::of(rt.alloc(), config)?
+    {
+        write_lacking(rt, out, file, reading, "scratch", paths.latest())?;
+    }
+    match &config.control {
+        Some(control) => write_lacking(rt, out, file, reading, "control", control.as_str()),
+        None => Ok(()),
+    }
 }

@@ -4,7 +4,7 @@ use crate::lines::Lines;
 use crate::links_file::{NoLinks, read_links_file};
 use crate::lock::Locks;
 use crate::outputs::write_overwritten;
-use crate::regular::{write_linked, write_unread};
+use crate::regular::{write_linked, write_no_folders, write_unread};
 use crate::restoring::{Back, move_aside, restore_newest};
 use crate::saves::SavePaths;
 use crate::time::Time;
@@ -89,6 +89,14 @@ fn config_in<R: Files + AllocGlobal>(
     }
 }
 
+/// The system's list of groups; empty if it can't be read.
+fn group_list<R: Files + AllocGlobal>(rt: &R) -> String {
+    match read_text(&mut RealDisk::of(rt), rt.alloc(), GROUPS) {
+        Ok(list) => list,
+        Err(_) => String::new(rt.alloc()),
+    }
+}
+
 /// What was read of a gateway file, without a state file that is something else or a symbolic link. The lines say what is wrong.
 fn judged<R: Files + AllocGlobal>(
     rt: &R,
@@ -97,16 +105,13 @@ fn judged<R: Files + AllocGlobal>(
     lines: &mut Lines,
 ) -> io::Result<Config> {
     if let Some(Group::Named(_)) = &reading.config.control_group {
-        let list = read_text(&mut RealDisk::of(rt), rt.alloc(), GROUPS);
-        let list = match &list {
-            Ok(list) => list.as_str(),
-            Err(_) => "",
-        };
-        reading.number_group(list, GROUPS)?;
+        let list = group_list(rt);
+        reading.number_group(list.as_str(), GROUPS)?;
     }
     for fault in &reading.faults {
         fault.write(lines, file)?;
     }
+    write_no_folders(rt, lines, file, &reading)?;
     let is_other = write_overwritten(rt, lines, file, &reading)?
         || write_linked(rt, lines, file, &reading)?;
     let mut config = reading.config;
