@@ -17,7 +17,7 @@ use clap::error::ErrorKind;
 use rohctl_answers::{Asked as Totals, Compared, Form};
 use rohctl_captures::{Decompress, Feed, Script};
 use rohctl_explain::Asked;
-use rohctl_ground::{Ending, Misuse, Screen, unprinted};
+use rohctl_ground::{Ending, Misuse, Printable, Screen, unprinted};
 use rohctl_links::{AskedWindow, Plan, Spread};
 use rohctl_report::Asked as Report;
 use rohctl_survey::{Sought, Survey};
@@ -398,6 +398,16 @@ fn asked_for<'a>(
     Ok((named(alloc, name, options, screen.input)?, screen))
 }
 
+/// Prints what is wrong with the words of the command line. Each control character in them is shown by its escape.
+fn misused<R: Eprint>(rt: &R, text: &str) -> Ending<'static> {
+    for line in text.lines() {
+        if let Err(error) = eprintln!(rt; "{}", Printable(line)) {
+            return unprinted(&error);
+        }
+    }
+    Ending::CommandLine
+}
+
 /// Reads the request from the words of the command line. Help, the version and what is wrong with the words are
 /// printed here.
 pub(crate) fn read_request<'a, R: Print + Eprint + AllocGlobal>(
@@ -411,16 +421,13 @@ pub(crate) fn read_request<'a, R: Print + Eprint + AllocGlobal>(
     match command.try_get_matches_from(words) {
         Ok(matches) => asked_for(rt.alloc(), &matches, screen),
         Err(error) if error.kind() == ErrorKind::OutOfMemory => Err(Ending::Memory),
-        Err(error) => {
-            let ending = if error.exit_code() == 0 {
-                Ending::Good
-            } else {
-                Ending::CommandLine
-            };
-            match error.print(rt) {
-                Ok(()) => Err(ending),
-                Err(error) => Err(unprinted(&error)),
-            }
-        }
+        Err(error) if error.exit_code() == 0 => match error.print(rt) {
+            Ok(()) => Err(Ending::Good),
+            Err(error) => Err(unprinted(&error)),
+        },
+        Err(error) => match format!(in rt.alloc(); "{error}") {
+            Ok(text) => Err(misused(rt, text.as_str())),
+            Err(_) => Err(Ending::Memory),
+        },
     }
 }
