@@ -52,7 +52,7 @@ pub(crate) fn station(rt: &(impl AllocGlobal + Abort), first: u16, second: u16) 
 #[test]
 fn reads_a_timed_datagram(rt: HostRuntime) {
     let octets = [1, 2, 0, 0, 0, 0, 0, 0, 3, 4, 0xfd, 0x00];
-    let timed = timed_datagram(&octets).unwrap();
+    let timed = timed_datagram(&octets).expect(&rt, "it is there");
     assert_eq!(rt; timed.link, 258);
     assert_eq!(rt; timed.moment, 772);
     assert_eq!(rt; timed.packet, [0xfd, 0x00].as_slice());
@@ -265,7 +265,15 @@ fn counts_expired_calls_as_none(rt: HostRuntime) {
     };
     assert!(rt; station.take(2950, Some(later)).sends.refused);
     assert!(rt; station.totals().new_call == 3);
-    assert!(rt; station.counters().get(&4).unwrap().limiter.contexts_limited == 1);
+    assert!(rt;
+        station
+            .counters()
+            .get(&4)
+            .expect(&rt, "it is there")
+            .limiter
+            .contexts_limited
+            == 1
+    );
     assert!(rt; !station.take(3000, Some(later)).sends.refused);
 }
 
