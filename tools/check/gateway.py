@@ -48,6 +48,8 @@ SHORTEST_FRAME, ETHERNET_HEAD = 60, 14
 KILLS = 20
 STOPS = 20
 SLOW = 40
+# A link that no links file has.
+NO_LINK = 999
 # How many CIDs of a link that only got NoContext are kept.
 UNKNOWN = 64
 FLOOD = 200_000
@@ -386,6 +388,18 @@ def check_page(trial: Trial, gateway: Gateway, wanted: Counter[tuple[str, str]])
     browser.check(trial, page, "the page of the gateway")
 
 
+def check_unknown_link(trial: Trial, gateway: Gateway) -> None:
+    """The status and the page show a link that datagrams name and that isn't there."""
+    for _ in range(3):
+        gateway.sender.sendto(numbered(NO_LINK, b"\xfd"), (LOOPBACK, gateway.port))
+        gateway.count += 1
+    gateway.wait_taken()
+    found = gateway.ask("GET", "/status").json["unknown_links"]
+    trial.demand(found == [{"link": NO_LINK, "datagrams": 3}], f"status: unknown links: {found}")
+    page = gateway.ask("GET", "/").body.decode()
+    trial.demand(f'<tr><th scope="row">{NO_LINK}</th><td>3</td></tr>' in page, f"page: link {NO_LINK} isn't shown")
+
+
 def check_times(trial: Trial, gateway: Gateway) -> None:
     """The status has the times of the start and of the last save, which the run before made, as numbers and as texts."""
     told = gateway.ask("GET", "/status").json
@@ -405,6 +419,7 @@ def check_whole(trial: Trial) -> None:
         gateway.wait_taken()
         check_counts(trial, gateway, counted(wanted, arrivals))
         check_octets(trial, gateway, wanted, arrivals)
+        check_unknown_link(trial, gateway)
         check_page(trial, gateway, counted(wanted, arrivals))
         repaired = repaired_in(trial, gateway.folder / "links.toml", arrivals)
         check_by_call(trial, gateway, by_call(wanted, arrivals, repaired))
